@@ -13,7 +13,6 @@ use Rattle.rbc_centre.specs.declared.event.Event.{Event}
 use Rattle.rbc_centre.specs.declared.event.Event.TheVariants.{Train, Set, Unset, Deliver}
 use Rattle.rbc_centre.specs.declared.fault.StepFault.{StepFault}
 use Rattle.rbc_centre.specs.declared.fault.StepFault.TheVariants as fault
-use Rattle.rbc_train.specs.declared.reason.Reason.{Reason as ReasonCode}
 use Rattle.rbc_centre.specs.declared.link_answer.LinkAnswer.{LinkAnswer}
 use Rattle.rbc_centre.specs.declared.link_answer.LinkAnswer.TheVariants as link
 use Rattle.rbc_centre.specs.Sent.{frames_to}
@@ -70,10 +69,6 @@ outcome_heard stamp answer frames h = record {
   link = option_map link_of answer;
   silence = None;
 }
-
--- and by a message that is left without an answer
-abbrev pub outcome_silent : ℕ → ReasonCode → Outcome
-outcome_silent stamp why = record { stamp = stamp; sayings = []; frames = λ d. []; words = []; link = None; silence = Some (reason_of why) }
 
 -- the handover that stands with a mission, if there is one
 abbrev pub handing_at : Option Mission → Option Handing

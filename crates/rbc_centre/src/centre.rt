@@ -248,27 +248,45 @@ impl Centre {
         ensures memory { IsWantedBy (state_of self.old) (event_of event.now) result }
         ensures err { OnErr result (state_of self.new ≡ state_of self.old) }
     {
+        let mut out = Outcome::nothing();
+        match self.step_to(event, &mut out) {
+            Ok(()) => Ok(out),
+            Err(fault) => Err(fault),
+        }
+    }
+
+    /// The same step, which writes what it answers over this outcome, and uses its list of frames again. Where it is
+    /// refused, the outcome has no meaning.
+    pub fn step_to(&mut self, event: &Event, out: &mut Outcome) -> Result<(), StepFault>
+        ensures line { line_of self.new ≡ line_of self.old }
+        ensures number { number_of self.new ≡ number_of self.old }
+        ensures exact { Steps (λ u. (outcome_of out.new, state_of self.new)) result
+            (spec.step (line_of self.old) (number_of self.old) (event_of event.now) (state_of self.old)) }
+        ensures memory { IsWantedBy (state_of self.old) (event_of event.now) result }
+        ensures err { OnErr result (state_of self.new ≡ state_of self.old) }
+    {
         self.may_step(event)?;
         match event {
-            Event::Train(message) => Ok(self.take(message)?),
-            Event::Set(s) => Ok(self.set(*s)),
-            Event::Unset(s) => Ok(self.unset(*s)?),
-            Event::Deliver { from, frame } => Ok(self.deliver(*from, frame)?),
+            Event::Train(message) => self.take(message, out)?,
+            Event::Set(s) => self.set(*s, out),
+            Event::Unset(s) => self.unset(*s, out)?,
+            Event::Deliver { from, frame } => self.deliver(*from, frame, out)?,
         }
+        Ok(())
     }
 
     /// Takes a train's message: the step of that event.
     #[inline(always)]
-    pub fn hear(&mut self, message: &TrainMsg) -> Result<Outcome, StepFault>
+    pub fn hear(&mut self, message: &TrainMsg, out: &mut Outcome) -> Result<(), StepFault>
         ensures line { line_of self.new ≡ line_of self.old }
         ensures number { number_of self.new ≡ number_of self.old }
-        ensures exact { Steps (λ o. (outcome_of o, state_of self.new)) result
+        ensures exact { Steps (λ u. (outcome_of out.new, state_of self.new)) result
             (spec.step (line_of self.old) (number_of self.old) (spec.Train (step_message message.now))
             (state_of self.old)) }
         ensures memory { IsWantedBy (state_of self.old) (spec.Train (step_message message.now)) result }
         ensures err { OnErr result (state_of self.new ≡ state_of self.old) }
     {
         self.may_take(self.clock)?;
-        Ok(self.take(message)?)
+        Ok(self.take(message, out)?)
     }
 }

@@ -1,7 +1,7 @@
 //! The step of a frame of another centre: room is made where it is the next, the link says whether it is, and then its
 //! train takes it.
 
-ghost use Rattle.std.specs.Prelude.{◌≡◌, ◌<◌, IfOk, OnOk, OnErr, false, max};
+ghost use Rattle.std.specs.Prelude.{◌≡◌, ◌<◌, OnOk, OnErr, false, max};
 ghost use Rattle.rbc_spec.specs.Step as spec;
 ghost use Rattle.rbc_spec.specs.Step.{has_full_link};
 ghost use Rattle.rbc_link.specs.Links as links;
@@ -11,30 +11,34 @@ ghost use Rattle.rbc_centre.specs.States.{line_of, number_of, state_of, IsSame};
 ghost use Rattle.rbc_centre.specs.Views.{outcome_of};
 
 use crate::centre::Centre;
-use crate::frames::Frames;
 use crate::link_answer::LinkAnswer;
 use crate::outcome::Outcome;
 use crate::posted::post;
 use rbc_linkmsg::Frame;
-use rbc_train::Heard;
 use std::alloc::AllocError;
 use std::cmp::max;
 
 impl Centre {
     /// The step of a frame, at a centre that does not refuse it. Room for the frames in return is made first, where it
     /// is the next.
-    pub(crate) fn deliver(&mut self, from: u8, frame: &Frame) -> Result<Outcome, AllocError>
+    pub(crate) fn deliver(
+        &mut self,
+        from: u8,
+        frame: &Frame,
+        out: &mut Outcome,
+    ) -> Result<(), AllocError>
         requires time { max self.old.clock frame.now.stamp < 1073741823 }
         requires numbers { has_full_link (line_of self.old) (number_of self.old) (state_of self.old) ≡ false }
         ensures line { line_of self.new ≡ line_of self.old }
         ensures number { number_of self.new ≡ number_of self.old }
-        ensures exact { IfOk result (λ o. (outcome_of o, state_of self.new)
+        ensures exact { OnOk result ((outcome_of out.new, state_of self.new)
             ≡ spec.taken (line_of self.old) (number_of self.old) (spec.Deliver from frame.now) (state_of self.old)) }
         ensures memory { OnErr result (TakesMemory (state_of self.old) (spec.Deliver from frame.now)) }
         ensures err { OnErr result (state_of self.new ≡ state_of self.old) }
     {
         self.make_room_for(from, frame)?;
-        Ok(self.take_frame(from, frame))
+        self.take_frame(from, frame, out);
+        Ok(())
     }
 
     // Room for the frames that a frame is answered by, where it is the next of its sender. Nothing else changes.
@@ -54,7 +58,7 @@ impl Centre {
     }
 
     // The step of a frame. For what a next one is answered by there is room.
-    fn take_frame(&mut self, from: u8, frame: &Frame) -> Outcome
+    fn take_frame(&mut self, from: u8, frame: &Frame, out: &mut Outcome)
         requires time { max self.old.clock frame.now.stamp < 1073741823 }
         requires numbers { has_full_link (line_of self.old) (number_of self.old) (state_of self.old) ≡ false }
         requires frames { TakesMemory (state_of self.old) (spec.Deliver from frame.now)
@@ -62,27 +66,19 @@ impl Centre {
         requires room { TakesMemory (state_of self.old) (spec.Deliver from frame.now) → HasFrameRoom self.old.room }
         ensures line { line_of self.new ≡ line_of self.old }
         ensures number { number_of self.new ≡ number_of self.old }
-        ensures exact { (outcome_of result, state_of self.new)
+        ensures exact { (outcome_of out.new, state_of self.new)
             ≡ spec.taken (line_of self.old) (number_of self.old) (spec.Deliver from frame.now) (state_of self.old) }
     {
         let body = frame.body();
         self.clock = max(self.clock, frame.stamp()) + 1;
         let answer = LinkAnswer::of(self.links.offer(from, frame.number()));
         let LinkAnswer::Next = answer else {
-            return Outcome::heard(
-                self.clock,
-                Some(answer),
-                Frames::nothing(),
-                Heard::nothing(),
-            );
+            out.write_nothing(self.clock, Some(answer), None);
+            return;
         };
         let Some(i) = self.line.train_number(body.engine()) else {
-            return Outcome::heard(
-                self.clock,
-                Some(answer),
-                Frames::nothing(),
-                Heard::nothing(),
-            );
+            out.write_nothing(self.clock, Some(answer), None);
+            return;
         };
         let train = &mut self.trains[i as usize];
         let heard = train.receive(
@@ -93,7 +89,7 @@ impl Centre {
             from,
             body,
         );
-        let frames = post(
+        post(
             &mut self.links,
             &mut self.room,
             &self.line,
@@ -102,7 +98,8 @@ impl Centre {
             self.clock,
             &train.expectations,
             &heard.mail,
+            &mut out.frames,
         );
-        Outcome::heard(self.clock, Some(answer), frames, heard)
+        out.write_heard(self.clock, Some(answer), &heard);
     }
 }

@@ -35,6 +35,20 @@ impl FrameRoom {
         self.spare.reserve(MOST_FRAMES)
     }
 
+    // An empty list with the room, which is taken, where there is one. This list is the room of a later step.
+    pub(crate) fn swap(&mut self, list: Option<Vec<SentFrame>>) -> Vec<SentFrame>
+        ensures items { result.items ≡ [] }
+        ensures room { HasFrameRoom self.old → 32 ≤ vec_capacity result }
+    {
+        match list {
+            Some(mut list) => {
+                list.clear();
+                mem::replace(&mut self.spare, list)
+            }
+            None => self.take(),
+        }
+    }
+
     // An empty list with the room, which is taken, where there is one.
     pub(crate) fn take(&mut self) -> Vec<SentFrame>
         ensures items { result.items ≡ [] }

@@ -37,6 +37,17 @@ impl Frames {
         Frames { list: None }
     }
 
+    /// No frame is left. What memory the list has stays with it.
+    #[inline(always)]
+    pub(crate) fn clear(&mut self)
+        ensures { frames_to self.new ≡ (λ d. []) }
+    {
+        match &mut self.list {
+            Some(list) => list.clear(),
+            None => {}
+        }
+    }
+
     /// All frames, by the numbers of their receivers, and those to one centre in the order of their numbers.
     pub fn as_slice(&self) -> &[SentFrame]
         ensures value { frames_in result.now ≡ frames_to self.now }

@@ -1,6 +1,6 @@
 //! The step of a train's message: room is made, then the train takes it, and what it leaves for other centres is sent.
 
-ghost use Rattle.std.specs.Prelude.{◌≡◌, ◌<◌, IfOk, OnOk, OnErr, true, false, Some};
+ghost use Rattle.std.specs.Prelude.{◌≡◌, ◌<◌, OnOk, OnErr, true, false, Some};
 ghost use Rattle.rbc_spec.specs.Line.{train_number};
 ghost use Rattle.rbc_spec.specs.Message.{is_stale};
 ghost use Rattle.rbc_spec.specs.Step as spec;
@@ -28,12 +28,12 @@ use std::alloc::AllocError;
 impl Centre {
     /// The step of a train's message, at a centre that refuses none. Room for a session and for frames is made first.
     #[inline(always)]
-    pub(crate) fn take(&mut self, message: &TrainMsg) -> Result<Outcome, AllocError>
+    pub(crate) fn take(&mut self, message: &TrainMsg, out: &mut Outcome) -> Result<(), AllocError>
         requires time { self.old.clock < 1073741823 }
         requires numbers { has_full_link (line_of self.old) (number_of self.old) (state_of self.old) ≡ false }
         ensures line { line_of self.new ≡ line_of self.old }
         ensures number { number_of self.new ≡ number_of self.old }
-        ensures exact { IfOk result (λ o. (outcome_of o, state_of self.new)
+        ensures exact { OnOk result ((outcome_of out.new, state_of self.new)
             ≡ spec.taken (line_of self.old) (number_of self.old) (spec.Train (step_message message.now))
             (state_of self.old)) }
         ensures memory { OnErr result (TakesMemory (state_of self.old) (spec.Train (step_message message.now))) }
@@ -42,36 +42,42 @@ impl Centre {
         let Some(i) = self.line.train_number(message.nid_engine()) else {
             look_at_ranges(message);
             self.clock += 1;
-            return Ok(Outcome::silent(self.clock, Reason::ForeignEngine));
+            out.write_nothing(self.clock, None, Some(Reason::ForeignEngine));
+            return Ok(());
         };
-        self.take_from(i, message)
+        self.take_from(i, message, out)
     }
 
     /// Takes a message of the train with this place in the line file: the step of that event.
     #[inline(always)]
-    pub fn hear_from(&mut self, number: u8, message: &TrainMsg) -> Result<Outcome, StepFault>
+    pub fn hear_from(
+        &mut self,
+        number: u8,
+        message: &TrainMsg,
+        out: &mut Outcome,
+    ) -> Result<(), StepFault>
         requires { train_number (line_of self.old) message.now.nid_engine ≡ Some number }
         ensures line { line_of self.new ≡ line_of self.old }
         ensures number { number_of self.new ≡ number_of self.old }
-        ensures exact { Steps (λ o. (outcome_of o, state_of self.new)) result
+        ensures exact { Steps (λ u. (outcome_of out.new, state_of self.new)) result
             (spec.step (line_of self.old) (number_of self.old) (spec.Train (step_message message.now))
             (state_of self.old)) }
         ensures memory { IsWantedBy (state_of self.old) (spec.Train (step_message message.now)) result }
         ensures err { OnErr result (state_of self.new ≡ state_of self.old) }
     {
         self.may_take(self.clock)?;
-        Ok(self.take_from(number, message)?)
+        Ok(self.take_from(number, message, out)?)
     }
 
     // The step of a message of train number i of the line, at a centre that refuses none.
     #[inline(always)]
-    fn take_from(&mut self, i: u8, message: &TrainMsg) -> Result<Outcome, AllocError>
+    fn take_from(&mut self, i: u8, message: &TrainMsg, out: &mut Outcome) -> Result<(), AllocError>
         requires time { self.old.clock < 1073741823 }
         requires numbers { has_full_link (line_of self.old) (number_of self.old) (state_of self.old) ≡ false }
         requires number { train_number (line_of self.old) message.now.nid_engine ≡ Some i }
         ensures line { line_of self.new ≡ line_of self.old }
         ensures number { number_of self.new ≡ number_of self.old }
-        ensures exact { IfOk result (λ o. (outcome_of o, state_of self.new)
+        ensures exact { OnOk result ((outcome_of out.new, state_of self.new)
             ≡ spec.taken (line_of self.old) (number_of self.old) (spec.Train (step_message message.now))
             (state_of self.old)) }
         ensures memory { OnErr result (TakesMemory (state_of self.old) (spec.Train (step_message message.now))) }
@@ -79,7 +85,8 @@ impl Centre {
     {
         look_at_ranges(message);
         self.make_room(i as usize, message)?;
-        Ok(self.hear_train(i as usize, message))
+        self.hear_train(i as usize, message, out);
+        Ok(())
     }
 
     // Room for the frames that a message sends, and for the session that the message of train number i of the line
@@ -112,7 +119,7 @@ impl Centre {
 
     // The step of a message of train number i of the line, in its ranges.
     #[inline(always)]
-    fn hear_train(&mut self, i: usize, message: &TrainMsg) -> Outcome
+    fn hear_train(&mut self, i: usize, message: &TrainMsg, out: &mut Outcome)
         requires time { self.old.clock < 1073741823 }
         requires numbers { has_full_link (line_of self.old) (number_of self.old) (state_of self.old) ≡ false }
         requires number { train_number (line_of self.old) message.now.nid_engine ≡ Some i }
@@ -124,7 +131,7 @@ impl Centre {
             → sessions.HasRoom self.old.sessions }
         ensures line { line_of self.new ≡ line_of self.old }
         ensures number { number_of self.new ≡ number_of self.old }
-        ensures exact { (outcome_of result, state_of self.new)
+        ensures exact { (outcome_of out.new, state_of self.new)
             ≡ spec.taken (line_of self.old) (number_of self.old) (spec.Train (step_message message.now))
             (state_of self.old) }
     {
@@ -141,7 +148,7 @@ impl Centre {
         );
         match heard {
             Ok(heard) => {
-                let frames = post(
+                post(
                     &mut self.links,
                     &mut self.room,
                     &self.line,
@@ -150,10 +157,11 @@ impl Centre {
                     self.clock,
                     &train.expectations,
                     &heard.mail,
+                    &mut out.frames,
                 );
-                Outcome::heard(self.clock, None, frames, heard)
+                out.write_heard(self.clock, None, &heard);
             }
-            Err(why) => Outcome::silent(self.clock, why),
+            Err(why) => out.write_nothing(self.clock, None, Some(why)),
         }
     }
 }

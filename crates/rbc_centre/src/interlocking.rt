@@ -1,6 +1,6 @@
 //! The step of what the interlocking says of a section.
 
-ghost use Rattle.std.specs.Prelude.{◌≡◌, ◌<◌, ℕ, IfSome, IfOk, OnErr, length, false};
+ghost use Rattle.std.specs.Prelude.{◌≡◌, ◌<◌, ℕ, IfSome, OnOk, OnErr, length, false};
 ghost use Rattle.rbc_spec.specs.Centre as spec;
 ghost use Rattle.rbc_spec.specs.Line.{train_number};
 ghost use Rattle.rbc_spec.specs.Step as step;
@@ -23,70 +23,73 @@ use std::alloc::AllocError;
 impl Centre {
     /// The interlocking releases a section: the step of that event.
     #[inline(always)]
-    pub fn step_set(&mut self, s: u16) -> Result<Outcome, StepFault>
+    pub fn step_set(&mut self, s: u16, out: &mut Outcome) -> Result<(), StepFault>
         ensures line { line_of self.new ≡ line_of self.old }
         ensures number { number_of self.new ≡ number_of self.old }
-        ensures exact { Steps (λ o. (outcome_of o, state_of self.new)) result
+        ensures exact { Steps (λ u. (outcome_of out.new, state_of self.new)) result
             (step.step (line_of self.old) (number_of self.old) (step.Set s) (state_of self.old)) }
         ensures memory { IsWantedBy (state_of self.old) (step.Set s) result }
         ensures err { OnErr result (state_of self.new ≡ state_of self.old) }
     {
         self.may_take(self.clock)?;
-        Ok(self.set(s))
+        self.set(s, out);
+        Ok(())
     }
 
     /// The interlocking takes a section back: the step of that event.
     #[inline(always)]
-    pub fn step_unset(&mut self, s: u16) -> Result<Outcome, StepFault>
+    pub fn step_unset(&mut self, s: u16, out: &mut Outcome) -> Result<(), StepFault>
         ensures line { line_of self.new ≡ line_of self.old }
         ensures number { number_of self.new ≡ number_of self.old }
-        ensures exact { Steps (λ o. (outcome_of o, state_of self.new)) result
+        ensures exact { Steps (λ u. (outcome_of out.new, state_of self.new)) result
             (step.step (line_of self.old) (number_of self.old) (step.Unset s) (state_of self.old)) }
         ensures memory { IsWantedBy (state_of self.old) (step.Unset s) result }
         ensures err { OnErr result (state_of self.new ≡ state_of self.old) }
     {
         self.may_take(self.clock)?;
-        Ok(self.unset(s)?)
+        Ok(self.unset(s, out)?)
     }
 
     /// The interlocking releases a section.
-    pub(crate) fn set(&mut self, s: u16) -> Outcome
+    pub(crate) fn set(&mut self, s: u16, out: &mut Outcome)
         requires time { self.old.clock < 1073741823 }
         requires numbers { has_full_link (line_of self.old) (number_of self.old) (state_of self.old) ≡ false }
         ensures line { line_of self.new ≡ line_of self.old }
         ensures number { number_of self.new ≡ number_of self.old }
-        ensures exact { (outcome_of result, state_of self.new)
+        ensures exact { (outcome_of out.new, state_of self.new)
             ≡ step.taken (line_of self.old) (number_of self.old) (step.Set s) (state_of self.old) }
     {
         self.clock += 1;
         match self.book.set(s) {
-            Ok(()) => Outcome::told(self.clock, Word::Done(s), None),
-            Err(NotHome) => Outcome::told(self.clock, Word::NotHome(s), None),
+            Ok(()) => out.write_told(self.clock, Word::Done(s), None),
+            Err(NotHome) => out.write_told(self.clock, Word::NotHome(s), None),
         }
     }
 
     /// The interlocking takes a section back. A train that has it in its movement authority is asked for it, and where
     /// it is lent each other centre. Room for the frames is made first.
-    pub(crate) fn unset(&mut self, s: u16) -> Result<Outcome, AllocError>
+    pub(crate) fn unset(&mut self, s: u16, out: &mut Outcome) -> Result<(), AllocError>
         requires time { self.old.clock < 1073741823 }
         requires numbers { has_full_link (line_of self.old) (number_of self.old) (state_of self.old) ≡ false }
         ensures line { line_of self.new ≡ line_of self.old }
         ensures number { number_of self.new ≡ number_of self.old }
-        ensures exact { IfOk result (λ o. (outcome_of o, state_of self.new)
+        ensures exact { OnOk result ((outcome_of out.new, state_of self.new)
             ≡ step.taken (line_of self.old) (number_of self.old) (step.Unset s) (state_of self.old)) }
         ensures memory { OnErr result (TakesMemory (state_of self.old) (step.Unset s)) }
         ensures err { OnErr result (state_of self.new ≡ state_of self.old) }
     {
         let Entry::Out { nid_engine } = self.book.page(s).entry else {
-            return Ok(self.unset_here(s));
+            self.unset_here(s, out);
+            return Ok(());
         };
         self.reserve_frames()?;
-        Ok(self.withdraw(s, nid_engine))
+        self.withdraw(s, nid_engine, out);
+        Ok(())
     }
 
     // A section is taken back that is out for this train: each other centre is asked for it, as it is not known here
     // which has it.
-    fn withdraw(&mut self, s: u16, nid_engine: u32) -> Outcome
+    fn withdraw(&mut self, s: u16, nid_engine: u32, out: &mut Outcome)
         requires time { self.old.clock < 1073741823 }
         requires numbers { has_full_link (line_of self.old) (number_of self.old) (state_of self.old) ≡ false }
         requires out { entry_at self.old.book s ≡ spec.Out nid_engine }
@@ -94,7 +97,7 @@ impl Centre {
         requires room { HasFrameRoom self.old.room }
         ensures line { line_of self.new ≡ line_of self.old }
         ensures number { number_of self.new ≡ number_of self.old }
-        ensures exact { (outcome_of result, state_of self.new)
+        ensures exact { (outcome_of out.new, state_of self.new)
             ≡ step.taken (line_of self.old) (number_of self.old) (step.Unset s) (state_of self.old) }
     {
         self.clock += 1;
@@ -103,39 +106,40 @@ impl Centre {
             engine: nid_engine,
             section: s,
         };
-        let frames = post_to_others(
+        post_to_others(
             &mut self.links,
             &mut self.room,
             &self.line,
             self.number,
             self.clock,
             body,
+            &mut out.frames,
         );
-        Outcome::sent(self.clock, Word::Asked(s), frames)
+        out.write_sent(self.clock, Word::Asked(s));
     }
 
     // A section is taken back that is not out.
-    fn unset_here(&mut self, s: u16) -> Outcome
+    fn unset_here(&mut self, s: u16, out: &mut Outcome)
         requires time { self.old.clock < 1073741823 }
         requires here { (t : ℕ) → entry_at self.old.book s ≡ spec.Out t → ⊥ }
         requires numbers { has_full_link (line_of self.old) (number_of self.old) (state_of self.old) ≡ false }
         ensures line { line_of self.new ≡ line_of self.old }
         ensures number { number_of self.new ≡ number_of self.old }
-        ensures exact { (outcome_of result, state_of self.new)
+        ensures exact { (outcome_of out.new, state_of self.new)
             ≡ step.taken (line_of self.old) (number_of self.old) (step.Unset s) (state_of self.old) }
     {
         let user = self.user_of(s);
         self.clock += 1;
         match self.book.unset(s) {
-            Ok(Unset::Done) => Outcome::told(self.clock, Word::Done(s), None),
+            Ok(Unset::Done) => out.write_told(self.clock, Word::Done(s), None),
             Ok(Unset::Asked) => {
                 let request = match user {
                     Some(i) => self.trains[i as usize].ask_back(&self.line, s),
                     None => None,
                 };
-                Outcome::told(self.clock, Word::Asked(s), request)
+                out.write_told(self.clock, Word::Asked(s), request)
             }
-            Err(NotHome) => Outcome::told(self.clock, Word::NotHome(s), None),
+            Err(NotHome) => out.write_told(self.clock, Word::NotHome(s), None),
         }
     }
 

@@ -1,7 +1,8 @@
-ghost use Rattle.std.specs.Prelude.{◌≡◌, ◌≤◌, [], ◌∷◌, None, map, length};
+ghost use Rattle.std.specs.Prelude.{◌≡◌, [], ◌∷◌, None, map, option_map};
+ghost use Rattle.rbc_train.specs.Reasons.{reason_of};
 ghost use Rattle.rbc_train.specs.Sayings.{saying_of, sayings_of, told_train};
 ghost use Rattle.rbc_centre.specs.Sent.{frames_to};
-ghost use Rattle.rbc_centre.specs.Views.{word_of};
+ghost use Rattle.rbc_centre.specs.Views.{word_of, link_of};
 
 use crate::frames::Frames;
 use crate::link_answer::LinkAnswer;
@@ -49,48 +50,75 @@ pub struct Outcome {
 }
 
 impl Outcome {
-    ghost use Rattle.rbc_centre.specs.Views.{outcome_of, outcome_heard, outcome_silent};
+    ghost use Rattle.rbc_centre.specs.Views.{outcome_of, outcome_heard};
 
-    /// A step that does not answer.
-    #[inline(always)]
-    pub(crate) fn silent(stamp: u32, why: Reason) -> Outcome
-        ensures { outcome_of result ≡ outcome_silent stamp why }
+    /// Nothing yet, under stamp 0. A step writes its answer over it.
+    pub fn nothing() -> Outcome
+        ensures { outcome_of result
+            ≡ record {
+              stamp = 0;
+              sayings = [];
+              frames = λ d. [];
+              words = [];
+              link = None;
+              silence = None;
+            } }
     {
         Outcome {
-            stamp,
+            stamp: 0,
             sayings: ArrayVec::new(),
             frames: Frames::nothing(),
             word: None,
             told: Told::nothing(),
             link: None,
-            silence: Some(why),
-        }
-    }
-
-    /// A step whose message or frame came to this, of which these frames were sent. The link has said this to a frame.
-    #[inline(always)]
-    pub(crate) fn heard(
-        stamp: u32,
-        link: Option<LinkAnswer>,
-        frames: Frames,
-        heard: Heard,
-    ) -> Outcome
-        ensures { outcome_of result ≡ outcome_heard stamp link (frames_to frames) heard }
-    {
-        Outcome {
-            stamp,
-            sayings: in_order(heard.saying, heard.order),
-            frames,
-            word: None,
-            told: heard.told,
-            link,
             silence: None,
         }
     }
 
+    /// A step that says nothing. The link has said this to a frame, or a message is silent for this reason.
+    #[inline(always)]
+    pub(crate) fn write_nothing(
+        &mut self,
+        stamp: u32,
+        link: Option<LinkAnswer>,
+        silence: Option<Reason>,
+    )
+        ensures { outcome_of self.new
+            ≡ record {
+              stamp = stamp;
+              sayings = [];
+              frames = λ d. [];
+              words = [];
+              link = option_map link_of link;
+              silence = option_map reason_of silence;
+            } }
+    {
+        self.stamp = stamp;
+        self.sayings.clear();
+        self.frames.clear();
+        self.word = None;
+        self.told = Told::nothing();
+        self.link = link;
+        self.silence = silence;
+    }
+
+    /// A step whose message or frame came to this. Its frames stand here. The link has said this to a frame.
+    #[inline(always)]
+    pub(crate) fn write_heard(&mut self, stamp: u32, link: Option<LinkAnswer>, heard: &Heard)
+        ensures { outcome_of self.new ≡ outcome_heard stamp link (frames_to self.old.frames) heard.now }
+    {
+        self.stamp = stamp;
+        write_in_order(&mut self.sayings, heard.saying, heard.order);
+        self.word = None;
+        self.told = heard.told.copied();
+        self.link = link;
+        self.silence = None;
+    }
+
     /// A step that answers the interlocking with one word, and says one message or none to a train.
-    pub(crate) fn told(stamp: u32, word: Word, saying: Option<Saying>) -> Outcome
-        ensures { outcome_of result
+    #[inline(always)]
+    pub(crate) fn write_told(&mut self, stamp: u32, word: Word, saying: Option<Saying>)
+        ensures { outcome_of self.new
             ≡ record {
               stamp = stamp;
               sayings = sayings_of saying;
@@ -100,38 +128,44 @@ impl Outcome {
               silence = None;
             } }
     {
-        Outcome {
-            stamp,
-            sayings: one_or_none(saying),
-            frames: Frames::nothing(),
-            word: Some(word),
-            told: Told::nothing(),
-            link: None,
-            silence: None,
-        }
+        self.frames.clear();
+        self.write_word(stamp, word, saying);
     }
 
-    /// A step that answers the interlocking with one word, by these frames.
-    pub(crate) fn sent(stamp: u32, word: Word, frames: Frames) -> Outcome
-        ensures { outcome_of result
+    /// A step that answers the interlocking with one word. Its frames stand here.
+    pub(crate) fn write_sent(&mut self, stamp: u32, word: Word)
+        ensures { outcome_of self.new
             ≡ record {
               stamp = stamp;
               sayings = [];
-              frames = frames_to frames;
+              frames = frames_to self.old.frames;
               words = word_of word ∷ [];
               link = None;
               silence = None;
             } }
     {
-        Outcome {
-            stamp,
-            sayings: ArrayVec::new(),
-            frames,
-            word: Some(word),
-            told: Told::nothing(),
-            link: None,
-            silence: None,
-        }
+        self.write_word(stamp, word, None);
+    }
+
+    // One word, and one message or none. What frames stand here stay.
+    #[inline(always)]
+    fn write_word(&mut self, stamp: u32, word: Word, saying: Option<Saying>)
+        ensures { outcome_of self.new
+            ≡ record {
+              stamp = stamp;
+              sayings = sayings_of saying;
+              frames = frames_to self.old.frames;
+              words = word_of word ∷ [];
+              link = None;
+              silence = None;
+            } }
+    {
+        self.stamp = stamp;
+        write_in_order(&mut self.sayings, saying, None);
+        self.word = Some(word);
+        self.told = Told::nothing();
+        self.link = None;
+        self.silence = None;
     }
 
     /// The words to the interlocking, in order.
@@ -150,27 +184,16 @@ impl Outcome {
     }
 }
 
-// A row of the answer and the order behind it, where they are.
+// The answer and the order behind it, where they are, in place of what stood there.
 #[inline(always)]
-fn in_order(saying: Option<Saying>, order: Option<Saying>) -> ArrayVec<Saying, 2>
-    ensures { map saying_of result.items ≡ told_train saying order }
+fn write_in_order(sayings: &mut ArrayVec<Saying, 2>, saying: Option<Saying>, order: Option<Saying>)
+    ensures { map saying_of sayings.new.items ≡ told_train saying order }
 {
-    let mut sayings = one_or_none(saying);
-    if let Some(order) = order {
-        sayings.push(order);
-    }
-    sayings
-}
-
-// A row of one message, or of none.
-#[inline(always)]
-fn one_or_none(saying: Option<Saying>) -> ArrayVec<Saying, 2>
-    ensures items { map saying_of result.items ≡ sayings_of saying }
-    ensures few { length result.items ≤ 1 }
-{
-    let mut sayings = ArrayVec::new();
+    sayings.clear();
     if let Some(saying) = saying {
         sayings.push(saying);
     }
-    sayings
+    if let Some(order) = order {
+        sayings.push(order);
+    }
 }

@@ -10,23 +10,23 @@ ghost use Rattle.rbc_linkmsg.specs.Bodies.{body_of};
 ghost use Rattle.rbc_handover.specs.Expectations.{expected_from};
 ghost use Rattle.rbc_spec.specs.Centre.{Expectation};
 ghost use Rattle.rbc_linkmsg.specs.declared.body.Body.{Body as BodyCode};
-ghost use Rattle.rbc_train.specs.Letters.{bodies_in, letters, notices, mail_to};
+ghost use Rattle.rbc_train.specs.Letters.{bodies_in, notices, mail_to};
 ghost use Rattle.rbc_centre.specs.Posts.{MayPost, HasSent, only, to_others};
 ghost use Rattle.rbc_centre.specs.Rooms.{HasFrameRoom};
 ghost use Rattle.rbc_centre.specs.Sent.{frames_to};
 
 use crate::frame_room::FrameRoom;
 use crate::frames::Frames;
-use crate::returned::{home, letter_to, part_to, stays};
+use crate::returned::{has_no_letter, home, letter_to, part_to, stays};
 use crate::sent_frame::SentFrame;
 use rbc_handover::Expectations;
 use rbc_line::Line;
 use rbc_link::Links;
 use rbc_linkmsg::{Body, Frame};
-use rbc_train::{Letter, Mail, Notice};
+use rbc_train::{Mail, Notice};
 
 /// Sends the mail of a step with this stamp, which is of this train: to each centre first the sections that go to its
-/// home, then what it is told of a handover, and then its letter.
+/// home, then what it is told of a handover, and then its letter. The frames are written in place of those before.
 #[inline(always)]
 pub(crate) fn post(
     links: &mut Links<Body>,
@@ -37,7 +37,8 @@ pub(crate) fn post(
     stamp: u32,
     expectations: &Expectations,
     mail: &Mail,
-) -> Frames
+    frames: &mut Frames,
+)
     requires stamp { (1 ≤ stamp) × (stamp ≤ 1073741823) }
     requires linked { (d : ℕ) → has_link links.old d ≡ is_linked line.now centre d }
     requires may { (d : ℕ)
@@ -48,12 +49,13 @@ pub(crate) fn post(
     ensures posted { HasPosted body_of stamp
         (mail_to line.now centre nid_engine (expected_from expectations.now) mail.now) links.old links.new }
     ensures frames { (d : ℕ)
-        → frames_to result d
+        → frames_to frames.new d
         ≡ numbered stamp (length (sent_to links.old d))
         (mail_to line.now centre nid_engine (expected_from expectations.now) mail.now d) }
 {
     if is_nothing(line, centre, mail) {
-        return Frames::nothing();
+        frames.clear();
+        return;
     }
     // The copy keeps the mail of a step that sends nothing in registers.
     let mail = *mail;
@@ -66,7 +68,8 @@ pub(crate) fn post(
         stamp,
         expectations,
         &mail,
-    )
+        frames,
+    );
 }
 
 // Whether there is nothing to send.
@@ -91,7 +94,8 @@ fn post_all(
     stamp: u32,
     expectations: &Expectations,
     mail: &Mail,
-) -> Frames
+    frames: &mut Frames,
+)
     requires stamp { (1 ≤ stamp) × (stamp ≤ 1073741823) }
     requires linked { (d : ℕ) → has_link links.old d ≡ is_linked line.now centre d }
     requires may { (d : ℕ)
@@ -102,11 +106,11 @@ fn post_all(
     ensures posted { HasPosted body_of stamp
         (mail_to line.now centre nid_engine (expected_from expectations.now) mail.now) links.old links.new }
     ensures frames { (d : ℕ)
-        → frames_to result d
+        → frames_to frames.new d
         ≡ numbered stamp (length (sent_to links.old d))
         (mail_to line.now centre nid_engine (expected_from expectations.now) mail.now d) }
 {
-    let mut list = room.take();
+    let mut list = room.swap(frames.list.take());
     for to in 0..line.centre_count() {
         post_part(
             links,
@@ -120,7 +124,7 @@ fn post_all(
             to,
         );
     }
-    Frames { list: Some(list) }
+    frames.list = Some(list);
 }
 
 // Sends one centre its part of the mail, where it has any.
@@ -220,17 +224,6 @@ fn is_told_nothing(notice: Notice, to: u8) -> bool
     }
 }
 
-// Whether there is no letter to this centre.
-#[inline(always)]
-fn has_no_letter(letter: Option<Letter>, to: u8) -> bool
-    ensures { IsTrue result → letters letter to ≡ [] }
-{
-    match letter {
-        Some(letter) => letter.to != to,
-        None => true,
-    }
-}
-
 /// Tells each other centre of the line this, in a step with this stamp.
 pub(crate) fn post_to_others(
     links: &mut Links<Body>,
@@ -239,22 +232,23 @@ pub(crate) fn post_to_others(
     centre: u8,
     stamp: u32,
     body: Body,
-) -> Frames
+    frames: &mut Frames,
+)
     requires stamp { (1 ≤ stamp) × (stamp ≤ 1073741823) }
     requires linked { (d : ℕ) → has_link links.old d ≡ is_linked line.now centre d }
     requires may { (d : ℕ) → MayPost links.old d (to_others line.now centre (body_of body) d) }
     requires room { HasFrameRoom room.old }
     ensures posted { HasPosted body_of stamp (to_others line.now centre (body_of body)) links.old links.new }
     ensures frames { (d : ℕ)
-        → frames_to result d
+        → frames_to frames.new d
         ≡ numbered stamp (length (sent_to links.old d)) (to_others line.now centre (body_of body) d) }
 {
-    let mut list = room.take();
+    let mut list = room.swap(frames.list.take());
     for to in 0..line.centre_count() {
         let told = body_to(line, centre, to, body);
         post_one(links, &mut list, stamp, to, told);
     }
-    Frames { list: Some(list) }
+    frames.list = Some(list);
 }
 
 // What one centre is told, where it is another of the line.

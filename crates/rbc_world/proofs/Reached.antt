@@ -12,11 +12,10 @@ use Rattle.law_local.proofs.Worlds.{bind_ok}
 use Rattle.law_reached.proofs.Whole.{whole_run, run_of_none, run_of_cons}
 use Rattle.rbc_centre.specs.States as one
 use Rattle.rbc_centre.specs.Answer.{Steps}
-use Rattle.rbc_centre.specs.Views.{event_of as one_event, outcome_of}
+use Rattle.rbc_centre.specs.Views.{event_of as one_event}
 use Rattle.rbc_centre.specs.declared.centre.Centre.{Centre}
 use Rattle.rbc_centre.specs.declared.event.Event.{Event as CentreEvent}
 use Rattle.rbc_centre.specs.declared.event.Event.TheVariants as of_centre
-use Rattle.rbc_centre.specs.declared.outcome.Outcome.{Outcome as OutcomeInMemory}
 use Rattle.rbc_centre.specs.declared.fault.StepFault.{StepFault}
 use Rattle.rbc_world.specs.States.{stands_for}
 use Rattle.rbc_world.specs.Reached.{WasReached, MayBeTold}
@@ -78,12 +77,12 @@ module _ (line : Line) (cs : List Centre) (trains : List ℕ) (c : ℕ) (k new :
   reached_still after same kept = subst (λ (w : World). ∥ WasReached line w ∥₁) (sym (ap (stands_for line (set cs c new)) same ∙ world_kept line cs trains c k new at within kept)) before
 
   -- behind what the centre is told
-  pub reached_by_word : (event : CentreEvent) (result : Result OutcomeInMemory StepFault) → MayBeTold (stands_for line cs trains) c event
-      → Steps (λ o. (outcome_of o, one.state_of new)) result (step.step (one.line_of k) (one.number_of k) (one_event event) (one.state_of k)) → OnErr result (one.state_of new ≡ one.state_of k)
+  pub reached_by_word : {X : Type 0} (outcome : X → Outcome) (event : CentreEvent) (result : Result X StepFault) → MayBeTold (stands_for line cs trains) c event
+      → Steps (λ x. (outcome x, one.state_of new)) result (step.step (one.line_of k) (one.number_of k) (one_event event) (one.state_of k)) → OnErr result (one.state_of new ≡ one.state_of k)
       → ∥ WasReached line (stands_for line (set cs c new) trains) ∥₁
-  reached_by_word event (Ok o) said s kept =
-      told_on line (stands_for line cs trains) (stands_for line (set cs c new) trains) c event (Answered (outcome_of o)) (is_centre_within line cs c each within) said (told_ok line cs trains (one_event event) c k new at within of_line of_number each (outcome_of o) s) before
-  reached_by_word event (Err fault) said s kept = reached_still trains refl kept
+  reached_by_word outcome event (Ok x) said s kept =
+      told_on line (stands_for line cs trains) (stands_for line (set cs c new) trains) c event (Answered (outcome x)) (is_centre_within line cs c each within) said (told_ok line cs trains (one_event event) c k new at within of_line of_number each (outcome x) s) before
+  reached_by_word outcome event (Err fault) said s kept = reached_still trains refl kept
 
   -- behind a train's message
   pub reached_by_message : (m : TrainMessage) (outcome : Outcome) (after : List ℕ) → step.step (one.line_of k) (one.number_of k) (step.Train m) (one.state_of k) ≡ Ok (outcome, one.state_of new)
@@ -94,8 +93,8 @@ module _ (line : Line) (cs : List Centre) (trains : List ℕ) (c : ℕ) (k new :
       (at_centre line (stands_for line cs trains) cs c (Ok m) each within ∙ step_ok line cs trains (step.Train m) c k new at within of_line of_number outcome (mention line m.nid_engine trains) after s named) before
 
   -- behind a message of no train of the line, or its refusal
-  pub reached_by_foreign : (m : TrainMessage) (result : Result OutcomeInMemory StepFault) → train_number line m.nid_engine ≡ None
-      → Steps (λ o. (outcome_of o, one.state_of new)) result (step.step (one.line_of k) (one.number_of k) (step.Train m) (one.state_of k)) → OnErr result (one.state_of new ≡ one.state_of k)
+  pub reached_by_foreign : {X : Type 0} (outcome : X → Outcome) (m : TrainMessage) (result : Result X StepFault) → train_number line m.nid_engine ≡ None
+      → Steps (λ x. (outcome x, one.state_of new)) result (step.step (one.line_of k) (one.number_of k) (step.Train m) (one.state_of k)) → OnErr result (one.state_of new ≡ one.state_of k)
       → ∥ WasReached line (stands_for line (set cs c new) trains) ∥₁
-  reached_by_foreign m (Ok o) none s kept = reached_by_message m (outcome_of o) trains s (sym (foreign_mention line trains m.nid_engine none))
-  reached_by_foreign m (Err fault) none s kept = reached_still trains refl kept
+  reached_by_foreign outcome m (Ok x) none s kept = reached_by_message m (outcome x) trains s (sym (foreign_mention line trains m.nid_engine none))
+  reached_by_foreign outcome m (Err fault) none s kept = reached_still trains refl kept

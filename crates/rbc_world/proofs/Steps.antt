@@ -8,7 +8,7 @@ use Rattle.rbc_spec.specs.Message.{TrainMessage}
 use Rattle.rbc_spec.specs.Frame.{Frame}
 use Rattle.rbc_spec.specs.Outcome.{Outcome}
 use Rattle.rbc_spec.specs.Step as step
-use Rattle.rbc_spec.specs.World.{World, Bytes, Set, Unset, Delivery, Answered, NoCentre, NotSent, Fault, world_step, frame_sent, at_centre as told_at, reads, stepped, takes, mention}
+use Rattle.rbc_spec.specs.World.{World, Answer, Bytes, Set, Unset, Delivery, Answered, NoCentre, NotSent, Fault, world_step, frame_sent, at_centre as told_at, reads, stepped, takes, mention}
 use Rattle.rbc_spec.specs.Run.{Goes}
 use Rattle.rbc_spec.specs.ReadOff.{read_off}
 use Rattle.rbc_spec.specs.Promises.{KeepsPromises}
@@ -23,13 +23,14 @@ use Rattle.rbc_msgs.specs.declared.fault.MsgFault.TheVariants as of_message
 use Rattle.rbc_centre.specs.States as one
 use Rattle.rbc_centre.specs.Answer as one_step
 use Rattle.rbc_centre.specs.declared.centre.Centre.{Centre}
+use Rattle.rbc_centre.specs.declared.outcome.Outcome.{Outcome as OutcomeInMemory}
 use Rattle.rbc_centre.specs.declared.fault.StepFault.{StepFault}
 use Rattle.rbc_centre.specs.declared.fault.StepFault.TheVariants.{Memory, LinkFull, ClockEnd}
 use Rattle.rbc_world.specs.States.{centres_of, stands_for}
 use Rattle.rbc_world.specs.Answers.{Gives, IsRefusal}
 use Rattle.rbc_world.specs.Reached.{WasReached}
-use Rattle.rbc_world.specs.Views.{event_of, answer_of, numbered, IsFaultOf}
-use Rattle.rbc_world.specs.declared.event.Answer.{Answer}
+use Rattle.rbc_world.specs.Views.{event_of, answer_by, numbered, IsFaultOf}
+use Rattle.rbc_world.specs.declared.event.Reply.{Reply}
 use Rattle.rbc_world.specs.declared.event.WorldEvent.{WorldEvent}
 use Rattle.rbc_world.proofs.Centres.{centre_at, centres_of-set, centres_of-kept}
 use Rattle.rbc_world.proofs.Known.{world_known, world_local}
@@ -114,11 +115,12 @@ pub fault_step : (line : Line) (w : World) (cs : List Centre) (c : ℕ) (read : 
     → world_step line w (Bytes c (numbered read)) ≡ Ok (Fault (fault_number fault), w)
 fault_step line w cs c read fault each within e = at_centre line w cs c (numbered read) each within ∙ ap (λ r. reads line w c (numbered r)) e
 
-pub unread_gives : (line : Line) (w : World) (cs : List Centre) (c : ℕ) (read : Result TrainText MsgFault) (fault : MsgFault) (result : Result Answer StepFault) → length cs ≡ length line.centres → c < length cs
+pub unread_gives : (line : Line) (w : World) (cs : List Centre) (c : ℕ) (read : Result TrainText MsgFault) (fault : MsgFault) (result : Result Reply StepFault) (out : OutcomeInMemory) → length cs ≡ length line.centres → c < length cs
     → (fault ≢ of_message.Memory → read ≡ Err fault) → IfOk result (IsFaultOf fault) → IfErr result (λ e. e ≡ Memory)
-    → Gives (λ a. (answer_of a, w)) result (world_step line w (Bytes c (numbered read)))
-unread_gives line w cs c read fault (Ok a) each within shows ok err = fault_step line w cs c read fault each within (shows ok.1) ∙ ap (λ x. Ok (x, w)) (sym ok.0)
-unread_gives line w cs c read fault (Err e) each within shows ok err = rw err tt
+    → Gives (λ r. (answer_by r out, w)) result (world_step line w (Bytes c (numbered read)))
+unread_gives line w cs c read fault (Ok r) out each within shows ok err =
+    fault_step line w cs c read fault each within (shows ok.1) ∙ ap (λ (x : Reply). Ok (answer_by x out, w)) (sym ok.0)
+unread_gives line w cs c read fault (Err e) out each within shows ok err = rw err tt
 
 -- ## Deliveries
 
@@ -135,22 +137,22 @@ not_sent line w from to number none = ap (λ (o : Option Frame). option_map_or (
 
 -- ## The piece, behind the events that led to the world
 
-module _ (line : Line) (ok : IsLine line) (w new : World) (e : WorldEvent) (reached : ∥ WasReached line w ∥₁) where
+module _ {X : Type 0} (answer : X → Answer) (line : Line) (ok : IsLine line) (w new : World) (e : WorldEvent) (reached : ∥ WasReached line w ∥₁) where
   -- what the definition of a world's step gives
-  abbrev Steps : Result Answer StepFault → Type 0
-  Steps result = Gives (λ a. (answer_of a, new)) result (world_step line w (event_of e))
+  abbrev Steps : Result X StepFault → Type 0
+  Steps result = Gives (λ x. (answer x, new)) result (world_step line w (event_of e))
 
-  pub step_piece : (result : Result Answer StepFault) → Steps result → IfOk result (λ a. Goes line (read_off line w) (event_of e) (answer_of a) (read_off line new))
-  step_piece (Ok a) s = goes line w (world_known line w ok reached) ok new (event_of e) (answer_of a) s
+  pub step_piece : (result : Result X StepFault) → Steps result → IfOk result (λ x. Goes line (read_off line w) (event_of e) (answer x) (read_off line new))
+  step_piece (Ok x) s = goes line w (world_known line w ok reached) ok new (event_of e) (answer x) s
   step_piece (Err fault) s = tt
 
   -- the promises of the event are kept
-  pub step_promises : (result : Result Answer StepFault) → Steps result → IfOk result (λ a. KeepsPromises line w (event_of e) (answer_of a) new)
-  step_promises (Ok a) s = promises line w (world_known line w ok reached) ok new (event_of e) (answer_of a) s
+  pub step_promises : (result : Result X StepFault) → Steps result → IfOk result (λ x. KeepsPromises line w (event_of e) (answer x) new)
+  step_promises (Ok x) s = promises line w (world_known line w ok reached) ok new (event_of e) (answer x) s
   step_promises (Err fault) s = tt
 
   -- on a one-centre line it leaves no choice
-  pub step_forced : (d : ℕ) → IsOneCentreLine line d → (result : Result Answer StepFault) → Steps result
-      → IfOk result (λ a. GoesForced line (read_off line w) (event_of e) (answer_of a) (read_off line new))
-  step_forced d one (Ok a) s = forced line ok d one w (world_known line w ok reached) (world_local line w ok reached d one) (event_of e) (answer_of a) new s
+  pub step_forced : (d : ℕ) → IsOneCentreLine line d → (result : Result X StepFault) → Steps result
+      → IfOk result (λ x. GoesForced line (read_off line w) (event_of e) (answer x) (read_off line new))
+  step_forced d one (Ok x) s = forced line ok d one w (world_known line w ok reached) (world_local line w ok reached d one) (event_of e) (answer x) new s
   step_forced d one (Err fault) s = tt

@@ -15,7 +15,7 @@ use Rattle.rbc_centre.specs.declared.centre.Centre.{Centre}
 use Rattle.rbc_centre.specs.declared.fault.StepFault.{StepFault}
 use Rattle.rbc_centre.specs.declared.fault.StepFault.TheVariants.{Memory, LinkFull, ClockEnd}
 use Rattle.rbc_world.specs.Answers.{IfWanted, MakesRoom, BytesTakeMemory}
-use Rattle.rbc_world.specs.declared.event.Answer.{Answer}
+use Rattle.rbc_world.specs.declared.event.Reply.{Reply}
 use Rattle.rbc_world.proofs.Steps.{is_centre_within}
 
 -- a fault is wanted by the same, whatever would be returned else
@@ -25,7 +25,7 @@ fault_wants X Y k event LinkFull h = tt
 fault_wants X Y k event ClockEnd h = tt
 
 -- a frame that was sent
-pub delivery_wants : (k : centre.Centre) (from : ℕ) (f : Frame) (sent : Option Frame) (result : Result Answer StepFault) → sent ≡ Some f → IsWantedBy k (step.Deliver from f) result
+pub delivery_wants : (k : centre.Centre) (from : ℕ) (f : Frame) (sent : Option Frame) (result : Result Reply StepFault) → sent ≡ Some f → IsWantedBy k (step.Deliver from f) result
     → IfWanted result ((g : Frame) × (sent ≡ Some g) × (g.number ≡ k.taken from + 1))
 delivery_wants k from f sent (Ok a) is h = tt
 delivery_wants k from f sent (Err Memory) is h = (f, is, h)
@@ -33,7 +33,7 @@ delivery_wants k from f sent (Err LinkFull) is h = tt
 delivery_wants k from f sent (Err ClockEnd) is h = tt
 
 -- a section that is taken back
-pub unset_wants : (k : centre.Centre) (s : ℕ) (result : Result Answer StepFault) → IsWantedBy k (step.Unset s) result → IfWanted result ((t : ℕ) × (k.book s ≡ centre.Out t))
+pub unset_wants : (k : centre.Centre) (s : ℕ) (result : Result Reply StepFault) → IsWantedBy k (step.Unset s) result → IfWanted result ((t : ℕ) × (k.book s ≡ centre.Out t))
 unset_wants k s (Ok a) h = tt
 unset_wants k s (Err Memory) h = h
 unset_wants k s (Err LinkFull) h = tt
@@ -45,7 +45,7 @@ kept_wants line trains (Err fault) h = h
 
 module _ (line : Line) (cs : List Centre) (trains : List ℕ) (c : ℕ) (read : Result TrainText MsgFault) (each : length cs ≡ length line.centres) (within : c < length cs) where
   -- by the message that they spell
-  pub heard_wants : (m : TrainText) (result : Result Answer StepFault) → read ≡ Ok m → IfWanted result (MakesRoom line trains (step_message m))
+  pub heard_wants : (m : TrainText) (result : Result Reply StepFault) → read ≡ Ok m → IfWanted result (MakesRoom line trains (step_message m))
       → IfWanted result ((is_centre line c ≡ true) × BytesTakeMemory line trains read)
   heard_wants m (Ok a) is h = tt
   heard_wants m (Err Memory) is h = (is_centre_within line cs c each within, rw is (inr h))
@@ -53,7 +53,7 @@ module _ (line : Line) (cs : List Centre) (trains : List ℕ) (c : ℕ) (read : 
   heard_wants m (Err ClockEnd) is h = tt
 
   -- or for a packet that is kept of them
-  pub unread_wants : (fault : MsgFault) (result : Result Answer StepFault) → (fault ≡ of_message.Memory → MayKeep kept_packets read) → OnErr result (fault ≡ of_message.Memory)
+  pub unread_wants : (fault : MsgFault) (result : Result Reply StepFault) → (fault ≡ of_message.Memory → MayKeep kept_packets read) → OnErr result (fault ≡ of_message.Memory)
       → IfWanted result ((is_centre line c ≡ true) × BytesTakeMemory line trains read)
   unread_wants fault (Ok a) kept is = tt
   unread_wants fault (Err Memory) kept is = (is_centre_within line cs c each within, kept_wants line trains read (kept is))

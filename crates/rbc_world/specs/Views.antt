@@ -14,6 +14,9 @@ use Rattle.rbc_world.specs.declared.event.WorldEvent.{WorldEvent}
 use Rattle.rbc_world.specs.declared.event.WorldEvent.TheVariants as event
 use Rattle.rbc_world.specs.declared.event.Answer.{Answer}
 use Rattle.rbc_world.specs.declared.event.Answer.TheVariants as answer
+use Rattle.rbc_world.specs.declared.event.Reply.{Reply}
+use Rattle.rbc_world.specs.declared.event.Reply.TheVariants as reply
+use Rattle.rbc_centre.specs.declared.outcome.Outcome.{Outcome}
 
 -- what a step reads of a message, or a fault by its number
 abbrev pub numbered : Result TrainText MsgFault → Result TrainMessage ℕ
@@ -33,6 +36,13 @@ answer_of answer.NoCentre = world.NoCentre
 answer_of answer.NotSent = world.NotSent
 answer_of (answer.Fault fault) = world.Fault (fault_number fault)
 
--- the answer to bytes that show this fault, which is not that memory ran out
-abbrev pub IsFaultOf : MsgFault → Answer → Type 0
-IsFaultOf fault a = (answer_of a ≡ world.Fault (fault_number fault)) × (fault ≢ Memory)
+-- the answer that a reply makes with the outcome that was written
+abbrev pub answer_by : Reply → Outcome → world.Answer
+answer_by reply.Outcome o = world.Answered (outcome_of o)
+answer_by reply.NoCentre o = world.NoCentre
+answer_by reply.NotSent o = world.NotSent
+answer_by (reply.Fault fault) o = world.Fault (fault_number fault)
+
+-- the reply to bytes that show this fault, which is not that memory ran out
+abbrev pub IsFaultOf : MsgFault → Reply → Type 0
+IsFaultOf fault r = (r ≡ reply.Fault fault) × (fault ≢ Memory)

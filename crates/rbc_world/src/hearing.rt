@@ -8,55 +8,66 @@ ghost use Rattle.rbc_spec.specs.World.{takes, mention};
 ghost use Rattle.rbc_spec.specs.Step.{Train};
 ghost use Rattle.rbc_msgs.specs.StepMessage.{step_message};
 ghost use Rattle.rbc_world.specs.World.{line_of, state_of};
-ghost use Rattle.rbc_world.specs.Views.{answer_of};
+ghost use Rattle.rbc_world.specs.Views.{answer_by};
 ghost use Rattle.rbc_world.specs.Answers.{Gives, MakesRoom, IfWanted};
 
-use crate::event::Answer;
+use crate::event::Reply;
 use crate::world::World;
 use indexmap::IndexSet;
-use rbc_centre::StepFault;
+use rbc_centre::{Outcome, StepFault};
 use rbc_msgs::TrainMsg;
 use std::alloc::AllocError;
 
 impl World {
     // A message comes to a centre of the line.
     #[inline(always)]
-    pub(crate) fn hear(&mut self, c: usize, message: TrainMsg) -> Result<Answer, StepFault>
+    pub(crate) fn hear(
+        &mut self,
+        c: usize,
+        message: &TrainMsg,
+        out: &mut Outcome,
+    ) -> Result<Reply, StepFault>
         requires { c < length self.old.centres.items }
         ensures line { line_of self.new ≡ line_of self.old }
-        ensures exact { Gives (λ a. (answer_of a, state_of self.new)) result
+        ensures exact { Gives (λ r. (answer_by r out.new, state_of self.new)) result
             (takes (line_of self.old) (state_of self.old) c
-            (mention (line_of self.old) message.nid_engine (state_of self.old).trains)
-            (Train (step_message message))) }
+            (mention (line_of self.old) message.now.nid_engine (state_of self.old).trains)
+            (Train (step_message message.now))) }
         // Memory is wanted only for a session, a frame or a first mention.
         ensures memory { IfWanted result
-            (MakesRoom (line_of self.old) (state_of self.old).trains (step_message message)) }
+            (MakesRoom (line_of self.old) (state_of self.old).trains (step_message message.now)) }
         ensures err { OnErr result (state_of self.new ≡ state_of self.old) }
     {
         match self.line.train_number(message.nid_engine()) {
-            Some(i) => self.hear_from(c, i, message),
-            None => self.hear_foreign(c, message),
+            Some(i) => self.hear_from(c, i, message, out),
+            None => self.hear_foreign(c, message, out),
         }
     }
 
     // It is from the train with this place in the line file. Where it is the first mention of the train, room for that
     // is made first.
     #[inline(always)]
-    fn hear_from(&mut self, c: usize, i: u8, message: TrainMsg) -> Result<Answer, StepFault>
+    fn hear_from(
+        &mut self,
+        c: usize,
+        i: u8,
+        message: &TrainMsg,
+        out: &mut Outcome,
+    ) -> Result<Reply, StepFault>
         requires centre { c < length self.old.centres.items }
-        requires number { train_number (line_of self.old) message.nid_engine ≡ Some i }
+        requires number { train_number (line_of self.old) message.now.nid_engine ≡ Some i }
         ensures line { line_of self.new ≡ line_of self.old }
-        ensures exact { Gives (λ a. (answer_of a, state_of self.new)) result
+        ensures exact { Gives (λ r. (answer_by r out.new, state_of self.new)) result
             (takes (line_of self.old) (state_of self.old) c
-            (mention (line_of self.old) message.nid_engine (state_of self.old).trains)
-            (Train (step_message message))) }
+            (mention (line_of self.old) message.now.nid_engine (state_of self.old).trains)
+            (Train (step_message message.now))) }
         ensures memory { IfWanted result
-            (MakesRoom (line_of self.old) (state_of self.old).trains (step_message message)) }
+            (MakesRoom (line_of self.old) (state_of self.old).trains (step_message message.now)) }
         ensures err { OnErr result (state_of self.new ≡ state_of self.old) }
     {
         let is_first = is_first_mention(&self.named, i as usize);
         make_room(&mut self.trains, is_first)?;
-        let outcome = self.centres[c].hear_from(i, &message)?;
+        self.centres[c].hear_from(i, message, out)?;
         let nid_engine = message.nid_engine();
         add_mention(
             &mut self.trains,
@@ -65,24 +76,29 @@ impl World {
             nid_engine,
             is_first,
         );
-        Ok(Answer::Outcome(outcome))
+        Ok(Reply::Outcome)
     }
 
     // It is from no train of the line.
-    fn hear_foreign(&mut self, c: usize, message: TrainMsg) -> Result<Answer, StepFault>
+    fn hear_foreign(
+        &mut self,
+        c: usize,
+        message: &TrainMsg,
+        out: &mut Outcome,
+    ) -> Result<Reply, StepFault>
         requires centre { c < length self.old.centres.items }
-        requires foreign { train_number (line_of self.old) message.nid_engine ≡ None }
+        requires foreign { train_number (line_of self.old) message.now.nid_engine ≡ None }
         ensures line { line_of self.new ≡ line_of self.old }
-        ensures exact { Gives (λ a. (answer_of a, state_of self.new)) result
+        ensures exact { Gives (λ r. (answer_by r out.new, state_of self.new)) result
             (takes (line_of self.old) (state_of self.old) c
-            (mention (line_of self.old) message.nid_engine (state_of self.old).trains)
-            (Train (step_message message))) }
+            (mention (line_of self.old) message.now.nid_engine (state_of self.old).trains)
+            (Train (step_message message.now))) }
         ensures memory { IfWanted result
-            (MakesRoom (line_of self.old) (state_of self.old).trains (step_message message)) }
+            (MakesRoom (line_of self.old) (state_of self.old).trains (step_message message.now)) }
         ensures err { OnErr result (state_of self.new ≡ state_of self.old) }
     {
-        let outcome = self.centres[c].hear(&message)?;
-        Ok(Answer::Outcome(outcome))
+        self.centres[c].hear(message, out)?;
+        Ok(Reply::Outcome)
     }
 }
 

@@ -12,7 +12,7 @@ mod run;
 mod view;
 mod world;
 
-pub use event::{Answer, WorldEvent};
+pub use event::{Answer, Reply, WorldEvent};
 pub use run::Outputs;
 pub use view::{LineView, Mark, MissionView, SectionView, SessionView, Supervisor, TrainView};
 pub use world::World;

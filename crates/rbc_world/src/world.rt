@@ -18,9 +18,9 @@ ghost use Rattle.rbc_centre.specs.States as one;
 ghost use Rattle.rbc_centre.specs.Answer as one_step;
 ghost use Rattle.rbc_centre.specs.Views.{event_of as one_event};
 
-use crate::event::{Answer, WorldEvent};
+use crate::event::{Answer, Reply, WorldEvent};
 use indexmap::IndexSet;
-use rbc_centre::{Centre, Event, Frame, StepFault};
+use rbc_centre::{Centre, Event, Frame, Outcome, StepFault};
 use rbc_line::Line;
 use rbc_msgs::{MsgFault, decode_train};
 use std::alloc::{AllocError, Global};
@@ -45,7 +45,7 @@ pub struct World {
 
 impl World {
     ghost use Rattle.rbc_world.specs.World.{line_of, state_of};
-    ghost use Rattle.rbc_world.specs.Views.{event_of, answer_of, numbered};
+    ghost use Rattle.rbc_world.specs.Views.{event_of, answer_of, answer_by, numbered};
     ghost use Rattle.rbc_world.specs.Answers.{Gives, TakesMemory, BytesTakeMemory, IsNextSent, IfWanted};
 
     /// The centres of the line at their beginning. A copy of the line is kept.
@@ -106,54 +106,102 @@ impl World {
         ensures memory { IfWanted result (TakesMemory (line_of self.old) (state_of self.old) event.now) }
         ensures err { OnErr result (state_of self.new ≡ state_of self.old) }
     {
+        let mut out = Outcome::nothing();
+        match self.step_to(event, &mut out) {
+            Ok(reply) => Ok(reply.with(out)),
+            Err(fault) => Err(fault),
+        }
+    }
+
+    /// The same step, which writes the outcome of a centre's step over this one, and uses its list of frames again.
+    /// Where no centre took a step, the outcome has no meaning.
+    pub fn step_to(&mut self, event: &WorldEvent, out: &mut Outcome) -> Result<Reply, StepFault>
+        ensures line { line_of self.new ≡ line_of self.old }
+        // What is answered and left is what the definition of a world's step gives.
+        ensures exact { Gives (λ r. (answer_by r out.new, state_of self.new)) result
+            (world_step (line_of self.old) (state_of self.old) (event_of event.now)) }
+        // It is one piece of the one line centre's run, or none.
+        ensures piece { IfOk result (λ r. Goes (line_of self.old) (read_off (line_of self.old) (state_of self.old))
+            (event_of event.now) (answer_by r out.new) (read_off (line_of self.old) (state_of self.new))) }
+        // Some list of events led from the line's beginning to the world that is left.
+        ensures reached { ∥ WasReached (line_of self.new) (state_of self.new) ∥₁ }
+        // The state that is read off the centres stands for them, whatever was refused before.
+        ensures stands { StandsFor (line_of self.new) (state_of self.new)
+            (read_off (line_of self.new) (state_of self.new)) }
+        // So each train has one supervisor at most, each section one train, and no section in use and no right is lost
+        // or in two places.
+        ensures sound { IsSound (line_of self.new) (state_of self.new) }
+        // A section leaves an authority only by what its train said, and the interlocking is told what is so.
+        ensures promises { IfOk result
+            (λ r. KeepsPromises (line_of self.old) (state_of self.old) (event_of event.now) (answer_by r out.new)
+            (state_of self.new)) }
+        // By what they were told, behind whatever led here, no two trains may run over one section, and none over one
+        // that is not released.
+        ensures outside { IfOk result
+            (λ r. StaysSafeOutside (line_of self.old) (state_of self.old) (event_of event.now) (answer_by r out.new)) }
+        // On a one-centre line the piece leaves no choice.
+        ensures one_centre { (c : ℕ) → IsOneCentreLine (line_of self.old) c
+            → IfOk result (λ r. GoesForced (line_of self.old) (read_off (line_of self.old) (state_of self.old))
+            (event_of event.now) (answer_by r out.new) (read_off (line_of self.old) (state_of self.new))) }
+        // Memory is wanted only by a train's bytes at a centre of the line, for packets that are kept, a session, a
+        // frame or a first mention, by a section that is out, and by a frame that is the next of its link.
+        ensures memory { IfWanted result (TakesMemory (line_of self.old) (state_of self.old) event.now) }
+        ensures err { OnErr result (state_of self.new ≡ state_of self.old) }
+    {
         known_line(&self.line);
-        self.take(event)
+        self.take(event, out)
     }
 
     #[inline(always)]
-    fn take(&mut self, event: &WorldEvent) -> Result<Answer, StepFault>
+    fn take(&mut self, event: &WorldEvent, out: &mut Outcome) -> Result<Reply, StepFault>
         ensures line { line_of self.new ≡ line_of self.old }
-        ensures exact { Gives (λ a. (answer_of a, state_of self.new)) result
+        ensures exact { Gives (λ r. (answer_by r out.new, state_of self.new)) result
             (world_step (line_of self.old) (state_of self.old) (event_of event.now)) }
         ensures memory { IfWanted result (TakesMemory (line_of self.old) (state_of self.old) event.now) }
         ensures err { OnErr result (state_of self.new ≡ state_of self.old) }
     {
         match event {
-            WorldEvent::Train { centre, bytes } => self.receive(*centre, bytes),
-            WorldEvent::Set { centre, section } => self.set(*centre, *section),
-            WorldEvent::Unset { centre, section } => self.unset(*centre, *section),
-            WorldEvent::Deliver { from, to, number } => self.deliver(*from, *to, *number),
+            WorldEvent::Train { centre, bytes } => self.receive(*centre, bytes, out),
+            WorldEvent::Set { centre, section } => self.set(*centre, *section, out),
+            WorldEvent::Unset { centre, section } => self.unset(*centre, *section, out),
+            WorldEvent::Deliver { from, to, number } => self.deliver(*from, *to, *number, out),
         }
     }
 
     // A centre takes what it may be told, as a frame that was sent to it.
-    fn tell(&mut self, c: u8, event: &Event) -> Result<Answer, StepFault>
+    fn tell(&mut self, c: u8, event: &Event, out: &mut Outcome) -> Result<Reply, StepFault>
         requires { MayBeTold (state_of self.old) c event.now }
         ensures line { line_of self.new ≡ line_of self.old }
-        ensures exact { Gives (λ a. (answer_of a, state_of self.new)) result
+        ensures exact { Gives (λ r. (answer_by r out.new, state_of self.new)) result
             (at_centre (line_of self.old) (state_of self.old) c
             (takes (line_of self.old) (state_of self.old) c (state_of self.old).trains (one_event event.now))) }
         ensures memory { one_step.IsWantedBy ((state_of self.old).at c) (one_event event.now) result }
         ensures err { OnErr result (state_of self.new ≡ state_of self.old) }
     {
         if c as usize >= self.centres.len() {
-            return Ok(Answer::NoCentre);
+            return Ok(Reply::NoCentre);
         }
-        let outcome = self.centres[c as usize].step(event)?;
-        Ok(Answer::Outcome(outcome))
+        self.centres[c as usize].step_to(event, out)?;
+        Ok(Reply::Outcome)
     }
 
     // A frame that one centre sent to another under this number comes to it.
-    fn deliver(&mut self, from: u8, to: u8, number: u32) -> Result<Answer, StepFault>
+    fn deliver(
+        &mut self,
+        from: u8,
+        to: u8,
+        number: u32,
+        out: &mut Outcome,
+    ) -> Result<Reply, StepFault>
         ensures line { line_of self.new ≡ line_of self.old }
-        ensures exact { Gives (λ a. (answer_of a, state_of self.new)) result
+        ensures exact { Gives (λ r. (answer_by r out.new, state_of self.new)) result
             (world_step (line_of self.old) (state_of self.old) (Delivery from to number)) }
         ensures memory { IfWanted result (IsNextSent (state_of self.old) from to number) }
         ensures err { OnErr result (state_of self.new ≡ state_of self.old) }
     {
         match self.frame_sent(from, to, number) {
-            Some(frame) => self.tell(to, &Event::Deliver { from, frame }),
-            None => Ok(Answer::NotSent),
+            Some(frame) => self.tell(to, &Event::Deliver { from, frame }, out),
+            None => Ok(Reply::NotSent),
         }
     }
 
@@ -172,9 +220,9 @@ impl World {
 
     // Bytes from a train come to a centre.
     #[inline(always)]
-    fn receive(&mut self, c: u8, bytes: &[u8]) -> Result<Answer, StepFault>
+    fn receive(&mut self, c: u8, bytes: &[u8], out: &mut Outcome) -> Result<Reply, StepFault>
         ensures line { line_of self.new ≡ line_of self.old }
-        ensures exact { Gives (λ a. (answer_of a, state_of self.new)) result
+        ensures exact { Gives (λ r. (answer_by r out.new, state_of self.new)) result
             (world_step (line_of self.old) (state_of self.old) (Bytes c (numbered (read_train bytes.now)))) }
         ensures memory { IfWanted result
             ((is_centre (line_of self.old) c ≡ true)
@@ -182,10 +230,10 @@ impl World {
         ensures err { OnErr result (state_of self.new ≡ state_of self.old) }
     {
         if c as usize >= self.centres.len() {
-            return Ok(Answer::NoCentre);
+            return Ok(Reply::NoCentre);
         }
         match decode_train(self.alloc, bytes) {
-            Ok(message) => self.hear(c as usize, message),
+            Ok(message) => self.hear(c as usize, &message, out),
             Err(fault) => unread(fault),
         }
     }
@@ -219,7 +267,7 @@ fn centres_of(alloc: Global, line: &Line) -> Result<Vec<Centre>, AllocError>
 }
 
 // What bytes without a message lead to.
-fn unread(fault: MsgFault) -> Result<Answer, StepFault>
+fn unread(fault: MsgFault) -> Result<Reply, StepFault>
     ensures ok { IfOk result (IsFaultOf fault) }
     ensures err { IfErr result (λ e. e ≡ Memory) }
     ensures wanted { OnErr result (fault ≡ MsgFault.Memory) }
@@ -232,6 +280,6 @@ fn unread(fault: MsgFault) -> Result<Answer, StepFault>
         | MsgFault::UnknownNumber
         | MsgFault::Packet
         | MsgFault::Missing
-        | MsgFault::Value => Ok(Answer::Fault(fault)),
+        | MsgFault::Value => Ok(Reply::Fault(fault)),
     }
 }

@@ -6,7 +6,7 @@ use cli_script::script::{Entry, script_of};
 use rbc_centre::Outcome;
 use rbc_line::Line;
 use rbc_msgs::encode_track;
-use rbc_world::{Answer, World, WorldEvent};
+use rbc_world::{Reply, World, WorldEvent};
 use std::alloc::Global;
 use std::io::{BufWriter, Write};
 use std::time::Instant;
@@ -123,12 +123,13 @@ fn events_in(rt: &HostRuntime, line: &Line, file: &str) -> anyhow::Result<Vec<Wo
 // or memory ran out.
 fn play(alloc: Global, world: &mut World, events: &[WorldEvent]) -> Option<usize> {
     let mut bytes = 0usize;
+    let mut outcome = Outcome::nothing();
     for event in events {
-        let Ok(answer) = world.step(event) else {
+        let Ok(reply) = world.step_to(event, &mut outcome) else {
             return None;
         };
-        if let Answer::Outcome(outcome) = &answer {
-            bytes = bytes.saturating_add(written(alloc, outcome)?);
+        if let Reply::Outcome = reply {
+            bytes = bytes.saturating_add(written(alloc, &outcome)?);
         }
     }
     Some(bytes)

@@ -17,4 +17,4 @@ returns-then-is_nothing-clause-posted c =
 pub returns-then-is_nothing-clause-frames : goal.returns-then-is_nothing-clause-frames
 returns-then-is_nothing-clause-frames c = λ d.
     let none = c.is_nothing.ensures c.if-is_nothing.true c.args.nid_engine (expected_from c.args.expectations.now) d in
-    ap (λ f. f d) c.nothing.ensures ∙ ap (numbered c.args.stamp (length (sent_to c.args.links.now d))) (sym none)
+    ap (λ f. f d) c.clear.ensures ∙ ap (numbered c.args.stamp (length (sent_to c.args.links.now d))) (sym none)

@@ -13,9 +13,9 @@ use Rattle.rbc_centre.proofs.posted.post_all.Goals as goal
 
 pub loop-to-init : goal.loop-to-init
 loop-to-init c = record {
-  sent = rw c.take-list.ensures.items (none_below c.args.stamp (mail_to c.args.line.now c.args.centre c.args.nid_engine (expected_from c.args.expectations.now) c.args.mail.now) c.args.links.now []);
-  count = let none = ap length c.take-list.ensures.items in omega (arith, none);
-  room = λ has. c.take-list.ensures.room has;
+  sent = rw c.swap-list.ensures.items (none_below c.args.stamp (mail_to c.args.line.now c.args.centre c.args.nid_engine (expected_from c.args.expectations.now) c.args.mail.now) c.args.links.now []);
+  count = let none = ap length c.swap-list.ensures.items in omega (arith, none);
+  room = λ has. c.swap-list.ensures.room has;
 }
 
 pub post_part-requires-clause-may : goal.post_part-requires-clause-may
@@ -43,8 +43,8 @@ loop-to-preserved c =
 
 -- ## All centres
 
-pub invariant_of-result : goal.invariant_of-result
-invariant_of-result c =
+pub invariant_of-frames-2 : goal.invariant_of-frames-2
+invariant_of-frames-2 c =
     let mail = mail_to c.args.line.now c.args.centre c.args.nid_engine (expected_from c.args.expectations.now) c.args.mail.now in
     let past = c.loop-to-test.false in
     let centres = c.centre_count-to-end.ensures.value in

@@ -16,9 +16,9 @@ use Rattle.rbc_centre.proofs.posted.post_to_others.Goals as goal
 
 pub loop-to-init : goal.loop-to-init
 loop-to-init c = record {
-  sent = rw c.take-list.ensures.items (none_below c.args.stamp (to_others c.args.line.now c.args.centre (body_of c.args.body)) c.args.links.now []);
-  count = let none = ap length c.take-list.ensures.items in omega (arith, none);
-  room = c.take-list.ensures.room c.requires.room;
+  sent = rw c.swap-list.ensures.items (none_below c.args.stamp (to_others c.args.line.now c.args.centre (body_of c.args.body)) c.args.links.now []);
+  count = let none = ap length c.swap-list.ensures.items in omega (arith, none);
+  room = c.swap-list.ensures.room c.requires.room;
 }
 
 pub post_one-requires-clause-may : goal.post_one-requires-clause-may
@@ -45,8 +45,8 @@ loop-to-preserved c =
 
 -- ## All centres
 
-pub invariant_of-result : goal.invariant_of-result
-invariant_of-result c =
+pub invariant_of-frames-2 : goal.invariant_of-frames-2
+invariant_of-frames-2 c =
     let mail = to_others c.args.line.now c.args.centre (body_of c.args.body) in
     let past = c.loop-to-test.false in
     let centres = c.centre_count-to-end.ensures.value in

@@ -85,11 +85,11 @@ take-heard-requires-clause-announced c = let few = c.args.self.now.announced in 
 
 -- ## What goes to other centres
 
-pub post-frames-requires-clause-linked : goal.post-frames-requires-clause-linked
-post-frames-requires-clause-linked c = c.args.self.now.each_link
+pub post-requires-clause-linked : goal.post-requires-clause-linked
+post-requires-clause-linked c = c.args.self.now.each_link
 
-pub post-frames-requires-clause-may : goal.post-frames-requires-clause-may
-post-frames-requires-clause-may c =
+pub post-requires-clause-may : goal.post-requires-clause-may
+post-requires-clause-may c =
     let k = c.args.self.now in
     let m = step_message c.args.message.now in
     let i = c.args.i in
@@ -102,8 +102,8 @@ post-frames-requires-clause-may c =
     (heard_may k m _ i old number at c.take-heard.new.self c.take-heard.new.book c.take-heard.new.registrar c.take-heard.new.count c.take-heard.ensures.kept c.take-heard.ensures.desk heard c.in-Ok.ensures.exact
     c.requires.time c.requires.numbers c.requires.ranges c.requires.frames)
 
-pub post-frames-requires-clause-room : goal.post-frames-requires-clause-room
-post-frames-requires-clause-room c =
+pub post-requires-clause-room : goal.post-requires-clause-room
+post-requires-clause-room c =
     let k = c.args.self.now in
     let m = step_message c.args.message.now in
     let i = c.args.i in
@@ -133,9 +133,9 @@ invariant_of-self c =
     let desk = c.take-heard.ensures.desk in
     let is = of_train k t i old number at in
     let effect = hears k (Train m) t i old number at now new c.take-heard.new.book c.take-heard.new.registrar c.take-heard.new.count kept desk heard c.in-Ok.ensures.exact in
-    let sent = sent_by k.line k.number c.nid_engine.result old.supervision.engine now (expected_from new.expectations) heard.mail k.links c.post-frames.new.links (frames_to c.post-frames.result) (c.nid_engine.ensures.value ∙ sym is.engine) c.post-frames.ensures.posted c.post-frames.ensures.frames in
-    let s = stays k (Train m) now k.links c.post-frames.new.links c.take-heard.new.book (record { registrar = c.take-heard.new.registrar; handovers = c.take-heard.new.count }) (set k.trains.items i new) (mail_to k.line k.number old.supervision.engine (expected_from new.expectations) heard.mail) (told_train heard.saying heard.order) (map (λ s. Told s) heard.told) None None
-    (heard_stamp k m) (λ d. refl) sent.links effect (frames_to c.post-frames.result) sent.each
+    let sent = sent_by k.line k.number c.nid_engine.result old.supervision.engine now (expected_from new.expectations) heard.mail k.links c.post.new.links (frames_to c.post.new.frames) (c.nid_engine.ensures.value ∙ sym is.engine) c.post.ensures.posted c.post.ensures.frames in
+    let s = stays k (Train m) now k.links c.post.new.links c.take-heard.new.book (record { registrar = c.take-heard.new.registrar; handovers = c.take-heard.new.count }) (set k.trains.items i new) (mail_to k.line k.number old.supervision.engine (expected_from new.expectations) heard.mail) (told_train heard.saying heard.order) (map (λ s. Told s) heard.told) None None
+    (heard_stamp k m) (λ d. refl) sent.links effect (frames_to c.post.new.frames) sent.each
     (omega arith) (omega (arith, c.requires.time)) tt (heard_allowed k c.requires.time c.requires.numbers m) (k.of_line, c.requires.ranges)
     (heard_may k m t i old number at new c.take-heard.new.book c.take-heard.new.registrar c.take-heard.new.count kept desk heard c.in-Ok.ensures.exact c.requires.time c.requires.numbers c.requires.ranges c.requires.frames) desk.homes desk.rights.count (length-set k.trains.items i new) refl (λ d. refl) in
     let enters : Enters k.sessions c.take-heard.new.sessions new.session_state t (session_phase new.session_state) =
@@ -213,12 +213,12 @@ returns-in-Ok-clause-exact c =
     let new = c.take-heard.new.self in
     let heard = c.in-Ok.heard in
     let effect = hears k (Train m) t i old number at now new c.take-heard.new.book c.take-heard.new.registrar c.take-heard.new.count c.take-heard.ensures.kept c.take-heard.ensures.desk heard c.in-Ok.ensures.exact in
-    let left = stands_for k.line k.number now c.take-heard.new.book (record { registrar = c.take-heard.new.registrar; handovers = c.take-heard.new.count }) c.post-frames.new.links (set k.trains.items i new) in
-    let sent = sent_by k.line k.number c.nid_engine.result old.supervision.engine now (expected_from new.expectations) heard.mail k.links c.post-frames.new.links (frames_to c.post-frames.result)
-    (c.nid_engine.ensures.value ∙ sym (of_train k t i old number at).engine) c.post-frames.ensures.posted c.post-frames.ensures.frames in
-    ap (λ (o : Outcome). (o, left)) c.heard.ensures
-    ∙ turns k (Train m) now k.links c.post-frames.new.links c.take-heard.new.book (record { registrar = c.take-heard.new.registrar; handovers = c.take-heard.new.count }) (set k.trains.items i new) (mail_to k.line k.number old.supervision.engine (expected_from new.expectations) heard.mail) (told_train heard.saying heard.order) (map (λ s. Told s) heard.told) None None
-    (heard_stamp k m) (λ d. refl) sent.links effect (frames_to c.post-frames.result) sent.each
+    let left = stands_for k.line k.number now c.take-heard.new.book (record { registrar = c.take-heard.new.registrar; handovers = c.take-heard.new.count }) c.post.new.links (set k.trains.items i new) in
+    let sent = sent_by k.line k.number c.nid_engine.result old.supervision.engine now (expected_from new.expectations) heard.mail k.links c.post.new.links (frames_to c.post.new.frames)
+    (c.nid_engine.ensures.value ∙ sym (of_train k t i old number at).engine) c.post.ensures.posted c.post.ensures.frames in
+    ap (λ (o : Outcome). (o, left)) c.write_heard.ensures
+    ∙ turns k (Train m) now k.links c.post.new.links c.take-heard.new.book (record { registrar = c.take-heard.new.registrar; handovers = c.take-heard.new.count }) (set k.trains.items i new) (mail_to k.line k.number old.supervision.engine (expected_from new.expectations) heard.mail) (told_train heard.saying heard.order) (map (λ s. Told s) heard.told) None None
+    (heard_stamp k m) (λ d. refl) sent.links effect (frames_to c.post.new.frames) sent.each
 
 pub returns-in-Err-clause-exact : goal.returns-in-Err-clause-exact
 returns-in-Err-clause-exact c =
@@ -233,6 +233,6 @@ returns-in-Err-clause-exact c =
     let new = c.take-heard.new.self in
     let effect = takes k (Train m) t i old number at now new c.take-heard.new.book c.take-heard.new.registrar c.take-heard.new.count c.take-heard.ensures.kept c.take-heard.ensures.desk (Err c.in-Err.why) c.in-Err.ensures.exact in
     let left = stands_for k.line k.number now c.take-heard.new.book (record { registrar = c.take-heard.new.registrar; handovers = c.take-heard.new.count }) k.links (set k.trains.items i new) in
-    ap (λ (o : Outcome). (o, left)) c.silent.ensures
+    ap (λ (o : Outcome). (o, left)) c.write_nothing.ensures
     ∙ turns k (Train m) now k.links k.links c.take-heard.new.book (record { registrar = c.take-heard.new.registrar; handovers = c.take-heard.new.count }) (set k.trains.items i new) (λ d. []) [] [] None (Some (reason_of c.in-Err.why))
     (heard_stamp k m) (λ d. refl) (posted_none body_of now k.links) effect (λ d. []) (λ d. refl)

@@ -41,12 +41,12 @@ pub returns-in-Ok-clause-exact : goal.returns-in-Ok-clause-exact
 returns-in-Ok-clause-exact c =
     let k = c.args.self.now in
     let s = c.args.s in
-    set_stands k.line k.number k.clock k.book c.set.new.self k.desk k.links k.trains.items k.trains.items _ _ _ s c.told.ensures
+    set_stands k.line k.number k.clock k.book c.set.new.self k.desk k.links k.trains.items k.trains.items _ _ _ s c.write_told.ensures
     (set_turns k.line k.number (k.clock + 1) k.book c.set.new.self k.desk k.links k.trains.items s (k.own_sections s) c.set.ensures.entry c.set.ensures.wish true (is_unused (entry_at k.book s)) c.in-Ok.ensures.own refl)
 
 pub returns-in-Err-clause-exact : goal.returns-in-Err-clause-exact
 returns-in-Err-clause-exact c =
     let k = c.args.self.now in
     let s = c.args.s in
-    set_stands k.line k.number k.clock k.book c.set.new.self k.desk k.links k.trains.items k.trains.items _ _ _ s c.told-in-Err.ensures
+    set_stands k.line k.number k.clock k.book c.set.new.self k.desk k.links k.trains.items k.trains.items _ _ _ s c.write_told-in-Err.ensures
     (set_turns k.line k.number (k.clock + 1) k.book c.set.new.self k.desk k.links k.trains.items s (k.own_sections s) c.set.ensures.entry c.set.ensures.wish false (is_unused (entry_at k.book s)) c.in-Err.ensures.own refl)

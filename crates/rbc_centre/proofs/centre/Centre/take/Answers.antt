@@ -57,4 +57,4 @@ pub returns-in_default-clause-exact : goal.returns-in_default-clause-exact
 returns-in_default-clause-exact c =
     let k = c.args.self.now in
     let left = stands_for k.line k.number (k.clock + 1) k.book k.desk k.links k.trains.items in
-    ap (λ (o : Outcome). (o, left)) c.silent.ensures ∙ foreign (goal.at.returns-in_default-clause-exact c).In_default
+    ap (λ (o : Outcome). (o, left)) c.write_nothing.ensures ∙ foreign (goal.at.returns-in_default-clause-exact c).In_default

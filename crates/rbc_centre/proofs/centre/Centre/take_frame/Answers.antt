@@ -17,7 +17,7 @@ use Rattle.rbc_train.specs.SessionStates.{Stands}
 use Rattle.rbc_centre.specs.State.{stands_for}
 use Rattle.rbc_centre.specs.Posts.{MayPost}
 use Rattle.rbc_centre.specs.Sent.{frames_to}
-use Rattle.rbc_centre.specs.Views.{link_of, outcome_heard}
+use Rattle.rbc_centre.specs.Views.{link_of}
 use Rattle.rbc_centre.proofs.Deliveries.{not_next, deliver_stamp, delivered_allowed, received_may, offered_as, untaken, ignored, train_takes, silent, stays_silent, next_from, next_number}
 use Rattle.rbc_centre.proofs.States.{number_within, counted_later, each_of_train_still}
 use Rattle.rbc_centre.proofs.Rows.{later_of}
@@ -64,7 +64,7 @@ returns-in_default-clause-exact c =
     let is = offered_as k d f c.offer.new.self c.of-answer.result c.offer.result c.number.result c.of-answer.ensures c.number.ensures.value
     c.offer.ensures.answer c.offer.ensures.count c.offer.ensures.linked c.offer.ensures.taken c.offer.ensures.sent c.offer.ensures.room in
     let left = stands_for k.line k.number clock k.book k.desk c.offer.new.self k.trains.items in
-    (ap (λ (o : Outcome). (o, left)) (c.heard.ensures ∙ (λ i. outcome_heard clock (Some c.of-answer.result) (c.nothing.ensures i) (c.nothing-in_default.ensures i))))
+    ap (λ (o : Outcome). (o, left)) c.write_nothing.ensures
     ∙ silent k clock d f c.offer.new.self (link_of c.of-answer.result) is (deliver_stamp k d f ∙ ap (λ n. n + 1) latest) (subst HasBodyRange c.body-body.ensures.value c.body-body.ensures.range)
     (untaken k clock d f c.offer.new.self (link_of c.of-answer.result) is (not_next c.of-answer.result c.in_default.not-Next))
 
@@ -117,7 +117,7 @@ returns-in_default-train_number-clause-exact c =
     ∙ ap is_some (sym c.train_number.ensures.value ∙ c.in_default-train_number.is) in
     let effect = ignored k clock d f c.offer.new.self (link_of c.of-answer.result) is (ap link_of c.in-Next.is) foreign in
     let left = stands_for k.line k.number clock k.book k.desk c.offer.new.self k.trains.items in
-    (ap (λ (o : Outcome). (o, left)) (c.heard-in_default-train_number.ensures ∙ (λ i. outcome_heard clock (Some c.of-answer.result) (c.nothing-in_default-train_number.ensures i) (c.nothing-in_default-train_number-2.ensures i))))
+    ap (λ (o : Outcome). (o, left)) c.write_nothing-in_default-train_number.ensures
     ∙ silent k clock d f c.offer.new.self (link_of c.of-answer.result) is (deliver_stamp k d f ∙ ap (λ n. n + 1) latest) (subst HasBodyRange c.body-body.ensures.value c.body-body.ensures.range) effect
 
 -- ## Its train
@@ -200,12 +200,12 @@ receive-heard-requires-clause-count c =
     let few = has_count k t i old number at (omega (arith, low, early)) in
     omega (arith, few)
 
-pub post-frames-requires-clause-linked : goal.post-frames-requires-clause-linked
-post-frames-requires-clause-linked c = λ e. c.offer.ensures.linked e ∙ c.args.self.now.each_link e
+pub post-requires-clause-linked : goal.post-requires-clause-linked
+post-requires-clause-linked c = λ e. c.offer.ensures.linked e ∙ c.args.self.now.each_link e
 
-pub post-frames-requires-clause-room : goal.post-frames-requires-clause-room
+pub post-requires-clause-room : goal.post-requires-clause-room
 unfolding stands_for
-post-frames-requires-clause-room c e =
+post-requires-clause-room c e =
     let k = c.args.self.now in
     let d = c.args.from in
     let f = c.args.frame.now in
@@ -213,8 +213,8 @@ post-frames-requires-clause-room c e =
     c.offer.ensures.answer c.offer.ensures.count c.offer.ensures.linked c.offer.ensures.taken c.offer.ensures.sent c.offer.ensures.room in
     inr (c.requires.room (next_number k d f c.offer.new.self (link_of c.of-answer.result) is (ap link_of c.in-Next.is)))
 
-pub post-frames-requires-clause-may : goal.post-frames-requires-clause-may
-post-frames-requires-clause-may c =
+pub post-requires-clause-may : goal.post-requires-clause-may
+post-requires-clause-may c =
     let k = c.args.self.now in
     let d = c.args.from in
     let f = c.args.frame.now in
@@ -266,9 +266,9 @@ invariant_of-self-2 c =
     let stamp = deliver_stamp k d f ∙ ap (λ n. n + 1) latest in
     let range = subst HasBodyRange c.body-body.ensures.value c.body-body.ensures.range in
     let allowed = delivered_allowed k d f c.requires.time c.requires.numbers in
-    let sent = sent_by k.line k.number c.engine-2.result old.supervision.engine clock (expected_from new.expectations) heard.mail c.offer.new.self c.post-frames.new.links (frames_to c.post-frames.result) (c.engine-2.ensures ∙ sym c.engine.ensures ∙ sym train.engine) c.post-frames.ensures.posted c.post-frames.ensures.frames in
-    let s = stays k (Deliver d f) clock c.offer.new.self c.post-frames.new.links c.receive-heard.new.book (record { registrar = c.receive-heard.new.registrar; handovers = k.desk.handovers }) (set k.trains.items i new) (mail_to k.line k.number old.supervision.engine (expected_from new.expectations) heard.mail) (told_train heard.saying heard.order) (map (λ s. Told s) heard.told) (Some answer) None
-    stamp c.offer.ensures.sent sent.links effect (frames_to c.post-frames.result) sent.each
+    let sent = sent_by k.line k.number c.engine-2.result old.supervision.engine clock (expected_from new.expectations) heard.mail c.offer.new.self c.post.new.links (frames_to c.post.new.frames) (c.engine-2.ensures ∙ sym c.engine.ensures ∙ sym train.engine) c.post.ensures.posted c.post.ensures.frames in
+    let s = stays k (Deliver d f) clock c.offer.new.self c.post.new.links c.receive-heard.new.book (record { registrar = c.receive-heard.new.registrar; handovers = k.desk.handovers }) (set k.trains.items i new) (mail_to k.line k.number old.supervision.engine (expected_from new.expectations) heard.mail) (told_train heard.saying heard.order) (map (λ s. Told s) heard.told) (Some answer) None
+    stamp c.offer.ensures.sent sent.links effect (frames_to c.post.new.frames) sent.each
     (omega arith) (omega (arith, early, latest)) (range_hand f.body range) allowed range
     (received_may k d f clock c.offer.new.self _ old (expected_from new.expectations) heard answer stamp c.offer.ensures.sent effect allowed range c.offer.ensures.linked c.offer.ensures.room
     (c.requires.frames (next_number k d f c.offer.new.self (link_of c.of-answer.result) is (ap link_of c.in-Next.is)))) desk.homes desk.rights.count (length-set k.trains.items i new) c.offer.ensures.count c.offer.ensures.linked in
@@ -320,9 +320,9 @@ returns-clause-exact c =
     let next = ap link_of c.in-Next.is in
     let effect = train_takes k clock d f c.offer.new.self answer is next t i old number at new c.receive-heard.new.book c.receive-heard.new.registrar kept desk heard
     (λ x has known. ap (λ (b : Body). received k.line k.number d b x) (sym c.body-body.ensures.value) ∙ c.receive-heard.ensures.exact x has known) in
-    let left = stands_for k.line k.number clock c.receive-heard.new.book (record { registrar = c.receive-heard.new.registrar; handovers = k.desk.handovers }) c.post-frames.new.links (set k.trains.items i new) in
-    let sent = sent_by k.line k.number c.engine-2.result old.supervision.engine clock (expected_from new.expectations) heard.mail c.offer.new.self c.post-frames.new.links (frames_to c.post-frames.result)
-    (c.engine-2.ensures ∙ sym c.engine.ensures ∙ sym (of_train k t i old number at).engine) c.post-frames.ensures.posted c.post-frames.ensures.frames in
-    ap (λ (o : Outcome). (o, left)) c.heard-2.ensures
-    ∙ turns k (Deliver d f) clock c.offer.new.self c.post-frames.new.links c.receive-heard.new.book (record { registrar = c.receive-heard.new.registrar; handovers = k.desk.handovers }) (set k.trains.items i new) (mail_to k.line k.number old.supervision.engine (expected_from new.expectations) heard.mail) (told_train heard.saying heard.order) (map (λ s. Told s) heard.told) (Some answer) None
-    (deliver_stamp k d f ∙ ap (λ n. n + 1) latest) c.offer.ensures.sent sent.links effect (frames_to c.post-frames.result) sent.each
+    let left = stands_for k.line k.number clock c.receive-heard.new.book (record { registrar = c.receive-heard.new.registrar; handovers = k.desk.handovers }) c.post.new.links (set k.trains.items i new) in
+    let sent = sent_by k.line k.number c.engine-2.result old.supervision.engine clock (expected_from new.expectations) heard.mail c.offer.new.self c.post.new.links (frames_to c.post.new.frames)
+    (c.engine-2.ensures ∙ sym c.engine.ensures ∙ sym (of_train k t i old number at).engine) c.post.ensures.posted c.post.ensures.frames in
+    ap (λ (o : Outcome). (o, left)) c.write_heard.ensures
+    ∙ turns k (Deliver d f) clock c.offer.new.self c.post.new.links c.receive-heard.new.book (record { registrar = c.receive-heard.new.registrar; handovers = k.desk.handovers }) (set k.trains.items i new) (mail_to k.line k.number old.supervision.engine (expected_from new.expectations) heard.mail) (told_train heard.saying heard.order) (map (λ s. Told s) heard.told) (Some answer) None
+    (deliver_stamp k d f ∙ ap (λ n. n + 1) latest) c.offer.ensures.sent sent.links effect (frames_to c.post.new.frames) sent.each

@@ -73,7 +73,7 @@ pub returns-in-Ok-Done-clause-exact : goal.returns-in-Ok-Done-clause-exact
 returns-in-Ok-Done-clause-exact c =
     let k = c.args.self.now in
     let s = c.args.s in
-    unset_stands k.line k.number k.clock k.book c.unset.new.self k.desk k.links k.trains.items k.trains.items _ _ _ s c.told.ensures
+    unset_stands k.line k.number k.clock k.book c.unset.new.self k.desk k.links k.trains.items k.trains.items _ _ _ s c.write_told.ensures
     (unset_turns k.line k.number (k.clock + 1) k.book c.unset.new.self k.desk k.links k.trains.items s (k.own_sections s) c.unset.ensures.entry c.unset.ensures.wish true c.in-Ok-Done.ensures.own
     (λ _. done_unused (entry_at k.book s) (sym c.in-Ok-Done.field-0-is ∙ c.in-Ok-Done.ensures.answer)))
 
@@ -81,7 +81,7 @@ pub returns-in-Err-clause-exact : goal.returns-in-Err-clause-exact
 returns-in-Err-clause-exact c =
     let k = c.args.self.now in
     let s = c.args.s in
-    unset_stands k.line k.number k.clock k.book c.unset.new.self k.desk k.links k.trains.items k.trains.items _ _ _ s c.told-in-Err.ensures
+    unset_stands k.line k.number k.clock k.book c.unset.new.self k.desk k.links k.trains.items k.trains.items _ _ _ s c.write_told-in-Err.ensures
     (unset_turns k.line k.number (k.clock + 1) k.book c.unset.new.self k.desk k.links k.trains.items s (k.own_sections s) c.unset.ensures.entry c.unset.ensures.wish false c.in-Err.ensures.own (λ e. cc))
 
 -- ## A section in use
@@ -156,9 +156,9 @@ returns-after-user-clause-exact c = elim c.match-user.branch [
       let asks : (j : centre.Centre) → HasTrain j t before → propose_if_so k.line t s j ≡ asked t after sayings j =
       subst (λ (n : ℕ). (j : centre.Centre) → HasTrain j n before → propose_if_so k.line n s j ≡ asked n after sayings j) user.engine ask.exact
       in
-      (λ i. (outcome_of c.told-in-Ok-Asked.result, state_of (w.self-is i)))
+      (λ i. (outcome_of c.write_told-in-Ok-Asked.new.self, state_of (w.self-is i)))
       ∙ unset_stands k.line k.number k.clock k.book c.unset.new.self k.desk k.links states (set states w.in-Some.i after) sayings (Asked s ∷ []) _ s
-      (c.told-in-Ok-Asked.ensures ∙ (λ i. outcome_with ((w.self-is i).clock) (λ d. []) (sayings_of (w.request-is i)) (Asked s ∷ []) None None))
+      (c.write_told-in-Ok-Asked.ensures ∙ (λ i. outcome_with ((w.self-is i).clock) (λ d. []) (sayings_of (w.request-is i)) (Asked s ∷ []) None None))
       (asked_turns k.line k.number (k.clock + 1) k.book c.unset.new.self k.desk k.links states s (k.own_sections s) c.unset.ensures.entry c.unset.ensures.wish
       t w.in-Some.i before after sayings c.in-Ok-Asked.ensures.own user.taken user.number user.at user.within ask.session_state ask.heard ask.question ask.waiting ask.expectations asks)
   | in-None w ↦ absurd (no_user c.args.self.now c.args.s c.requires.here (sym c.in-Ok-Asked.field-0-is ∙ c.in-Ok-Asked.ensures.answer) (λ t taken. sym (c.user_of-user.ensures.value t taken) ∙ w.in-None.is))

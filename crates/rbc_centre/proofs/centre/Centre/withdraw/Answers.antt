@@ -1,4 +1,4 @@
-use Rattle.std.proofs.Common.{ℕ, ◌∙◌, ◌+◌, [], ◌∷◌, ap, refl, None, arith}
+use Rattle.std.proofs.Common.{◌∙◌, ◌+◌, [], ◌∷◌, ap, refl, None, arith}
 use Rattle.rbc_spec.specs.Frame.{RouteWithdraw}
 use Rattle.rbc_spec.specs.Outcome.{Outcome, Asked}
 use Rattle.rbc_spec.specs.Step.{Unset}
@@ -10,21 +10,21 @@ use Rattle.rbc_centre.proofs.Turns.{turns, stays, unset_allowed, unset_stamp}
 use Rattle.rbc_centre.proofs.Withdrawn.{withdraws, may_withdraw}
 use Rattle.rbc_centre.proofs.centre.Centre.withdraw.Goals as goal
 
-pub post_to_others-frames-requires-clause-may : goal.post_to_others-frames-requires-clause-may
-post_to_others-frames-requires-clause-may c =
+pub post_to_others-requires-clause-may : goal.post_to_others-requires-clause-may
+post_to_others-requires-clause-may c =
     may_withdraw c.args.self.now c.args.s c.args.nid_engine c.unset-asked.new.self c.requires.out c.unset-asked.ensures.entry c.unset-asked.ensures.wish
     c.requires.time c.requires.numbers c.requires.frames
 
-pub post_to_others-frames-requires-clause-linked : goal.post_to_others-frames-requires-clause-linked
-post_to_others-frames-requires-clause-linked c = c.args.self.now.each_link
+pub post_to_others-requires-clause-linked : goal.post_to_others-requires-clause-linked
+post_to_others-requires-clause-linked c = c.args.self.now.each_link
 
 pub invariant_of-self : goal.invariant_of-self
 invariant_of-self c =
     let k = c.args.self.now in
-    let s = stays k (Unset c.args.s) (k.clock + 1) k.links c.post_to_others-frames.new.links c.unset-asked.new.self k.desk k.trains.items (to_others k.line k.number (RouteWithdraw c.args.nid_engine c.args.s)) [] (Asked c.args.s ∷ []) None None
-    (unset_stamp k c.args.s) (λ d. refl) c.post_to_others-frames.ensures.posted
+    let s = stays k (Unset c.args.s) (k.clock + 1) k.links c.post_to_others.new.links c.unset-asked.new.self k.desk k.trains.items (to_others k.line k.number (RouteWithdraw c.args.nid_engine c.args.s)) [] (Asked c.args.s ∷ []) None None
+    (unset_stamp k c.args.s) (λ d. refl) c.post_to_others.ensures.posted
     (withdraws k c.args.s c.args.nid_engine c.unset-asked.new.self c.requires.out c.unset-asked.ensures.entry c.unset-asked.ensures.wish)
-    (frames_to c.post_to_others-frames.result) c.post_to_others-frames.ensures.frames
+    (frames_to c.post_to_others.new.frames) c.post_to_others.ensures.frames
     (omega arith) (omega (arith, c.requires.time)) tt (unset_allowed k c.requires.time c.requires.numbers c.args.s) tt
     (may_withdraw k c.args.s c.args.nid_engine c.unset-asked.new.self c.requires.out c.unset-asked.ensures.entry c.unset-asked.ensures.wish
     c.requires.time c.requires.numbers c.requires.frames) c.unset-asked.ensures.homes refl refl refl (λ d. refl) in
@@ -48,9 +48,9 @@ invariant_of-self c =
 pub returns-clause-exact : goal.returns-clause-exact
 returns-clause-exact c =
     let k = c.args.self.now in
-    let left = stands_for k.line k.number (k.clock + 1) c.unset-asked.new.self k.desk c.post_to_others-frames.new.links k.trains.items in
-    ap (λ (o : Outcome). (o, left)) c.sent.ensures
-    ∙ turns k (Unset c.args.s) (k.clock + 1) k.links c.post_to_others-frames.new.links c.unset-asked.new.self k.desk k.trains.items (to_others k.line k.number (RouteWithdraw c.args.nid_engine c.args.s)) [] (Asked c.args.s ∷ []) None None
-    (unset_stamp k c.args.s) (λ d. refl) c.post_to_others-frames.ensures.posted
+    let left = stands_for k.line k.number (k.clock + 1) c.unset-asked.new.self k.desk c.post_to_others.new.links k.trains.items in
+    ap (λ (o : Outcome). (o, left)) c.write_sent.ensures
+    ∙ turns k (Unset c.args.s) (k.clock + 1) k.links c.post_to_others.new.links c.unset-asked.new.self k.desk k.trains.items (to_others k.line k.number (RouteWithdraw c.args.nid_engine c.args.s)) [] (Asked c.args.s ∷ []) None None
+    (unset_stamp k c.args.s) (λ d. refl) c.post_to_others.ensures.posted
     (withdraws k c.args.s c.args.nid_engine c.unset-asked.new.self c.requires.out c.unset-asked.ensures.entry c.unset-asked.ensures.wish)
-    (frames_to c.post_to_others-frames.result) c.post_to_others-frames.ensures.frames
+    (frames_to c.post_to_others.new.frames) c.post_to_others.ensures.frames

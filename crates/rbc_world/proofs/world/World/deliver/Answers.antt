@@ -1,7 +1,7 @@
 use Rattle.std.proofs.Common.{◌∙◌, Result, sym, subst}
 use Rattle.rbc_spec.specs.World.{World, Answer, frame_sent}
 use Rattle.rbc_spec.specs.Step.{Refusal}
-use Rattle.rbc_world.specs.Views.{answer_of}
+use Rattle.rbc_world.specs.Views.{answer_by}
 use Rattle.rbc_world.specs.Answers.{Gives}
 use Rattle.rbc_world.specs.World.{line_of, state_of}
 use Rattle.rbc_world.proofs.Steps.{delivered, not_sent}
@@ -15,7 +15,7 @@ pub returns-in-Some-clause-exact : goal.returns-in-Some-clause-exact
 returns-in-Some-clause-exact c =
     let w = c.args.self.now in
     let sent = sym c.frame_sent.ensures.value ∙ c.in-Some.is in
-    subst (λ (step : Result (Answer × World) Refusal). Gives (λ a. (answer_of a, state_of c.tell.new.self)) c.tell.result step)
+    subst (λ (step : Result (Answer × World) Refusal). Gives (λ r. (answer_by r c.tell.new.out, state_of c.tell.new.self)) c.tell.result step)
     (sym (delivered (line_of w) (state_of w) c.args.from c.args.to c.args.number c.in-Some.frame (rw c.in-Some.is at c.frame_sent.ensures.receiver) sent)) c.tell.ensures.exact
 
 pub returns-in-Some-clause-memory : goal.returns-in-Some-clause-memory

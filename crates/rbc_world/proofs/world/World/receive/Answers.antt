@@ -1,7 +1,7 @@
 use Rattle.std.proofs.Common.{◌<◌, ◌≤◌, sym, rules, length, Result, subst}
 use Rattle.rbc_spec.specs.World.{World, Answer}
 use Rattle.rbc_spec.specs.Step.{Refusal}
-use Rattle.rbc_world.specs.Views.{answer_of}
+use Rattle.rbc_world.specs.Views.{answer_by}
 use Rattle.rbc_world.specs.Answers.{Gives}
 use Rattle.rbc_world.specs.World.{state_of}
 use Rattle.rbc_world.proofs.Steps.{no_centre, message_step, unread_gives}
@@ -17,12 +17,12 @@ pub returns-in-Ok-clause-exact : goal.returns-in-Ok-clause-exact
 returns-in-Ok-clause-exact c =
     let within : c.args.c < length c.args.self.now.centres.items = search rules in
     let same = message_step c.args.self.now.line (state_of c.args.self.now) c.args.self.now.centres.items c.args.c _ c.in-Ok.message c.args.self.now.each_centre within c.in-Ok.ensures.exact in
-    subst (λ (step : Result (Answer × World) Refusal). Gives (λ a. (answer_of a, state_of c.hear.new.self)) c.hear.result step) (sym same) c.hear.ensures.exact
+    subst (λ (step : Result (Answer × World) Refusal). Gives (λ r. (answer_by r c.hear.new.out, state_of c.hear.new.self)) c.hear.result step) (sym same) c.hear.ensures.exact
 
 pub returns-in-Err-clause-exact : goal.returns-in-Err-clause-exact
 returns-in-Err-clause-exact c =
     let within : c.args.c < length c.args.self.now.centres.items = search rules in
-    unread_gives c.args.self.now.line _ c.args.self.now.centres.items c.args.c _ c.in-Err.fault c.unread.result c.args.self.now.each_centre within c.in-Err.ensures.exact c.unread.ensures.ok c.unread.ensures.err
+    unread_gives c.args.self.now.line _ c.args.self.now.centres.items c.args.c _ c.in-Err.fault c.unread.result c.args.out.now c.args.self.now.each_centre within c.in-Err.ensures.exact c.unread.ensures.ok c.unread.ensures.err
 
 pub returns-in-Ok-clause-memory : goal.returns-in-Ok-clause-memory
 returns-in-Ok-clause-memory c =

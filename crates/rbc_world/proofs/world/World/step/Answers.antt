@@ -1,33 +1,21 @@
-use Rattle.std.proofs.Common.{sym, subst}
-use Rattle.rbc_spec.specs.Line.{IsLine}
+use Rattle.std.proofs.Common.{◌∙◌, ap, sym, Ok}
+use Rattle.rbc_spec.specs.World.{Answer}
 use Rattle.rbc_world.specs.World.{state_of}
-use Rattle.rbc_world.proofs.Known.{world_stands, world_sound}
-use Rattle.rbc_world.proofs.Steps.{step_piece, step_promises, step_forced}
-use Rattle.rbc_world.proofs.Outside.{step_outside}
 use Rattle.rbc_world.proofs.world.World.step.Goals as goal
 
-pub returns-clause-piece : goal.returns-clause-piece
-returns-clause-piece c =
-    let old = c.args.self.now in
-    step_piece old.line c.known_line.ensures (state_of old) (state_of c.take.new.self) c.args.event.now old.reached c.take.result c.take.ensures.exact
+-- the answer is made of the reply and of the outcome that was written
 
-pub returns-clause-promises : goal.returns-clause-promises
-returns-clause-promises c =
-    let old = c.args.self.now in
-    step_promises old.line c.known_line.ensures (state_of old) (state_of c.take.new.self) c.args.event.now old.reached c.take.result c.take.ensures.exact
+pub returns-in-Ok-clause-exact : goal.returns-in-Ok-clause-exact
+returns-in-Ok-clause-exact c = c.in-Ok.ensures.exact ∙ ap (λ (a : Answer). Ok (a, state_of c.step_to.new.self)) (sym c.with.ensures)
 
-pub returns-clause-outside : goal.returns-clause-outside
-returns-clause-outside c =
-    let old = c.args.self.now in
-    step_outside old.line c.known_line.ensures (state_of old) (state_of c.take.new.self) c.args.event.now c.take.result c.take.ensures.exact
+pub returns-in-Ok-clause-piece : goal.returns-in-Ok-clause-piece
+returns-in-Ok-clause-piece c = rw c.with.ensures c.in-Ok.ensures.piece
 
-pub returns-clause-stands : goal.returns-clause-stands
-returns-clause-stands c = let new = c.take.new.self in world_stands new.line (state_of new) (subst IsLine (sym c.take.ensures.line) c.known_line.ensures) new.reached
+pub returns-in-Ok-clause-promises : goal.returns-in-Ok-clause-promises
+returns-in-Ok-clause-promises c = rw c.with.ensures c.in-Ok.ensures.promises
 
-pub returns-clause-sound : goal.returns-clause-sound
-returns-clause-sound c = let new = c.take.new.self in world_sound new.line (state_of new) (subst IsLine (sym c.take.ensures.line) c.known_line.ensures) new.reached
+pub returns-in-Ok-clause-outside : goal.returns-in-Ok-clause-outside
+returns-in-Ok-clause-outside c = rw c.with.ensures c.in-Ok.ensures.outside
 
-pub returns-clause-one_centre : goal.returns-clause-one_centre
-returns-clause-one_centre c d one =
-    let old = c.args.self.now in
-    step_forced old.line c.known_line.ensures (state_of old) (state_of c.take.new.self) c.args.event.now old.reached d one c.take.result c.take.ensures.exact
+pub returns-in-Ok-clause-one_centre : goal.returns-in-Ok-clause-one_centre
+returns-in-Ok-clause-one_centre c d one = rw c.with.ensures (c.in-Ok.ensures.one_centre d one)

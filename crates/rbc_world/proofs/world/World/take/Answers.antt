@@ -1,7 +1,7 @@
 use Rattle.std.proofs.Common.{Result, sym, subst}
 use Rattle.rbc_spec.specs.World.{World, Answer}
 use Rattle.rbc_spec.specs.Step.{Refusal}
-use Rattle.rbc_world.specs.Views.{answer_of}
+use Rattle.rbc_world.specs.Views.{answer_by}
 use Rattle.rbc_world.specs.Answers.{Gives}
 use Rattle.rbc_world.specs.World.{state_of}
 use Rattle.rbc_world.proofs.Steps.{set_told, unset_told}
@@ -16,10 +16,10 @@ returns-in-Deliver-clause-exact c = rw c.in-Deliver.is c.deliver.ensures.exact
 
 pub returns-in-Set-clause-exact : goal.returns-in-Set-clause-exact
 returns-in-Set-clause-exact c =
-    rw c.in-Set.is (subst (λ (step : Result (Answer × World) Refusal). Gives (λ a. (answer_of a, state_of c.set.new.self)) c.set.result step)
+    rw c.in-Set.is (subst (λ (step : Result (Answer × World) Refusal). Gives (λ r. (answer_by r c.set.new.out, state_of c.set.new.self)) c.set.result step)
     (sym (set_told _ _ _ _)) c.set.ensures.exact)
 
 pub returns-in-Unset-clause-exact : goal.returns-in-Unset-clause-exact
 returns-in-Unset-clause-exact c =
-    rw c.in-Unset.is (subst (λ (step : Result (Answer × World) Refusal). Gives (λ a. (answer_of a, state_of c.unset.new.self)) c.unset.result step)
+    rw c.in-Unset.is (subst (λ (step : Result (Answer × World) Refusal). Gives (λ r. (answer_by r c.unset.new.out, state_of c.unset.new.self)) c.unset.result step)
     (sym (unset_told _ _ _ _)) c.unset.ensures.exact)

@@ -7,7 +7,7 @@ use Rattle.rbc_centre.specs.Views.{event_of}
 use Rattle.rbc_centre.specs.declared.event.Event.{Event}
 use Rattle.rbc_centre.proofs.Deliveries.{deliver_stamp}
 use Rattle.rbc_centre.proofs.Steps.{refused_step, taken_step, allowed, next_stamp}
-use Rattle.rbc_centre.proofs.centre.Centre.step.Goals as goal
+use Rattle.rbc_centre.proofs.centre.Centre.step_to.Goals as goal
 
 pub returns-in_err-may_step-clause-exact : goal.returns-in_err-may_step-clause-exact
 returns-in_err-may_step-clause-exact c =
