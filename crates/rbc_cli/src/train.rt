@@ -11,7 +11,7 @@ use std::rt::Files;
 use std::time::Duration;
 
 /// How long a centre may say nothing that is waited for, and take nothing, in seconds.
-const PATIENCE: u64 = 60;
+const PATIENCE_S: u64 = 60;
 
 /// Sends the lines of a file to the centre at this port of this host, and prints what it reads. Behind them it waits
 /// until the centre has taken all.
@@ -42,8 +42,8 @@ fn run_text<R: Net<Stream = TcpStream> + AllocGlobal, O: Write>(
     let steps = steps_of(rt.alloc(), text)?;
     let address = SocketAddr::new(IpAddr::V4(Ipv4Addr::LOCALHOST), port);
     let mut stream = TcpStream::connect(rt, address)?;
-    stream.set_read_timeout(Some(Duration::from_secs(PATIENCE)))?;
-    stream.set_write_timeout(Some(Duration::from_secs(PATIENCE)))?;
+    stream.set_read_timeout(Some(Duration::from_secs(PATIENCE_S)))?;
+    stream.set_write_timeout(Some(Duration::from_secs(PATIENCE_S)))?;
     drive(rt.alloc(), &steps, &mut stream, out)?;
     stream.shutdown(Shutdown::Write)?;
     see_off(&mut stream)

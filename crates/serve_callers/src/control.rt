@@ -1,5 +1,5 @@
 use crate::answer::{SCRIPT_FAULT, answer};
-use crate::limits::{CONTROL_REST, set_waits};
+use crate::limits::{CONTROL_REST_MS, set_waits};
 use crate::rows::{Came, RowReader};
 use rbc_node::Share;
 use serve_control::{Command, CommandFault, command_of};
@@ -32,7 +32,7 @@ pub(crate) fn serve_control<R: Wait, N: Notes>(
 ) {
     let number = seat.number;
     notes.note(format_args!("control: connection {number} begins"));
-    set_waits(stream, Duration::from_millis(CONTROL_REST));
+    set_waits(stream, Duration::from_millis(CONTROL_REST_MS));
     let mut shares = seat.shares.lock(rt);
     if answer_rows(rt, hall, notes, seat, shares.as_mut_slice(), stream) == Next::Stop {
         notes.note(format_args!("control: connection {number} says stop"));

@@ -1,7 +1,7 @@
 use crate::control::serve_control;
-use crate::limits::{DEAF_REST, GRACE_RESTS, LEAVING_RESTS};
+use crate::limits::{DEAF_REST_MS, GRACE_RESTS, LEAVING_RESTS};
 use crate::sessions::serve_train;
-use serve_hall::{Caller, DOOR_REST, Door, Hall, Seat};
+use serve_hall::{Caller, DOOR_REST_MS, Door, Hall, Seat};
 use serve_show::{Life, Notes};
 use std::alloc::Global;
 use std::io::ErrorKind;
@@ -104,14 +104,14 @@ fn rest_behind<R: Wait, N: Notes>(
         _ => {
             let name = hall.name(door.caller);
             notes.note(format_args!("{name}: no connection can be taken now: {error}"));
-            door.bell.park_timeout(rt, Duration::from_millis(DEAF_REST));
+            door.bell.park_timeout(rt, Duration::from_millis(DEAF_REST_MS));
         }
     }
 }
 
 // Rests a while at a door.
 fn rest<R: Wait>(rt: &R, door: &Door) {
-    door.bell.park_timeout(rt, Duration::from_millis(DOOR_REST));
+    door.bell.park_timeout(rt, Duration::from_millis(DOOR_REST_MS));
 }
 
 // A seat for a new connection. Where all are taken, another connection leaves its own: of those of trains the first

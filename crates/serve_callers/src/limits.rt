@@ -10,16 +10,16 @@ pub(crate) const REPLIES: usize = 256;
 pub(crate) const MOST_ROW: usize = 4_096;
 
 /// How long a write may wait for a client that reads nothing, in seconds. Then its connection is cut.
-const PATIENCE: u64 = 10;
+const PATIENCE_S: u64 = 10;
 
 /// How long a train may say nothing, in seconds. Then its connection counts as lost.
-pub(crate) const SILENCE: u64 = 600;
+pub(crate) const SILENCE_S: u64 = 600;
 
 /// How long a door rests where the system gives it no connection, in milliseconds.
-pub(crate) const DEAF_REST: u64 = 1_000;
+pub(crate) const DEAF_REST_MS: u64 = 1_000;
 
 /// How long a control connection waits for a line before it looks whether the centres still run, in milliseconds.
-pub(crate) const CONTROL_REST: u64 = 100;
+pub(crate) const CONTROL_REST_MS: u64 = 100;
 
 /// How long a connection has to leave its seat for another, in rests of a door.
 pub(crate) const LEAVING_RESTS: u32 = 50;
@@ -28,9 +28,9 @@ pub(crate) const LEAVING_RESTS: u32 = 50;
 pub(crate) const GRACE_RESTS: u32 = 1_500;
 
 /// Lets a connection send at once. A read waits for the client no longer than this, and a write no longer than
-/// `PATIENCE`.
+/// `PATIENCE_S`.
 pub(crate) fn set_waits(stream: &TcpStream, reading: Duration) {
     let _ = stream.set_nodelay(true);
     let _ = stream.set_read_timeout(Some(reading));
-    let _ = stream.set_write_timeout(Some(Duration::from_secs(PATIENCE)));
+    let _ = stream.set_write_timeout(Some(Duration::from_secs(PATIENCE_S)));
 }

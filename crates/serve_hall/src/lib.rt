@@ -15,7 +15,7 @@ mod teller;
 pub use build::{bells_of, doors_of, exchanges_of, journals_of, links_of, nodes_of, tellers_of};
 pub use doors::{Doors, Listening};
 pub use hall::{Caller, DirectedLink, Hall, State};
-pub use limits::DOOR_REST;
+pub use limits::DOOR_REST_MS;
 pub use manner::Manner;
 pub use seats::{Door, Seat};
 pub use teller::Teller;

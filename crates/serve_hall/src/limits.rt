@@ -18,4 +18,4 @@ pub(crate) const BURST: u32 = 20_000;
 pub(crate) const MOST_TOLD: usize = 65_536;
 
 /// How long a door rests at most before it looks for a connection again, in milliseconds.
-pub const DOOR_REST: u64 = 20;
+pub const DOOR_REST_MS: u64 = 20;

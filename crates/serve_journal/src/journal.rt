@@ -6,7 +6,7 @@ use std::time::Duration;
 const MOST_BEHIND: u32 = 4_096;
 
 /// How long the thread that writes rests before it looks for events again, in milliseconds.
-const REST: u64 = 50;
+const REST_MS: u64 = 50;
 
 /// How far a centre's journal is written. Who lets an answer out asks here first.
 #[derive(Drop)]
@@ -96,7 +96,7 @@ impl Journal {
 
     /// Rests until the journal is rung, or for a while.
     pub(crate) fn rest<R: Wait>(&self, rt: &R) {
-        self.bell.park_timeout(rt, Duration::from_millis(REST));
+        self.bell.park_timeout(rt, Duration::from_millis(REST_MS));
     }
 
     /// All events up to this stamp are written.

@@ -13,7 +13,7 @@ use std::time::{Clock, Duration};
 use std::{io, thread};
 
 /// How long the thread that writes rests behind a write that failed, in milliseconds.
-const STUCK_REST: u64 = 500;
+const STUCK_REST_MS: u64 = 500;
 
 /// Who writes the journal of a centre.
 #[derive(Drop)]
@@ -57,7 +57,7 @@ pub fn keep_journal<R: Wait + Clock, N: Notes, F: Write + Seek + OpenFile>(
                 if keeper.is_stopped.load(Ordering::SeqCst) {
                     return false;
                 }
-                thread::sleep(rt, Duration::from_millis(STUCK_REST));
+                thread::sleep(rt, Duration::from_millis(STUCK_REST_MS));
             }
         }
     }

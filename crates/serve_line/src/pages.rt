@@ -1,7 +1,7 @@
 use cli_status::Fault;
 use rbc_line::Line;
 use serve_glance::Glance;
-use serve_hall::{Caller, DOOR_REST, Door, Hall, Listening};
+use serve_hall::{Caller, DOOR_REST_MS, Door, Hall, Listening};
 use serve_page::{Asked, CentreNow, Refusal, answer, asked_of, refusal};
 use serve_show::Notes;
 use std::alloc::{AllocError, Global};
@@ -17,14 +17,14 @@ use std::time::{Clock, Duration, Instant};
 const BROWSERS: usize = 8;
 
 /// How long a read or a write of a browser's connection waits, in milliseconds.
-const PAGE_REST: u64 = 250;
+const PAGE_REST_MS: u64 = 250;
 
 /// How many reads and writes there are at most in one connection.
 const TURNS: u32 = 16;
 
 /// How long the line counts as seen, in milliseconds: however many ask, the centres are looked at four times a second
 /// at most.
-const FRESH: u64 = 250;
+const FRESH_MS: u64 = 250;
 
 /// The port at which browsers ask for the page of the line.
 #[derive(Drop)]
@@ -94,7 +94,7 @@ pub(crate) fn run_pages<R: Threads + Wait + Sync + Clock, N: Notes + Sync>(
                 break;
             }
             let Ok((stream, _)) = door.listener.accept() else {
-                door.bell.park_timeout(rt, Duration::from_millis(DOOR_REST));
+                door.bell.park_timeout(rt, Duration::from_millis(DOOR_REST_MS));
                 continue;
             };
             let Some(seat) = door.free_seat() else {
@@ -124,8 +124,8 @@ fn refuse(stream: &TcpStream) {
 // Answers one request, and ends the connection.
 fn serve_browser<R: Wait + Clock>(rt: &R, hall: &Hall<'_>, door: &PageDoor, stream: &TcpStream) {
     let _ = stream.set_nodelay(true);
-    let _ = stream.set_read_timeout(Some(Duration::from_millis(PAGE_REST)));
-    let _ = stream.set_write_timeout(Some(Duration::from_millis(PAGE_REST)));
+    let _ = stream.set_read_timeout(Some(Duration::from_millis(PAGE_REST_MS)));
+    let _ = stream.set_write_timeout(Some(Duration::from_millis(PAGE_REST_MS)));
     let Some(asked) = read_request(hall, stream) else {
         return;
     };
@@ -192,7 +192,7 @@ fn refresh<R: Wait + Clock>(
         return Ok(());
     };
     if let Some(at) = seen.at {
-        if time.duration_since(at) < Duration::from_millis(FRESH) {
+        if time.duration_since(at) < Duration::from_millis(FRESH_MS) {
             return Ok(());
         }
     }

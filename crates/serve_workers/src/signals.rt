@@ -4,7 +4,7 @@ use std::thread::Parker;
 use std::time::Duration;
 
 /// How long a worker rests at most before it looks again, in milliseconds.
-const REST: u64 = 50;
+const REST_MS: u64 = 50;
 
 /// How often a worker rests at the end, one time after another, while the worker at the other end of its link does
 /// nothing.
@@ -92,7 +92,7 @@ impl Signals<'_> {
 
     /// Rests until the worker is rung, or for a while.
     fn rest<R: Wait>(&self, rt: &R) {
-        self.own.park_timeout(rt, Duration::from_millis(REST));
+        self.own.park_timeout(rt, Duration::from_millis(REST_MS));
     }
 
     /// Rings the worker at the other end of the link.
