@@ -7,7 +7,7 @@ use Rattle.std.proofs.lemmas.Bool.{true≢false}
 use Rattle.std.proofs.Math.Dec.{eqb}
 use Rattle.cli_journal.specs.declared.fault.JournalFault.{JournalFault}
 use Rattle.cli_journal.specs.declared.fault.JournalFault.TheVariants.{Memory}
-use Rattle.std.proofs.lemmas.List.{append-nil, append_cancel_right}
+use Rattle.std.proofs.lemmas.List.{append_cancel_right}
 use Rattle.cli_script.specs.Script.{Show, row_asks}
 use Rattle.std.specs.List.{AllByRecursion, flat_map, starts_with}
 use Rattle.std.specs.Fmt.{decimal}
@@ -141,25 +141,6 @@ stuck line good c text es rest row others r cut clean bad fs h =
     (ap (λ (t : List ℕ). t ++ h.rest) (sym (entry_lines_are line fs)) ∙ sym h.whole ∙ r.whole
     ∙ ap (λ (t : List ℕ). t ++ rest) (entry_lines_are line es) ∙ ap (λ (t : List ℕ). lines_of line (map noted_of es) ++ t) cut)
 
-each_more : (line : Line) (c : ℕ) (es : List Entry) (e : Entry) → AllByRecursion (λ e. IsNote line c (noted_of e)) es → IsNote line c (noted_of e) →
-    AllByRecursion (λ e. IsNote line c (noted_of e)) (es ++ e ∷ [])
-each_more line c [] e h good = (good, tt)
-each_more line c (d ∷ es) e h good = (h.0, each_more line c es e h.1 good)
-
-more_lines : {X : Type 0} (f : X → List ℕ) (xs : List X) (x : X) → flat_map f (xs ++ x ∷ []) ≡ flat_map f xs ++ f x
-more_lines f [] x = append-nil (f x)
-more_lines f (y ∷ xs) x = ap (λ (t : List ℕ). f y ++ t) (more_lines f xs x) ∙ sym (append_assoc (f y) (flat_map f xs) (f x))
-
--- one more line is read
-pub reads_more : (line : Line) (c : ℕ) (text : List ℕ) (es : List Entry) (rest row others : List ℕ) (e : Entry) → Reads line c text es rest →
-    rest ≡ row ++ 10 ∷ others → IsNote line c (noted_of e) → entry_line line e ≡ row ++ 10 ∷ [] → Reads line c text (es ++ e ∷ []) others
-reads_more line c text es rest row others e r cut good same = record {
-  each = each_more line c es e r.each good;
-  whole = r.whole ∙ ap (λ (t : List ℕ). flat_map (entry_line line) es ++ t) (cut ∙ sym (append_assoc row (10 ∷ []) others) ∙ ap (λ (t : List ℕ). t ++ others) (sym same))
-      ∙ sym (append_assoc (flat_map (entry_line line) es) (entry_line line e) others)
-      ∙ ap (λ (t : List ℕ). t ++ others) (sym (more_lines (entry_line line) es e));
-}
-
 -- ## A line that is guessed
 
 pub row_of : (line : Line) (e : Entry) (row : List ℕ) → entry_line line e ≡ row ++ 10 ∷ [] → row ≡ line_of line (noted_of e)
@@ -184,10 +165,6 @@ not_none x e = cc
 
 pub ok_same : {E : Type 0} (x y : ℕ) (r : Result ℕ E) → r ≡ Ok x → r ≡ Ok y → x ≡ y
 ok_same x y r h k = cc
-
--- the same entry, by what it says
-pub same_line : (line : Line) (d e : Entry) → noted_of d ≡ noted_of e → entry_line line d ≡ entry_line line e
-same_line line d e same = entry_line_is line d ∙ ap (λ x. line_of line x ++ 10 ∷ []) same ∙ sym (entry_line_is line e)
 
 -- ## The first line
 

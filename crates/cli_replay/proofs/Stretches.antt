@@ -36,25 +36,6 @@ pub record AreMade (seen : List SectionView) (i since : ℕ) (xs : List Stretch)
   pub below : (e : ℕ) → e < since → shown_at e xs ≡ slice_get seen e
   pub behind : (e : ℕ) → since ≤ e → shown_at e xs ≡ None
 
-pub made_none : (seen : List SectionView) → AreMade seen 0 0 []
-made_none seen = record {
-  order = omega arith;
-  same = λ e a b. absurd (let no : ⊥ = omega arith in no);
-  sound = All-nil (IsSeen seen);
-  below = λ e h. absurd (let no : ⊥ = omega arith in no);
-  behind = λ e h. refl;
-}
-
--- Event i + 1 is as event i is.
-pub made_going : (seen : List SectionView) (i since : ℕ) (xs : List Stretch) → slice_get seen (i + 1) ≡ slice_get seen i → AreMade seen i since xs → AreMade seen (i + 1) since xs
-made_going seen i since xs next m = record {
-  order = omega arith;
-  same = λ e a b. elim (cases_lt e i) [ inl h ↦ m.same e a h ∙ sym next | inr h ↦ let at : e ≡ i = omega arith in ap (slice_get seen) at ∙ sym next ];
-  sound = m.sound;
-  below = m.below;
-  behind = m.behind;
-}
-
 -- The stretch from `since` to event i, whose next event is another or none.
 abbrev pub made_of : ℕ → ℕ → SectionView → Stretch
 made_of since i v = record { seen = v; since = since; until = i + 1 }

@@ -1,5 +1,5 @@
 -- A rerun of entries as it goes on, one by one.
-use Rattle.std.proofs.Common.{◌≡◌, ◌≢◌, ℕ, zero, suc, ◌+◌, ◌<◌, ◌≤◌, List, [], ◌∷◌, ◌++◌, length, map, take, drop, get_or, Some, Result, Ok, Err, refl, sym, ap, subst, ◌∙◌, arith}
+use Rattle.std.proofs.Common.{◌≡◌, ℕ, zero, suc, ◌+◌, ◌<◌, ◌≤◌, List, [], ◌∷◌, ◌++◌, length, map, take, drop, get_or, Some, Ok, Err, refl, sym, ap, ◌∙◌, arith}
 use Rattle.std.proofs.lemmas.List.{map-append}
 use Rattle.rbc_spec.specs.Line.{Line}
 use Rattle.rbc_spec.specs.Step.{Refusal, ClockEnd as AtClockEnd, LinkFull as AtLinkFull}
@@ -11,8 +11,7 @@ use Rattle.rbc_world.proofs.Loop.{map_push}
 use Rattle.rbc_world.proofs.Reached.{run_on}
 use Rattle.law_reached.proofs.Whole.{run_of_none}
 use Rattle.cli_journal.specs.declared.entry.Entry.{Entry}
-use Rattle.cli_rerun.specs.Rerun.{IsRerun, IsFirstUnfit, happened, stamp_of}
-use Rattle.cli_rerun.specs.declared.place.Place.{Place}
+use Rattle.cli_rerun.specs.Rerun.{IsRerun, happened, stamp_of}
 
 -- no entry is a run
 pub begins : (line : Line) (w : World) → w ≡ new_world line → IsRerun line [] w

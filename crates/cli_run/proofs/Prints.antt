@@ -1,20 +1,18 @@
 -- What a printer that is told a script has written.
-use Rattle.std.proofs.Common.{◌≡◌, ℕ, List, [], ◌∷◌, ◌++◌, Option, Some, None, Result, Ok, Err, codes, refl, sym, ap, ◌∙◌, subst, append_assoc, append-nil}
+use Rattle.std.proofs.Common.{◌≡◌, ℕ, List, [], ◌∷◌, ◌++◌, Option, Some, None, Ok, Err, codes, refl, sym, ap, ◌∙◌, subst, append_assoc, append-nil}
 use Rattle.std.specs.Io.KnownBytes.{Appends}
 use Rattle.rbc_spec.specs.Line.{Line}
 use Rattle.rbc_spec.specs.World.{World, new_world, world_step}
-use Rattle.rbc_centre.specs.declared.fault.StepFault.{StepFault}
 use Rattle.rbc_world.specs.Answers.{IsRefusal}
 use Rattle.rbc_world.specs.Views.{event_of}
-use Rattle.rbc_world.specs.declared.event.WorldEvent.{WorldEvent}
 use Rattle.cli_script.specs.declared.script.Entry.{Entry}
 use Rattle.cli_script.specs.declared.script.Entry.TheVariants as entry
 use Rattle.cli_script.specs.declared.play.PlayFault.{PlayFault}
 use Rattle.cli_script.specs.declared.play.PlayFault.TheVariants.{Refused, Untold}
-use Rattle.cli_script.specs.Played.{Telling, Showing, Coming, Answering, IsPlayed, IsStopped, Leaves}
+use Rattle.cli_script.specs.Played.{Telling, Coming, Answering, IsPlayed, Leaves}
 use Rattle.cli_print.specs.Rows.{event_row}
 use Rattle.cli_print.specs.Shown.{line_text}
-use Rattle.cli_run.specs.Printed.{IsTold, Adds, LeavesPrint, PrintsAll}
+use Rattle.cli_run.specs.Printed.{IsTold, Adds, PrintsAll}
 
 adds_none : (known : Option (List ℕ)) → Appends known known []
 adds_none None = tt

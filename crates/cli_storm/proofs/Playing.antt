@@ -1,5 +1,5 @@
 -- Parts that are played one behind another.
-use Rattle.std.proofs.Common.{◌≡◌, ℕ, ◌<◌, ◌+◌, suc, List, [], ◌∷◌, Option, Some, Result, Ok, Err, length, get_or, drop, refl, sym, ap, subst, ◌∙◌}
+use Rattle.std.proofs.Common.{◌≡◌, ℕ, ◌<◌, ◌+◌, suc, List, [], ◌∷◌, Option, Some, Result, Ok, Err, length, get_or, drop, sym, ap, subst, ◌∙◌}
 use Rattle.std.specs.Result.{OnOk}
 use Rattle.std.proofs.lemmas.List.{drop_more}
 use Rattle.rbc_spec.specs.Line.{Line}
@@ -11,12 +11,10 @@ use Rattle.cli_script.specs.declared.play.PlayFault.{PlayFault}
 use Rattle.cli_script.specs.declared.play.PlayFault.TheVariants.{Refused, Untold}
 use Rattle.cli_script.specs.Played.{Telling, IsPlayed, Leaves}
 use Rattle.cli_script.proofs.Playing.{Goes, goes_on, stops}
-use Rattle.cli_storm.specs.Storm.{Passes, Continues, Rest, behind, world_of, with_drawn, with_delivery, deliveries, played_by, storm}
+use Rattle.cli_storm.specs.Storm.{Passes, Continues, Rest, behind, with_drawn, with_delivery, deliveries, played_by, storm}
 
 module _ {T : Type 0} (tells : T → Telling → T → Type 0) (line : Line) where
   -- nothing was played
-  pub passes_none : (w : World) (t : T) (all : List Entry) → Passes tells line w t all w t all
-  passes_none w t all = (λ z r it. it, λ fault z r it. it)
 
   itself : (w : World) (t : T) (all : List Entry) → Goes tells line w t all all w t
   itself w t all = record { played = λ v u it. it; stopped = λ fault v u it. it }
@@ -30,8 +28,6 @@ module _ {T : Type 0} (tells : T → Telling → T → Type 0) (line : Line) whe
   passes_both all mid left w v x t u s one two = (λ z r it. one.0 z r (two.0 z r it), λ fault z r it. one.1 fault z r (two.1 fault z r it))
 
   -- all was
-  pub passes_all : (all : List Entry) (w v : World) (t u : T) → Passes tells line w t all v u [] → IsPlayed tells line w t all v u
-  passes_all all w v t u it = it.0 v u (refl, refl)
 
   -- what is left fails
   pub then_fails : {F : Type 0} (all left : List Entry) (w v x : World) (t u s : T) (fault : PlayFault F) → Passes tells line w t all v u left
@@ -46,8 +42,6 @@ module _ {T : Type 0} (tells : T → Telling → T → Type 0) (line : Line) whe
   one_fails e left w v t u (Untold why) stopped = tt
 
   -- the world that is left where an event was played
-  pub left_behind : (event : WorldEvent) (w v : World) (t u : T) → IsPlayed tells line w t (entry.Event event ∷ []) v u → v ≡ behind line w event
-  left_behind event w v t u (answer, x, s, r, is, comes, answers, (same, one)) = same ∙ sym (ap (world_of w) is)
 
   -- ## A delivery, and all of them
 

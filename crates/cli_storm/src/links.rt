@@ -1,6 +1,6 @@
 //! What each link has sent, and the delivery that is drawn by that.
 
-ghost use Rattle.std.specs.Prelude.{◌≡◌, ◌<◌, ◌≤◌, ℕ, IfOk, length, map, slice_get, Some};
+ghost use Rattle.std.specs.Prelude.{◌≡◌, ◌<◌, IfOk, length, map, slice_get, Some};
 ghost use Rattle.std.specs.List.{filter};
 ghost use Rattle.rbc_spec.specs.World.{new_world};
 ghost use Rattle.rbc_centre.specs.Sent.{frames_to};

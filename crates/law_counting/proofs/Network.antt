@@ -153,19 +153,6 @@ pub each_head : {X F : Type 0} (P : ℕ → ℕ → F → Type 0) (w : Net X F) 
     → EachOnTheWay P w → P a b f
 each_head P w a b f takes on_way = All-head (P a b) f (way (took w a b) a b) (subst (All (P a b)) takes.head (on_way.each a b))
 
--- and each frame further back, at any place
-pub each_at : {X F : Type 0} (P : ℕ → ℕ → F → Type 0) (w : Net X F) (a b k : ℕ) (f : F)
-    → slice_get (way w a b) k ≡ Some f → EachOnTheWay P w → P a b f
-each_at {F = F} P w a b k f there on_way = at (way w a b) k there (on_way.each a b)
-  where
-    same : (g : F) → Some g ≡ Some f → g ≡ f
-    same g e = cc
-
-    at : (fs : List F) (i : ℕ) → slice_get fs i ≡ Some f → All (P a b) fs → P a b f
-    at [] i e all = absurd (cc)
-    at (g ∷ fs) zero e all = subst (P a b) (same g e) (All-head (P a b) g fs all)
-    at (g ∷ fs) (suc i) e all = at fs i e (All-tail (P a b) g fs all)
-
 -- and so are the others when it is taken
 pub each_took : {X F : Type 0} (P : ℕ → ℕ → F → Type 0) (w : Net X F) (a b : ℕ) (f : F) → TakesHead w a b f
     → EachOnTheWay P w → EachOnTheWay P (took w a b)

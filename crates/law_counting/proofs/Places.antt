@@ -5,7 +5,7 @@ use Rattle.law_counting.specs.Sums.{sum_below, sum_links}
 use Rattle.law_counting.specs.Network.{Net, way, TakesHead, took}
 use Rattle.law_counting.specs.Resource.{Resource, carried, placed, OnlyHeld, OnlyOnTheWay}
 use Rattle.law_counting.proofs.Sums.{term_le_sum, two_le_sum, sum_some, link_le_links, two_links_le, links_some}
-use Rattle.law_counting.proofs.Resource.{carried_none, carried_more}
+use Rattle.law_counting.proofs.Resource.{carried_more}
 
 -- a frame on the way is counted with the frames beside it
 pub inside_le_carried : {X F : Type 0} (r : Resource X F) (a b : ℕ) (fs : List F) (k : ℕ) (f : F)
@@ -16,19 +16,6 @@ inside_le_carried r a b (g ∷ fs) zero f e = omega (arith, carried_more r a b g
     same : {F : Type 0} (g f : F) → Some g ≡ Some f → g ≡ f
     same g f e = cc
 inside_le_carried r a b (g ∷ fs) (suc k) f e = omega (arith, carried_more r a b g fs, inside_le_carried r a b fs k f e)
-
--- where something is carried, some frame has it inside
-pub carried_some : {X F : Type 0} (r : Resource X F) (a b : ℕ) (fs : List F) → 0 < carried r a b fs
-    → (k : ℕ) × (f : F) × (slice_get fs k ≡ Some f) × (0 < r.inside a b f)
-carried_some r a b [] some = absurd (omega (arith, carried_none r a b))
-carried_some {F = F} r a b (g ∷ fs) some = head_or_later (carried_some r a b fs) (r.inside a b g) refl
-  where
-    Found : List F → Type 0
-    Found gs = (k : ℕ) × (f : F) × (slice_get gs k ≡ Some f) × (0 < r.inside a b f)
-
-    head_or_later : (0 < carried r a b fs → Found fs) → (v : ℕ) → r.inside a b g ≡ v → Found (g ∷ fs)
-    head_or_later later zero is = let found = later (omega (arith, carried_more r a b g fs)) in (suc found.0, found.1, found.2, found.3)
-    head_or_later later (suc v) is = (zero, g, refl, omega arith)
 
 -- what a centre holds is placed
 pub held_le_placed : {X F : Type 0} (r : Resource X F) (n : ℕ) (w : Net X F) (c : ℕ) → c < n

@@ -24,7 +24,7 @@ use Rattle.law_local.proofs.Fits.{fit_parts}
 use Rattle.law_runs.proofs.Waits.{WaitsKeep, IsLoose, opened, kept_for, PutAt, there, elsewhere, put_at}
 use Rattle.law_runs.proofs.Frees.{by_test, own_leaves, closed_mark}
 use Rattle.law_outside.specs.Outside as outside
-use Rattle.law_outside.specs.Outside.{View, is_placed, Stretch, accepted, is_told, all_told, change_stretch, reports, grants, last_before, stands, metres_behind}
+use Rattle.law_outside.specs.Outside.{View, is_placed, Stretch, accepted, all_told, change_stretch, reports, grants, last_before, stands, metres_behind}
 use Rattle.law_outside.proofs.Marks.{Stays, Moves, by, if_true, if_false, loose_stays, given_moves, released_moves}
 use Rattle.law_outside.proofs.Tied.{IsReported, Way, Tied, tied_as, remade, tied_restarts, tied_extends, Left, some_left, none_left, tied_listens, reports_keep, tied_reports, tied_stays_long, tied_shortens}
 use Rattle.law_outside.proofs.Standstill.{tied_stands, tied_stops}

@@ -1,5 +1,5 @@
 -- What is sound by one of two reasons is so by the test that tells, and the other way round; of the test there is one proof at most.
-use Rattle.std.proofs.Common.{◌≡◌, ◌⊎◌, inl, inr, ℕ, zero, suc, ◌||◌, Bool, true, false, Some, is_some, refl, sym, ap, ◌∙◌, subst, arith, ⊎_elim, ℤ, pos, negsuc}
+use Rattle.std.proofs.Common.{◌≡◌, ◌⊎◌, inl, inr, ℕ, zero, suc, true, false, Some, is_some, refl, sym, ap, ◌∙◌, subst, arith, ⊎_elim, ℤ, pos, negsuc}
 use Rattle.std.proofs.Props.{props}
 use Rattle.std.proofs.lemmas.Option.{same_Some}
 use Rattle.std.proofs.lemmas.List.Elements.{All-weaker}
@@ -12,17 +12,6 @@ use Rattle.law_network.specs.Flow.{Flow}
 use Rattle.law_network.specs.Pairs.{IsPaired, before, after}
 use Rattle.law_network.specs.Sound.{IsHandAt, IsYieldSound, IsBodySound}
 use Rattle.law_reached.specs.Known.{IsYieldKnown, IsBodyKnown, IsPairKnown}
-
-either : (x z : Bool) → (x || z) ≡ true → (x ≡ true) ⊎ (z ≡ true)
-either true z is = inl refl
-either false z is = inr is
-
-left_so : (x z : Bool) → x ≡ true → (x || z) ≡ true
-left_so x z is = rw is refl
-
-right_so : (x z : Bool) → z ≡ true → (x || z) ≡ true
-right_so true z is = refl
-right_so false z is = is
 
 -- ## Bodies
 

@@ -3,7 +3,7 @@ use Rattle.std.proofs.Common.{if◌then◌else◌, ◌⊎◌, subst, ◌≡◌, 
 use Rattle.std.proofs.lemmas.Bool.{cases_lt, lt-ltb, le-ltb}
 use Rattle.std.proofs.lemmas.Bool.Decides.{eqb_tells}
 use Rattle.std.proofs.lemmas.Option.{slice_get_past}
-use Rattle.std.proofs.lemmas.List.Elements.{All-nil, All-head, All-tail, All-push, All-weaker}
+use Rattle.std.proofs.lemmas.List.Elements.{All-head, All-tail, All-push, All-weaker}
 use Rattle.rbc_spec.specs.Line.{Line, IsLine}
 use Rattle.rbc_spec.specs.SectionRuns.{within}
 use Rattle.law_base.proofs.Runs.{within_from, within_before, within_behind}
@@ -121,59 +121,6 @@ pub record IsBegun (line : Line) (c n homes : ℕ) (page : Page) (runs : List Ru
   pub count : sections_in runs ≡ homes
   pub few : homes ≤ n
   pub spots : (k : ℕ) → spot_at runs k ≡ (if nat_lt k n then home_spot line c page k else None)
-
-pub begun : (line : Line) (c : ℕ) (page : Page) → IsBegun line c 0 0 page []
-begun line c page = record {
-  order = tt;
-  apart = λ i h. h;
-  before = All-nil (λ r. r.first + r.count ≤ 0);
-  count = refl;
-  few = omega arith;
-  spots = λ k. rw (le-ltb k 0 (omega arith)) refl;
-}
-
--- one more of the first n sections
-shown : (line : Line) (c n : ℕ) (page : Page) (spots : ℕ → Option Spot) → ((k : ℕ) → spots k ≡ (if nat_lt k n then home_spot line c page k else None)) → (k : ℕ)
-    → (if k == n then home_spot line c page n else spots k) ≡ (if nat_lt k (n + 1) then home_spot line c page k else None)
-shown line c n page spots so_far k = elim (eqb_tells k n) [
-  | inl e ↦ rw (e.0, lt-ltb k (n + 1) (omega (arith, e.1))) (ap (home_spot line c page) (sym e.1))
-  | inr e ↦ rw (e.0) (so_far k ∙ elim (cases_lt k n) [
-    | inl low ↦ rw (lt-ltb k n low, lt-ltb k (n + 1) (omega arith)) refl
-    | inr high ↦ elim (cases_lt k (n + 1)) [
-      | inl here ↦ absurd (e.1 (omega arith))
-      | inr behind ↦ rw (le-ltb k n high, le-ltb k (n + 1) behind) refl
-    ]
-  ])
-]
-
-pub begun_more : (line : Line) (c n homes t : ℕ) (page : Page) (runs more : List Run) → home_track line c n ≡ Some t → IsAppended n (record { page = page; track = t }) runs more
-    → IsBegun line c n homes page runs → IsBegun line c (n + 1) (homes + 1) page more
-begun_more line c n homes t page runs more home added so_far = record {
-  order = added.order;
-  apart = added.apart;
-  before = added.before;
-  count = added.count ∙ ap (λ m. m + 1) so_far.count;
-  few = omega (arith, so_far.few);
-  spots = λ k. added.spots k
-      ∙ ap (λ o. if k == n then o else spot_at runs k) (sym (ap (option_map (λ (t : ℕ). record { page = page; track = t })) home))
-      ∙ shown line c n page (spot_at runs) so_far.spots k;
-}
-
-pub begun_same : (line : Line) (c n homes : ℕ) (page : Page) (runs : List Run) → home_track line c n ≡ None → IsBegun line c n homes page runs → IsBegun line c (n + 1) homes page runs
-begun_same line c n homes page runs foreign so_far = record {
-  order = so_far.order;
-  apart = so_far.apart;
-  before = before-more n runs so_far.before;
-  count = so_far.count;
-  few = omega (arith, so_far.few);
-  spots = λ k. none k ∙ shown line c n page (spot_at runs) so_far.spots k;
-}
-  where
-    none : (k : ℕ) → spot_at runs k ≡ (if k == n then home_spot line c page n else spot_at runs k)
-    none k = elim (eqb_tells k n) [
-      | inl e ↦ rw (e.0) (so_far.spots k ∙ rw (le-ltb k n (omega (arith, e.1))) (sym (ap (option_map (λ (t : ℕ). record { page = page; track = t })) foreign)))
-      | inr e ↦ rw (e.0) refl
-    ]
 
 -- all sections of the line
 pub begun_all : (line : Line) (c homes : ℕ) (page : Page) (runs : List Run) → IsBegun line c (length line.sections) homes page runs → (k : ℕ) → spot_at runs k ≡ home_spot line c page k

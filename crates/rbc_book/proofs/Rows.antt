@@ -3,7 +3,7 @@ use Rattle.std.proofs.Common.{if◌then◌else◌, subst, ◌≡◌, ℕ, zero, 
 use Rattle.std.specs.List.{range_with_len}
 use Rattle.std.proofs.lemmas.Bool.{cases_lt, lt-ltb, le-ltb}
 use Rattle.rbc_spec.specs.SectionRuns.{within}
-use Rattle.law_base.proofs.Runs.{within_true, within_before, within_behind}
+use Rattle.law_base.proofs.Runs.{within_true, within_behind}
 use Rattle.rbc_book.specs.Sheet.{spot_on}
 use Rattle.rbc_book.specs.Runs.{most, At, IsRunOf, AreInOrder, sections_of, sections_in, spot_of, spot_at, sheet_of}
 use Rattle.rbc_book.specs.declared.run.Run.{Run}
@@ -42,12 +42,6 @@ pub at_holds : (P : Run → Type 0) (runs : List Run) (i : ℕ) (d : Run) → i 
 at_holds P [] i d within holds = absurd (let no : ⊥ = omega arith in no)
 at_holds P (q ∷ qs) zero d within holds = holds
 at_holds P (q ∷ qs) (suc i) d within holds = at_holds P qs i d (omega arith) holds
-
--- and the other way
-pub at_gives : (P : Run → Type 0) (runs : List Run) (i : ℕ) (d : Run) → At P i runs → P (get_or runs i d)
-at_gives P [] i d holds = absurd holds
-at_gives P (q ∷ qs) zero d holds = holds
-at_gives P (q ∷ qs) (suc i) d holds = at_gives P qs i d holds
 
 -- where something stands the row is long enough
 pub at_within : (P : Run → Type 0) (runs : List Run) (i : ℕ) → At P i runs → i < length runs
@@ -97,12 +91,6 @@ one_behind_another from (q ∷ qs) zero (suc j) d order less lt = first_from (q.
 one_behind_another from (q ∷ qs) (suc i) (suc j) d order less lt = one_behind_another (q.first + q.count) qs i j d order.3 (omega arith) (omega arith)
 
 -- ## What is said of a section
-
--- nothing before the first run
-pub spot_before : (from : ℕ) (runs : List Run) (k : ℕ) → AreInOrder from runs → k < from → spot_at runs k ≡ None
-spot_before from [] k order low = refl
-spot_before from (r ∷ rs) k order low =
-    rw (within_before (sections_of r) k (omega (arith, order.0))) (spot_before (r.first + r.count) rs k order.3 (omega (arith, order.0, order.1)))
 
 -- what the run says that has it
 pub spot_of_run : (from : ℕ) (runs : List Run) (i k : ℕ) (r : Run) → AreInOrder from runs → At (λ q. q ≡ r) i runs → within (sections_of r) k ≡ true → spot_at runs k ≡ Some (spot_of r)
@@ -155,8 +143,3 @@ run_stands runs i s r order has is =
       each = λ k in_run. sheet_says runs order k ∙ spot_of_run 0 runs i k r order at in_run;
       bound = omega (arith, stands.bound, most_is);
     }
-
-pub bound_at : (n : ℕ) (runs : List Run) (i s : ℕ) → AreInOrder n runs → At (λ r. within (sections_of r) s ≡ true) i runs → s + 1 ≤ 65535
-bound_at n [] i s order has = absurd has
-bound_at n (q ∷ qs) zero s order has = omega (arith, (within_true (sections_of q) s has).1, order.2, most_is)
-bound_at n (q ∷ qs) (suc i) s order has = bound_at (q.first + q.count) qs i s order.3 has

@@ -14,14 +14,6 @@ pub record IsSought (runs : List Run) (s low high : ℕ) : Type 0 where
   pub before : (i : ℕ) (d : Run) → i < low → i < length runs → (get_or runs i d).first + (get_or runs i d).count ≤ s
   pub behind : (i : ℕ) (d : Run) → high ≤ i → i < length runs → s < (get_or runs i d).first
 
-pub begun : (runs : List Run) (s high : ℕ) → high ≡ length runs → IsSought runs s 0 high
-begun runs s high all = record {
-  ends = omega arith;
-  bound = omega (arith, all);
-  before = λ i d lt _. absurd (let no : ⊥ = omega (arith, lt) in no);
-  behind = λ i d le lt. absurd (let no : ⊥ = omega (arith, all, le, lt) in no);
-}
-
 module _ (runs : List Run) (s low high middle : ℕ) (e : Run) (order : AreInOrder 0 runs) (sought : IsSought runs s low high) (from : low ≤ middle) (to : middle < high) where
   bounded : middle < length runs
   bounded = omega (arith, to, sought.bound)

@@ -1,7 +1,7 @@
 -- Laws of sections that are in use for a train.
-use Rattle.std.proofs.Common.{IfSome, ◌≡◌, ℕ, suc, ◌+◌, ◌<◌, inl, inr, Bool, true, false, List, [], ◌∷◌, length, get_or, Option, Some, None, refl, ap, sym, ◌∙◌, arith}
+use Rattle.std.proofs.Common.{IfSome, ◌≡◌, ℕ, suc, ◌<◌, inl, inr, Bool, true, false, List, [], ◌∷◌, length, get_or, Option, Some, None, refl, ap, sym, ◌∙◌, arith}
 use Rattle.std.specs.Option.{option_map_or}
-use Rattle.std.proofs.lemmas.Bool.{cases_Bool, cases_lt}
+use Rattle.std.proofs.lemmas.Bool.{cases_Bool}
 use Rattle.std.proofs.lemmas.List.{get_or_default}
 use Rattle.rbc_spec.specs.Centre.{Shut, is_used_for}
 use Rattle.rbc_spec.specs.SectionRuns.{within}
@@ -18,14 +18,6 @@ use Rattle.rbc_book.proofs.Rows.{at_read, order_at, spot_of_run, sheet_says}
 -- none of the first runs is in use for the train
 abbrev pub AreUnused : ℕ → List Run → ℕ → Type 0
 AreUnused t runs n = (j : ℕ) (d : Run) → j < n → j < length runs → is_used_for t (entry_of (get_or runs j d).page.entry) ≡ false
-
-pub unused_more : (t i : ℕ) (runs : List Run) (r : Run) → r ≡ get_or runs i r → is_used_for t (entry_of r.page.entry) ≡ false → AreUnused t runs i → AreUnused t runs (i + 1)
-unused_more t i runs r is unused so_far j d low lt = elim (cases_lt j i) [
-  | inl before ↦ so_far j d before lt
-  | inr at ↦
-      let here : j ≡ i = omega (arith, low, at) in
-      ap (λ q. is_used_for t (entry_of q.page.entry)) (get_or_default runs j d r lt ∙ ap (λ n. get_or runs n r) here ∙ sym is) ∙ unused
-]
 
 pub none_used : (t : ℕ) (runs : List Run) → AreUnused t runs (length runs) → (s : ℕ) → is_used_in t (spot_at runs s) ≡ false
 none_used t [] unused s = refl

@@ -1,4 +1,4 @@
-ghost use Rattle.std.specs.Prelude.{◌≡◌, ℕ, IfOk, IfSome, Option, None, Some, option_map, length, true, false};
+ghost use Rattle.std.specs.Prelude.{◌≡◌, ℕ, IfOk, IfSome, Option, None, Some, option_map, true, false};
 ghost use Rattle.rbc_spec.specs.SectionRuns.{longest, within};
 ghost use Rattle.rbc_spec.specs.Maps.{put};
 ghost use Rattle.rbc_book.specs.Sheet.{spot_on, page_on, track_on, is_open_on, is_used_in, is_used_on, home_track};

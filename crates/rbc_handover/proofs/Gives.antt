@@ -8,14 +8,12 @@ use Rattle.rbc_spec.specs.SectionRuns.{is_empty}
 use Rattle.rbc_spec.specs.Line.{Line}
 use Rattle.rbc_spec.specs.Frame.{Body, Announce, Cancel}
 use Rattle.rbc_spec.specs.Centre.{Centre, Mission, Handing}
-use Rattle.rbc_spec.specs.Acts.{Reply, rest, send, part_at, announce, cancel, change_mission, yield, ◌>>◌}
+use Rattle.rbc_spec.specs.Acts.{Reply, rest, send, part_at, announce, cancel, change_mission, ◌>>◌}
 use Rattle.rbc_spec.specs.Rules.{announce_if_due}
-use Rattle.rbc_spec.specs.Links.{taking_over}
 use Rattle.law_base.proofs.Puts.{put_same}
 use Rattle.rbc_handover.specs.declared.handing.HandoverName.{HandoverName}
-use Rattle.rbc_handover.specs.declared.handing.Handing.{Handing as HandingCode}
-use Rattle.rbc_handover.specs.Handings.{kept_as, handover_name}
-use Rattle.rbc_handover.specs.Giving.{begun, is_due, HasMission, with_handover, with_count, announcing, cancelling}
+use Rattle.rbc_handover.specs.Handings.{handover_name}
+use Rattle.rbc_handover.specs.Giving.{begun, HasMission, with_handover, with_count, announcing, cancelling}
 
 -- a centre that has a handover is the same with it
 pub same_handover : (t : ℕ) (k : Centre) (h : Option Handing) → option_and_then (λ (m : Mission). m.handing) (k.mission t) ≡ h → with_handover t h k ≡ k
@@ -73,26 +71,6 @@ module _ (line : Line) (t d : ℕ) (m : Mission) (k : Centre) where
       ∙ (λ i. announcing line t d m (Some ((next ∙ sym numbered) i)) (with_handover t ((ap (λ x. Some (begun d x)) next ∙ sym begins) i) (with_count ((next ∙ sym counts) i) k)))
 
 -- ## Yielded
-
-pub claims : (line : Line) (c d number t : ℕ) (m : Mission) (k : Centre) (old : Option Handing) (result : Option HandingCode)
-    → HasMission t k m old → option_map kept_as result ≡ (if has (is_due d number) old then old else None)
-    → taking_over line c d number t k ≡ option_map_or (λ handing. yield line c t m (kept_as handing) k) result (rest k)
-claims line c d number t m k old result is due =
-    ap (λ o. option_map_or (λ n. option_map_or (λ h. cond (is_due d number h) (yield line c t n h k) (rest k)) n.handing (rest k)) o (rest k)) is.mission
-    ∙ (λ i. option_map_or (λ h. cond (is_due d number h) (yield line c t m h k) (rest k)) (is.handing i) (rest k))
-    ∙ same old
-    ∙ ap (λ o. option_map_or (λ h. yield line c t m h k) o (rest k)) (sym due)
-    ∙ of_code result
-  where
-    same : (o : Option Handing) → option_map_or (λ h. cond (is_due d number h) (yield line c t m h k) (rest k)) o (rest k)
-        ≡ option_map_or (λ h. yield line c t m h k) (cond (has (is_due d number) o) o None) (rest k)
-    same None = refl
-    same (Some h) = elim (is_due d number h) as (λ b. cond b (yield line c t m h k) (rest k) ≡ option_map_or (λ h. yield line c t m h k) (cond b (Some h) None) (rest k)) [ true ↦ refl | false ↦ refl ]
-
-    of_code : (o : Option HandingCode) → option_map_or (λ h. yield line c t m h k) (option_map kept_as o) (rest k)
-        ≡ option_map_or (λ handing. yield line c t m (kept_as handing) k) o (rest k)
-    of_code None = refl
-    of_code (Some handing) = refl
 
 -- ## Cancelled
 

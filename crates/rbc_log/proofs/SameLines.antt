@@ -5,7 +5,6 @@ use Rattle.std.specs.Option.{option_map_or}
 use Rattle.std.proofs.lemmas.Option.{same_Some}
 use Rattle.rbc_spec.specs.Line.{Line, Section, section, start}
 use Rattle.rbc_line.specs.declared.parts.Section.{Section as SectionRow}
-use Rattle.rbc_line.specs.declared.parts.Train.{Train as TrainRow}
 use Rattle.rbc_line.specs.Views.{section_of, placed_section}
 
 -- ## Lists

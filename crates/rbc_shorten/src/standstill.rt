@@ -1,4 +1,4 @@
-ghost use Rattle.std.specs.Prelude.{◌≡◌, ◌*◌, ◌≤◌, nat_lt};
+ghost use Rattle.std.specs.Prelude.{◌≡◌, ◌*◌, ◌≤◌};
 ghost use Rattle.rbc_spec.specs.SectionRuns.{passing};
 ghost use Rattle.rbc_spec.specs.Line.{start};
 ghost use Rattle.rbc_hand.specs.SectionRuns.{run_of};

@@ -1,4 +1,3 @@
-ghost use Rattle.std.specs.Prelude.{◌≡◌};
 
 use rbc_board::{Carrier, QueueCarrier};
 use serve_hall::{DirectedLink, Hall};

@@ -1,5 +1,5 @@
 -- What a link carries, frame by frame and turn by turn.
-use Rattle.std.proofs.Common.{◌≡◌, ℕ, ◌+◌, ◌≤◌, List, [], ◌∷◌, ◌++◌, Bool, true, false, Option, Some, None, refl, sym, subst, arith, ⊎_elim}
+use Rattle.std.proofs.Common.{◌≡◌, ℕ, ◌+◌, List, [], ◌∷◌, ◌++◌, Bool, true, false, Option, Some, None, refl, sym, subst, arith, ⊎_elim}
 use Rattle.std.proofs.Math.Nat.{eq-or-lt_of_le}
 use Rattle.rbc_spec.specs.Frame.{Frame}
 use Rattle.rbc_node.specs.Receipts.{ShareValue}
@@ -11,9 +11,6 @@ abbrev pub Keeps : (ℕ → Option Frame) → (ℕ → Option Frame) → Type 0
 Keeps old new = (n : ℕ) (f : Frame) → old n ≡ Some f → new n ≡ Some f
 
 -- ## What is sent
-
-pub puts-none : (known : ℕ → Option Frame) (c to : ℕ) → PutsInOrder known c to 0
-puts-none known c to = record { each = λ n least most. absurd (omega arith) }
 
 pub puts-keeps : (old new : ℕ → Option Frame) (c to count : ℕ) → PutsInOrder old c to count → Keeps old new → PutsInOrder new c to count
 puts-keeps old new c to count before keeps = record { each = λ n least most. let it = before.each n least most in (it.0, keeps n it.0 it.1, it.2) }
@@ -37,9 +34,6 @@ module _ {N : Type 0} (asks : N → ℕ) (follows : N → Bool → ℕ → Type 
   turn-keeps old new o p s t (Some true) keeps (f, outcome, known, commits, goes) = (f, outcome, keeps (asks o) f known, commits, goes)
   turn-keeps old new o p s t (Some false) keeps h = h
   turn-keeps old new o p s t None keeps h = h
-
-  pub turns-none : (known : ℕ → Option Frame) (o : N) (s : ShareValue) → TakesTurns asks follows known c from o o s s []
-  turns-none known o s = (refl, refl)
 
   -- a further turn, behind which the notes know more
   pub turns-one : (old new : ℕ → Option Frame) (o p q : N) (r s t : ShareValue) (turns : List (Option Bool)) (came : Option Bool) → Keeps old new

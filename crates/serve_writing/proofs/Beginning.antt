@@ -10,9 +10,6 @@ member : (x : TrackMessage) (xs : List TrackMessage) (z : TrackMessage) → Cont
 member x xs z (zero, low, is) = inl is
 member x xs z (suc k, low, is) = inr (k, omega (arith, low), is)
 
-here : (x : TrackMessage) (xs : List TrackMessage) → Contains (x ∷ xs) x
-here x xs = (0, omega arith, refl)
-
 -- what is counted on from a number has no smaller one
 not_before : (first : ℕ) (said : List TrackMessage) (m : TrackMessage) → IsCounted first said → Contains said m → first ≤ m.t_train
 not_before first [] m counted (k, low, is) = absurd (let no : ⊥ = omega (arith, low) in no)

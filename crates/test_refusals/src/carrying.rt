@@ -1,6 +1,5 @@
 //! A frame over a queue.
 
-ghost use Rattle.std.specs.Prelude.{◌≡◌};
 
 use crate::playing::Stopped;
 use rbc_board::{Carrier, QueueCarrier};

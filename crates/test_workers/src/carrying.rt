@@ -1,4 +1,3 @@
-ghost use Rattle.std.specs.Prelude.{◌≡◌};
 
 use crate::asking::{A, B, FRAMES, asking, node_of, withdrawing};
 use crate::narrow::Narrow;

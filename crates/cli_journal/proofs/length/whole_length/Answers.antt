@@ -1,4 +1,4 @@
-use Rattle.std.proofs.Common.{◌≡◌, ℕ, ◌+◌, ◌-◌, Some, None, inl, inr, refl, arith, get_or, drop, ap, ◌∙◌, sym}
+use Rattle.std.proofs.Common.{Some, None, arith}
 use Rattle.std.proofs.lemmas.Str.Pattern.{rfind_char}
 use Rattle.cli_journal.proofs.Whole.{whole_behind, none_whole}
 use Rattle.cli_journal.proofs.length.whole_length.Goals as goal

@@ -1,4 +1,4 @@
-use Rattle.std.proofs.Common.{◌≡◌, ◌+◌, ◌∙◌, ℕ, ◌∷◌, ◌++◌, List, Some, Bool, true, false, ap, sym, take, drop, subst, refl}
+use Rattle.std.proofs.Common.{◌+◌, ◌∙◌, List, true, false, ap, sym, take, drop, subst, refl}
 use Rattle.std.proofs.lemmas.Result.{err_from_is_err_and}
 use Rattle.std.proofs.lemmas.Bool.{true≢false}
 use Rattle.rbc_spec.specs.Line.{Line}

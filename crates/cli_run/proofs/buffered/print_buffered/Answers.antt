@@ -1,4 +1,4 @@
-use Rattle.std.proofs.Common.{rules, ◌≡◌, [], ap, sym, subst, ◌∙◌}
+use Rattle.std.proofs.Common.{rules, ◌≡◌, [], sym, subst, ◌∙◌}
 use Rattle.std.specs.Io.KnownBytes.{Keeps, append_known}
 use Rattle.cli_run.specs.Named.{named}
 use Rattle.cli_run.specs.Printed.{LeavesPrint}

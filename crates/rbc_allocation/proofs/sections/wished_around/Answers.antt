@@ -1,6 +1,3 @@
-use Rattle.std.proofs.Common.{◌≡◌, ◌++◌, ap, sym, ◌∙◌, arith}
-use Rattle.rbc_allocation.specs.Marks.{marked}
-use Rattle.rbc_allocation.specs.Sections.{wished}
 use Rattle.rbc_allocation.proofs.Marks.{around_is}
 use Rattle.rbc_allocation.proofs.sections.wished_around.Goals as goal
 

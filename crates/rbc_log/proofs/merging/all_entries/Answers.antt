@@ -1,4 +1,4 @@
-use Rattle.std.proofs.Common.{◌≡◌, ◌<◌, ◌∙◌, ◌++◌, ap, sym, subst, length, List, map}
+use Rattle.std.proofs.Common.{◌<◌, ◌∙◌, ◌++◌, ap, subst, length, List, map}
 use Rattle.rbc_log.specs.Entries.{written_of}
 use Rattle.rbc_log.specs.Log.{IsReplaying}
 use Rattle.rbc_log.specs.declared.entry.Entry.{Entry}

@@ -1,4 +1,4 @@
-use Rattle.std.proofs.Common.{◌+◌, ◌≤◌, refl, sym, subst, ◌∙◌}
+use Rattle.std.proofs.Common.{◌+◌, refl, sym, subst, ◌∙◌}
 use Rattle.rbc_node.specs.Node.{centre_of}
 use Rattle.serve_workers.specs.Carried.{PutsInOrder}
 use Rattle.serve_workers.proofs.Carried.{puts-keeps, puts-one}
