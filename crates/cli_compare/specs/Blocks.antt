@@ -11,7 +11,8 @@ pub record Block : Type 0 where
 -- the number of the first line that differs, where the first line of these parts has number n
 abbrev pub differs_in : ℕ → List Block → Option ℕ
 differs_in n [] = None
-differs_in n (block ∷ blocks) = option_or (first_difference n block.due block.rows) (differs_in (n + length block.rows) blocks)
+differs_in n (block ∷ blocks) =
+    option_or (first_difference n block.due block.rows) (differs_in (n + length block.rows) blocks)
 
 -- a part and those behind it; the lines that end a print have to stand in the last part
 abbrev pub blocks_from : List (List ℕ) → List (List ℕ) → List (List ℕ) → List Block → List Block

@@ -15,9 +15,11 @@ found_at_end None part n rows other = found_behind part.differs (part.due ++ oth
 -- in the part, and in those behind it
 abbrev pub found_in : Comparison → List (List ℕ) → List (List ℕ) → List Block → Option ℕ
 found_in c rows ending [] = found_at_end c.ending c.part c.next rows ending
-found_in c rows ending (block ∷ blocks) = option_or (found c.part c.next rows) (differs_in (c.next + length rows) (block ∷ blocks))
+found_in c rows ending (block ∷ blocks) =
+    option_or (found c.part c.next rows) (differs_in (c.next + length rows) (block ∷ blocks))
 
--- what is told in the end where these lines still come in the part, and then these parts, and the print ends with these lines
+-- what is told in the end where these lines still come in the part, and then these parts, and the print ends with these
+-- lines
 abbrev pub told : Comparison → List (List ℕ) → List (List ℕ) → List Block → Option ℕ
 told c rows ending blocks = option_or c.differs (found_in c rows ending blocks)
 

@@ -24,7 +24,8 @@ number_of word =
 -- what the words of a line ask for; none where the line has no form that it may have
 abbrev pub asked : List (List ℕ) → Option Asked
 asked (digits ∷ []) = option_map (λ bytes. Bytes bytes) (bytes_of digits)
-asked (verb ∷ count ∷ []) = if bytes_eq verb (codes "wait") then option_map (λ n. Messages n) (number_of count) else None
+asked (verb ∷ count ∷ []) =
+    if bytes_eq verb (codes "wait") then option_map (λ n. Messages n) (number_of count) else None
 asked _ = None
 
 -- what a line asks for by its words, which single blanks part

@@ -16,4 +16,6 @@ first_fault findings = option_map (λ finding. flaw_fault finding.flaw) (slice_g
 
 -- nothing is found where no fault applies to the tables; else the first finding is a case of the lowest that applies
 abbrev pub Explains : Members → List Finding → Type 0
-Explains ms findings = MatchOption (first_fault findings) ((fault : LineFault) → ¬ AppliesToTables ms fault) (IsLowest (AppliesToTables ms))
+Explains ms findings =
+    MatchOption (first_fault findings) ((fault : LineFault) → ¬ AppliesToTables ms fault)
+    (IsLowest (AppliesToTables ms))

@@ -24,7 +24,8 @@ AreSayingRows centre (s ∷ sayings) text =
 -- the rows of the frames to the centres below n, by the centres
 abbrev pub frame_rows : Line → List ℕ → (ℕ → List Frame) → ℕ → List ℕ
 frame_rows line centre frames zero = []
-frame_rows line centre frames (suc n) = frame_rows line centre frames n ++ flat_map (frame_row centre (name_at line n)) (frames n)
+frame_rows line centre frames (suc n) =
+    frame_rows line centre frames n ++ flat_map (frame_row centre (name_at line n)) (frames n)
 
 -- the step has nothing to say to a train, to another centre or to the interlocking
 pub record SaysNothing (o : Outcome) : Type 0 where
@@ -46,15 +47,18 @@ IsLinkRemark o other remark = IsLeft o remark
 -- why the step was silent, or that
 abbrev pub IsRemark : List ℕ → Outcome → Option Reason → List ℕ → Type 0
 IsRemark centre o (Some why) text = text ≡ silence_row centre why
-IsRemark centre o None text = (remark : Option (List ℕ)) × IsLinkRemark o o.link remark × (text ≡ option_map_or (remark_row centre) remark [])
+IsRemark centre o None text =
+    (remark : Option (List ℕ)) × IsLinkRemark o o.link remark × (text ≡ option_map_or (remark_row centre) remark [])
 
--- The step of the centre of this name: what it says to trains, its frames by their receivers, its words to the interlocking, and a remark
+-- The step of the centre of this name: what it says to trains, its frames by their receivers, its words to the
+-- interlocking, and a remark
 pub record IsOutcomePrint (line : Line) (centre : List ℕ) (o : Outcome) (text : List ℕ) : Type 0 where
   pub sayings : List ℕ
   pub remark : List ℕ
   pub to_trains : AreSayingRows centre o.sayings sayings
   pub last : IsRemark centre o o.silence remark
-  pub whole : text ≡ sayings ++ (frame_rows line centre o.frames (length line.centres) ++ (flat_map (word_row centre) o.words ++ remark))
+  pub whole : text ≡ sayings
+      ++ (frame_rows line centre o.frames (length line.centres) ++ (flat_map (word_row centre) o.words ++ remark))
 
 -- what is printed of the answer to an event at centre c
 abbrev pub IsAnswerPrint : Line → ℕ → Answer → List ℕ → Type 0

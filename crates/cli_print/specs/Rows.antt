@@ -21,7 +21,8 @@ abbrev pub script_row : List ℕ → List ℕ → List ℕ → List ℕ
 script_row word centre rest = codes "> " ++ (word ++ (codes " " ++ (centre ++ (codes " " ++ (rest ++ codes "\n")))))
 
 abbrev pub delivery_row : List ℕ → List ℕ → ℕ → List ℕ
-delivery_row from to number = codes "> deliver " ++ (from ++ (codes " " ++ (to ++ (codes " " ++ (decimal number ++ codes "\n")))))
+delivery_row from to number =
+    codes "> deliver " ++ (from ++ (codes " " ++ (to ++ (codes " " ++ (decimal number ++ codes "\n")))))
 
 abbrev pub event_row : Line → WorldEvent → List ℕ
 event_row line (event.Train c bytes) = script_row (codes "train") (name_at line c) (encode_upper bytes.items)
@@ -51,7 +52,9 @@ body_name (Yield number t heard has_data is_ended place hand) = codes "Yield"
 
 -- a frame to another centre, by that one's name
 abbrev pub frame_row : List ℕ → List ℕ → Frame → List ℕ
-frame_row centre to f = centre ++ (codes " => " ++ (to ++ (codes " " ++ (decimal f.number ++ (codes " " ++ (body_name f.body ++ codes "\n"))))))
+frame_row centre to f =
+    centre ++ (codes " => " ++
+    (to ++ (codes " " ++ (decimal f.number ++ (codes " " ++ (body_name f.body ++ codes "\n"))))))
 
 -- a word to the interlocking of a section
 abbrev pub told_row : List ℕ → ℕ → List ℕ → List ℕ
@@ -108,4 +111,5 @@ section_row line s mark is_wished =
 -- who supervises a train
 abbrev pub train_row : Line → ℕ → Option ℕ → List ℕ
 train_row line t supervisor =
-    codes "train " ++ (decimal t ++ (codes " " ++ (option_map_or (name_at line) supervisor (codes "none") ++ codes "\n")))
+    codes "train " ++ (decimal t
+    ++ (codes " " ++ (option_map_or (name_at line) supervisor (codes "none") ++ codes "\n")))

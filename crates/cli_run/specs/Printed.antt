@@ -30,8 +30,8 @@ IsTold line (Answering event answer) before after =
 abbrev pub Adds : Line → List ℕ → Telling → List ℕ → Type 0
 Adds line before telling after = (rows : List ℕ) × AreRows line telling rows × (after ≡ before ++ rows)
 
--- The print of a script: the rows of each of its entries, one behind another, as the centres answer them from the line's
--- beginning; and the line as they leave it
+-- The print of a script: the rows of each of its entries, one behind another, as the centres answer them from the
+-- line's beginning; and the line as they leave it
 abbrev pub IsPrint : Line → List Entry → List ℕ → Type 0
 IsPrint line entries text =
     (last : World) × (rows : List ℕ) × IsPlayed (Adds line) line (new_world line) [] entries last rows

@@ -35,15 +35,18 @@ show_of verb = if bytes_eq verb (codes "show") then Some Show else None
 
 -- `train A 9B02`: the bytes come from a train to a centre
 abbrev pub train_of : Line → List ℕ → List ℕ → Option Asked
-train_of line centre digits = option_and_then (λ c. option_map (λ bytes. Train c bytes) (bytes_of digits)) (centre_named line centre)
+train_of line centre digits =
+    option_and_then (λ c. option_map (λ bytes. Train c bytes) (bytes_of digits)) (centre_named line centre)
 
 -- `set A 3`: the interlocking releases a section, by its number over the whole line
 abbrev pub set_of : Line → List ℕ → List ℕ → Option Asked
-set_of line centre section = option_and_then (λ c. option_map (λ s. Set c s) (number_of 16 section)) (centre_named line centre)
+set_of line centre section =
+    option_and_then (λ c. option_map (λ s. Set c s) (number_of 16 section)) (centre_named line centre)
 
 -- `unset A 3`: it takes the section back
 abbrev pub unset_of : Line → List ℕ → List ℕ → Option Asked
-unset_of line centre section = option_and_then (λ c. option_map (λ s. Unset c s) (number_of 16 section)) (centre_named line centre)
+unset_of line centre section =
+    option_and_then (λ c. option_map (λ s. Unset c s) (number_of 16 section)) (centre_named line centre)
 
 -- what comes to a centre from a train or from the interlocking
 abbrev pub at_centre_of : Line → List ℕ → List ℕ → List ℕ → Option Asked

@@ -11,7 +11,8 @@ use Rattle.cli_storm.specs.Draws.{next, drawn}
 
 -- the link at a place, of so many centres
 abbrev pub link_at : ℕ → World → ℕ → Link
-link_at centres w k = record { from = k / centres; to = k % centres; sent = length ((w.at (k / centres)).sent (k % centres)) }
+link_at centres w k =
+    record { from = k / centres; to = k % centres; sent = length ((w.at (k / centres)).sent (k % centres)) }
 
 -- from each centre of the line to each, by sender and then by receiver, with how many frames were sent
 abbrev pub all_links : Line → World → List Link
@@ -24,12 +25,16 @@ has_sent l = nat_lt 0 l.sent
 abbrev pub sending : Line → World → List Link
 sending line w = filter has_sent (all_links line w)
 
--- the delivery that is drawn of links that have sent a frame, and what the draws leave: nothing is drawn where there is no such link, else
--- one of them, and the number of one of its frames or one more
+-- the delivery that is drawn of links that have sent a frame, and what the draws leave: nothing is drawn where there is
+-- no such link, else one of them, and the number of one of its frames or one more
 abbrev pub delivery : List Link → ℕ → Option WorldEvent × ℕ
 delivery from x =
     if length from == 0 then (None, x)
-    else (option_map (λ l. Deliver l.from l.to (drawn (next (next x)) % (l.sent + 1) + 1)) (slice_get from (drawn (next x) % length from)), next (next x))
+    else (
+      option_map (λ l. Deliver l.from l.to (drawn (next (next x)) % (l.sent + 1) + 1))
+          (slice_get from (drawn (next x) % length from)),
+      next (next x),
+    )
 
 -- the number of the last frame, or the number before where there is none
 abbrev pub last_number : ℕ → List Frame → ℕ
@@ -38,7 +43,8 @@ last_number n (f ∷ frames) = last_number f.number frames
 
 -- a link behind a step of this centre that sent these frames
 abbrev pub counted : ℕ → (ℕ → List Frame) → Link → Link
-counted c frames l = if l.from == c then record { from = l.from; to = l.to; sent = last_number l.sent (frames l.to) } else l
+counted c frames l =
+    if l.from == c then record { from = l.from; to = l.to; sent = last_number l.sent (frames l.to) } else l
 
 -- the links behind an answer at this centre
 abbrev pub counted_by : ℕ → Answer → List Link → List Link

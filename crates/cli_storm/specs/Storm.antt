@@ -37,7 +37,8 @@ abbrev pub deliveries : ℕ → Line → World → ℕ → Rest → List Entry
 deliveries zero line w x rest = rest w x
 deliveries (suc n) line w x rest = with_delivery line w x (λ v y. deliveries n line v y rest)
 
--- an entry of the script with what is drawn behind it, and the rest: four deliveries behind an event, none behind `show`
+-- an entry of the script with what is drawn behind it, and the rest: four deliveries behind an event, none behind
+-- `show`
 abbrev pub played_by : Line → World → ℕ → Entry → Rest → List Entry
 played_by line w x entry.Show rest = entry.Show ∷ rest w x
 played_by line w x (entry.Event event) rest = entry.Event event ∷ deliveries 4 line (behind line w event) x rest
@@ -48,12 +49,16 @@ storm line w x [] = []
 storm line w x (e ∷ entries) = played_by line w x e (λ v y. storm line v y entries)
 
 -- What is left, played from here or stopped in, is all entries played from the beginning, or stopped in.
-abbrev pub Passes : {T : Type 0} → (T → Telling → T → Type 0) → Line → World → T → List Entry → World → T → List Entry → Type 0
+abbrev pub Passes : {T : Type 0} → (T → Telling → T → Type 0) → Line → World → T → List Entry → World → T → List Entry
+    → Type 0
 Passes {T} tells line w t all v u left =
     ((z : World) (r : T) → IsPlayed tells line v u left z r → IsPlayed tells line w t all z r)
-    × ((fault : StepFault) (z : World) (r : T) → IsStopped tells line v u left fault z r → IsStopped tells line w t all fault z r)
+    × ((fault : StepFault) (z : World) (r : T) → IsStopped tells line v u left fault z r
+    → IsStopped tells line w t all fault z r)
 
 -- The call plays a part: it is done, with the rest left, or it leaves what part and rest leave, whatever the rest.
-abbrev pub Continues : {T F : Type 0} → (T → Telling → T → Type 0) → Line → World → T → (Rest → List Entry) → Result (Unit {0}) (PlayFault F) → World → T → ℕ → Type 0
+abbrev pub Continues : {T F : Type 0} → (T → Telling → T → Type 0) → Line → World → T → (Rest → List Entry)
+    → Result (Unit {0}) (PlayFault F) → World → T → ℕ → Type 0
 Continues tells line w t part (Ok done) v u x = (rest : Rest) → Passes tells line w t (part rest) v u (rest v x)
-Continues {F = F} tells line w t part (Err fault) v u x = (rest : Rest) → Leaves {F = F} tells line w t (part rest) (Err fault) v u
+Continues {F = F} tells line w t part (Err fault) v u x =
+    (rest : Rest) → Leaves {F = F} tells line w t (part rest) (Err fault) v u

@@ -12,13 +12,17 @@ use Rattle.law_local.specs.Local.{hand_has}
 use Rattle.law_network.specs.Flow.{Flow, centre_count}
 use Rattle.law_network.specs.Counts.{wait_has, pool_has, hands, missions}
 
--- the flow becomes new by an act of centre c, which leaves it as y and sends these frames; and so much came with it of each resource
-pub record IsAct (line : Line) (w : Flow) (c : ℕ) (came : Resource Centre Body → ℕ) (y : Centre) (frames : ℕ → List Body) (new : Flow) : Type 0 where
+-- the flow becomes new by an act of centre c, which leaves it as y and sends these frames; and so much came with it of
+-- each resource
+pub record IsAct (line : Line) (w : Flow) (c : ℕ) (came : Resource Centre Body → ℕ) (y : Centre)
+    (frames : ℕ → List Body) (new : Flow) : Type 0 where
   pub at : new.at ≡ put w.at c y
   pub changes : (r : Resource Centre Body)
-      → placed r (centre_count line) new + (r.held c (w.at c) + came r) ≡ placed r (centre_count line) w + (r.held c y + sent_by r (centre_count line) c frames)
+      → placed r (centre_count line) new + (r.held c (w.at c) + came r)
+      ≡ placed r (centre_count line) w + (r.held c y + sent_by r (centre_count line) c frames)
   pub had : (r : Resource Centre Body) → r.held c (w.at c) + came r ≤ placed r (centre_count line) w
-  pub on_way : (i j : ℕ) (f : Body) → Contains (way new i j) f → Contains (way w i j) f ⊎ ((i ≡ c) × Contains (frames j) f)
+  pub on_way : (i j : ℕ) (f : Body) → Contains (way new i j) f
+      → Contains (way w i j) f ⊎ ((i ≡ c) × Contains (frames j) f)
 
 -- the frames of an act of c have nothing of it inside
 abbrev pub SendsNone : Resource Centre Body → ℕ → (ℕ → List Body) → Type 0
@@ -34,7 +38,8 @@ hand_behind line c t s y frames = one_if (hand_has (y.mission t) s) + sent_by (h
 
 -- no other centre has the train's mission, and no other frame on the way
 abbrev pub IsMissionHere : Line → Flow → ℕ → (Resource Centre Body → ℕ) → ℕ → Type 0
-IsMissionHere line w c came t = placed (missions t) (centre_count line) w ≡ one_if (is_some ((w.at c).mission t)) + came (missions t)
+IsMissionHere line w c came t =
+    placed (missions t) (centre_count line) w ≡ one_if (is_some ((w.at c).mission t)) + came (missions t)
 
 -- the right of a train that is in no mission: at its registrar, or in a frame alone
 abbrev pub right_alone_inside : ℕ → Body → ℕ
@@ -43,9 +48,11 @@ right_alone_inside t (ReturnRight u) = one_if (u == t)
 right_alone_inside t body = 0
 
 abbrev pub rights_alone : ℕ → Resource Centre Body
-rights_alone t = record { held = λ c k. one_if (k.has_right t); inside = λ a b body. right_alone_inside t body; cap = λ c k. 0 }
+rights_alone t =
+    record { held = λ c k. one_if (k.has_right t); inside = λ a b body. right_alone_inside t body; cap = λ c k. 0 }
 
--- the token of a section for a train that is in no hand: in a start that waits, in a pool, or in a frame that lends it or brings it home
+-- the token of a section for a train that is in no hand: in a start that waits, in a pool, or in a frame that lends it
+-- or brings it home
 abbrev pub token_aside_inside : ℕ → ℕ → Body → ℕ
 token_aside_inside t s (RouteInfo u r) = one_if ((u == t) && within r s)
 token_aside_inside t s (RouteReturn u r) = one_if ((u == t) && within r s)

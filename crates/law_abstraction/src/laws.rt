@@ -265,7 +265,8 @@ pub fn a_hand_is_what_is_given()
 pub fn what_is_unseen_changes_nothing_else()
     ensures { (line : Line) (w : Flow) (c : ℕ) (came : Resource Centre Body → ℕ) (y : Centre) (frames : ℕ → List Body)
         (new : Flow) (v : LineState)
-        (phase : ℕ → ℕ → Phase) (heard : ℕ → ℕ → Option ℕ) (said : ℕ → ℕ → ℕ) → IsFlowSound line w → Shows line w v → is_centre line c ≡ true
+        (phase : ℕ → ℕ → Phase) (heard : ℕ → ℕ → Option ℕ) (said : ℕ → ℕ → ℕ)
+        → IsFlowSound line w → Shows line w v → is_centre line c ≡ true
         → IsAct line w c came y frames new → IsUnseen c (w.at c) came y frames
         → PartAfter c v.phase y.phase phase → PartAfter c v.heard y.heard heard → PartAfter c v.said y.said said
         → Shows line new (record v { phase = phase; heard = heard; said = said }) }

@@ -20,9 +20,11 @@ abbrev pub seen : Result Answer StepFault → Result spec.Answer StepFault
 seen (Ok answer) = Ok (answer_of answer)
 seen (Err fault) = Err fault
 
--- the clauses `line`, `exact` and `err` of World::step, of what its memory stands for: the line and world before it, the event, what is returned, and the
--- line and world behind it. What is returned and the world that is left are what the definition gives; but of want of memory nothing is said
-pub record IsStep (line : Line) (w : World) (event : Event) (result : Result Answer StepFault) (left : Line) (new : World) : Type 0 where
+-- the clauses `line`, `exact` and `err` of World::step, of what its memory stands for: the line and world before it,
+-- the event, what is returned, and the line and world behind it. What is returned and the world that is left are what
+-- the definition gives; but of want of memory nothing is said
+pub record IsStep (line : Line) (w : World) (event : Event) (result : Result Answer StepFault) (left : Line)
+    (new : World) : Type 0 where
   pub same_line : left ≡ line
   pub exact : Gives (λ a. (answer_of a, new)) result (world_step line w event)
   pub err : OnErr result (new ≡ w)
@@ -30,7 +32,8 @@ pub record IsStep (line : Line) (w : World) (event : Event) (result : Result Ans
 -- such steps one after another, each with what it returns, lead from w to new
 abbrev pub AreSteps : Line → World → List Event → List (Result Answer StepFault) → World → Type 0
 AreSteps line w [] [] new = new ≡ w
-AreSteps line w (event ∷ events) (result ∷ results) new = (mid : World) × IsStep line w event result line mid × AreSteps line mid events results new
+AreSteps line w (event ∷ events) (result ∷ results) new =
+    (mid : World) × IsStep line w event result line mid × AreSteps line mid events results new
 AreSteps line w events results new = ⊥
 
 -- ## Bytes

@@ -7,7 +7,8 @@ use Rattle.rbc_spec.specs.Centre.{Centre, Mission}
 
 -- where a question of the train stands, the pool of its mission is empty
 abbrev pub AsksForEmptyPools : Centre → Type 0
-AsksForEmptyPools k = (t first : ℕ) (m : Mission) → k.route_ask t ≡ Some first → k.mission t ≡ Some m → is_empty m.pool ≡ true
+AsksForEmptyPools k =
+    (t first : ℕ) (m : Mission) → k.route_ask t ≡ Some first → k.mission t ≡ Some m → is_empty m.pool ≡ true
 
 -- the run begins behind the hand, on the track of a mission that goes on
 abbrev pub follows_hand : Line → SectionRun → Mission → Bool

@@ -12,7 +12,8 @@ abbrev pub IsAhead : Line → Place → Type 0
 IsAhead line place = 10 * group_start line place ≤ place.front
 
 -- a request that centre c hears: the train's mission there, and the place of its report
-pub record IsRequestHeard (line : Line) (c : ℕ) (k : Centre) (m : TrainMessage) (n : Mission) (place : Place) : Type 0 where
+pub record IsRequestHeard (line : Line) (c : ℕ) (k : Centre) (m : TrainMessage) (n : Mission)
+    (place : Place) : Type 0 where
   pub position : Position
   pub asks : m.body ≡ Request position
   pub heard : silence line c k m ≡ None

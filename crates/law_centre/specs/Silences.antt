@@ -14,4 +14,6 @@ pub record EndsOnLine (line : Line) (r : SectionRun) : Type 0 where
 
 -- if the message is a request, the hand of its train's mission at the centre has a last section
 abbrev pub HasEndIfAsked : Line → Centre → TrainMessage → Type 0
-HasEndIfAsked line k m = (position : Position) (n : Mission) → m.body ≡ Request position → k.mission m.nid_engine ≡ Some n → EndsOnLine line n.hand
+HasEndIfAsked line k m =
+    (position : Position) (n : Mission) → m.body ≡ Request position → k.mission m.nid_engine ≡ Some n
+    → EndsOnLine line n.hand

@@ -17,7 +17,8 @@ abbrev pub IsInRange : Event → Type 0
 IsInRange (Deliver d f) = HasHandRange f.body
 IsInRange event = Unit {0}
 
--- the step of an event at centre c, which was k, leaves the centre sound, and sends sound bodies to centres of the line alone
+-- the step of an event at centre c, which was k, leaves the centre sound, and sends sound bodies to centres of the line
+-- alone
 abbrev pub StaysSound : Line → ℕ → Centre → Event → Type 0
 StaysSound line c k event =
     let stamp = stamp_of k event in

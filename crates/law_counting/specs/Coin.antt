@@ -62,7 +62,8 @@ abbrev pub happens : ℕ → Net Purse Letter → Event → Net Purse Letter
 happens n w (Writes c d) =
     if nat_lt c n && nat_lt d n then acted w c (after_writing d (w.at c)) (to_one d (letter d (w.at c) ∷ [])) else w
 happens n w (Loses c) = if nat_lt c n then acted w c (after_losing (w.at c)) (λ d. []) else w
-happens n w (Comes a b number) = if nat_lt a n && nat_lt b n then comes w a b number (numbered (w.sent a b) number) else w
+happens n w (Comes a b number) =
+    if nat_lt a n && nat_lt b n then comes w a b number (numbered (w.sent a b) number) else w
 
 -- a whole schedule
 abbrev pub run : ℕ → List Event → Net Purse Letter → Net Purse Letter
@@ -84,7 +85,8 @@ coin = record { held = λ c x. x.coins; inside = λ a b f. one_if f.full; cap = 
 
 -- the coin is in one place: some centre alone has it, or it is on the way on one link
 abbrev pub IsInOnePlace : ℕ → Net Purse Letter → Type 0
-IsInOnePlace n w = ((c : ℕ) × (c < n) × OnlyHeld coin n w c) ⊎ ((a : ℕ) × (b : ℕ) × (a < n) × (b < n) × OnlyOnTheWay coin n w a b)
+IsInOnePlace n w =
+    ((c : ℕ) × (c < n) × OnlyHeld coin n w c) ⊎ ((a : ℕ) × (b : ℕ) × (a < n) × (b < n) × OnlyOnTheWay coin n w a b)
 
 -- the coin is in one place at most: where a centre or a letter on the way has it, nobody else does
 pub record IsInOnePlaceAtMost (n : ℕ) (w : Net Purse Letter) : Type 0 where

@@ -27,11 +27,13 @@ unfoldable pub allowed : {X F : Type 0} → Resource X F → ℕ → Net X F →
 allowed r n w = sum_below n (λ c. r.cap c (w.at c))
 
 -- an act of c makes nothing: what it keeps and sends, it had, or it came, or its cap grew by it
-pub record IsFair {X F : Type 0} (r : Resource X F) (n c : ℕ) (old : X) (came : ℕ) (new : X) (frames : ℕ → List F) : Type 0 where
+pub record IsFair {X F : Type 0} (r : Resource X F) (n c : ℕ) (old : X) (came : ℕ) (new : X)
+    (frames : ℕ → List F) : Type 0 where
   pub law : r.held c new + sent_by r n c frames + r.cap c old ≤ r.held c old + came + r.cap c new
 
 -- an act of c makes nothing and loses nothing
-pub record IsExact {X F : Type 0} (r : Resource X F) (n c : ℕ) (old : X) (came : ℕ) (new : X) (frames : ℕ → List F) : Type 0 where
+pub record IsExact {X F : Type 0} (r : Resource X F) (n c : ℕ) (old : X) (came : ℕ) (new : X)
+    (frames : ℕ → List F) : Type 0 where
   pub law : r.held c new + sent_by r n c frames + r.cap c old ≡ r.held c old + came + r.cap c new
 
 -- no more is anywhere than may be out

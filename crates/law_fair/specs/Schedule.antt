@@ -16,7 +16,8 @@ behind w (Err why) = w
 -- the world behind so many events of the schedule, from the line's beginning
 unfoldable pub world_after : Line → (ℕ → Event) → ℕ → World
 world_after line schedule zero = new_world line
-world_after line schedule (suc n) = behind (world_after line schedule n) (world_step line (world_after line schedule n) (schedule n))
+world_after line schedule (suc n) =
+    behind (world_after line schedule n) (world_step line (world_after line schedule n) (schedule n))
 
 -- the number of the frame that b takes next of a
 abbrev pub next_number : World → ℕ → ℕ → ℕ
@@ -59,11 +60,12 @@ pub record RestsFrom (line : Line) (schedule : ℕ → Event) (n : ℕ) : Type 0
   pub silent : (m : ℕ) → n ≤ m → IsSilent (world_step line (world_after line schedule m) (schedule m))
   pub same : (m : ℕ) → n ≤ m → IsSameButClocks (world_after line schedule n) (world_after line schedule m)
 
--- at position n a frame from a to b is on the way, and each delivery of the next of that link is refused then and ever after: a step clock is at its end,
--- or a link is full
+-- at position n a frame from a to b is on the way, and each delivery of the next of that link is refused then and ever
+-- after: a step clock is at its end, or a link is full
 pub record StopsFrom (line : Line) (schedule : ℕ → Event) (n : ℕ) : Type 0 where
   pub a : ℕ
   pub b : ℕ
   pub on_way : way (world_after line schedule n) a b ≢ []
   pub refused : (m : ℕ) → n ≤ m
-      → (why : Refusal) × (world_step line (world_after line schedule m) (Delivery a b (next_number (world_after line schedule n) a b)) ≡ Err why)
+      → (why : Refusal) × (world_step line (world_after line schedule m)
+      (Delivery a b (next_number (world_after line schedule n) a b)) ≡ Err why)

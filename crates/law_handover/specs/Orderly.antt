@@ -32,7 +32,8 @@ allowed_by a f d t h = (d == a) && takes_over t h f
 -- an act of a centre, which was k, leaves it as y and sends these frames, and yields no more than it may
 pub record IsOrderlyWith (allow : Allowance) (k y : Centre) (frames : ℕ → List Body) : Type 0 where
   -- what it sends about a train leads from the handover that was announced to the one that is
-  pub leads : (d t : ℕ) → Chain (follows t) (frames d) (number_announced (handing_to d (k.mission t))) (number_announced (handing_to d (y.mission t)))
+  pub leads : (d t : ℕ) → Chain (follows t) (frames d) (number_announced (handing_to d (k.mission t)))
+      (number_announced (handing_to d (y.mission t)))
   -- it expects each train as before
   pub expected : (a t : ℕ) → number_expected (y.expects a t) ≡ number_expected (k.expects a t)
   pub announced : k.announced ≤ y.announced

@@ -33,8 +33,8 @@ abbrev pub IsAboveItsFrame : Event → ℕ → Type 0
 IsAboveItsFrame (Deliver from f) stamp = f.stamp < stamp
 IsAboveItsFrame event stamp = Unit {0}
 
--- a step by its stamp: it is what the clock then shows, above what it showed and above the stamp of a frame that came; and what the step
--- sends on a link stands behind what was sent before, with that stamp, and numbered on from there
+-- a step by its stamp: it is what the clock then shows, above what it showed and above the stamp of a frame that came;
+-- and what the step sends on a link stands behind what was sent before, with that stamp, and numbered on from there
 pub record IsStamped (k : Centre) (event : Event) (outcome : Outcome) (new : Centre) : Type 0 where
   pub clock : new.clock ≡ outcome.stamp
   pub above_clock : k.clock < outcome.stamp
@@ -50,8 +50,8 @@ pub record AreLogs (line : Line) (logs : ℕ → List LogEntry) (ends : ℕ → 
   pub replays : (c : ℕ) → is_centre line c ≡ true → Replays line c (beginning line c) (logs c) (ends c)
   pub no_other : (c : ℕ) → is_centre line c ≡ false → logs c ≡ []
 
--- a frame that the event brings to centre c stands in the log of the centre that is named as its sender, as sent to c: under its number,
--- with its stamp and its body
+-- a frame that the event brings to centre c stands in the log of the centre that is named as its sender, as sent to c:
+-- under its number, with its stamp and its body
 abbrev pub IsFromLog : (ℕ → List LogEntry) → ℕ → Event → Type 0
 IsFromLog logs c (Deliver from f) = Contains (sent_to c (logs from)) f
 IsFromLog logs c event = Unit {0}
@@ -102,8 +102,8 @@ pub record IsWorldRun (line : Line) (entries : List LogEntry) (ends : ℕ → Ce
 
 -- ## What is claimed
 
--- Whatever the centres of a line did side by side: where each log replays its centre from the beginning, and each frame that was delivered
--- stands in its sender's log, every merge of the logs is one run of the world
+-- Whatever the centres of a line did side by side: where each log replays its centre from the beginning, and each frame
+-- that was delivered stands in its sender's log, every merge of the logs is one run of the world
 abbrev pub FamilyTheorem : Type 0
 FamilyTheorem = (line : Line) (logs : ℕ → List LogEntry) (ends : ℕ → Centre) (merged : List LogEntry)
     → AreLogs line logs ends → IsLegal logs → IsMerge logs merged → IsWorldRun line merged ends
@@ -111,5 +111,6 @@ FamilyTheorem = (line : Line) (logs : ℕ → List LogEntry) (ends : ℕ → Cen
 -- a list that has each entry of each log once is a merge of the logs as soon as it is in the order of stamps
 abbrev pub SortedTheorem : Type 0
 SortedTheorem = (line : Line) (logs : ℕ → List LogEntry) (ends : ℕ → Centre) (together sorted : List LogEntry)
-    → AreLogs line logs ends → ((c : ℕ) → entries_of c together ≡ logs c) → IsPermutation together sorted → IsInOrder sorted
+    → AreLogs line logs ends → ((c : ℕ) → entries_of c together ≡ logs c) → IsPermutation together sorted
+    → IsInOrder sorted
     → IsMerge logs sorted

@@ -24,7 +24,11 @@ is_there e = false
 
 abbrev pub lendable_again : Line → ℕ → Centre → ℕ → ℕ → SectionRun
 lendable_again line c k first most =
-    record { first = first; count = longest (λ s. (is_home line c s && is_there (k.book s)) && has (λ p. is_on line p.track s) (section line first)) first most }
+    record {
+      first = first;
+      count = longest (λ s. (is_home line c s && is_there (k.book s))
+          && has (λ p. is_on line p.track s) (section line first)) first most;
+    }
 
 -- as `route_asked`, but a section that is out is lent again
 abbrev pub lending_again : Line → ℕ → ℕ → ℕ → ℕ → ℕ → Act
@@ -43,7 +47,8 @@ shutting_at_once line c s k =
 abbrev pub giving_back_all : Line → ℕ → ℕ → SectionRun → Act
 giving_back_all line c t r =
     freed line c (is_out_for t) (record { first = 0; count = 512 })
-    >> where_so (λ k. not (uses_some line c k t) && ((is_none (k.mission t) && is_none (k.wait t)) && not (is_expected line k t))) (end_order line c t)
+    >> where_so (λ k. not (uses_some line c k t)
+    && ((is_none (k.mission t) && is_none (k.wait t)) && not (is_expected line k t))) (end_order line c t)
 
 -- as `return_pool`, but the pool stays
 abbrev pub keeping_pool : Line → ℕ → ℕ → Mission → Act
@@ -56,21 +61,25 @@ abbrev pub starting_at_once : Line → ℕ → Place → Act
 starting_at_once line t place =
     (booked is_open (Taken t) (covered line place) >> begin line t place)
     >> where_so (λ k. not (k.has_asked t))
-    (option_map_or (λ r. send r (AskRight t)) (registrar line t) rest >> become (λ k. record k { has_asked = put k.has_asked t true }))
+    (option_map_or (λ r. send r (AskRight t)) (registrar line t) rest
+    >> become (λ k. record k { has_asked = put k.has_asked t true }))
 
 -- as `yield`, but the mission goes on here
 abbrev pub keeping_yield : Line → ℕ → ℕ → Mission → Handing → Act
 keeping_yield line c t m h k =
     (((returned line c t m.place.track m.pool >> booked (is_taken_for t) (Out t) m.hand)
-    >> send h.to (Yield h.number t (option_map_or (λ n. n) (k.heard t) 0) m.has_data m.is_ended (yielded_place m.place) m.hand))
+    >> send h.to (Yield h.number t (option_map_or (λ n. n) (k.heard t) 0) m.has_data m.is_ended
+    (yielded_place m.place) m.hand))
     >> (if is_empty (part_at line c m.place.track m.hand) then end_order line c t else rest)) k
 
 -- as `take_mission`, but the older of both stamps is kept
 abbrev pub keeping_older : Line → ℕ → ℕ → ℕ → ℕ → Mission → Act
 keeping_older line c d t heard m =
     ((booked (is_out_for t) (Taken t) m.hand >> set_mission t (Some m))
-    >> (become (λ k. record k { heard = put k.heard t (Some (option_map_or (min heard) (k.heard t) heard)) }) >> expect d t None))
-    >> with_some (λ k. find (λ s. is_home line c s && k.wish s) (range_with_len m.hand.first m.hand.count)) (propose_if_so line t)
+    >> (become (λ k. record k { heard = put k.heard t (Some (option_map_or (min heard) (k.heard t) heard)) })
+    >> expect d t None))
+    >> with_some (λ k. find (λ s. is_home line c s && k.wish s) (range_with_len m.hand.first m.hand.count))
+    (propose_if_so line t)
 
 -- as `cancelled`, but whatever its number
 abbrev pub cancelling_any : ℕ → ℕ → ℕ → Act

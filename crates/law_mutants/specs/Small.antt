@@ -10,7 +10,8 @@ use Rattle.rbc_spec.specs.Step.{Refusal}
 use Rattle.rbc_spec.specs.World.{World, Answer, Event, Bytes, Set, Unset, Delivery, new_world, world_run}
 use Rattle.law_network.specs.Flow.{Flow, flow_of}
 
--- centres A (0) and B (1), a track of three sections of 1 000 m, the first at A and two at B, and trains 1 and 2, registered at A and at B
+-- centres A (0) and B (1), a track of three sections of 1 000 m, the first at A and two at B, and trains 1 and 2,
+-- registered at A and at B
 abbrev pub small : Line
 small = record {
   nid_c = 5;
@@ -59,7 +60,9 @@ at_the_other = Set 1 1 ∷ Set 1 2 ∷ says 1 1 InitiationOfSession ∷ says 1 2
 
 -- train 1 begins a mission in A's section and asks for more, and B lends its two sections: they are in A's pool
 abbrev pub pooled : List Event
-pooled = Set 0 0 ∷ Set 1 1 ∷ Set 1 2 ∷ says 0 1 InitiationOfSession ∷ says 0 2 SessionEstablished ∷ says 0 3 (StartOfMission true (at 0 600))
+pooled =
+    Set 0 0 ∷ Set 1 1 ∷ Set 1 2 ∷ says 0 1 InitiationOfSession ∷ says 0 2 SessionEstablished
+    ∷ says 0 3 (StartOfMission true (at 0 600))
     ∷ says 0 4 (TrainData (at 0 600)) ∷ says 0 5 (Request (at 0 600)) ∷ Delivery 0 1 1 ∷ Delivery 1 0 1 ∷ []
 
 -- the last section is wished back: A returns it, which is on the way, and has the other still in its pool
@@ -68,7 +71,9 @@ returning = pooled ++ Unset 1 2 ∷ Delivery 1 0 2 ∷ []
 
 -- the train's hand is extended over the border, A announces it to B, and B has heard of the train and takes over
 abbrev pub taking : List Event
-taking = pooled ++ says 0 6 (Request (at 0 600)) ∷ Delivery 0 1 2 ∷ says 1 7 InitiationOfSession ∷ says 1 8 SessionEstablished ∷ says 1 9 (Report (at 1 100)) ∷ []
+taking =
+    pooled ++ says 0 6 (Request (at 0 600)) ∷ Delivery 0 1 2 ∷ says 1 7 InitiationOfSession
+    ∷ says 1 8 SessionEstablished ∷ says 1 9 (Report (at 1 100)) ∷ []
 
 -- ## What it comes to
 
@@ -85,4 +90,5 @@ flow events = flow_of (behind events)
 
 -- B expects train 1 from A under the second number that A announced, and has said that it takes over
 abbrev pub expecting : Centre
-expecting = record (beginning small 1) { expects = put_pair (λ d t. None) 0 1 (Some (record { number = 2; is_taking = true })) }
+expecting =
+    record (beginning small 1) { expects = put_pair (λ d t. None) 0 1 (Some (record { number = 2; is_taking = true })) }

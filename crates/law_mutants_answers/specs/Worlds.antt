@@ -19,7 +19,9 @@ giving_up = asking ++ says 1 4 InitiationOfSession ∷ says 1 5 SessionEstablish
 
 -- train 1 has a mission at A, and starts at B too, which asks for its right: A has it not
 abbrev pub asking_in_vain : List Event
-asking_in_vain = Set 0 0 ∷ says 0 1 InitiationOfSession ∷ says 0 2 SessionEstablished ∷ says 0 3 (StartOfMission true (at 0 600)) ∷ asking
+asking_in_vain =
+    Set 0 0 ∷ says 0 1 InitiationOfSession ∷ says 0 2 SessionEstablished ∷ says 0 3 (StartOfMission true (at 0 600))
+    ∷ asking
 
 -- all was somewhere, and then some is nowhere
 pub record FallsShort (r : Resource Centre Body) (line : Line) (w v : Flow) : Type 0 where

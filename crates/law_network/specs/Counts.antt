@@ -45,7 +45,8 @@ token_inside t s body = 0
 
 abbrev pub tokens : Line → ℕ → ℕ → Resource Centre Body
 tokens line t s = record {
-  held = λ c k. (one_if (wait_has line (k.wait t) s) + one_if (hand_has (k.mission t) s)) + one_if (pool_has (k.mission t) s);
+  held = λ c k. (one_if (wait_has line (k.wait t) s) + one_if (hand_has (k.mission t) s))
+      + one_if (pool_has (k.mission t) s);
   inside = λ a b body. token_inside t s body;
   cap = λ c k. one_if (is_home line c s && is_used_for t (k.book s));
 }
@@ -70,4 +71,5 @@ yield_inside t (Yield number u heard has_data is_ended place hand) = one_if (u =
 yield_inside t body = 0
 
 abbrev pub missions : ℕ → Resource Centre Body
-missions t = record { held = λ c k. one_if (is_some (k.mission t)); inside = λ a b body. yield_inside t body; cap = λ c k. 0 }
+missions t =
+    record { held = λ c k. one_if (is_some (k.mission t)); inside = λ a b body. yield_inside t body; cap = λ c k. 0 }

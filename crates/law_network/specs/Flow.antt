@@ -1,4 +1,5 @@
--- The centres of a line as a network: their states, what is on the way between them, and how an act of one changes that.
+-- The centres of a line as a network: their states, what is on the way between them, and how an act of one changes
+-- that.
 use Rattle.std.specs.Prelude.{ℕ, List, length, map}
 use Rattle.law_counting.specs.Network.{Net}
 use Rattle.rbc_spec.specs.Maps.{put}

@@ -17,8 +17,10 @@ nothing_came r = 0
 abbrev pub came_with : ℕ → ℕ → Body → Resource Centre Body → ℕ
 came_with a c f r = r.inside a c f
 
--- an act of centre c, which was k, leaves it as y and sends these frames: it makes no right and no token beyond what came
-pub record IsFairAct (line : Line) (c : ℕ) (k : Centre) (came : Resource Centre Body → ℕ) (y : Centre) (frames : ℕ → List Body) : Type 0 where
+-- an act of centre c, which was k, leaves it as y and sends these frames: it makes no right and no token beyond what
+-- came
+pub record IsFairAct (line : Line) (c : ℕ) (k : Centre) (came : Resource Centre Body → ℕ) (y : Centre)
+    (frames : ℕ → List Body) : Type 0 where
   pub rights : (t : ℕ) → IsFair (rights line t) (centre_count line) c k (came (rights line t)) y frames
   pub tokens : (t s : ℕ) → IsFair (tokens line t s) (centre_count line) c k (came (tokens line t s)) y frames
 
@@ -45,7 +47,8 @@ pub record IsApart (k y : Centre) : Type 0 where
 
 -- ## Aside
 
--- a centre that changes nothing that is counted: phases, what it has said and heard, its clock, and asks that end, at most
+-- a centre that changes nothing that is counted: phases, what it has said and heard, its clock, and asks that end, at
+-- most
 pub record IsAside (k y : Centre) : Type 0 where
   pub book : y.book ≡ k.book
   pub wish : y.wish ≡ k.wish

@@ -39,19 +39,24 @@ pub record Leads (line : Line) (w : Flow) (c : ℕ) (r : Reply) (v : LineState) 
 -- one act leads on from where another led
 abbrev pub LeadsOn : Line → Flow → ℕ → Centre → LineState → Act → Act → Type 0
 LeadsOn line w c k v first second =
-    (one : Leads line w c (first k) v) → Leads line (replied w c (first k)) c (second (first k).state) one.new → Leads line w c ((first >> second) k) v
+    (one : Leads line w c (first k) v) → Leads line (replied w c (first k)) c (second (first k).state) one.new
+    → Leads line w c ((first >> second) k) v
 
 -- ## Of a message that is heard
 
 -- what a report says of a place on its mission's track, if it has one
 abbrev pub Reports : Line → ℕ → ℕ → Option Place → LineState → Said → LineState → Type 0
 Reports line t c None v said new = SaysNothing v said new
-Reports line t c (Some place) v said new = Tells (release_words line c (is_cleared_of line v t place) v) (reported line t c place v) said new
+Reports line t c (Some place) v said new =
+    Tells (release_words line c (is_cleared_of line v t place) v) (reported line t c place v) said new
 
--- the own step of a message; and of a report to a centre that does not supervise the train, or of no place, nothing is said
+-- the own step of a message; and of a report to a centre that does not supervise the train, or of no place, nothing is
+-- said
 abbrev pub HeardAs : Line → LineState → ℕ → TrainMessage → TrainBody → Said → LineState → Type 0
 HeardAs line v c m (Report position) said new =
-    MatchBool (supervises v c m.nid_engine) (Reports line m.nid_engine c (place_on line (track_of v m.nid_engine) position) v said new) (SaysNothing v said new)
+    MatchBool (supervises v c m.nid_engine)
+    (Reports line m.nid_engine c (place_on line (track_of v m.nid_engine) position) v said new)
+    (SaysNothing v said new)
 HeardAs line v c m body said new = Own line v c m body said new
 
 -- the part of the answer that is the own step of the one line centre, which showed v

@@ -12,16 +12,19 @@ use Rattle.law_network.specs.Flow.{Flow}
 abbrev pub is_number : ℕ → Option ℕ → Bool
 is_number h number = has (λ n. n == h) number
 
--- the number under which the receiver expects the train becomes this by the next frame; None where the frame must not come
+-- the number under which the receiver expects the train becomes this by the next frame; None where the frame must not
+-- come
 abbrev pub follows : ℕ → Body → Option ℕ → Option (Option ℕ)
 follows t (Announce h u track) number = if u == t then (if is_none number then Some (Some h) else None) else Some number
 follows t (Cancel h u) number = if u == t then (if is_number h number then Some None else None) else Some number
-follows t (Yield h u heard has_data is_ended place hand) number = if u == t then (if is_number h number then Some None else None) else Some number
+follows t (Yield h u heard has_data is_ended place hand) number =
+    if u == t then (if is_number h number then Some None else None) else Some number
 follows t body number = Some number
 
 -- the handover that a mission announced to centre b
 abbrev pub handing_to : ℕ → Option Mission → Option Handing
-handing_to b mission = option_map_or (λ m. option_map_or (λ h. if h.to == b then Some h else None) m.handing None) mission None
+handing_to b mission =
+    option_map_or (λ m. option_map_or (λ h. if h.to == b then Some h else None) m.handing None) mission None
 
 -- how many frames pass a test
 abbrev pub count_if : (Body → Bool) → List Body → ℕ
@@ -51,7 +54,8 @@ after w a b t h = count_if (takes_over t h) (way w b a) + count_if (yields t h) 
 
 -- the handover of train t from a to b
 pub record IsPaired (w : Flow) (a b t : ℕ) : Type 0 where
-  pub chain : Chain (follows t) (way w a b) (option_map (λ e. e.number) ((w.at b).expects a t)) (option_map (λ h. h.number) (handing_to b ((w.at a).mission t)))
+  pub chain : Chain (follows t) (way w a b) (option_map (λ e. e.number) ((w.at b).expects a t))
+      (option_map (λ h. h.number) (handing_to b ((w.at a).mission t)))
   pub fresh : (h : ℕ) → (w.at a).announced < h → before w a b t h + after w a b t h ≡ 0
   pub once : (h : ℕ) → before w a b t h ≤ 1
   pub apart : (h : ℕ) → (before w a b t h ≡ 0) ⊎ (after w a b t h ≡ 0)

@@ -25,7 +25,8 @@ shown (centre.Out t) given = if given t then Given t else Kept t
 
 -- the mission that a Yield hands over
 abbrev pub parted : ℕ → Bool → Bool → Place → LineMission
-parted heard has_data is_ended place = record { place = place; has_data = has_data; is_ended = is_ended; proposal = None; supervisor = Parted heard }
+parted heard has_data is_ended place =
+    record { place = place; has_data = has_data; is_ended = is_ended; proposal = None; supervisor = Parted heard }
 
 pub record Shows (line : Line) (w : Flow) (v : LineState) : Type 0 where
   pub phase : (t c : ℕ) → v.phase t c ≡ (w.at c).phase t
@@ -37,6 +38,7 @@ pub record Shows (line : Line) (w : Flow) (v : LineState) : Type 0 where
   pub no_section : (s : ℕ) → section line s ≡ None → v.mark s ≡ Shut
   pub no_wish : (s : ℕ) → section line s ≡ None → v.wish s ≡ false
   pub mission : (t c : ℕ) (m : centre.Mission) → (w.at c).mission t ≡ Some m → v.mission t ≡ Some (seen c m)
-  pub on_way : (a b number t heard : ℕ) (has_data is_ended : Bool) (place : Place) (hand : SectionRun) → Contains (way w a b) (Yield number t heard has_data is_ended (yielded_place place) hand)
+  pub on_way : (a b number t heard : ℕ) (has_data is_ended : Bool) (place : Place) (hand : SectionRun)
+      → Contains (way w a b) (Yield number t heard has_data is_ended (yielded_place place) hand)
       → v.mission t ≡ Some (parted heard has_data is_ended place)
   pub no_mission : (t : ℕ) → placed (missions t) (centre_count line) w ≡ 0 → v.mission t ≡ None

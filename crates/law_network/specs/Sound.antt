@@ -33,33 +33,42 @@ pub record IsOfNext (line : Line) (c s : ℕ) : Type 0 where
 abbrev pub HasComeTo : Line → ℕ → Mission → Type 0
 HasComeTo line d m = (is_some m.handing ≡ true) ⊎ ((e : ℕ) × (within m.hand e ≡ true) × (is_home line d e ≡ true))
 
--- a mission at centre c: its pool follows the hand at once, on its track, and is of the next centre; a handover that it announced is to the next
--- centre, and where one may stand no section of the hand is of the centre behind that
+-- a mission at centre c: its pool follows the hand at once, on its track, and is of the next centre; a handover that it
+-- announced is to the next centre, and where one may stand no section of the hand is of the centre behind that
 pub record IsMissionAt (line : Line) (c : ℕ) (k : Centre) (m : Mission) : Type 0 where
   pub hand : IsHandAt line m.place m.hand
   pub pool_follows : is_empty m.pool ≡ false → m.pool.first ≡ behind m.hand
   pub pool_away : (s : ℕ) → within m.pool s ≡ true → is_home line c s ≡ false
   pub pool_on : (s : ℕ) → within m.pool s ≡ true → is_on line m.place.track s ≡ true
-  pub pool_next : (s d : ℕ) → next_centre line c m.place.track ≡ Some d → within m.pool s ≡ true → is_home line d s ≡ true
+  pub pool_next : (s d : ℕ) → next_centre line c m.place.track ≡ Some d → within m.pool s ≡ true
+      → is_home line d s ≡ true
   pub handing_to : (h : Handing) → m.handing ≡ Some h → next_centre line c m.place.track ≡ Some h.to
   pub handing_number : (h : Handing) → m.handing ≡ Some h → (1 ≤ h.number) × (h.number ≤ k.announced)
-  pub hand_ends : (s d n : ℕ) → next_centre line c m.place.track ≡ Some d → next_centre line d m.place.track ≡ Some n → HasComeTo line d m
+  pub hand_ends : (s d n : ℕ) → next_centre line c m.place.track ≡ Some d → next_centre line d m.place.track ≡ Some n
+      → HasComeTo line d m
       → within m.hand s ≡ true → is_home line n s ≡ false
 
 pub record IsCentreSound (line : Line) (c : ℕ) (k : Centre) : Type 0 where
-  pub claims : (s t : ℕ) → is_home line c s ≡ true → one_if (is_taken_for t (k.book s)) ≡ one_if (wait_has line (k.wait t) s) + one_if (hand_has (k.mission t) s)  -- a home section is taken exactly where a start that waits or a hand has it
+  -- a home section is taken exactly where a start that waits or a hand has it
+  pub claims : (s t : ℕ) → is_home line c s ≡ true
+      → one_if (is_taken_for t (k.book s)) ≡ one_if (wait_has line (k.wait t) s) + one_if (hand_has (k.mission t) s)
   pub foreign : (s : ℕ) → is_home line c s ≡ false → k.book s ≡ Shut
-  pub asks : (t first : ℕ) → k.route_ask t ≡ Some first → IsOfNext line c first  -- sections are asked of the next centre alone
+  -- sections are asked of the next centre alone
+  pub asks : (t first : ℕ) → k.route_ask t ≡ Some first → IsOfNext line c first
   pub unwished : (s : ℕ) → is_unused (k.book s) ≡ true → k.wish s ≡ false
-  pub wait_home : (t s : ℕ) → wait_has line (k.wait t) s ≡ true → is_home line c s ≡ true  -- a start that waits could begin here
+  -- a start that waits could begin here
+  pub wait_home : (t s : ℕ) → wait_has line (k.wait t) s ≡ true → is_home line c s ≡ true
   pub wait_fits : (t : ℕ) (place : Place) → k.wait t ≡ Some place → IsHandAt line place (covered line place)
-  pub wait_known : (t : ℕ) (place : Place) → k.wait t ≡ Some place → (is_some (train_number line t) ≡ true) × (is_some (k.heard t) ≡ true)
+  pub wait_known : (t : ℕ) (place : Place) → k.wait t ≡ Some place
+      → (is_some (train_number line t) ≡ true) × (is_some (k.heard t) ≡ true)
   pub mission : (t : ℕ) (m : Mission) → k.mission t ≡ Some m → IsMissionAt line c k m
-  pub mission_known : (t : ℕ) (m : Mission) → k.mission t ≡ Some m → (is_some (train_number line t) ≡ true) × (is_some (k.heard t) ≡ true)
+  pub mission_known : (t : ℕ) (m : Mission) → k.mission t ≡ Some m
+      → (is_some (train_number line t) ≡ true) × (is_some (k.heard t) ≡ true)
 
 -- ## Of what is on the way
 
--- a Yield from a to b carries a place of the line with its hand, to the next centre, and no section of the hand is of the one behind that
+-- a Yield from a to b carries a place of the line with its hand, to the next centre, and no section of the hand is of
+-- the one behind that
 pub record IsYieldSound (line : Line) (a b t : ℕ) (carried : YieldedPlace) (hand : SectionRun) : Type 0 where
   pub place : Place
   pub is_carried : carried ≡ yielded_place place
@@ -71,7 +80,8 @@ pub record IsYieldSound (line : Line) (a b t : ℕ) (carried : YieldedPlace) (ha
 -- and an announcement and its cancellation are not passed over for what they name
 abbrev pub IsBodySound : Line → ℕ → ℕ → Body → Type 0
 IsBodySound line a b (Yield number t heard has_data is_ended place hand) = IsYieldSound line a b t place hand
-IsBodySound line a b (Announce number t track) = (is_some (train_number line t) ≡ true) × (nat_lt track (length line.tracks) ≡ true)
+IsBodySound line a b (Announce number t track) =
+    (is_some (train_number line t) ≡ true) × (nat_lt track (length line.tracks) ≡ true)
 IsBodySound line a b (Cancel number t) = is_some (train_number line t) ≡ true
 IsBodySound line a b body = Unit {0}
 
@@ -84,7 +94,8 @@ ArePaired line w = (a b t : ℕ) → is_centre line a ≡ true → is_centre lin
 pub record IsFlowSound (line : Line) (w : Flow) : Type 0 where
   pub counted : IsCounted w
   pub centres : (c : ℕ) → is_centre line c ≡ true → IsCentreSound line c (w.at c)
-  pub no_mission : (c t : ℕ) → is_centre line c ≡ false → (w.at c).mission t ≡ None  -- no other centre has anything, and nothing is sent to one
+  -- no other centre has anything, and nothing is sent to one
+  pub no_mission : (c t : ℕ) → is_centre line c ≡ false → (w.at c).mission t ≡ None
   pub no_sent : (a b : ℕ) → (is_centre line a ≡ false) ⊎ (is_centre line b ≡ false) → w.sent a b ≡ []
   pub rights : (t : ℕ) → IsWithinCap (rights line t) (centre_count line) w
   pub tokens : (t s : ℕ) → IsWithinCap (tokens line t s) (centre_count line) w

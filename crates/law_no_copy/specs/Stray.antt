@@ -1,4 +1,5 @@
--- Frames that are looked for: what they have inside is not dropped. Any other frame with a right or a section inside is stray.
+-- Frames that are looked for: what they have inside is not dropped. Any other frame with a right or a section inside is
+-- stray.
 use Rattle.std.specs.Prelude.{ℕ, ◌==◌, Bool, true, false, ◌&&◌, ◌||◌, not, is_none}
 use Rattle.rbc_spec.specs.Maps.{has}
 use Rattle.rbc_spec.specs.SectionRuns.{all_of}
@@ -19,15 +20,18 @@ is_plain (Cancel number t) = true
 is_plain (TakingOver number t) = true
 is_plain body = false
 
--- centre c, which is k, has a place for what comes from centre d: a right was asked for, and is not here; it comes back to the registrar,
--- where neither right nor mission is; sections that centre d lends are those that were asked for; sections that come home are out at
--- centre d for the train; a mission is taken
+-- centre c, which is k, has a place for what comes from centre d: a right was asked for, and is not here; it comes back
+-- to the registrar, where neither right nor mission is; sections that centre d lends are those that were asked for;
+-- sections that come home are out at centre d for the train; a mission is taken
 abbrev pub has_place_for : Line → ℕ → ℕ → Centre → Body → Bool
 has_place_for line c d k (GiveRight t) = k.has_asked t && not (k.has_right t)
 has_place_for line c d k (ReturnRight t) = is_registrar_of line c t && (not (k.has_right t) && is_none (k.mission t))
-has_place_for line c d k (RouteInfo t r) = (has (λ first. first == r.first) (k.route_ask t) && (is_of_line line r && is_home line d r.first)) && all_of (is_home line d) r
+has_place_for line c d k (RouteInfo t r) =
+    (has (λ first. first == r.first) (k.route_ask t) && (is_of_line line r && is_home line d r.first))
+    && all_of (is_home line d) r
 has_place_for line c d k (RouteReturn t r) = all_of (λ s. is_home line c s && is_out_for t (k.book s)) r
-has_place_for line c d k (Yield number t heard has_data is_ended place hand) = has (λ at. may_take line c k d number t at hand) (carried_place place)
+has_place_for line c d k (Yield number t heard has_data is_ended place hand) =
+    has (λ at. may_take line c k d number t at hand) (carried_place place)
 has_place_for line c d k body = true
 
 -- the frame is looked for: nothing is inside, or its train is of the line, and it has its place here

@@ -19,7 +19,9 @@ abbrev pub BringsNoStray : Line → ℕ → Centre → Event → Type 0
 BringsNoStray line c k (Deliver d f) = link_answer line c k d f ≡ Next → is_looked_for line c d k f.body ≡ true
 BringsNoStray line c k event = Unit {0}
 
--- an act of centre c, which was k, leaves it as y and sends these frames: it makes no right and no token beyond what came, and loses none
-pub record IsExactAct (line : Line) (c : ℕ) (k : Centre) (came : Resource Centre Body → ℕ) (y : Centre) (frames : ℕ → List Body) : Type 0 where
+-- an act of centre c, which was k, leaves it as y and sends these frames: it makes no right and no token beyond what
+-- came, and loses none
+pub record IsExactAct (line : Line) (c : ℕ) (k : Centre) (came : Resource Centre Body → ℕ) (y : Centre)
+    (frames : ℕ → List Body) : Type 0 where
   pub rights : (t : ℕ) → IsExact (rights line t) (centre_count line) c k (came (rights line t)) y frames
   pub tokens : (t s : ℕ) → IsExact (tokens line t s) (centre_count line) c k (came (tokens line t s)) y frames

@@ -23,9 +23,11 @@ frames_from line w c = flat_map (λ b. way w c b) (centres_of line)
 abbrev pub frames_to : Line → World → ℕ → List Frame
 frames_to line w c = flat_map (λ a. way w a c) (centres_of line)
 
--- the question of centre c that stands is on the way, or its answer is, once; one that does not stand is not, and has no answer on the way
+-- the question of centre c that stands is on the way, or its answer is, once; one that does not stand is not, and has
+-- no answer on the way
 pub record IsAskedOnce (line : Line) (w : World) (c : ℕ) (x : Question) : Type 0 where
-  pub once : count_by (λ f. asks x f.body) (frames_from line w c) + count_by (λ f. answers x f.body) (frames_to line w c) ≡ one_if (stands x (w.at c))
+  pub once : count_by (λ f. asks x f.body) (frames_from line w c)
+      + count_by (λ f. answers x f.body) (frames_to line w c) ≡ one_if (stands x (w.at c))
 
 -- of each start of mission that waits at a centre the right was asked for, and is not yet answered
 pub record HasAsked (k : Centre) : Type 0 where

@@ -48,14 +48,17 @@ questions x d = record {
 
 -- ## What is on the way
 
--- a body on the way from centre a to centre b: a right goes back to its registrar; sections are asked of the home of the first, and its home lends what
--- is its own, all of one track of the line; sections of a train of the line come home to their home.
+-- a body on the way from centre a to centre b: a right goes back to its registrar; sections are asked of the home of
+-- the first, and its home lends what is its own, all of one track of the line; sections of a train of the line come
+-- home to their home.
 abbrev pub IsBodyAsked : Line → ℕ → ℕ → Body → Type 0
 IsBodyAsked line a b (ReturnRight t) = is_registrar_of line b t ≡ true
 IsBodyAsked line a b (RouteAsk t first most) = is_home line b first ≡ true
 IsBodyAsked line a b (RouteInfo t r) =
-    (is_train line t ≡ true) × (is_of_line line r ≡ true) × (is_home line a r.first ≡ true) × (all_of (is_home line a) r ≡ true)
-IsBodyAsked line a b (RouteReturn t r) = (is_train line t ≡ true) × (is_empty r ≡ false) × (all_of (is_home line b) r ≡ true)
+    (is_train line t ≡ true) × (is_of_line line r ≡ true) × (is_home line a r.first ≡ true)
+    × (all_of (is_home line a) r ≡ true)
+IsBodyAsked line a b (RouteReturn t r) =
+    (is_train line t ≡ true) × (is_empty r ≡ false) × (all_of (is_home line b) r ≡ true)
 IsBodyAsked line a b body = Unit {0}
 
 -- ## Of all

@@ -54,7 +54,8 @@ pub record IsRefusedThere (line : Line) (w : World) : Type 0 where
   pub why : Refusal
   pub refused : world_step line w event ≡ Err why
 
--- finitely many deliveries and messages of trains lead from w to rest, with no handover or with a train that is out of stamps; or to a step that is refused
+-- finitely many deliveries and messages of trains lead from w to rest, with no handover or with a train that is out of
+-- stamps; or to a step that is refused
 pub record GoesOn (line : Line) (w : World) : Type 0 where
   pub events : List Event
   pub going_on : All IsGoingOn events

@@ -8,8 +8,9 @@ use Rattle.rbc_spec.specs.World.{World, Event, Delivery, Answer, world_step, wor
 use Rattle.rbc_spec.specs.ReadOff.{frames_on_way}
 use Rattle.law_no_unasked.specs.Asked.{Question, stands}
 
--- how many deliveries a frame may come to at most among n centres, its own and those of the frames that it leads to: a question leads to an answer, a right or
--- sections that nobody waits for go back, and a pool goes home in a frame for each home
+-- how many deliveries a frame may come to at most among n centres, its own and those of the frames that it leads to: a
+-- question leads to an answer, a right or sections that nobody waits for go back, and a pool goes home in a frame for
+-- each home
 abbrev pub work_of : ℕ → Body → ℕ
 work_of n (AskRight t) = 3
 work_of n (GiveRight t) = 2

@@ -5,7 +5,8 @@ use Rattle.rbc_spec.specs.Outcome.{Outcome}
 use Rattle.rbc_spec.specs.World.{Answer, Answered}
 use Rattle.law_centre.specs.Sending.{GoInOrder}
 
--- at most two messages to trains and 64 words to the interlocking, and on each link at most three frames, in their order
+-- at most two messages to trains and 64 words to the interlocking, and on each link at most three frames, in their
+-- order
 pub record SaysFew (o : Outcome) : Type 0 where
   pub sayings : length o.sayings ≤ 2
   pub words : length o.words ≤ 64

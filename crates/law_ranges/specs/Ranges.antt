@@ -10,8 +10,8 @@ use Rattle.rbc_spec.specs.Step.{Event, Train, Set, Unset, Deliver, last_stamp}
 
 -- ## What comes
 
--- Q_SCALE is at most 10 m, and L_TRAININT has 15 bits (7.5). Nothing is wanted of other fields: a place has a group of the line and distances
--- that are known
+-- Q_SCALE is at most 10 m, and L_TRAININT has 15 bits (7.5). Nothing is wanted of other fields: a place has a group of
+-- the line and distances that are known
 pub record HasPositionRanges (p : Position) : Type 0 where
   pub scale : p.scale ≤ 100
   pub length : (l : ℕ) → p.l_trainint ≡ Some l → l ≤ 32767
@@ -46,7 +46,8 @@ pub record HasStartRanges (line : Line) (p : Place) : Type 0 where
   pub hand : HasRunRange 1 most_in_hand (covered line p)
 
 -- what a mission at c has: a hand, at most 31 sections behind it, and a handover to a linked centre
-pub record HasMissionParts (line : Line) (c : ℕ) (p : Place) (held lent : SectionRun) (handover : Option Handing) : Type 0 where
+pub record HasMissionParts (line : Line) (c : ℕ) (p : Place) (held lent : SectionRun)
+    (handover : Option Handing) : Type 0 where
   pub place : HasPlaceRange (yielded_place p)
   pub hand : HasRunRange 1 most_in_hand held
   pub pool : lent.count ≤ 31
@@ -56,9 +57,10 @@ pub record HasMissionParts (line : Line) (c : ℕ) (p : Place) (held lent : Sect
 abbrev pub HasMissionRanges : Line → ℕ → Mission → Type 0
 HasMissionRanges line c m = HasMissionParts line c m.place m.hand m.pool m.handing
 
--- what centre c keeps: no more handovers were announced than steps were made, each time that was heard is known, and each centre that announced
--- a train has a link with it
-pub record HasStateParts (line : Line) (c stamp count : ℕ) (book : ℕ → Entry) (times : ℕ → Option ℕ) (missions : ℕ → Option Mission) (waits : ℕ → Option Place)
+-- what centre c keeps: no more handovers were announced than steps were made, each time that was heard is known, and
+-- each centre that announced a train has a link with it
+pub record HasStateParts (line : Line) (c stamp count : ℕ) (book : ℕ → Entry) (times : ℕ → Option ℕ)
+    (missions : ℕ → Option Mission) (waits : ℕ → Option Place)
     (expected : ℕ → ℕ → Option Expectation) : Type 0 where
   pub clock : stamp ≤ last_stamp
   pub announced : count ≤ stamp
@@ -66,7 +68,8 @@ pub record HasStateParts (line : Line) (c stamp count : ℕ) (book : ℕ → Ent
   pub heard : (t time : ℕ) → times t ≡ Some time → time < unknown_time
   pub mission : (t : ℕ) (m : Mission) → missions t ≡ Some m → HasMissionRanges line c m
   pub wait : (t : ℕ) (place : Place) → waits t ≡ Some place → HasStartRanges line place
-  pub expects : (d t : ℕ) (e : Expectation) → expected d t ≡ Some e → IsHandoverNumber e.number × (is_linked line c d ≡ true)
+  pub expects : (d t : ℕ) (e : Expectation) → expected d t ≡ Some e
+      → IsHandoverNumber e.number × (is_linked line c d ≡ true)
 
 abbrev pub HasStateRanges : Line → ℕ → Centre → Type 0
 HasStateRanges line c k = HasStateParts line c k.clock k.announced k.book k.heard k.mission k.wait k.expects

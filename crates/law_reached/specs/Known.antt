@@ -1,5 +1,5 @@
--- What is known of a world that events led to. There is one proof of it at most, so a value may keep it: where a world is sound
--- by one of two reasons, this says the test that tells.
+-- What is known of a world that events led to. There is one proof of it at most, so a value may keep it: where a world
+-- is sound by one of two reasons, this says the test that tells.
 use Rattle.std.specs.Prelude.{◌≡◌, ℕ, ◌+◌, ◌<◌, ◌≤◌, true, false, ◌&&◌, [], Some, None, option_map, is_some, nat_lt, length}
 use Rattle.law_counting.specs.Network.{IsCounted, EachOnTheWay, way}
 use Rattle.law_counting.specs.Chain.{Chain}
@@ -18,25 +18,29 @@ use Rattle.law_refinement.specs.Announced.{IsAnnounced}
 
 -- ## What is on the way
 
--- a Yield from a to b carries a place, which is of the line with its hand, to the next centre, and no section of the hand is of the one behind that
+-- a Yield from a to b carries a place, which is of the line with its hand, to the next centre, and no section of the
+-- hand is of the one behind that
 pub record IsYieldKnown (line : Line) (a b t : ℕ) (carried : YieldedPlace) (hand : SectionRun) : Type 0 where
   pub carries : is_some (carried_place carried) ≡ true
   pub is_hand : (place : Place) → carried_place carried ≡ Some place → IsHandAt line place hand
   pub to_next : (place : Place) → carried_place carried ≡ Some place → next_centre line a place.track ≡ Some b
   pub known : is_some (train_number line t) ≡ true
-  pub hand_ends : (place : Place) → carried_place carried ≡ Some place → (s n : ℕ) → next_centre line b place.track ≡ Some n → within hand s ≡ true → is_home line n s ≡ false
+  pub hand_ends : (place : Place) → carried_place carried ≡ Some place → (s n : ℕ)
+      → next_centre line b place.track ≡ Some n → within hand s ≡ true → is_home line n s ≡ false
 
 -- an announcement and its cancellation name a train and a track of the line
 abbrev pub IsBodyKnown : Line → ℕ → ℕ → Body → Type 0
 IsBodyKnown line a b (Yield number t heard has_data is_ended place hand) = IsYieldKnown line a b t place hand
-IsBodyKnown line a b (Announce number t track) = (is_some (train_number line t) ≡ true) × (nat_lt track (length line.tracks) ≡ true)
+IsBodyKnown line a b (Announce number t track) =
+    (is_some (train_number line t) ≡ true) × (nat_lt track (length line.tracks) ≡ true)
 IsBodyKnown line a b (Cancel number t) = is_some (train_number line t) ≡ true
 IsBodyKnown line a b body = Unit {0}
 
--- the handover of train t from a to b: the frames on the way turn the number that b expects into the one that a announced, and what is not
--- taken over yet is not claimed
+-- the handover of train t from a to b: the frames on the way turn the number that b expects into the one that a
+-- announced, and what is not taken over yet is not claimed
 pub record IsPairKnown (w : Flow) (a b t : ℕ) : Type 0 where
-  pub chain : Chain (follows t) (way w a b) (option_map (λ e. e.number) ((w.at b).expects a t)) (option_map (λ h. h.number) (handing_to b ((w.at a).mission t)))
+  pub chain : Chain (follows t) (way w a b) (option_map (λ e. e.number) ((w.at b).expects a t))
+      (option_map (λ h. h.number) (handing_to b ((w.at a).mission t)))
   pub fresh : (h : ℕ) → (w.at a).announced < h → before w a b t h + after w a b t h ≡ 0
   pub once : (h : ℕ) → before w a b t h ≤ 1
   pub apart : (h : ℕ) → 0 < before w a b t h → after w a b t h ≡ 0

@@ -22,8 +22,8 @@ yielded_on_way line w t = slice_get (filter_map (λ f. handed_over t f.body) (fr
 abbrev pub is_in_its_hand : Line → World → ℕ → ℕ → Bool
 is_in_its_hand line w s t = is_given line w t s
 
--- each train's mission is as the centre has it that has one, and else as a Yield on the way carries it; no other centre has one, its train
--- is of the line, and its hand is all that is given to the train
+-- each train's mission is as the centre has it that has one, and else as a Yield on the way carries it; no other centre
+-- has one, its train is of the line, and its hand is all that is given to the train
 pub record AreMissionsSeen (line : Line) (w : World) : Type 0 where
   pub mission : (t : ℕ) → (read_off line w).mission t ≡ option_map (λ h. h.mission) (held line w t)
   pub found : (t : ℕ) → held line w t ≡ option_map_or (held_at w t) (supervisor_of line w t) (yielded_on_way line w t)
@@ -32,9 +32,11 @@ pub record AreMissionsSeen (line : Line) (w : World) : Type 0 where
   pub known : (t : ℕ) (h : Held) → held line w t ≡ Some h → is_some (train_number line t) ≡ true
   pub hand : (t : ℕ) (h : Held) → held line w t ≡ Some h → IsHand (read_off line w) t h.hand
 
--- each section is as its home's book has it, and one in use is given where it is in its train's hand; no other number is a section
+-- each section is as its home's book has it, and one in use is given where it is in its train's hand; no other number
+-- is a section
 pub record AreSectionsSeen (line : Line) (w : World) : Type 0 where
-  pub mark : (s c : ℕ) → is_home line c s ≡ true → (read_off line w).mark s ≡ shown ((w.at c).book s) (is_in_its_hand line w s)
+  pub mark : (s c : ℕ) → is_home line c s ≡ true
+      → (read_off line w).mark s ≡ shown ((w.at c).book s) (is_in_its_hand line w s)
   pub wish : (s c : ℕ) → is_home line c s ≡ true → (read_off line w).wish s ≡ (w.at c).wish s
   pub no_mark : (s : ℕ) → section line s ≡ None → (read_off line w).mark s ≡ Shut
   pub no_wish : (s : ℕ) → section line s ≡ None → (read_off line w).wish s ≡ false

@@ -6,8 +6,8 @@ use Rattle.rbc_spec.specs.Place.{group_start, farthest}
 use Rattle.rbc_spec.specs.Centre.{Centre, Mission, Up}
 use Rattle.rbc_spec.specs.Acts.{part_at}
 
--- the session is up, centre d is the next of the track, and the first section of home d in the hand begins ahead of the group that the train
--- reported, not too far for the packet
+-- the session is up, centre d is the next of the track, and the first section of home d in the hand begins ahead of the
+-- group that the train reported, not too far for the packet
 pub record MayOrder (line : Line) (c t d : ℕ) (k : Centre) (m : Mission) : Type 0 where
   pub is_up : k.phase t ≡ Up
   pub next_is : next_centre line c m.place.track ≡ Some d
@@ -21,4 +21,5 @@ IsNextOf line c t d k = (m : Mission) → k.mission t ≡ Some m → next_centre
 -- it may wherever a handover is due: none stands, and the hand has a section of home d
 abbrev pub MayAnnounce : Line → ℕ → ℕ → ℕ → Centre → Type 0
 MayAnnounce line c t d k =
-    (m : Mission) → k.mission t ≡ Some m → m.handing ≡ None → is_empty (part_at line d m.place.track m.hand) ≡ false → MayOrder line c t d k m
+    (m : Mission) → k.mission t ≡ Some m → m.handing ≡ None → is_empty (part_at line d m.place.track m.hand) ≡ false
+    → MayOrder line c t d k m

@@ -10,8 +10,9 @@ use Rattle.law_network.specs.Sound.{IsFlowSound}
 use Rattle.law_network.specs.Shows.{Shows}
 use Rattle.law_network.specs.Leads.{Leads}
 
--- whatever sound flow it comes in, the body leads the one line centre on by quiet steps of the centre that it comes to. That centre has counted
--- the frame as taken. Its clock shows the stamp of the step by then; a clock is neither shown nor counted
+-- whatever sound flow it comes in, the body leads the one line centre on by quiet steps of the centre that it comes to.
+-- That centre has counted the frame as taken. Its clock shows the stamp of the step by then; a clock is neither shown
+-- nor counted
 abbrev pub LeadsByBody : Line → Body → Type 0
 LeadsByBody line f = (w : Flow) (v : LineState) (a c number : ℕ) → IsLine line → IsFlowSound line w → Shows line w v
     → is_centre line a ≡ true → is_centre line c ≡ true → TakesHead w a c f

@@ -8,7 +8,8 @@ use Rattle.rbc_spec.specs.World.{World}
 
 -- a mission at centre c that announced none has no section of the next centre in its hand
 abbrev pub HasAnnounced : Line → ℕ → Centre → Type 0
-HasAnnounced line c k = (t d : ℕ) (m : Mission) → k.mission t ≡ Some m → next_centre line c m.place.track ≡ Some d → m.handing ≡ None
+HasAnnounced line c k =
+    (t d : ℕ) (m : Mission) → k.mission t ≡ Some m → next_centre line c m.place.track ≡ Some d → m.handing ≡ None
     → is_empty (part_at line d m.place.track m.hand) ≡ true
 
 -- so it is with each centre of the line

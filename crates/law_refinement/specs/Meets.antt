@@ -13,6 +13,9 @@ pub record Meets (line : Line) (w : World) (v : LineState) : Type 0 where
   pub sound : IsWorldSound line w
   pub shows : Shows line (flow_of w) v
 
--- whatever the centres answer to the event, the one line centre, whose state is v, may give that answer and stay as it is, and it meets the new world
+-- whatever the centres answer to the event, the one line centre, whose state is v, may give that answer and stay as it
+-- is, and it meets the new world
 abbrev pub StaysWith : Line → World → LineState → Event → Type 0
-StaysWith line w v event = (answer : Answer) (new : World) → world_step line w event ≡ Ok (answer, new) → Goes line v event answer v × Meets line new v
+StaysWith line w v event =
+    (answer : Answer) (new : World) → world_step line w event ≡ Ok (answer, new)
+    → Goes line v event answer v × Meets line new v

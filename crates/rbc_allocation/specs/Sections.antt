@@ -17,10 +17,12 @@ pub record TakesRun (t : ℕ) (r : SectionRun) (old new : Pages) : Type 0 where
 abbrev pub is_held : ℕ → SectionRun → Pages → ℕ → Bool
 is_held t r book s = within r s && is_taken_for t (entry_at book s)
 
--- the sections of the run that were in use for the train are open, or shut where they were wished back; nothing else changed
+-- the sections of the run that were in use for the train are open, or shut where they were wished back; nothing else
+-- changed
 pub record FreesRun (t : ℕ) (r : SectionRun) (old new : Pages) : Type 0 where
   pub homes : (s : ℕ) → is_own new s ≡ is_own old s
-  pub entry : (s : ℕ) → entry_at new s ≡ (if is_held t r old s then (if wish_at old s then Shut else Open) else entry_at old s)
+  pub entry : (s : ℕ) → entry_at new s
+      ≡ (if is_held t r old s then (if wish_at old s then Shut else Open) else entry_at old s)
   pub wish : (s : ℕ) → wish_at new s ≡ (not (is_held t r old s) && wish_at old s)
 
 -- those of the run that are in use for the train and wished back, rising
@@ -56,15 +58,16 @@ hand_rest count h = record { first = h.first + count; holds = drop count h.holds
 abbrev pub hand_front : ℕ → Holding → Holding
 hand_front count h = record h { holds = take count h.holds }
 
--- what is held of a section, of the home or not: a claim is for the train, and a name is of a section that is not of the home. So a
--- section of the home is held by its claim for the train
+-- what is held of a section, of the home or not: a claim is for the train, and a name is of a section that is not of
+-- the home. So a section of the home is held by its claim for the train
 abbrev pub is_held_as : ℕ → Bool → Held → Bool
 is_held_as t is_home (Own u) = u == t
 is_held_as t is_home (Name u home) = not is_home
 
 -- each section of the hand is held so, where these are the sections of the home
 abbrev pub IsHeldAt : ℕ → (ℕ → Bool) → Holding → Type 0
-IsHeldAt t is_home hand = (i : ℕ) (held : Held) → slice_get hand.holds i ≡ Some held → is_held_as t (is_home (hand.first + i)) held ≡ true
+IsHeldAt t is_home hand =
+    (i : ℕ) (held : Held) → slice_get hand.holds i ≡ Some held → is_held_as t (is_home (hand.first + i)) held ≡ true
 
 -- by the home of a book
 abbrev pub IsHeldBy : ℕ → Holding → Pages → Type 0

@@ -14,7 +14,8 @@ Mem f (g ∷ gs) = (f ≡ g) ⊎ Mem f gs
 -- what a pass knows was put. The pass that puts knows all that was put, and its last number
 abbrev pub Fits : ℕ → List Frame → ℕ → View → Type 0
 Fits seat put port v =
-    ((f : Frame) → Mem f v.known → Mem f put) × (v.puts ≡ true → (port ≡ seat) × ((f : Frame) → Mem f put → Mem f v.known × (f.number ≤ v.last)))
+    ((f : Frame) → Mem f v.known → Mem f put)
+    × (v.puts ≡ true → (port ≡ seat) × ((f : Frame) → Mem f put → Mem f v.known × (f.number ≤ v.last)))
 
 -- no two frames under one number
 abbrev pub IsUnique : List Frame → Type 0
@@ -22,7 +23,8 @@ IsUnique put = (f g : Frame) → Mem f put → Mem g put → f.number ≡ g.numb
 
 abbrev pub InStep : List Frame → List View → Type 0
 InStep items views =
-    (seat : ℕ) × (put : List Frame) × IsUnique put × ((f : Frame) → Mem f items → Mem f put) × ((port : ℕ) (v : View) → get_elem? views port ≡ some v → Fits seat put port v)
+    (seat : ℕ) × (put : List Frame) × IsUnique put × ((f : Frame) → Mem f items → Mem f put)
+    × ((port : ℕ) (v : View) → get_elem? views port ≡ some v → Fits seat put port v)
 
 abbrev pub viewed : Bool → ℕ → List Frame → View
 viewed puts last known = record { puts = puts; last = last; known = known }

@@ -8,9 +8,11 @@ use Rattle.rbc_linkmsg.specs.declared.frame.Frame.{Frame}
 
 -- what a row of notes knows under a number, from 1
 abbrev pub known_at : List (Note Frame) → ℕ → Option Frame
-known_at notes number = if number == 0 then None else option_and_then (λ (n : Note Frame). n.known) (slice_get notes (number - 1))
+known_at notes number =
+    if number == 0 then None else option_and_then (λ (n : Note Frame). n.known) (slice_get notes (number - 1))
 
 -- each note is of the cell at its place
 pub record AreNotesOf (cells : List (OnceBox Frame)) (notes : List (Note Frame)) : Type 0 where
   pub long : length notes ≡ length cells
-  pub each : (k : ℕ) (c : OnceBox Frame) (n : Note Frame) → slice_get cells k ≡ Some c → slice_get notes k ≡ Some n → n.cell ≡ cell_name c
+  pub each : (k : ℕ) (c : OnceBox Frame) (n : Note Frame) → slice_get cells k ≡ Some c → slice_get notes k ≡ Some n
+      → n.cell ≡ cell_name c

@@ -42,7 +42,8 @@ At P (suc i) (r ∷ rs) = At P i rs
 -- no run is empty, and each begins behind the one before
 abbrev pub AreInOrder : ℕ → List Run → Type 0
 AreInOrder from [] = Unit {0}
-AreInOrder from (r ∷ rs) = (from ≤ r.first) × (1 ≤ r.count) × (r.first + r.count ≤ most) × AreInOrder (r.first + r.count) rs
+AreInOrder from (r ∷ rs) =
+    (from ≤ r.first) × (1 ≤ r.count) × (r.first + r.count ≤ most) × AreInOrder (r.first + r.count) rs
 
 -- the first of a row goes on with a run
 abbrev pub IsFollowed : Run → List Run → Type 0

@@ -11,8 +11,8 @@ use Rattle.rbc_hand.specs.Hands.{Holding}
 use Rattle.rbc_hand.specs.SectionRuns.{run_of}
 use Rattle.rbc_border.specs.declared.way.Way.{Way}
 
--- what a centre has of a train by its NID_ENGINE: the centre that lent its pool, the pool, and the first section that was asked for, of a
--- question without an answer
+-- what a centre has of a train by its NID_ENGINE: the centre that lent its pool, the pool, and the first section that
+-- was asked for, of a question without an answer
 pub record BorderState : Type 0 where
   pub engine : ℕ
   pub lender : ℕ
@@ -51,16 +51,19 @@ GoesOn (Some way) (Some m) = (m.is_ended ≡ false) × IsWayOf way m
 
 -- ## What is asked for, and what is told
 
--- the next section behind the hand is of the next centre's home and on the track, the hand has room, the pool is empty, and no question
--- stands
+-- the next section behind the hand is of the next centre's home and on the track, the hand has room, the pool is empty,
+-- and no question stands
 abbrev pub is_due : Line → ℕ → Way → BorderState → Bool
 is_due line next way b =
-    ((is_home line next (behind (run_of way.hand)) && is_on line way.track (behind (run_of way.hand))) && nat_lt way.hand.count most_in_hand)
+    ((is_home line next (behind (run_of way.hand)) && is_on line way.track (behind (run_of way.hand)))
+    && nat_lt way.hand.count most_in_hand)
     && (is_empty b.pool && is_none b.asked)
 
 -- the sections were asked for from their first on, and are of the line, on one track, and of that centre's home
 abbrev pub answers : Line → ℕ → SectionRun → BorderState → Bool
-answers line from r b = (has (λ first. first == r.first) b.asked && (is_of_line line r && is_home line from r.first)) && all_of (is_home line from) r
+answers line from r b =
+    (has (λ first. first == r.first) b.asked && (is_of_line line r && is_home line from r.first))
+    && all_of (is_home line from) r
 
 -- they follow the hand of the mission that goes on, on its track, and the pool is empty
 abbrev pub wants : Line → SectionRun → Option Way → BorderState → Bool

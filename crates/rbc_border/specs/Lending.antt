@@ -22,10 +22,12 @@ pub record LendsRun (t : ℕ) (r : SectionRun) (old new : Pages) : Type 0 where
 abbrev pub is_lent : ℕ → SectionRun → Pages → ℕ → Bool
 is_lent t r book s = within r s && is_out_for t (entry_at book s)
 
--- the sections of the run that were in use for the train at another centre are open, or shut where they were wished back; nothing else changed
+-- the sections of the run that were in use for the train at another centre are open, or shut where they were wished
+-- back; nothing else changed
 pub record BringsBack (t : ℕ) (r : SectionRun) (old new : Pages) : Type 0 where
   pub homes : (s : ℕ) → is_own new s ≡ is_own old s
-  pub entry : (s : ℕ) → entry_at new s ≡ (if is_lent t r old s then (if wish_at old s then Shut else Open) else entry_at old s)
+  pub entry : (s : ℕ) → entry_at new s
+      ≡ (if is_lent t r old s then (if wish_at old s then Shut else Open) else entry_at old s)
   pub wish : (s : ℕ) → wish_at new s ≡ (not (is_lent t r old s) && wish_at old s)
 
 -- those of the run that are in use for the train at another centre and wished back, rising

@@ -90,7 +90,10 @@ impl Border {
     /// None exactly where they are not due, and then nothing changes.
     pub fn ask(&mut self, line: &Line, next: u8, way: Way) -> Option<Question>
         ensures question { result ≡ (if is_due line.now next way self.old
-            then Some (record { first = behind (run_of way.hand); most = min (32 - way.hand.count) (512 - behind (run_of way.hand)) }) else None) }
+            then Some (record {
+              first = behind (run_of way.hand);
+              most = min (32 - way.hand.count) (512 - behind (run_of way.hand));
+            }) else None) }
         ensures state { self.new
             ≡ (if is_due line.now next way self.old then record self.old {
               asked = Some (behind (run_of way.hand));

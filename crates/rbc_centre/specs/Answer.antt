@@ -24,8 +24,8 @@ abbrev pub Steps : {X Y : Type 0} → (X → Y) → Result X StepFault → Resul
 Steps view (Ok x) r = r ≡ Ok (view x)
 Steps view (Err fault) r = IsRefusal fault r
 
--- memory is wanted only where a train opens a session, where a section is taken back that is out, and where another centre may have to be
--- told something: by a train's message, or by a frame that is the next of its sender
+-- memory is wanted only where a train opens a session, where a section is taken back that is out, and where another
+-- centre may have to be told something: by a train's message, or by a frame that is the next of its sender
 abbrev pub TakesMemory : Centre → step.Event → Type 0
 TakesMemory k (step.Train m) = (m.body ≡ InitiationOfSession) ⊎ (tells_others m.body ≡ true)
 TakesMemory k (step.Unset s) = (t : ℕ) × (k.book s ≡ Out t)

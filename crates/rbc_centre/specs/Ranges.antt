@@ -24,7 +24,8 @@ HasBodyRange-prop (RouteReturn t run) = hlevel (props, HasRunRange-prop)
 HasBodyRange-prop (Announce number t track) = hlevel props
 HasBodyRange-prop (Cancel number t) = hlevel props
 HasBodyRange-prop (TakingOver number t) = hlevel props
-HasBodyRange-prop (Yield number t heard has_data is_ended place hand) = hlevel (props, HasRunRange-prop, HasPlaceRange-prop)
+HasBodyRange-prop (Yield number t heard has_data is_ended place hand) =
+    hlevel (props, HasRunRange-prop, HasPlaceRange-prop)
 
 HasFrameRanges-prop : (f : Frame) → IsProp (HasFrameRanges f)
 HasFrameRanges-prop f = let body : IsProp (HasBodyRange f.body) = HasBodyRange-prop f.body in hlevel props

@@ -226,7 +226,8 @@ impl Centre {
             ((stamp < 1073741823)
             × (has_full_link (line_of self.now) (number_of self.now) (state_of self.now) ≡ false)) }
         ensures err { IfErr result (λ fault. IsRefusalOf fault (if nat_lt 1073741823 (stamp + 1) then Some spec.ClockEnd
-            else (if has_full_link (line_of self.now) (number_of self.now) (state_of self.now) then Some spec.LinkFull else None))) }
+            else (if has_full_link (line_of self.now) (number_of self.now) (state_of self.now)
+            then Some spec.LinkFull else None))) }
     {
         if stamp >= LAST_STAMP {
             return Err(StepFault::ClockEnd);

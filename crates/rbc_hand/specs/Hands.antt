@@ -5,7 +5,8 @@ use Rattle.rbc_spec.specs.SectionRuns.{SectionRun, behind, is_empty}
 use Rattle.rbc_hand.specs.declared.token.Token.{Token}
 use Rattle.rbc_hand.specs.Tokens.{Held, Own, section_of, held_of, token_of}
 
--- the first section, and what is held of it and of each that follows. An empty hand has the first that it had when it became so
+-- the first section, and what is held of it and of each that follows. An empty hand has the first that it had when it
+-- became so
 pub record Holding : Type 0 where
   pub first : ℕ
   pub holds : List Held

@@ -48,7 +48,8 @@ with_expectations t e k = record k { expects = λ d. put (k.expects d) t (expect
 
 -- what these centres are told of train t that expect it so: that this one is taking over
 abbrev pub claims : ℕ → Announcers → (ℕ → Option Expectation) → ℕ → List Body
-claims t told e d = if is_told told d then option_map_or (λ (x : Expectation). TakingOver x.number t ∷ []) (e d) [] else []
+claims t told e d =
+    if is_told told d then option_map_or (λ (x : Expectation). TakingOver x.number t ∷ []) (e d) [] else []
 
 -- these centres are told so, and nothing else
 abbrev pub telling : ℕ → Announcers → (ℕ → Option Expectation) → Centre → Reply

@@ -27,7 +27,8 @@ pub record HasMission (t : ℕ) (k : Centre) (m : Mission) (h : Option Handing) 
 
 -- the centre with this handover of the train, where it has a mission of it
 abbrev pub with_handover : ℕ → Option Handing → Centre → Centre
-with_handover t h k = record k { mission = put k.mission t (option_map (λ (m : Mission). record m { handing = h }) (k.mission t)) }
+with_handover t h k =
+    record k { mission = put k.mission t (option_map (λ (m : Mission). record m { handing = h }) (k.mission t)) }
 
 -- the centre with so many handovers announced
 abbrev pub with_count : ℕ → Centre → Centre
@@ -35,13 +36,14 @@ with_count n k = record k { announced = n }
 
 -- ## What it replies
 
--- a handover of the mission to centre d is announced under this number, if there is one: a frame goes there, and the train is told
--- where the border is
+-- a handover of the mission to centre d is announced under this number, if there is one: a frame goes there, and the
+-- train is told where the border is
 abbrev pub announcing : Line → ℕ → ℕ → Mission → Option ℕ → Centre → Reply
 announcing line t d m None k = rest k
 announcing line t d m (Some number) k =
     let border = (part_at line d m.place.track m.hand).first in
-    record (say t m.place.group (Transition (start line border - group_start line m.place) line.nid_c (nid_rbc line d)) k) {
+    record (say t m.place.group
+    (Transition (start line border - group_start line m.place) line.nid_c (nid_rbc line d)) k) {
       frames = λ e. if e == d then Announce number t m.place.track ∷ [] else [];
     }
 

@@ -13,7 +13,12 @@ use Rattle.rbc_line.specs.declared.draft.Draft.{Draft}
 -- the arrays of a draft as items
 abbrev pub parts_view : Parts → FileParts
 parts_view parts =
-    record { nid_c = parts.nid_c; centres = array_view parts.centres.now; tracks = array_view parts.tracks.now; trains = array_view parts.trains.now }
+    record {
+      nid_c = parts.nid_c;
+      centres = array_view parts.centres.now;
+      tracks = array_view parts.tracks.now;
+      trains = array_view parts.trains.now;
+    }
 
 -- a centre as the file has it
 abbrev pub centre_view : DraftCentre → FileCentre
@@ -33,7 +38,8 @@ train_view row = record { engine = row.engine; registrar = row.registrar.now }
 
 -- the names of the tracks, and the sections of all
 abbrev pub tracks_view : DraftTracks → FileTracks
-tracks_view tracks = record { names = map (λ name. name.now) tracks.names.items; sections = map section_view tracks.sections.items }
+tracks_view tracks =
+    record { names = map (λ name. name.now) tracks.names.items; sections = map section_view tracks.sections.items }
 
 -- all that a draft says
 abbrev pub file_view : Draft → LineFile

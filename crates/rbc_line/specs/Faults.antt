@@ -51,7 +51,8 @@ has_count_fault low high n = nat_lt n low || nat_lt high n
 -- a track without a section, or more than 512 in all
 unfoldable pub HasSectionsFault : LineFile → Type 0
 HasSectionsFault file =
-    ((k : ℕ) × (k < length file.tracks.names) × (list_any (λ s. s.track == k) file.tracks.sections ≡ false)) ⊎ (512 < length file.tracks.sections)
+    ((k : ℕ) × (k < length file.tracks.names) × (list_any (λ s. s.track == k) file.tracks.sections ≡ false))
+    ⊎ (512 < length file.tracks.sections)
 
 -- a length that is not 100 to 2 000
 unfoldable pub has_length_fault : LineFile → Bool
@@ -85,7 +86,8 @@ has_home_fault file =
 unfoldable pub HasOrderFault : LineFile → Type 0
 HasOrderFault file =
     (s m e : ℕ) × (p n q : FileSection) × (s < m) × (m < e)
-    × (slice_get file.tracks.sections s ≡ Some p) × (slice_get file.tracks.sections m ≡ Some n) × (slice_get file.tracks.sections e ≡ Some q)
+    × (slice_get file.tracks.sections s ≡ Some p) × (slice_get file.tracks.sections m ≡ Some n)
+    × (slice_get file.tracks.sections e ≡ Some q)
     × (p.track ≡ q.track) × (p.home ≡ q.home) × (n.home ≢ p.home)
 
 -- the fault applies to what the tables say

@@ -74,7 +74,8 @@ file_section track d =
     table_with 3 d >>= (λ ms.
     at as_integer (codes "length") ms >>= (λ metres.
     at as_str (codes "home") ms >>= (λ home.
-    option_map (λ balise. record { track = track; metres = metres; home = home; balise = balise }) (at as_integer (codes "balise") ms))))
+    option_map (λ balise. record { track = track; metres = metres; home = home; balise = balise })
+    (at as_integer (codes "balise") ms))))
 
 -- the name of a track, and the array of its sections
 unfoldable pub track_parts : Data → Option (List ℕ × Items)
@@ -85,13 +86,15 @@ track_parts d =
 
 -- the name and the sections of the track of this number
 unfoldable pub file_track : ℕ → Data → Option (List ℕ × List FileSection)
-file_track track d = track_parts d >>= (λ t. option_map (λ sections. (t.0, sections)) (each_of (file_section track) t.1))
+file_track track d =
+    track_parts d >>= (λ t. option_map (λ sections. (t.0, sections)) (each_of (file_section track) t.1))
 
 -- the tracks from this number on
 abbrev pub tracks_from : ℕ → Items → Option FileTracks
 tracks_from k no_items = Some (record { names = []; sections = [] })
 tracks_from k (item d ds) =
-    file_track k d >>= (λ t. option_map (λ more. record { names = t.0 ∷ more.names; sections = t.1 ++ more.sections }) (tracks_from (k + 1) ds))
+    file_track k d >>= (λ t. option_map (λ more. record { names = t.0 ∷ more.names; sections = t.1 ++ more.sections })
+    (tracks_from (k + 1) ds))
 
 -- a train: its engine and its registrar
 unfoldable pub file_train : Data → Option FileTrain
@@ -114,7 +117,8 @@ file_parts ms =
     at as_integer (codes "nid_c") ms >>= (λ nid_c.
     at as_array (codes "centre") ms >>= (λ centres.
     at as_array (codes "track") ms >>= (λ tracks.
-    option_map (λ trains. record { nid_c = nid_c; centres = centres; tracks = tracks; trains = trains }) (at as_array (codes "train") ms)))))
+    option_map (λ trains. record { nid_c = nid_c; centres = centres; tracks = tracks; trains = trains })
+    (at as_array (codes "train") ms)))))
 
 -- what the tables of a text say; none if a key is missing, unknown, or of another type
 unfoldable pub line_file : Members → Option LineFile
@@ -122,7 +126,8 @@ line_file ms =
     file_parts ms >>= (λ parts.
     each_of file_centre parts.centres >>= (λ centres.
     tracks_from 0 parts.tracks >>= (λ tracks.
-    option_map (λ trains. record { nid_c = parts.nid_c; centres = centres; tracks = tracks; trains = trains }) (each_of file_train parts.trains))))
+    option_map (λ trains. record { nid_c = parts.nid_c; centres = centres; tracks = tracks; trains = trains })
+    (each_of file_train parts.trains))))
 
 -- ## The line that it names
 
@@ -141,7 +146,8 @@ line_centre c = record { name = c.name; nid_rbc = number c.nid_rbc }
 
 -- a section of the line
 abbrev pub line_section : List FileCentre → FileSection → Section
-line_section centres s = record { track = s.track; metres = number s.metres; home = centre_number centres s.home; balise = number s.balise }
+line_section centres s =
+    record { track = s.track; metres = number s.metres; home = centre_number centres s.home; balise = number s.balise }
 
 -- a train of the line
 abbrev pub line_train : List FileCentre → FileTrain → Train

@@ -21,11 +21,13 @@ HasNextCentres line nexts = (c k : ℕ) → c < 8 → k < 4 → slice_get nexts 
 -- of the first n elements, each whose number shares its remainder with none of them is guessed
 abbrev pub HasGuessesOf : {X : Type 0} → ℕ → (X → ℕ) → List X → List ℕ → Type 0
 HasGuessesOf {X} n key xs guesses =
-    (i : ℕ) (x : X) → i < n → slice_get xs i ≡ Some x → ((j : ℕ) (y : X) → j < n → slice_get xs j ≡ Some y → key y % 1024 ≡ key x % 1024 → j ≡ i)
+    (i : ℕ) (x : X) → i < n → slice_get xs i ≡ Some x
+    → ((j : ℕ) (y : X) → j < n → slice_get xs j ≡ Some y → key y % 1024 ≡ key x % 1024 → j ≡ i)
     → get_or guesses (key x % 1024) 0 ≡ i
 
 -- all rules of a line, and the tables agree with it
-pub record IsTabled (line : Line) (rows : List SectionRow) (by_group : Numbers) (followers : List (Option ℕ)) : Type 0 where
+pub record IsTabled (line : Line) (rows : List SectionRow) (by_group : Numbers)
+    (followers : List (Option ℕ)) : Type 0 where
   pub rules : IsLine line
   pub starts : HasStarts line rows
   pub groups : (q : ℕ) → get nat_eq by_group q ≡ section_of_group line q

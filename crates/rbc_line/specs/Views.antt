@@ -32,8 +32,15 @@ line_of_rows rows =
 -- the section of this number, with its start
 abbrev pub placed_section : Line → ℕ → Option SectionRow
 placed_section line s =
-    option_map (λ p. record { track = p.track; start = start line s; metres = p.metres; home = p.home; balise = p.balise }) (section line s)
+    option_map (λ p. record {
+      track = p.track;
+      start = start line s;
+      metres = p.metres;
+      home = p.home;
+      balise = p.balise;
+    }) (section line s)
 
 -- the train at this place of the line file
 abbrev pub listed_train : Line → ℕ → Option TrainRow
-listed_train line i = option_map (λ p. record { nid_engine = p.nid_engine; registrar = p.registrar }) (slice_get line.trains i)
+listed_train line i =
+    option_map (λ p. record { nid_engine = p.nid_engine; registrar = p.registrar }) (slice_get line.trains i)

@@ -35,7 +35,8 @@ HasRoom links count = (d : ℕ) → has_link links d ≡ true → count ≤ room
 
 -- some link has fewer than four numbers left
 abbrev pub is_some_full : {B : Type 0} → List (Link B) → Bool
-is_some_full links = list_any (λ d. has_link links d && nat_lt 65532 (length (sent_to links d))) (range_with_len 0 (length links))
+is_some_full links =
+    list_any (λ d. has_link links d && nat_lt 65532 (length (sent_to links d))) (range_with_len 0 (length links))
 
 -- a step may send what it has to: no link is full, and each has room for four frames more
 pub record IsReady {B : Type 0} (links : List (Link B)) : Type 0 where

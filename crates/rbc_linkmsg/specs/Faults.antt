@@ -16,4 +16,5 @@ fault_of_kind found (Err fault) = fault
 -- too few bytes for the kind, which is the ninth; a kind that no frame has; fewer or more bytes than frames of the kind
 -- have; else a number is out of its range
 unfoldable pub first_fault : List ℕ → FrameFault
-first_fault bytes = if nat_lt (length bytes) 9 then Short else fault_of_kind (length bytes) (kind_with (slice_index bytes 8))
+first_fault bytes =
+    if nat_lt (length bytes) 9 then Short else fault_of_kind (length bytes) (kind_with (slice_index bytes 8))

@@ -23,7 +23,8 @@ kind_number Yield = 12
 
 abbrev pub kinds : List FrameKind
 kinds =
-    AskRight ∷ GiveRight ∷ RefuseRight ∷ ReturnRight ∷ RouteAsk ∷ RouteInfo ∷ RouteWithdraw ∷ RouteReturn ∷ Announce ∷ Cancel
+    AskRight ∷ GiveRight ∷ RefuseRight ∷ ReturnRight ∷ RouteAsk ∷ RouteInfo ∷ RouteWithdraw ∷ RouteReturn ∷ Announce
+    ∷ Cancel
     ∷ TakingOver ∷ Yield ∷ []
 
 -- the kind that this byte names

@@ -23,14 +23,20 @@ most_entries = 1000000
 
 -- the entries lead from the centre's beginning to the centre as it is
 abbrev pub IsReplaying : LogValue → Type 0
-IsReplaying l = Replays (line_of l.core) (number_of l.core) (beginning (line_of l.core) (number_of l.core)) (map entry_of l.entries) (state_of l.core)
+IsReplaying l =
+    Replays (line_of l.core) (number_of l.core) (beginning (line_of l.core) (number_of l.core)) (map entry_of l.entries)
+    (state_of l.core)
 
--- the event was taken: it stands behind the entries, whole, with the outcome of the centre's step, and the centre is as that step leaves it
+-- the event was taken: it stands behind the entries, whole, with the outcome of the centre's step, and the centre is as
+-- that step leaves it
 pub record Appends (old new : LogValue) (event : EventInMemory) (outcome : Outcome) : Type 0 where
   pub room : length old.entries < most_entries
-  pub entries : map entry_of new.entries ≡ map entry_of old.entries ++ record { centre = number_of old.core; event = event_of event; outcome = outcome } ∷ []
+  pub entries : map entry_of new.entries
+      ≡ map entry_of old.entries
+      ++ record { centre = number_of old.core; event = event_of event; outcome = outcome } ∷ []
   pub events : map (λ e. e.event) new.entries ≡ map (λ e. e.event) old.entries ++ event ∷ []
-  pub core : step (line_of old.core) (number_of old.core) (event_of event) (state_of old.core) ≡ Ok (outcome, state_of new.core)
+  pub core : step (line_of old.core) (number_of old.core) (event_of event) (state_of old.core)
+      ≡ Ok (outcome, state_of new.core)
   pub line : line_of new.core ≡ line_of old.core
   pub number : number_of new.core ≡ number_of old.core
 
@@ -41,9 +47,15 @@ pub record IsUnchanged (old new : LogValue) : Type 0 where
   pub line : line_of new.core ≡ line_of old.core
   pub number : number_of new.core ≡ number_of old.core
 
--- when a fault comes: LogFull exactly where no entry has room, else the refusal of the step, and Memory only where it is not refused
+-- when a fault comes: LogFull exactly where no entry has room, else the refusal of the step, and Memory only where it
+-- is not refused
 abbrev pub IsRefusal : LogValue → Event → CommitFault → Type 0
-IsRefusal l event Memory = (length l.entries < most_entries) × IsOk (step (line_of l.core) (number_of l.core) event (state_of l.core))
-IsRefusal l event LinkFull = (length l.entries < most_entries) × (step (line_of l.core) (number_of l.core) event (state_of l.core) ≡ Err AtLinkFull)
-IsRefusal l event ClockEnd = (length l.entries < most_entries) × (step (line_of l.core) (number_of l.core) event (state_of l.core) ≡ Err AtClockEnd)
+IsRefusal l event Memory =
+    (length l.entries < most_entries) × IsOk (step (line_of l.core) (number_of l.core) event (state_of l.core))
+IsRefusal l event LinkFull =
+    (length l.entries < most_entries)
+    × (step (line_of l.core) (number_of l.core) event (state_of l.core) ≡ Err AtLinkFull)
+IsRefusal l event ClockEnd =
+    (length l.entries < most_entries)
+    × (step (line_of l.core) (number_of l.core) event (state_of l.core) ≡ Err AtClockEnd)
 IsRefusal l event LogFull = most_entries ≤ length l.entries

@@ -48,17 +48,17 @@ all_entries logs = flat_map (λ l. l.entries) logs
 
 -- ## The merged list
 
--- Each entry of each log stands in the list once, with its event whole. It is a merge of the logs: each log's entries have their order, and
--- all are in the order of stamps, of one stamp by centre
+-- Each entry of each log stands in the list once, with its event whole. It is a merge of the logs: each log's entries
+-- have their order, and all are in the order of stamps, of one stamp by centre
 pub record IsMerged (logs : List LogValue) (es : List Entry) : Type 0 where
   pub centres : AreOfCentres logs
   pub line : AreOfOneLine logs
   pub once : IsPermutation (map written_of (all_entries logs)) (map written_of es)
   pub merge : IsMerge (logs_by logs) (map entry_of es)
 
--- The entries are one run. The world answers their events as they have it, from its beginning, and each centre ends where its log does. That
--- is a run of the one line centre, what the world outside sees of it is safe, and the world is sound: no section and no right is lost or in two
--- places
+-- The entries are one run. The world answers their events as they have it, from its beginning, and each centre ends
+-- where its log does. That is a run of the one line centre, what the world outside sees of it is safe, and the world is
+-- sound: no section and no right is lost or in two places
 pub record IsOneRun (line : Line) (es : List LogEntry) (ends : ℕ → Centre) : Type 0 where
   pub world : IsWorldRun line es ends
   pub line_centre : IsLineRun line (map happened es) (map answered es) world.last
@@ -67,7 +67,9 @@ pub record IsOneRun (line : Line) (es : List LogEntry) (ends : ℕ → Centre) :
 
 -- so it is where each frame that was delivered stands in its sender's log
 abbrev pub MakesOneRun : List LogValue → List Entry → Type 0
-MakesOneRun logs es = (line : Line) → IsLine line → AreOfLine line logs → IsLegal (logs_by logs) → IsOneRun line (map entry_of es) (ends_by line logs)
+MakesOneRun logs es =
+    (line : Line) → IsLine line → AreOfLine line logs → IsLegal (logs_by logs)
+    → IsOneRun line (map entry_of es) (ends_by line logs)
 
 -- when a fault comes: Twice is looked for first, then OtherLine; memory is wanted only where there is an entry
 abbrev pub IsMergeRefusal : List LogValue → MergeFault → Type 0

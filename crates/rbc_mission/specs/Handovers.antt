@@ -10,12 +10,14 @@ use Rattle.rbc_place.specs.Places.{place_of}
 use Rattle.rbc_mission.specs.Supervisions.{SupervisionState}
 use Rattle.rbc_mission.specs.declared.handing_over.Yielded.{Yielded}
 
--- a mission that is yielded goes off: the pool goes home, then the mission goes in one frame, with the last T_TRAIN heard, and a train that
--- is no more to come here is told to end its session
+-- a mission that is yielded goes off: the pool goes home, then the mission goes in one frame, with the last T_TRAIN
+-- heard, and a train that is no more to come here is told to end its session
 abbrev pub sends_off : Line → ℕ → ℕ → Yielded → Act
 sends_off line c t y k =
     ((returned line c t y.mission.place.track (run_of y.pool)
-    >> send y.handover.to (Yield y.handover.number t (option_map_or (λ n. n) (k.heard t) 0) y.mission.has_data y.mission.is_ended (yielded_place (place_of y.mission.place)) (run_of y.hand)))
+    >> send y.handover.to (Yield y.handover.number t
+    (option_map_or (λ n. n) (k.heard t) 0) y.mission.has_data y.mission.is_ended
+    (yielded_place (place_of y.mission.place)) (run_of y.hand)))
     >> (if y.is_gone then end_order line c t else rest)) k
 
 -- it was this mission, whose handover stood

@@ -23,8 +23,9 @@ use Rattle.rbc_mission.specs.declared.facts.MissionFacts.{MissionFacts}
 use Rattle.rbc_mission.specs.declared.held.HeldRight.{HeldRight}
 use Rattle.rbc_mission.specs.declared.held.HeldRight.TheVariants.{Nothing, Held}
 
--- a train of the line, by its place in the line file and its NID_ENGINE; its mission where one stands, what is held of the sections of its
--- hand, and the first section that was asked for over the border, of a question without an answer. The question may outlive the mission
+-- a train of the line, by its place in the line file and its NID_ENGINE; its mission where one stands, what is held of
+-- the sections of its hand, and the first section that was asked for over the border, of a question without an answer.
+-- The question may outlive the mission
 pub record SupervisionState : Type 0 where
   pub number : ℕ
   pub engine : ℕ
@@ -70,7 +71,16 @@ pub record HasRouteForm (m : spec.Mission) : Type 0 where
 
 -- a mission that begins at this place, with these sections
 abbrev pub mission_at : Place → SectionRun → spec.Mission
-mission_at place hand = record { place = place; hand = hand; pool = no_run; has_data = false; is_ended = false; proposal = None; handing = None }
+mission_at place hand =
+    record {
+      place = place;
+      hand = hand;
+      pool = no_run;
+      has_data = false;
+      is_ended = false;
+      proposal = None;
+      handing = None;
+    }
 
 -- a hand of claims for the train on these sections
 abbrev pub claims_on : ℕ → SectionRun → Holding
@@ -78,17 +88,25 @@ claims_on t r = record { first = r.first; holds = replicate r.count (Own t) }
 
 -- the mission without so many of its first sections, at this place; none where no section is left
 abbrev pub without_front : Place → ℕ → spec.Mission → Option spec.Mission
-without_front place count m = if count == m.hand.count then None else Some (record m { place = place; hand = rest_of count m.hand })
+without_front place count m =
+    if count == m.hand.count then None else Some (record m { place = place; hand = rest_of count m.hand })
 
--- the handover that stands of a mission on this track with this hand: none where the hand has no section of the accepting centre
+-- the handover that stands of a mission on this track with this hand: none where the hand has no section of the
+-- accepting centre
 abbrev pub still_handing : Line → ℕ → SectionRun → Option spec.Handing → Option spec.Handing
-still_handing line track hand handing = if has (λ (h : spec.Handing). is_empty (part_at line h.to track hand)) handing then None else handing
+still_handing line track hand handing =
+    if has (λ (h : spec.Handing). is_empty (part_at line h.to track hand)) handing then None else handing
 
 -- the mission with so many of its first sections alone, and neither pool nor request; none where no section is left
 abbrev pub with_front : Line → ℕ → spec.Mission → Option spec.Mission
 with_front line count m =
     if count == 0 then None
-    else Some (record m { hand = front_of count m.hand; pool = no_run; proposal = None; handing = still_handing line m.place.track (front_of count m.hand) m.handing })
+    else Some (record m {
+      hand = front_of count m.hand;
+      pool = no_run;
+      proposal = None;
+      handing = still_handing line m.place.track (front_of count m.hand) m.handing;
+    })
 
 -- the mission at this place, with so many sections behind its hand: first those of its pool
 abbrev pub with_next : Place → ℕ → spec.Mission → spec.Mission
@@ -98,14 +116,15 @@ with_next place count m = extended_by (next_of count m.hand) (record m { place =
 abbrev pub next_sections : ℕ → SupervisionState → SectionRun
 next_sections count c = option_map_or (λ m. next_of count m.hand) c.mission no_run
 
--- so many sections behind the hand of a mission may be added to it: the pool follows the hand and has no section of the book's home, and
--- each that is not of the pool is open
+-- so many sections behind the hand of a mission may be added to it: the pool follows the hand and has no section of the
+-- book's home, and each that is not of the pool is open
 pub record MayGrow (m : spec.Mission) (count : ℕ) (book : Pages) : Type 0 where
   pub most : m.hand.count + count ≤ 32
   pub numbers : behind m.hand + count ≤ 65535
   pub follows : 0 < m.pool.count → behind m.hand ≡ m.pool.first
   pub away : (s : ℕ) → within m.pool s ≡ true → is_own book s ≡ false
-  pub free : (s : ℕ) → within (next_of count m.hand) s ≡ true → within m.pool s ≡ false → is_open (entry_at book s) ≡ true
+  pub free : (s : ℕ) → within (next_of count m.hand) s ≡ true → within m.pool s ≡ false
+      → is_open (entry_at book s) ≡ true
 
 -- what leaves where so many of the first sections are cleared: with the last section of the hand the pool goes
 abbrev pub cleared_run : ℕ → SupervisionState → SectionRun
@@ -125,7 +144,8 @@ handover_left old new = if is_some (handing_in new) then None else option_map ha
 
 -- with another handover or none, where a mission stands
 abbrev pub with_handing : Option spec.Handing → SupervisionState → SupervisionState
-with_handing handing c = record c { mission = option_map (λ (m : spec.Mission). record m { handing = handing }) c.mission }
+with_handing handing c =
+    record c { mission = option_map (λ (m : spec.Mission). record m { handing = handing }) c.mission }
 
 -- with another pool, where a mission stands
 abbrev pub with_pool : SectionRun → SupervisionState → SupervisionState
@@ -144,13 +164,21 @@ pub record HasSupervision (k : spec.Centre) (c : SupervisionState) : Type 0 wher
 
 -- the centre with this mission of the train, and this question
 abbrev pub with_supervision : SupervisionState → spec.Centre → spec.Centre
-with_supervision c k = record k { mission = put k.mission c.engine c.mission; route_ask = put k.route_ask c.engine c.asked }
+with_supervision c k =
+    record k { mission = put k.mission c.engine c.mission; route_ask = put k.route_ask c.engine c.asked }
 
 -- ## In memory
 
-abbrev pub supervision_state : ℕ → ℕ → Option MissionFacts → Holding → BorderState → Option spec.Handing → SupervisionState
+abbrev pub supervision_state : ℕ → ℕ → Option MissionFacts → Holding → BorderState → Option spec.Handing
+    → SupervisionState
 supervision_state number engine mission hand border handing =
-    record { number = number; engine = engine; mission = option_map (mission_of (run hand) border.pool handing) mission; hand = hand; asked = border.asked }
+    record {
+      number = number;
+      engine = engine;
+      mission = option_map (mission_of (run hand) border.pool handing) mission;
+      hand = hand;
+      asked = border.asked;
+    }
 
 -- the right is held exactly where a mission stands
 abbrev pub held_for : ℕ → Option MissionFacts → HeldRight
@@ -158,7 +186,8 @@ held_for number None = Nothing
 held_for number (Some m) = Held (right_of number)
 
 -- and so are sections; the border is that of the train, with a pool where a mission stands alone, and so is a handover
-pub record IsSupervision (number engine : ℕ) (mission : Option MissionFacts) (hand : Holding) (held : HeldRight) (border : BorderState) (handing : Option spec.Handing) : Type 0 where
+pub record IsSupervision (number engine : ℕ) (mission : Option MissionFacts) (hand : Holding) (held : HeldRight)
+    (border : BorderState) (handing : Option spec.Handing) : Type 0 where
   pub right : held ≡ held_for number mission
   pub some : is_empty (run hand) ≡ is_none mission
   pub most : length hand.holds ≤ 32

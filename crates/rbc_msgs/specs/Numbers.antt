@@ -26,7 +26,8 @@ train_number_value train.SessionEstablished = 159
 
 abbrev pub train_numbers : List TrainNumber
 train_numbers =
-    train.TrainData ∷ train.Request ∷ train.Report ∷ train.ShorteningGranted ∷ train.ShorteningRejected ∷ train.EndOfMission
+    train.TrainData ∷ train.Request ∷ train.Report ∷ train.ShorteningGranted ∷ train.ShorteningRejected
+    ∷ train.EndOfMission
     ∷ train.InitiationOfSession ∷ train.TerminationOfSession ∷ train.StartOfMission ∷ train.SessionEstablished ∷ []
 
 -- the message with this NID_MESSAGE
@@ -53,7 +54,8 @@ track_number_value track.TrainAccepted = 41
 
 abbrev pub track_numbers : List TrackNumber
 track_numbers =
-    track.MovementAuthority ∷ track.DataAcknowledged ∷ track.ShorteningRequest ∷ track.GeneralMessage ∷ track.SystemVersion
+    track.MovementAuthority ∷ track.DataAcknowledged ∷ track.ShorteningRequest ∷ track.GeneralMessage
+    ∷ track.SystemVersion
     ∷ track.TerminationAcknowledged ∷ track.TrainRejected ∷ track.TrainAccepted ∷ []
 
 -- the message with this NID_MESSAGE

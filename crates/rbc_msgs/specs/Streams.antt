@@ -21,7 +21,8 @@ l_message_at bytes = do
   _ ← refuse (nat_lt start.1 (least_train_length number)) message.Length
   Ok start.1
 
--- how many bytes have to be there before more can be said: the three that hold NID_MESSAGE and L_MESSAGE, then L_MESSAGE
+-- how many bytes have to be there before more can be said: the three that hold NID_MESSAGE and L_MESSAGE, then
+-- L_MESSAGE
 unfoldable pub needed_at : List ℕ → Result ℕ MsgFault
 needed_at bytes = if nat_lt (length bytes) 3 then Ok 3 else l_message_at bytes
 
@@ -48,7 +49,8 @@ ShowsFault bytes fault = (needed_at bytes ≡ Err fault) ⊎ ShowsAtLast bytes f
 -- the bytes are the spellings of these messages, one behind another, and then the rest
 abbrev pub Spell : List ℕ → List TrainText → List ℕ → Type 0
 Spell bytes [] rest = bytes ≡ rest
-Spell bytes (m ∷ others) rest = (first : List ℕ) × (later : List ℕ) × (bytes ≡ first ++ later) × SpellsTrain first m × Spell later others rest
+Spell bytes (m ∷ others) rest =
+    (first : List ℕ) × (later : List ℕ) × (bytes ≡ first ++ later) × SpellsTrain first m × Spell later others rest
 
 -- new is old and, behind it, the messages that the bytes spell up to the rest
 pub record Adds (old new : List TrainText) (bytes rest : List ℕ) : Type 0 where
@@ -62,11 +64,13 @@ pub record Halts (old new : List TrainText) (bytes : List ℕ) (fault : MsgFault
   pub adds : Adds old new bytes rest
   pub shows : fault ≢ message.Memory → ShowsFault rest fault
 
--- ## A piece that comes: what was kept, the piece, the messages before and after, the answer, and what is kept now. After
+-- ## A piece that comes: what was kept, the piece, the messages before and after, the answer, and what is kept now.
+-- After
 -- a fault nothing is kept.
 
 -- the messages that are whole now are appended, and what is left of the bytes is kept
-pub record Continues (before : Option (List ℕ)) (piece : List ℕ) (old new : List TrainText) (after : Option (List ℕ)) : Type 0 where
+pub record Continues (before : Option (List ℕ)) (piece : List ℕ) (old new : List TrainText)
+    (after : Option (List ℕ)) : Type 0 where
   pub kept : List ℕ
   pub rest : List ℕ
   pub was : before ≡ Some kept
@@ -75,7 +79,8 @@ pub record Continues (before : Option (List ℕ)) (piece : List ℕ) (old new : 
   pub ends : IsRest rest
 
 -- the messages before the fault are appended
-pub record Stops (before : Option (List ℕ)) (piece : List ℕ) (old new : List TrainText) (fault : MsgFault) (after : Option (List ℕ)) : Type 0 where
+pub record Stops (before : Option (List ℕ)) (piece : List ℕ) (old new : List TrainText) (fault : MsgFault)
+    (after : Option (List ℕ)) : Type 0 where
   pub kept : List ℕ
   pub was : before ≡ Some kept
   pub now : after ≡ None
@@ -87,7 +92,8 @@ pub record HasStopped (before : Option (List ℕ)) (old new : List TrainText) (a
   pub now : after ≡ None
   pub same : new ≡ old
 
-abbrev pub Fed : Option (List ℕ) → List ℕ → List TrainText → List TrainText → Result (Unit {0}) StreamFault → Option (List ℕ) → Type 0
+abbrev pub Fed : Option (List ℕ) → List ℕ → List TrainText → List TrainText → Result (Unit {0}) StreamFault
+    → Option (List ℕ) → Type 0
 Fed before piece old new (Ok _) after = Continues before piece old new after
 Fed before piece old new (Err (Message fault)) after = Stops before piece old new fault after
 Fed before piece old new (Err Failed) after = HasStopped before old new after

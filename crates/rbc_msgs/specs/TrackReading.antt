@@ -34,7 +34,8 @@ end_of_session_at bits = do
 unfoldable pub general_at : List Bool → Result (TrackBody × List Bool) MsgFault
 general_at bits = do
   found ← field_at Missing 8 bits
-  if found.0 == 131 then transition_order_at found.1 else (if found.0 == 42 then end_of_session_at found.1 else Err Missing)
+  if found.0 == 131 then transition_order_at found.1
+      else (if found.0 == 42 then end_of_session_at found.1 else Err Missing)
 
 -- what stands behind the header. M_VERSION has to be version 2.0
 abbrev pub track_body_at : TrackNumber → List Bool → Result (TrackBody × List Bool) MsgFault

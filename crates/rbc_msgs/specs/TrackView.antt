@@ -32,4 +32,5 @@ body_back track.TrainAccepted = refl
 
 -- back from the message to its fields
 pub track_back : (m : Inside) → HasTrackRanges m → track_inside (track_message m) ≡ m
-track_back m h = ap (λ (b : TrackBody). record { t_train = m.t_train; nid_lrbg = m.nid_lrbg; body = b }) (body_back m.body)
+track_back m h =
+    ap (λ (b : TrackBody). record { t_train = m.t_train; nid_lrbg = m.nid_lrbg; body = b }) (body_back m.body)

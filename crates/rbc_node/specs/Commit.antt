@@ -21,7 +21,8 @@ pub record Commits (old new : ShareValue) (before after : LogValue) (event : Eve
   pub appends : Appends before after event outcome
   pub replays : IsReplaying after
   pub centre : new.centre ≡ old.centre
-  pub receipts : map committed_of new.receipts ≡ map committed_of old.receipts ++ record { event = event; outcome = outcome; place = length before.entries } ∷ []
+  pub receipts : map committed_of new.receipts
+      ≡ map committed_of old.receipts ++ record { event = event; outcome = outcome; place = length before.entries } ∷ []
 
 -- when a fault comes: Stray exactly where the log does not fit, else that of the log
 abbrev pub Refuses : ShareValue → LogValue → Event → ShareFault → Type 0

@@ -60,7 +60,8 @@ places_of c shares = flat_map (places_in c) shares
 pub record HasEachOnce (shares : List ShareValue) (l : LogValue) : Type 0 where
   pub each : (k : ℕ) → k < length l.entries → count_by (λ p. p == k) (places_of (number_of l.core) shares) ≡ 1
 
--- each log's entries are the receipts of its shares, each once, and each share's in its order; no other share has a receipt
+-- each log's entries are the receipts of its shares, each once, and each share's in its order; no other share has a
+-- receipt
 pub record AreShared (logs : List LogValue) (shares : List ShareValue) : Type 0 where
   pub found : All (IsFound logs) shares
   pub once : All (HasEachOnce shares) logs
@@ -83,7 +84,8 @@ pub record IsOrdered (given ordered : List LogValue) : Type 0 where
   pub same : IsPermutation given ordered
   pub by_centre : IsNonDecreasingBy (λ l. number_of l.core) ordered
 
--- when a fault comes: Centres is looked for first, then Shares, then Foreign; memory is wanted only where there is an entry
+-- when a fault comes: Centres is looked for first, then Shares, then Foreign; memory is wanted only where there is an
+-- entry
 abbrev pub IsGatherFault : List LogValue → List ShareValue → GatherFault → Type 0
 IsGatherFault logs shares Memory = AreCentres logs × (0 < length (all_entries logs))
 IsGatherFault logs shares Centres = AreCentres logs → ⊥
@@ -96,13 +98,17 @@ pub record IsUnited (given logs : List LogValue) (shares : List ShareValue) : Ty
   pub family : IsFamily logs
   pub shared : AreShared logs shares
 
--- it is that, or what the logs in the order of their centres lack; or memory ran out for them, or for the order of more than one log
+-- it is that, or what the logs in the order of their centres lack; or memory ran out for them, or for the order of more
+-- than one log
 abbrev pub Unites : List LogValue → List ShareValue → Result (List LogValue) GatherFault → Type 0
 Unites given shares (Ok family) = IsUnited given family shares
-Unites given shares (Err Memory) = (1 < length given) ⊎ ((ordered : List LogValue) × IsOrdered given ordered × IsGatherFault ordered shares Memory)
-Unites given shares (Err fault) = (ordered : List LogValue) × IsOrdered given ordered × IsGatherFault ordered shares fault
+Unites given shares (Err Memory) =
+    (1 < length given) ⊎ ((ordered : List LogValue) × IsOrdered given ordered × IsGatherFault ordered shares Memory)
+Unites given shares (Err fault) =
+    (ordered : List LogValue) × IsOrdered given ordered × IsGatherFault ordered shares fault
 
 -- so it is with some logs that replay, as many as there were nodes; without a node no memory is wanted
 abbrev pub Gathers : ℕ → List ShareValue → Result (List LogValue) GatherFault → Type 0
 Gathers nodes shares (Err Memory) = 0 < nodes
-Gathers nodes shares result = (given : List LogValue) × (length given ≡ nodes) × All IsReplaying given × Unites given shares result
+Gathers nodes shares result =
+    (given : List LogValue) × (length given ≡ nodes) × All IsReplaying given × Unites given shares result

@@ -23,7 +23,8 @@ pub record IsLogOf (c : ℕ) (l : LogValue) : Type 0 where
 
 -- the share committed the event to some log of centre c
 abbrev pub CommitsAt : ℕ → ShareValue → ShareValue → Event → Outcome → Type 0
-CommitsAt c old new event outcome = (before after : LogValue) × IsLogOf c before × Commits old new before after event outcome
+CommitsAt c old new event outcome =
+    (before after : LogValue) × IsLogOf c before × Commits old new before after event outcome
 
 -- some log of centre c refused it
 abbrev pub RefusesAt : ℕ → ShareValue → Event → ShareFault → Type 0
@@ -31,4 +32,5 @@ RefusesAt c share event fault = (before : LogValue) × IsLogOf c before × Refus
 
 -- it is what some log of centre c has sent to a centre under a number, if it has
 abbrev pub IsFrameOf : ℕ → ℕ → ℕ → Option Frame → Type 0
-IsFrameOf c to number frame = (l : LogValue) × IsLogOf c l × (frame ≡ frame_number (sent_to to (map entry_of l.entries)) number)
+IsFrameOf c to number frame =
+    (l : LogValue) × IsLogOf c l × (frame ≡ frame_number (sent_to to (map entry_of l.entries)) number)

@@ -10,7 +10,9 @@ use Rattle.rbc_log.specs.Log.{LogValue}
 
 -- the log at this place has the frame that the event brings, as sent to centre c under its number
 abbrev pub IsSent : List LogValue → ℕ → Event → Type 0
-IsSent logs c (Deliver from frame) = (l : LogValue) × (slice_get logs from ≡ Some l) × (frame_number (sent_to c (map entry_of l.entries)) frame.number ≡ Some frame)
+IsSent logs c (Deliver from frame) =
+    (l : LogValue) × (slice_get logs from ≡ Some l)
+    × (frame_number (sent_to c (map entry_of l.entries)) frame.number ≡ Some frame)
 IsSent logs c event = Unit {0}
 
 -- so it is with each frame that the log took

@@ -1,4 +1,5 @@
--- How packets and messages are laid out (SUBSET-026 chapters 7 and 8): their fields stand one behind the other, bit by bit.
+-- How packets and messages are laid out (SUBSET-026 chapters 7 and 8): their fields stand one behind the other, bit by
+-- bit.
 use Rattle.std.specs.Prelude.{ℕ, ◌+◌, Bool, List, [], ◌∷◌, ◌++◌}
 use Rattle.rbc_bits.specs.Bits.{field}
 
@@ -16,7 +17,8 @@ abbrev pub widths : List Field → ℕ
 widths [] = 0
 widths (f ∷ fields) = f.0 + widths fields
 
--- what stands behind NID_PACKET of a train's packet: L_PACKET, which counts the bits of the whole packet, and its fields
+-- what stands behind NID_PACKET of a train's packet: L_PACKET, which counts the bits of the whole packet, and its
+-- fields
 abbrev pub train_packet : List Field → List Field
 train_packet fields = (13, 21 + widths fields) ∷ fields
 

@@ -6,9 +6,11 @@ use Rattle.rbc_packets.specs.declared.opaque.Opaque.TheInside.{Inside}
 
 -- the first bits of its bytes
 abbrev pub packet_of : Inside → Packet
-packet_of p = record { nid_packet = p.kept.value.nid_packet; bits = take p.kept.value.count (bits_of p.kept.value.bytes.items) }
+packet_of p =
+    record { nid_packet = p.kept.value.nid_packet; bits = take p.kept.value.count (bits_of p.kept.value.bytes.items) }
 
 -- as many as there are, and no more than L_PACKET can say
 abbrev pub HasPacketRanges : Inside → Type 0
 HasPacketRanges p =
-    (p.kept.value.count ≤ 8 * length p.kept.value.bytes.items) × (p.kept.value.count < 8171) × (length p.kept.value.bytes.items ≤ 2 ^ 28)
+    (p.kept.value.count ≤ 8 * length p.kept.value.bytes.items) × (p.kept.value.count < 8171)
+    × (length p.kept.value.bytes.items ≤ 2 ^ 28)

@@ -41,8 +41,10 @@ location_at bits = do
 -- L_TRAININT stands only where Q_LENGTH is 1 or 2
 abbrev pub l_trainint_at : QLength → List Bool → Result (TrainLength × List Bool) PacketFault
 l_trainint_at q_length.NoInformation bits = Ok (train_length.NoInformation, bits)
-l_trainint_at q_length.ConfirmedByDevice bits = field_at Length 15 bits >>= λ l. Ok (train_length.ConfirmedByDevice l.0, l.1)
-l_trainint_at q_length.ConfirmedByDriver bits = field_at Length 15 bits >>= λ l. Ok (train_length.ConfirmedByDriver l.0, l.1)
+l_trainint_at q_length.ConfirmedByDevice bits =
+    field_at Length 15 bits >>= λ l. Ok (train_length.ConfirmedByDevice l.0, l.1)
+l_trainint_at q_length.ConfirmedByDriver bits =
+    field_at Length 15 bits >>= λ l. Ok (train_length.ConfirmedByDriver l.0, l.1)
 l_trainint_at q_length.Lost bits = Ok (train_length.Lost, bits)
 
 unfoldable pub train_length_at : List Bool → Result (TrainLength × List Bool) PacketFault

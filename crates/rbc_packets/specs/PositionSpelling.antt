@@ -12,7 +12,8 @@ use Rattle.rbc_packets.specs.declared.position.Position.{Position}
 -- Q_SCALE, NID_LRBG, D_LRBG, Q_DIRLRBG, Q_DLRBG, L_DOUBTOVER, L_DOUBTUNDER
 abbrev pub location_fields : Location → List Field
 location_fields l =
-    (2, q_scale_value l.q_scale) ∷ (24, l.nid_lrbg) ∷ (15, l.d_lrbg) ∷ (2, direction_value l.q_dirlrbg) ∷ (2, direction_value l.q_dlrbg)
+    (2, q_scale_value l.q_scale) ∷ (24, l.nid_lrbg) ∷ (15, l.d_lrbg) ∷ (2, direction_value l.q_dirlrbg)
+    ∷ (2, direction_value l.q_dlrbg)
     ∷ (15, l.l_doubtover) ∷ (15, l.l_doubtunder) ∷ []
 
 -- Q_LENGTH, and L_TRAININT where integrity is confirmed
@@ -39,7 +40,8 @@ level_fields level.Spare7 = (3, 7) ∷ []
 
 -- all fields behind the header
 abbrev pub position_fields : Position → List Field
-position_fields p = location_fields p.location ++ (train_length_fields p.train_length ++ (running_fields p ++ level_fields p.level))
+position_fields p =
+    location_fields p.location ++ (train_length_fields p.train_length ++ (running_fields p ++ level_fields p.level))
 
 -- each value has room in its field
 pub record LocationFits (l : Location) : Type 0 where

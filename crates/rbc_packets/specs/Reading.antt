@@ -13,7 +13,8 @@ use Rattle.rbc_packets.specs.declared.fault.PacketFault.TheVariants.{Short, Leng
 
 -- ## Headers
 
--- the bits of a train's packet behind its header, and those behind the packet: L_PACKET has at least the header's 21 bits
+-- the bits of a train's packet behind its header, and those behind the packet: L_PACKET has at least the header's 21
+-- bits
 unfoldable pub train_part_at : List Bool → Result (List Bool × List Bool) PacketFault
 train_part_at bits = do
   l_packet ← field_at Short 13 bits

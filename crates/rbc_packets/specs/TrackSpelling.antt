@@ -5,8 +5,8 @@ use Rattle.rbc_packets.specs.declared.authority.Authority.{Authority}
 use Rattle.rbc_packets.specs.declared.transition.Transition.{Transition}
 use Rattle.rbc_packets.specs.declared.session_order.SessionOrder.{SessionOrder}
 
--- packet 15: Q_SCALE (1), END_SPEED (0), END_TIME (1 023), N_ITER (0), L_ENDSECTION, Q_SECTIONTIMER, Q_ENDTIMER, Q_DANGERPOINT
--- and Q_OVERLAP (0)
+-- packet 15: Q_SCALE (1), END_SPEED (0), END_TIME (1 023), N_ITER (0), L_ENDSECTION, Q_SECTIONTIMER, Q_ENDTIMER,
+-- Q_DANGERPOINT and Q_OVERLAP (0)
 abbrev pub authority_fields : Authority → List Field
 authority_fields a =
     (2, 1) ∷ (7, 0) ∷ (10, 1023) ∷ (5, 0) ∷ (15, a.l_endsection) ∷ (1, 0) ∷ (1, 0) ∷ (1, 0) ∷ (1, 0) ∷ []

@@ -16,8 +16,8 @@ use Rattle.rbc_hand.specs.Hands.{Holding, run, IsAllOwn}
 use Rattle.rbc_place.specs.Places.{place_of}
 use Rattle.rbc_place.specs.declared.place.Place.{Place}
 
--- what a centre has of a train by its NID_ENGINE: the place of a start that waits, the sections that are claimed for it, none
--- where none waits, and whether the registrar was asked for the right and has not answered
+-- what a centre has of a train by its NID_ENGINE: the place of a start that waits, the sections that are claimed for
+-- it, none where none waits, and whether the registrar was asked for the right and has not answered
 pub record WaitState : Type 0 where
   pub engine : ℕ
   pub wait : Option spec.Place
@@ -62,7 +62,8 @@ telling k told = record { state = k; frames = λ d. []; sayings = []; words = ma
 
 -- the frames that ask the registrar of the train for its right
 abbrev pub asks : Line → ℕ → Bool → ℕ → List Body
-asks line t is_asking d = if is_asking then option_map_or (λ r. if d == r then AskRight t ∷ [] else []) (registrar line t) [] else []
+asks line t is_asking d =
+    if is_asking then option_map_or (λ r. if d == r then AskRight t ∷ [] else []) (registrar line t) [] else []
 
 -- a reply that leaves this state, and asks for the right or not
 abbrev pub asking : Line → ℕ → Bool → Centre → Reply

@@ -187,7 +187,8 @@ impl WaitingStart {
         ensures none { result ≡ None → hand.new ≡ hand.old }
         ensures exact { (line : track.Line) (c : ℕ) (k : Centre) (book : Pages) → HasWait line c k self.old book
             → self.old.has_asked ≡ true → k.mission self.old.engine ≡ None → IfSome result (λ place.
-            links.right_given line c self.old.engine k ≡ rules.begin line self.old.engine (place_of place) (with_wait self.new book k)) }
+            links.right_given line c self.old.engine k
+            ≡ rules.begin line self.old.engine (place_of place) (with_wait self.new book k)) }
     {
         self.has_asked = false;
         let Some(place) = self.place else {

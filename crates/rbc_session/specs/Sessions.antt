@@ -31,7 +31,8 @@ HasRoom sessions = HasRoomFor sessions 1
 
 -- no two sessions are with one train
 abbrev pub IsOneATrain : Records → Type 0
-IsOneATrain sessions = (j k : ℕ) (p q : Record) → get sessions j ≡ Some p → get sessions k ≡ Some q → p.nid_engine ≡ q.nid_engine → j ≡ k
+IsOneATrain sessions =
+    (j k : ℕ) (p q : Record) → get sessions j ≡ Some p → get sessions k ≡ Some q → p.nid_engine ≡ q.nid_engine → j ≡ k
 
 -- the same by their keys
 abbrev pub AtMostOneATrain : Records → Type 0

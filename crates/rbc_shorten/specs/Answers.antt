@@ -24,7 +24,8 @@ on_asked f (Some p) stamp = if p.stamp == stamp then Ok (f p) else Err unasked
 -- what the train leaves of the hand that has granted the request, with its front there
 abbrev pub cut_of : Line → SectionRun → Option ℕ → ProposalCode → Cut
 cut_of line hand front p =
-    option_map_or (λ f. if nat_le f (10 * end line p.last_kept) then Keep ((part_before (p.last_kept + 1) hand).count) else Nothing) front Nothing
+    option_map_or (λ f. if nat_le f (10 * end line p.last_kept) then Keep ((part_before (p.last_kept + 1) hand).count)
+    else Nothing) front Nothing
 
 -- what a centre does with the hand of the mission m when the train has granted the request p
 abbrev pub freeing : Line → ℕ → ℕ → Position → Mission → Proposal → Act
@@ -38,6 +39,7 @@ act_of line c t m p Nothing = rest
 act_of line c t m p (Keep n) = cut line c t p.last_kept m
 
 -- these are the facts of a mission m where the request p stands, and of the report of an answer
-pub record IsAnswer (line : Line) (position : Position) (m : Mission) (p : Proposal) (standing : Option ProposalCode) (front : Option ℕ) : Type 0 where
+pub record IsAnswer (line : Line) (position : Position) (m : Mission) (p : Proposal) (standing : Option ProposalCode)
+    (front : Option ℕ) : Type 0 where
   pub proposal : standing_of standing ≡ Some p
   pub place : front ≡ option_map (λ place. place.front) (place_on line m.place.track position)

@@ -17,7 +17,8 @@ is_cut_behind_first hand s = within hand s && not (s == hand.first)
 -- a request to shorten before section s, which starts there, may be made
 unfoldable pub may_shorten_at : ℕ → ShorteningFacts → ℕ → Bool
 may_shorten_at metres m s =
-    is_free m && ((is_cut_behind_first (run_of m.hand) s && nat_le m.front (10 * metres)) && nat_le metres (m.group_start + 32767))
+    is_free m && ((is_cut_behind_first (run_of m.hand) s && nat_le m.front (10 * metres))
+    && nat_le metres (m.group_start + 32767))
 
 -- what it asks for
 abbrev pub shortening_at : ℕ → ShorteningFacts → ℕ → Shortening

@@ -14,7 +14,8 @@ begins_before line front s = nat_lt (10 * start line s) front
 
 -- what is left of the hand with the front there
 abbrev pub ahead_of : Line → SectionRun → ℕ → Cut
-ahead_of line hand front = let n = passing (begins_before line front) hand in if (n == 0) || (n == hand.count) then Nothing else Keep n
+ahead_of line hand front =
+    let n = passing (begins_before line front) hand in if (n == 0) || (n == hand.count) then Nothing else Keep n
 
 -- what a centre does with the hand of the mission m, of which that is left
 abbrev pub standing_act : Line → ℕ → ℕ → Mission → Cut → Act

@@ -23,7 +23,10 @@ pub fn propose(line: &Line, facts: ShorteningFacts, s: u16) -> Option<Shortening
     // The same of the mission that a centre keeps: where it may propose, and what it then sends and keeps.
     ensures rules { (t : ℕ) (n : spec.Mission) (k : spec.Centre) → AreFactsOf line.now t n k facts
         → result ≡ (if may_propose line.now t s n k
-        then Some (record { l_endsection = start line.now s - group_start line.now n.place; last_kept = s - 1 }) else None) }
+        then Some (record {
+          l_endsection = start line.now s - group_start line.now n.place;
+          last_kept = s - 1;
+        }) else None) }
 {
     let start = section_start(line, s);
     if !may_be_asked(facts, s, start) {

@@ -39,7 +39,12 @@ unfoldable pub ◌>>◌ : Act → Act → Act
 (first >> second) k =
     let a = first k in
     let b = second a.state in
-    record { state = b.state; frames = λ d. a.frames d ++ b.frames d; sayings = a.sayings ++ b.sayings; words = a.words ++ b.words }
+    record {
+      state = b.state;
+      frames = λ d. a.frames d ++ b.frames d;
+      sayings = a.sayings ++ b.sayings;
+      words = a.words ++ b.words;
+    }
 
 -- the act where the test holds of the state
 abbrev pub where_so : (Centre → Bool) → Act → Act
@@ -79,8 +84,8 @@ abbrev pub booked : (Entry → Bool) → Entry → SectionRun → Act
 booked is_meant entry r =
     become (λ k. record k { book = λ s. if within r s && is_meant (k.book s) then entry else k.book s })
 
--- sections of home c in use as meant are given back: each becomes open, and one that is wished back becomes shut, its wish
--- ends, and that is told
+-- sections of home c in use as meant are given back: each becomes open, and one that is wished back becomes shut, its
+-- wish ends, and that is told
 abbrev pub freed : Line → ℕ → (Entry → Bool) → SectionRun → Act
 freed line c is_meant r k =
     let is_freed : ℕ → Bool = λ s. (within r s && is_home line c s) && is_meant (k.book s) in
@@ -98,7 +103,8 @@ freed line c is_meant r k =
 abbrev pub returned : Line → ℕ → ℕ → ℕ → SectionRun → Act
 returned line c t track r k = record {
   state = k;
-  frames = λ d. let part = shared r (home_run line d track) in if (d == c) || is_empty part then [] else RouteReturn t part ∷ [];
+  frames = λ d. let part = shared r (home_run line d track)
+      in if (d == c) || is_empty part then [] else RouteReturn t part ∷ [];
   sayings = [];
   words = [];
 }
@@ -124,7 +130,8 @@ return_pool line c t mission =
 -- a handover that stands is cancelled
 abbrev pub cancel : ℕ → Mission → Act
 cancel t mission =
-    option_map_or (λ h. send h.to (Cancel h.number t) >> change_mission t (λ n. record n { handing = None })) mission.handing rest
+    option_map_or (λ h. send h.to (Cancel h.number t)
+    >> change_mission t (λ n. record n { handing = None })) mission.handing rest
 
 -- the right goes back to the registrar
 abbrev pub return_right : Line → ℕ → ℕ → Act
@@ -133,14 +140,23 @@ return_right line c t =
     then become (λ k. record k { has_right = put k.has_right t true })
     else option_map_or (λ r. send r (ReturnRight t)) (registrar line t) rest
 
--- the mission closes with an empty hand: what its hand and pool had has left, its handover is cancelled, the right goes back
+-- the mission closes with an empty hand: what its hand and pool had has left, its handover is cancelled, the right goes
+-- back
 abbrev pub close : Line → ℕ → ℕ → Mission → Act
 close line c t mission = (set_mission t None >> cancel t mission) >> return_right line c t
 
 -- a mission begins with the sections that its place covers
 abbrev pub begun : Line → Place → Mission
 begun line place =
-    record { place = place; hand = covered line place; pool = no_run; has_data = false; is_ended = false; proposal = None; handing = None }
+    record {
+      place = place;
+      hand = covered line place;
+      pool = no_run;
+      has_data = false;
+      is_ended = false;
+      proposal = None;
+      handing = None;
+    }
 
 -- ## Shortening (3.8.6)
 
@@ -167,7 +183,8 @@ propose_if_so line t s = with_mission t (λ m. where_so (may_propose line t s m)
 abbrev pub part_at : Line → ℕ → ℕ → SectionRun → SectionRun
 part_at line d track hand = shared hand (home_run line d track)
 
--- a handover is announced where the hand has a section of the next centre and none stands: the train is told where the border is
+-- a handover is announced where the hand has a section of the next centre and none stands: the train is told where the
+-- border is
 abbrev pub announce : Line → ℕ → ℕ → ℕ → Mission → Act
 announce line t group d m k =
     let number = k.announced + 1 in
@@ -182,7 +199,8 @@ announce line t group d m k =
 abbrev pub ask_route : ℕ → ℕ → Mission → Act
 ask_route t d m =
     let first = behind m.hand in
-    send d (RouteAsk t first (min (most_in_hand - m.hand.count) (512 - first))) >> become (λ k. record k { route_ask = put k.route_ask t (Some first) })
+    send d (RouteAsk t first (min (most_in_hand - m.hand.count) (512 - first)))
+    >> become (λ k. record k { route_ask = put k.route_ask t (Some first) })
 
 -- the train is told to end its session with c, where it is up
 abbrev pub end_order : Line → ℕ → ℕ → Act
@@ -192,6 +210,7 @@ end_order line c t = where_so (λ k. is_up (k.phase t)) (say t unknown_group (En
 abbrev pub yield : Line → ℕ → ℕ → Mission → Handing → Act
 yield line c t m h k =
     ((returned line c t m.place.track m.pool >> booked (is_taken_for t) (Out t) m.hand)
-    >> (set_mission t None >> send h.to (Yield h.number t (option_map_or (λ n. n) (k.heard t) 0) m.has_data m.is_ended (yielded_place m.place) m.hand)))
+    >> (set_mission t None >> send h.to
+    (Yield h.number t (option_map_or (λ n. n) (k.heard t) 0) m.has_data m.is_ended (yielded_place m.place) m.hand)))
     >> (if is_empty (part_at line c m.place.track m.hand) then end_order line c t else rest)
     $ k

@@ -130,7 +130,8 @@ is_free line c k s = is_home line c s && is_open (k.book s)
 
 -- some section of home c is in use for the train
 abbrev pub uses_some : Line → ℕ → Centre → ℕ → Bool
-uses_some line c k t = list_any (λ s. is_home line c s && is_used_for t (k.book s)) (range_with_len 0 (section_count line))
+uses_some line c k t =
+    list_any (λ s. is_home line c s && is_used_for t (k.book s)) (range_with_len 0 (section_count line))
 
 -- some centre has announced a handover of the train
 abbrev pub is_expected : Line → Centre → ℕ → Bool

@@ -18,7 +18,8 @@ yielded_place place = record { track = place.track; group = place.group; front =
 
 -- the place that is carried with this front: none where it lies before the start of the track
 abbrev pub place_with_front : YieldedPlace → ℤ → Option Place
-place_with_front place (pos front) = Some (record { track = place.track; group = place.group; front = front; rear = place.rear })
+place_with_front place (pos front) =
+    Some (record { track = place.track; group = place.group; front = front; rear = place.rear })
 place_with_front place (negsuc n) = None
 
 abbrev pub carried_place : YieldedPlace → Option Place
@@ -36,7 +37,8 @@ pub data Body : Type 0 where
   Announce : (number t track : ℕ) → Body  -- a handover is announced
   Cancel : (number t : ℕ) → Body  -- and cancelled
   TakingOver : (number t : ℕ) → Body  -- the train has reported in the accepting centre's area
-  Yield : (number t heard : ℕ) (has_data is_ended : Bool) (place : YieldedPlace) (hand : SectionRun) → Body  -- the supervision is handed over
+  -- the supervision is handed over
+  Yield : (number t heard : ℕ) (has_data is_ended : Bool) (place : YieldedPlace) (hand : SectionRun) → Body
 
 pub record Frame : Type 0 where
   pub number : ℕ
@@ -69,7 +71,8 @@ pub record HasPlaceRange (place : YieldedPlace) : Type 0 where
   pub front : IsTrue (is_short_distance place.front)
   pub rear : IsTrue (option_map_or is_short_distance place.rear true)
 
--- RouteAsk's most is cut so that no section past the 512th is asked for; a RouteReturn has at most a hand of 32 and a pool of 31
+-- RouteAsk's most is cut so that no section past the 512th is asked for; a RouteReturn has at most a hand of 32 and a
+-- pool of 31
 abbrev pub HasBodyRange : Body → Type 0
 HasBodyRange (AskRight t) = IsEngine t
 HasBodyRange (GiveRight t) = IsEngine t

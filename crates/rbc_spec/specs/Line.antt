@@ -48,7 +48,8 @@ is_home line c s = has (λ p. p.home == c) (section line s)
 -- where a section starts: the lengths of the sections before it on its track, in metres
 unfoldable pub start : Line → ℕ → ℕ
 start line s =
-    option_map_or (λ p. sum_by (λ q. q.metres) (filter (λ q. q.track == p.track) (take s line.sections))) (section line s) 0
+    option_map_or (λ p. sum_by (λ q. q.metres) (filter (λ q. q.track == p.track) (take s line.sections)))
+    (section line s) 0
 
 -- where it ends, in metres from the start of its track
 unfoldable pub end : Line → ℕ → ℕ
@@ -88,7 +89,8 @@ is_linked line a b = (is_centre line a && is_centre line b) && not (a == b)
 abbrev pub next_centre : Line → ℕ → ℕ → Option ℕ
 next_centre line c track =
     option_map (λ seam. seam.1.home)
-    (find (λ seam. ((is_joint seam && (seam.0.track == track)) && (seam.0.home == c)) && not (seam.1.home == c)) (seams line))
+    (find (λ seam. ((is_joint seam && (seam.0.track == track)) && (seam.0.home == c)) && not (seam.1.home == c))
+    (seams line))
 
 -- ## The rules that every line keeps (profile)
 
@@ -113,7 +115,8 @@ pub record HasRanges (line : Line) : Type 0 where
   pub nid_c : line.nid_c ≤ 1023
   pub centres : All (λ p. IsName p.name × (p.nid_rbc ≤ 16382)) line.centres
   pub tracks : All IsName line.tracks
-  pub sections : All (λ p. (p.track < length line.tracks) × (100 ≤ p.metres) × (p.metres ≤ 2000) × (p.home < length line.centres) × (p.balise ≤ 16382)) line.sections
+  pub sections : All (λ p. (p.track < length line.tracks) × (100 ≤ p.metres) × (p.metres ≤ 2000)
+      × (p.home < length line.centres) × (p.balise ≤ 16382)) line.sections
   pub trains : All (λ p. (p.nid_engine ≤ 16777215) × (p.registrar < length line.centres)) line.trains
 
 -- what stands for one thing stands for no other
@@ -126,13 +129,15 @@ pub record HasDistinctNames (line : Line) : Type 0 where
 
 -- sections are numbered track by track, and each track has one
 pub record FollowsTracks (line : Line) : Type 0 where
-  pub in_order : (s e : ℕ) (p q : Section) → s ≤ e → section line s ≡ Some p → section line e ≡ Some q → p.track ≤ q.track
+  pub in_order : (s e : ℕ) (p q : Section) → s ≤ e → section line s ≡ Some p → section line e ≡ Some q
+      → p.track ≤ q.track
   pub each : (k : ℕ) → k < length line.tracks → (s : ℕ) × (p : Section) × (section line s ≡ Some p) × (p.track ≡ k)
 
 -- on one track the sections of one home are consecutive: what lies between two of them is of that home too
 abbrev pub HasConsecutiveHomes : Line → Type 0
 HasConsecutiveHomes line =
-    (s m e : ℕ) (p n q : Section) → s ≤ m → m ≤ e → section line s ≡ Some p → section line m ≡ Some n → section line e ≡ Some q
+    (s m e : ℕ) (p n q : Section) → s ≤ m → m ≤ e → section line s ≡ Some p → section line m ≡ Some n
+    → section line e ≡ Some q
     → p.track ≡ q.track → p.home ≡ q.home → n.home ≡ p.home
 
 -- all rules of a line

@@ -1,5 +1,5 @@
--- The one line centre: what a single centre for the whole line would keep. No border, frame or second book occurs in it.
--- That the centres together do what it does is the main theorem (rbc_world).
+-- The one line centre: what a single centre for the whole line would keep. No border, frame or second book occurs in
+-- it. That the centres together do what it does is the main theorem (rbc_world).
 use Rattle.std.specs.Prelude.{◌≡◌, ◌+◌, ℕ, List, [], length, Bool, true, false, ◌==◌, ◌&&◌, not, if◌then◌else◌, Option, Some, None, map, option_map}
 use Rattle.std.specs.List.{filter, list_any, range_with_len}
 use Rattle.rbc_spec.specs.Maps.{has, put, put_pair}
@@ -18,13 +18,14 @@ pub data Mark : Type 0 where
   Kept : (t : ℕ) → Mark
   Given : (t : ℕ) → Mark
 
--- who supervises a mission: a centre, or nobody while the supervision is handed over, which carries the last stamp heard
+-- who supervises a mission: a centre, or nobody while the supervision is handed over, which carries the last stamp
+-- heard
 pub data Supervisor : Type 0 where
   At : (c : ℕ) → Supervisor
   Parted : (stamp : ℕ) → Supervisor
 
--- the mission of a train under way: its last place, whether its train data are known and its mission is ended, the request to shorten that
--- stands, and who supervises it. Its hand is what the marks give it
+-- the mission of a train under way: its last place, whether its train data are known and its mission is ended, the
+-- request to shorten that stands, and who supervises it. Its hand is what the marks give it
 pub record LineMission : Type 0 where
   pub place : Place
   pub has_data : Bool
@@ -33,7 +34,8 @@ pub record LineMission : Type 0 where
   pub supervisor : Supervisor
 
 -- of each section its mark and whether the interlocking wishes it back; of each train and centre the phase of the
--- session, the last T_TRAIN heard, the messages said, and the place of a start of mission that waits; of each train its mission
+-- session, the last T_TRAIN heard, the messages said, and the place of a start of mission that waits; of each train its
+-- mission
 pub record LineState : Type 0 where
   pub mark : ℕ → Mark
   pub wish : ℕ → Bool

@@ -1,5 +1,5 @@
--- What a centre does with a frame that is the next of its link. A body that names an engine, section, track or group that is
--- not of the line has no effect, and so has one that no rule below gives one.
+-- What a centre does with a frame that is the next of its link. A body that names an engine, section, track or group
+-- that is not of the line has no effect, and so has one that no rule below gives one.
 use Rattle.std.specs.Prelude.{ℕ, ◌*◌, ◌==◌, Bool, false, ◌&&◌, not, if◌then◌else◌, length, max, Option, Some, None, is_some, is_none, nat_lt, nat_le}
 use Rattle.std.specs.Option.{option_map_or}
 use Rattle.std.specs.List.{find, range_with_len}
@@ -39,18 +39,23 @@ right_given line c t = where_so (λ k. k.has_asked t) (answered_ask t >> choose
 
 abbrev pub right_refused : Line → ℕ → ℕ → Act
 right_refused line c t =
-    where_so (λ k. k.has_asked t) (answered_ask t >> where_so (λ k. is_some (k.wait t)) (drop_wait line c t >> reject t))
+    where_so (λ k. k.has_asked t)
+    (answered_ask t >> where_so (λ k. is_some (k.wait t)) (drop_wait line c t >> reject t))
 
 -- the right comes back to the registrar, where it is not already
 abbrev pub right_returned : Line → ℕ → ℕ → Act
-right_returned line c t = where_so (λ k. is_registrar_of line c t && (not (k.has_right t) && is_none (k.mission t))) (return_right line c t)
+right_returned line c t =
+    where_so (λ k. is_registrar_of line c t && (not (k.has_right t) && is_none (k.mission t))) (return_right line c t)
 
 -- ## Route Related Information
 
 -- the longest run of released home sections from first on one track, at most so many, is lent
 abbrev pub lendable : Line → ℕ → Centre → ℕ → ℕ → SectionRun
 lendable line c k first most =
-    record { first = first; count = longest (λ s. is_free line c k s && has (λ p. is_on line p.track s) (section line first)) first most }
+    record {
+      first = first;
+      count = longest (λ s. is_free line c k s && has (λ p. is_on line p.track s) (section line first)) first most;
+    }
 
 abbrev pub route_asked : Line → ℕ → ℕ → ℕ → ℕ → ℕ → Act
 route_asked line c d t first most k =
@@ -59,29 +64,34 @@ route_asked line c d t first most k =
 
 -- the lent sections follow the hand of a mission that goes on, whose pool is empty
 abbrev pub is_wanted : Line → SectionRun → Mission → Bool
-is_wanted line r m = ((r.first == behind m.hand) && is_on line m.place.track r.first) && (not m.is_ended && is_empty m.pool)
+is_wanted line r m =
+    ((r.first == behind m.hand) && is_on line m.place.track r.first) && (not m.is_ended && is_empty m.pool)
 
 -- what was asked for goes into the pool, or home again
 abbrev pub route_told : Line → ℕ → ℕ → ℕ → SectionRun → Act
 route_told line c d t r = where_so
-    (λ k. (has (λ first. first == r.first) (k.route_ask t) && (is_of_line line r && is_home line d r.first)) && all_of (is_home line d) r)
+    (λ k. (has (λ first. first == r.first) (k.route_ask t) && (is_of_line line r && is_home line d r.first))
+    && all_of (is_home line d) r)
     (become (λ k. record k { route_ask = put k.route_ask t None })
     >> choose (λ k. has (is_wanted line r) (k.mission t))
     (change_mission t (λ m. record m { pool = r }))
     (if is_empty r then rest else send d (RouteReturn t r)))
 
--- the interlocking of another centre wishes a lent section back: the pool from it on goes home, or the hand is proposed to be cut
+-- the interlocking of another centre wishes a lent section back: the pool from it on goes home, or the hand is proposed
+-- to be cut
 abbrev pub route_withdrawn : Line → ℕ → ℕ → ℕ → Act
 route_withdrawn line c t s = with_mission t (λ m.
     if within m.pool s
-    then (returned line c t m.place.track (part_from s m.pool) >> change_mission t (λ n. record n { pool = part_before s n.pool }))
+    then (returned line c t m.place.track (part_from s m.pool)
+    >> change_mission t (λ n. record n { pool = part_before s n.pool }))
     else propose_if_so line t s)
 
 -- lent sections come home and are given back; a train that is no more to come here is told to end the session
 abbrev pub route_returned : Line → ℕ → ℕ → SectionRun → Act
 route_returned line c t r =
     freed line c (is_out_for t) r
-    >> where_so (λ k. not (uses_some line c k t) && ((is_none (k.mission t) && is_none (k.wait t)) && not (is_expected line k t))) (end_order line c t)
+    >> where_so (λ k. not (uses_some line c k t)
+    && ((is_none (k.mission t) && is_none (k.wait t)) && not (is_expected line k t))) (end_order line c t)
 
 -- ## Handover
 
@@ -89,7 +99,8 @@ abbrev pub expect : ℕ → ℕ → Option Expectation → Act
 expect d t e = become (λ k. record k { expects = put_pair k.expects d t e })
 
 abbrev pub announced : ℕ → ℕ → ℕ → Act
-announced d number t = where_so (λ k. is_none (k.expects d t)) (expect d t (Some (record { number = number; is_taking = false })))
+announced d number t =
+    where_so (λ k. is_none (k.expects d t)) (expect d t (Some (record { number = number; is_taking = false })))
 
 abbrev pub is_under : ℕ → Option Expectation → Bool
 is_under number e = has (λ x. x.number == number) e
@@ -108,26 +119,38 @@ may_arrive line c k t track s =
     if is_home line c s then is_out_for t (k.book s)
     else has (λ p. not (has (λ n. n == p.home) (next_centre line c track))) (section line s)
 
--- a handover is taken under the number that was announced, after this centre said that it takes over, where neither mission
--- nor right are here, the hand is a run of the place's track, and the place's group is of that track and not behind its front
+-- a handover is taken under the number that was announced, after this centre said that it takes over, where neither
+-- mission nor right are here, the hand is a run of the place's track, and the place's group is of that track and not
+-- behind its front
 abbrev pub may_take : Line → ℕ → Centre → ℕ → ℕ → ℕ → Place → SectionRun → Bool
 may_take line c k d number t place hand =
     (has (λ e. (e.number == number) && e.is_taking) (k.expects d t) && (is_none (k.mission t) && not (k.has_right t)))
     && ((is_on_track line place.track hand && has (is_on line place.track) (section_of_group line place.group))
     && (nat_le (10 * group_start line place) place.front && all_of (may_arrive line c k t place.track) hand))
 
--- own sections become claims, the mission goes on here, the later of both stamps is kept, and the expectation ends; then the
--- first own section of the hand that is wished back is proposed to be cut off
+-- own sections become claims, the mission goes on here, the later of both stamps is kept, and the expectation ends;
+-- then the first own section of the hand that is wished back is proposed to be cut off
 abbrev pub take_mission : Line → ℕ → ℕ → ℕ → ℕ → Mission → Act
 take_mission line c d t heard m =
     ((booked (is_out_for t) (Taken t) m.hand >> set_mission t (Some m))
-    >> (become (λ k. record k { heard = put k.heard t (Some (option_map_or (max heard) (k.heard t) heard)) }) >> expect d t None))
-    >> with_some (λ k. find (λ s. is_home line c s && k.wish s) (range_with_len m.hand.first m.hand.count)) (propose_if_so line t)
+    >> (become (λ k. record k { heard = put k.heard t (Some (option_map_or (max heard) (k.heard t) heard)) })
+    >> expect d t None))
+    >> with_some (λ k. find (λ s. is_home line c s && k.wish s) (range_with_len m.hand.first m.hand.count))
+    (propose_if_so line t)
 
 -- a yield with this place is taken, where it may be
 abbrev pub yielded : Line → ℕ → ℕ → ℕ → ℕ → SectionRun → ℕ → Bool → Bool → Place → Act
 yielded line c d number t hand heard has_data is_ended place = where_so (λ k. may_take line c k d number t place hand)
-    (take_mission line c d t heard (record { place = place; hand = hand; pool = no_run; has_data = has_data; is_ended = is_ended; proposal = None; handing = None }))
+    (take_mission line c d t heard
+    (record {
+      place = place;
+      hand = hand;
+      pool = no_run;
+      has_data = has_data;
+      is_ended = is_ended;
+      proposal = None;
+      handing = None;
+    }))
 
 -- ## A frame from centre d to centre c
 
@@ -144,9 +167,12 @@ received line c d (RefuseRight t) = of_train line t (right_refused line c t)
 received line c d (ReturnRight t) = of_train line t (right_returned line c t)
 received line c d (RouteAsk t first most) = of_train line t (route_asked line c d t first most)
 received line c d (RouteInfo t r) = of_train line t (route_told line c d t r)
-received line c d (RouteWithdraw t s) = of_train line t (if is_some (section line s) then route_withdrawn line c t s else rest)
-received line c d (RouteReturn t r) = of_train line t (if all_of (λ s. is_some (section line s)) r then route_returned line c t r else rest)
-received line c d (Announce number t track) = of_train line t (if nat_lt track (length line.tracks) then announced d number t else rest)
+received line c d (RouteWithdraw t s) =
+    of_train line t (if is_some (section line s) then route_withdrawn line c t s else rest)
+received line c d (RouteReturn t r) =
+    of_train line t (if all_of (λ s. is_some (section line s)) r then route_returned line c t r else rest)
+received line c d (Announce number t track) =
+    of_train line t (if nat_lt track (length line.tracks) then announced d number t else rest)
 received line c d (Cancel number t) = of_train line t (cancelled d number t)
 received line c d (TakingOver number t) = of_train line t (taking_over line c d number t)
 received line c d (Yield number t heard has_data is_ended place hand) =

@@ -1,4 +1,5 @@
--- Words for values that may be none, and for functions of numbers, which the states of centres and of the line are made of.
+-- Words for values that may be none, and for functions of numbers, which the states of centres and of the line are made
+-- of.
 use Rattle.std.specs.Prelude.{ℕ, ◌==◌, Bool, false, Option, if◌then◌else◌}
 use Rattle.std.specs.Option.{option_map_or}
 

@@ -1,6 +1,6 @@
--- What a centre's step reads of a train's message and what it says to a train (8.6, 8.7), without the layout of packets.
--- T_TRAIN of a train's message is the train's clock as it was sent; that of a track message counts, from 1, the
--- messages that the centre has said to the train (profile).
+-- What a centre's step reads of a train's message and what it says to a train (8.6, 8.7), without the layout of
+-- packets. T_TRAIN of a train's message is the train's clock as it was sent; that of a track message counts, from 1,
+-- the messages that the centre has said to the train (profile).
 use Rattle.std.specs.Prelude.{ℕ, Bool, Option, nat_le}
 use Rattle.rbc_spec.specs.Maps.{has}
 use Rattle.rbc_spec.specs.Place.{Position}
@@ -9,7 +9,8 @@ pub data TrainBody : Type 0 where
   TrainData : (position : Position) → TrainBody  -- 129 Validated Train Data
   Request : (position : Position) → TrainBody  -- 132 MA Request
   Report : (position : Position) → TrainBody  -- 136 Train Position Report
-  ShorteningGranted : (stamp : ℕ) (position : Position) → TrainBody  -- 137 Request to shorten MA is granted: T_TRAIN of the request
+  -- 137 Request to shorten MA is granted: T_TRAIN of the request
+  ShorteningGranted : (stamp : ℕ) (position : Position) → TrainBody
   ShorteningRejected : (stamp : ℕ) (position : Position) → TrainBody  -- 138 Request to shorten MA is rejected
   EndOfMission : (position : Position) → TrainBody  -- 150 End of Mission
   InitiationOfSession : TrainBody  -- 155 Initiation of a communication session (3.5.3)

@@ -22,13 +22,18 @@ reasons_of InitiationOfSession = ForeignEngine ∷ StaleStamp ∷ []
 reasons_of SessionEstablished = ForeignEngine ∷ StaleStamp ∷ NoSession ∷ WrongPhase ∷ []
 reasons_of TerminationOfSession = ForeignEngine ∷ StaleStamp ∷ NoSession ∷ []
 reasons_of (StartOfMission is_valid position) = ForeignEngine ∷ StaleStamp ∷ NoSession ∷ WrongPhase ∷ []
-reasons_of (TrainData position) = ForeignEngine ∷ StaleStamp ∷ NoSession ∷ WrongPhase ∷ NotSupervised ∷ MissionEnded ∷ []
+reasons_of (TrainData position) =
+    ForeignEngine ∷ StaleStamp ∷ NoSession ∷ WrongPhase ∷ NotSupervised ∷ MissionEnded ∷ []
 reasons_of (Request position) =
-    ForeignEngine ∷ StaleStamp ∷ NoSession ∷ WrongPhase ∷ NotSupervised ∷ MissionEnded ∷ NoTrainData ∷ ProposalPending ∷ NoPlace ∷ []
+    ForeignEngine ∷ StaleStamp ∷ NoSession ∷ WrongPhase ∷ NotSupervised ∷ MissionEnded ∷ NoTrainData ∷ ProposalPending
+    ∷ NoPlace ∷ []
 reasons_of (Report position) = ForeignEngine ∷ StaleStamp ∷ NoSession ∷ WrongPhase ∷ NotSupervised ∷ NoPlace ∷ []
-reasons_of (ShorteningGranted stamp position) = ForeignEngine ∷ StaleStamp ∷ NoSession ∷ WrongPhase ∷ NotSupervised ∷ Unasked ∷ []
-reasons_of (ShorteningRejected stamp position) = ForeignEngine ∷ StaleStamp ∷ NoSession ∷ WrongPhase ∷ NotSupervised ∷ Unasked ∷ []
-reasons_of (EndOfMission position) = ForeignEngine ∷ StaleStamp ∷ NoSession ∷ WrongPhase ∷ NotSupervised ∷ MissionEnded ∷ []
+reasons_of (ShorteningGranted stamp position) =
+    ForeignEngine ∷ StaleStamp ∷ NoSession ∷ WrongPhase ∷ NotSupervised ∷ Unasked ∷ []
+reasons_of (ShorteningRejected stamp position) =
+    ForeignEngine ∷ StaleStamp ∷ NoSession ∷ WrongPhase ∷ NotSupervised ∷ Unasked ∷ []
+reasons_of (EndOfMission position) =
+    ForeignEngine ∷ StaleStamp ∷ NoSession ∷ WrongPhase ∷ NotSupervised ∷ MissionEnded ∷ []
 
 -- a message to a train
 pub record Saying : Type 0 where

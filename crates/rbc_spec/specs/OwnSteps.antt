@@ -1,5 +1,5 @@
--- The own steps of the one line centre: a train's message that is answered, a set and an unset. Each is a relation, since
--- the line centre may choose where the rules leave it open.
+-- The own steps of the one line centre: a train's message that is answered, a set and an unset. Each is a relation,
+-- since the line centre may choose where the rules leave it open.
 use Rattle.std.specs.Prelude.{◌≡◌, ◌+◌, ◌-◌, ◌*◌, ◌≤◌, ◌⊎◌, ℕ, ◌==◌, List, [], ◌∷◌, ◌++◌, Bool, true, false, ◌&&◌, ◌||◌, not, if◌then◌else◌, Option, Some, None, nat_le, nat_lt, MatchBool}
 use Rattle.std.specs.Option.{option_map_or}
 use Rattle.std.specs.List.{list_any, range_with_len}
@@ -14,7 +14,8 @@ use Rattle.rbc_spec.specs.Centre.{Phase, Closed, Opened, Up, is_registrar_of}
 use Rattle.rbc_spec.specs.LineCentre.{LineState, Mark, Shut, Open, Kept, Given, LineMission, At, is_given_to, is_kept_for, is_mark_open, IsHand, is_at, supervises, is_waiting_at, is_waiting, free, told, mark_all, release, set_mission, change_mission, close_if_empty, saying_of, says, Said}
 
 -- one message is all that is said to trains, and the state is this but for its count
-pub record Says (t c group : ℕ) (body : TrackBody) (words : List Word) (v changed : LineState) (said : Said) (new : LineState) : Type 0 where
+pub record Says (t c group : ℕ) (body : TrackBody) (words : List Word) (v changed : LineState) (said : Said)
+    (new : LineState) : Type 0 where
   pub said_is : said ≡ record { sayings = saying_of t c group body v ∷ []; words = words }
   pub new_is : new ≡ says t c changed
 
@@ -33,11 +34,12 @@ SaysNothing changed = Tells [] changed
 abbrev pub without_proposal : ℕ → LineMission → LineMission
 without_proposal c m = if is_at c m.supervisor then record m { proposal = None } else m
 
--- a session ends: a standing request to shorten is dropped, and a start of mission that waits here, whose sections are freed.
--- No given section changes
+-- a session ends: a standing request to shorten is dropped, and a start of mission that waits here, whose sections are
+-- freed. No given section changes
 abbrev pub session_ends : Line → ℕ → ℕ → LineState → LineState
 session_ends line t c v =
-    change_mission t (without_proposal c) (record (free (is_waiting_at line v t c) v) { wait = put_pair v.wait t c None })
+    change_mission t (without_proposal c)
+    (record (free (is_waiting_at line v t c) v) { wait = put_pair v.wait t c None })
 
 abbrev pub with_phase : ℕ → ℕ → Phase → LineState → LineState
 with_phase t c phase v = record v { phase = put_pair v.phase t c phase }
@@ -61,7 +63,8 @@ restarted t place v =
 
 -- the sections are kept, and the start waits
 abbrev pub waits : Line → ℕ → ℕ → Place → LineState → LineState
-waits line t c place v = record (mark_all (within (covered line place)) (Kept t) v) { wait = put_pair v.wait t c (Some place) }
+waits line t c place v =
+    record (mark_all (within (covered line place)) (Kept t) v) { wait = put_pair v.wait t c (Some place) }
 
 abbrev pub Rejects : ℕ → ℕ → LineState → Said → LineState → Type 0
 Rejects t c v = Says t c unknown_group TrainRejected [] v v
@@ -77,23 +80,26 @@ StartsHere line t c place v said new =
 -- the start of a train that centre c supervises: within its hand it goes on from the new place
 abbrev pub Restarts : Line → ℕ → ℕ → Place → LineState → Said → LineState → Type 0
 Restarts line t c place v said new =
-    MatchBool (all_of (λ s. is_given_to t (v.mark s)) (covered line place)) (Accepts t c v (restarted t place v) said new) (Rejects t c v said new)
+    MatchBool (all_of (λ s. is_given_to t (v.mark s)) (covered line place))
+    (Accepts t c v (restarted t place v) said new) (Rejects t c v said new)
 
 -- another start: refused where a section is not released here, else decided by the registrar
 abbrev pub StartsNew : Line → ℕ → ℕ → Place → LineState → Said → LineState → Type 0
 StartsNew line t c place v said new =
     MatchBool (may_start line v c place)
-    (MatchBool (is_registrar_of line c t) (StartsHere line t c place v said new) (SaysNothing (waits line t c place v) said new))
+    (MatchBool (is_registrar_of line c t) (StartsHere line t c place v said new)
+    (SaysNothing (waits line t c place v) said new))
     (Rejects t c v said new)
 
 abbrev pub Starts : Line → ℕ → ℕ → Option Place → LineState → Said → LineState → Type 0
 Starts line t c None v said new = Rejects t c v said new
-Starts line t c (Some place) v said new = MatchBool (supervises v c t) (Restarts line t c place v said new) (StartsNew line t c place v said new)
+Starts line t c (Some place) v said new =
+    MatchBool (supervises v c t) (Restarts line t c place v said new) (StartsNew line t c place v said new)
 
 -- ## Request
 
--- the section may not follow in the hand at centre c: it is not on the track, or not released with home c, or would be the
--- 33rd, or ends too far behind the group
+-- the section may not follow in the hand at centre c: it is not on the track, or not released with home c, or would be
+-- the 33rd, or ends too far behind the group
 pub data Ends (line : Line) (v : LineState) (c : ℕ) (place : Place) (hand : SectionRun) : Type 0 where
   off_track : is_on line place.track (behind hand) ≡ false → Ends line v c place hand
   not_free : (is_home line c (behind hand) && is_mark_open (v.mark (behind hand))) ≡ false → Ends line v c place hand
@@ -102,19 +108,23 @@ pub data Ends (line : Line) (v : LineState) (c : ℕ) (place : Place) (hand : Se
 
 -- a section by which the hand is extended: released with home c, or kept for the train and no start waits for it
 abbrev pub may_be_given : Line → LineState → ℕ → ℕ → ℕ → Bool
-may_be_given line v c t s = (is_home line c s && is_mark_open (v.mark s)) || (is_kept_for t (v.mark s) && not (is_waiting line v t s))
+may_be_given line v c t s =
+    (is_home line c s && is_mark_open (v.mark s)) || (is_kept_for t (v.mark s) && not (is_waiting line v t s))
 
 -- the hand is extended by some run that follows it at once, as far as it may go at this centre
-pub record Extends (line : Line) (v : LineState) (t c : ℕ) (place : Place) (said : Said) (new : LineState) : Type 0 where
+pub record Extends (line : Line) (v : LineState) (t c : ℕ) (place : Place) (said : Said)
+    (new : LineState) : Type 0 where
   pub hand : SectionRun
   pub count : ℕ
   pub is_hand : IsHand v t hand
-  pub each : all_of (λ s. may_be_given line v c t s && is_on line place.track s) (record { first = behind hand; count = count }) ≡ true
+  pub each : all_of (λ s. may_be_given line v c t s && is_on line place.track s)
+      (record { first = behind hand; count = count }) ≡ true
   pub ends : Ends line v c place (record { first = hand.first; count = hand.count + count })
   pub room : hand.count + count ≤ most_in_hand
   pub within_reach : end line (behind hand + count - 1) ≤ group_start line place + farthest
   pub says_it : Says t c place.group (Authority (end line (behind hand + count - 1) - group_start line place)) [] v
-      (change_mission t (λ m. record m { place = place }) (mark_all (within (record { first = behind hand; count = count })) (Given t) v)) said new
+      (change_mission t (λ m. record m { place = place })
+      (mark_all (within (record { first = behind hand; count = count })) (Given t) v)) said new
 
 -- ## Report, end of mission, shortening
 
@@ -125,7 +135,8 @@ is_cleared_of line v t place s = is_given_to t (v.mark s) && is_cleared line pla
 -- the place is set, and cleared sections stop being given
 abbrev pub reported : Line → ℕ → ℕ → Place → LineState → LineState
 reported line t c place v =
-    close_if_empty line t (change_mission t (λ m. record m { place = place }) (release line c t (is_cleared_of line v t place) v))
+    close_if_empty line t (change_mission t (λ m. record m { place = place })
+    (release line c t (is_cleared_of line v t place) v))
 
 -- the words of sections that stop being given and are freed
 abbrev pub release_words : Line → ℕ → (ℕ → Bool) → LineState → List Word
@@ -134,7 +145,8 @@ release_words line c is_released v = told line (λ s. is_released s && is_home l
 -- the train has reached its hand: a section of it begins before the front
 abbrev pub has_reached : Line → LineState → ℕ → Place → Bool
 has_reached line v t place =
-    list_any (λ s. is_given_to t (v.mark s) && nat_lt (10 * start line s) place.front) (range_with_len 0 (section_count line))
+    list_any (λ s. is_given_to t (v.mark s) && nat_lt (10 * start line s) place.front)
+    (range_with_len 0 (section_count line))
 
 -- the sections of the hand ahead of the train: those that begin at the front or past it
 abbrev pub is_ahead_of : Line → LineState → ℕ → Place → ℕ → Bool
@@ -145,7 +157,8 @@ abbrev pub stopped : Line → ℕ → ℕ → Place → LineState → LineState
 stopped line t c place v = if has_reached line v t place then release line c t (is_ahead_of line v t place) v else v
 
 abbrev pub stopping_words : Line → ℕ → ℕ → Place → LineState → List Word
-stopping_words line t c place v = if has_reached line v t place then release_words line c (is_ahead_of line v t place) v else []
+stopping_words line t c place v =
+    if has_reached line v t place then release_words line c (is_ahead_of line v t place) v else []
 
 abbrev pub ended : ℕ → LineState → LineState
 ended t v = change_mission t (λ m. record m { is_ended = true; proposal = None }) v
@@ -161,7 +174,8 @@ without_ask t v = change_mission t (λ m. record m { proposal = None }) v
 abbrev pub shortened : Line → ℕ → ℕ → Option Place → ℕ → LineState → LineState
 shortened line t c None last_kept v = v
 shortened line t c (Some place) last_kept v =
-    if nat_le place.front (10 * end line last_kept) then close_if_empty line t (release line c t (is_cut_of v t last_kept) v) else v
+    if nat_le place.front (10 * end line last_kept)
+    then close_if_empty line t (release line c t (is_cut_of v t last_kept) v) else v
 
 abbrev pub shortening_words : Line → ℕ → ℕ → Option Place → ℕ → LineState → List Word
 shortening_words line t c None last_kept v = []
@@ -179,29 +193,41 @@ last_kept_of v t = option_map_or (λ m. option_map_or (λ p. p.last_kept) m.prop
 -- a report, and at standstill what lies ahead stops being given too; then the mission is ended
 abbrev pub Ending : Line → ℕ → ℕ → Bool → Option Place → LineState → Said → LineState → Type 0
 Ending line t c is_still None v said new = SaysNothing (ended t v) said new
-Ending line t c false (Some place) v said new = Tells (release_words line c (is_cleared_of line v t place) v) (ended t (reported line t c place v)) said new
+Ending line t c false (Some place) v said new =
+    Tells (release_words line c (is_cleared_of line v t place) v) (ended t (reported line t c place v)) said new
 Ending line t c true (Some place) v said new =
     let there = reported line t c place v in
-    Tells (release_words line c (is_cleared_of line v t place) v ++ stopping_words line t c place there) (ended t (stopped line t c place there)) said new
+    Tells (release_words line c (is_cleared_of line v t place) v ++ stopping_words line t c place there)
+    (ended t (stopped line t c place there)) said new
 
 abbrev pub Own : Line → LineState → ℕ → TrainMessage → TrainBody → Said → LineState → Type 0
 Own line v c m InitiationOfSession said new =
-    Says m.nid_engine c unknown_group SystemVersion (told line (is_waiting_at line v m.nid_engine c) v) v (with_phase m.nid_engine c Opened (session_ends line m.nid_engine c v)) said new
+    Says m.nid_engine c unknown_group SystemVersion (told line (is_waiting_at line v m.nid_engine c) v) v
+    (with_phase m.nid_engine c Opened (session_ends line m.nid_engine c v)) said new
 Own line v c m TerminationOfSession said new =
-    Says m.nid_engine c unknown_group TerminationAcknowledged (told line (is_waiting_at line v m.nid_engine c) v) v (with_phase m.nid_engine c Closed (session_ends line m.nid_engine c v)) said new
+    Says m.nid_engine c unknown_group TerminationAcknowledged (told line (is_waiting_at line v m.nid_engine c) v) v
+    (with_phase m.nid_engine c Closed (session_ends line m.nid_engine c v)) said new
 Own line v c m SessionEstablished said new = SaysNothing (with_phase m.nid_engine c Up v) said new
-Own line v c m (StartOfMission is_valid position) said new = Starts line m.nid_engine c (fit_place line is_valid position) v said new
+Own line v c m (StartOfMission is_valid position) said new =
+    Starts line m.nid_engine c (fit_place line is_valid position) v said new
 Own line v c m (TrainData position) said new =
-    Says m.nid_engine c unknown_group (DataAcknowledged m.t_train) [] v (change_mission m.nid_engine (λ n. record n { has_data = true }) v) said new
-Own line v c m (Request position) said new = (place : Place) × (place_on line (track_of v m.nid_engine) position ≡ Some place) × Extends line v m.nid_engine c place said new
+    Says m.nid_engine c unknown_group (DataAcknowledged m.t_train) [] v
+    (change_mission m.nid_engine (λ n. record n { has_data = true }) v) said new
+Own line v c m (Request position) said new =
+    (place : Place) × (place_on line (track_of v m.nid_engine) position ≡ Some place)
+    × Extends line v m.nid_engine c place said new
 Own line v c m (Report position) said new =
     (place : Place) × (place_on line (track_of v m.nid_engine) position ≡ Some place)
-    × Tells (release_words line c (is_cleared_of line v m.nid_engine place) v) (reported line m.nid_engine c place v) said new
+    × Tells (release_words line c (is_cleared_of line v m.nid_engine place) v)
+    (reported line m.nid_engine c place v) said new
 Own line v c m (ShorteningGranted stamp position) said new =
-    Tells (shortening_words line m.nid_engine c (place_on line (track_of v m.nid_engine) position) (last_kept_of v m.nid_engine) v)
-    (shortened line m.nid_engine c (place_on line (track_of v m.nid_engine) position) (last_kept_of v m.nid_engine) (without_ask m.nid_engine v)) said new
+    Tells (shortening_words line m.nid_engine c (place_on line (track_of v m.nid_engine) position)
+    (last_kept_of v m.nid_engine) v)
+    (shortened line m.nid_engine c (place_on line (track_of v m.nid_engine) position) (last_kept_of v m.nid_engine)
+    (without_ask m.nid_engine v)) said new
 Own line v c m (ShorteningRejected stamp position) said new = SaysNothing (without_ask m.nid_engine v) said new
-Own line v c m (EndOfMission position) said new = Ending line m.nid_engine c (position.v_train == 0) (place_on line (track_of v m.nid_engine) position) v said new
+Own line v c m (EndOfMission position) said new =
+    Ending line m.nid_engine c (position.v_train == 0) (place_on line (track_of v m.nid_engine) position) v said new
 
 -- ## Set and unset
 
@@ -225,5 +251,6 @@ Sets line v c s said new =
 abbrev pub Unsets : Line → LineState → ℕ → ℕ → Said → LineState → Type 0
 Unsets line v c s said new =
     MatchBool (is_home line c s)
-    (MatchBool (is_unused_mark (v.mark s)) (Tells (Done s ∷ []) (set_mark s Shut v) said new) (Tells (Asked s ∷ []) (wished_back s true v) said new))
+    (MatchBool (is_unused_mark (v.mark s)) (Tells (Done s ∷ []) (set_mark s Shut v) said new)
+    (Tells (Asked s ∷ []) (wished_back s true v) said new))
     (Tells (NotHome s ∷ []) v said new)

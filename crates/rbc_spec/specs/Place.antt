@@ -7,8 +7,8 @@ use Rattle.rbc_spec.specs.Line.{Line, Section, section, section_of_group, start,
 use Rattle.rbc_spec.specs.Sections.{is_on, run_where, track_end}
 
 -- what a centre reads of a position packet (7.4): Q_SCALE as a factor on decimetres (1, 10 or 100), NID_LRBG, D_LRBG,
--- whether Q_DIRLRBG and Q_DLRBG are both nominal, the doubts, L_TRAININT where integrity is confirmed (Q_LENGTH 1 or 2),
--- V_TRAIN, and whether M_LEVEL is level 2
+-- whether Q_DIRLRBG and Q_DLRBG are both nominal, the doubts, L_TRAININT where integrity is confirmed (Q_LENGTH 1 or
+-- 2), V_TRAIN, and whether M_LEVEL is level 2
 pub record Position : Type 0 where
   pub scale : ℕ
   pub nid_lrbg : ℕ
@@ -38,7 +38,8 @@ is_known distance = nat_lt distance unknown_distance
 
 -- a report places its train where it runs in level 2 in the line's direction and each distance is known
 abbrev pub has_place : Position → Bool
-has_place p = ((p.is_nominal && p.is_level_2) && is_known p.d_lrbg) && (is_known p.l_doubtover && is_known p.l_doubtunder)
+has_place p =
+    ((p.is_nominal && p.is_level_2) && is_known p.d_lrbg) && (is_known p.l_doubtover && is_known p.l_doubtunder)
 
 -- the estimated front end, in decimetres, behind a group at the start of section s
 abbrev pub estimated_front : Line → ℕ → Position → ℕ
@@ -57,7 +58,8 @@ place_behind line s q p = record {
 unfoldable pub extent : Line → Position → Option Place
 extent line p =
     if has_place p
-    then option_and_then (λ s. option_map (λ q. place_behind line s q p) (section line s)) (section_of_group line p.nid_lrbg)
+    then option_and_then (λ s. option_map (λ q. place_behind line s q p) (section line s))
+    (section_of_group line p.nid_lrbg)
     else None
 
 -- ## What a place tells
@@ -78,7 +80,8 @@ covered line place = run_where line (covers line place)
 
 -- the section has the safe front end in it, or at its end
 abbrev pub has_front : Line → Place → ℕ → Bool
-has_front line place s = (is_on line place.track s && nat_lt (10 * start line s) place.front) && nat_le place.front (10 * end line s)
+has_front line place s =
+    (is_on line place.track s && nat_lt (10 * start line s) place.front) && nat_le place.front (10 * end line s)
 
 -- the section ends at or before the safe rear end: the train has cleared it
 abbrev pub is_cleared : Line → Place → ℕ → Bool
@@ -96,7 +99,8 @@ farthest = 32767
 abbrev pub has_room : Line → Place → ℕ → Bool
 has_room line place metres = nat_le metres (group_start line place + farthest)
 
--- a place of a start of mission: rear and front lie on the track, in this order, and it covers no more sections than a hand has
+-- a place of a start of mission: rear and front lie on the track, in this order, and it covers no more sections than a
+-- hand has
 abbrev pub is_fit : Line → Place → Bool
 is_fit line place =
     has (λ rear. int_le (pos 0) rear && int_lt rear (pos place.front)) place.rear

@@ -1,4 +1,5 @@
--- What the centres of a line promise, of a world and of one event: each is proved, and needs no state of the one line centre to be read.
+-- What the centres of a line promise, of a world and of one event: each is proved, and needs no state of the one line
+-- centre to be read.
 use Rattle.std.specs.Prelude.{◌≡◌, ◌⊎◌, ◌≤◌, ◌<◌, ◌*◌, ◌+◌, ◌==◌, ℕ, List, [], ◌∷◌, ◌++◌, length, map, Bool, true, false, Some, None, is_some, Ok, if◌then◌else◌}
 use Rattle.std.specs.List.{Contains, flat_map, count_by}
 use Rattle.std.specs.Option.{option_map_or}
@@ -22,10 +23,17 @@ is_given line w t s = has (λ h. within h.hand s) (held line w t)
 
 -- whatever state stands for the world
 pub record IsSafe (line : Line) (w : World) : Type 0 where
-  pub one_supervisor : (t c d : ℕ) (m n : centre.Mission) → (w.at c).mission t ≡ Some m → (w.at d).mission t ≡ Some n → c ≡ d  -- at most one centre supervises a train
-  pub none_meanwhile : (t c : ℕ) (m : centre.Mission) (f : Frame) → (w.at c).mission t ≡ Some m → Contains (frames_on_way line w) f → handed_over t f.body ≡ None  -- none does while a Yield of the train is on the way
-  pub one_train : (t u s : ℕ) → is_given line w t s ≡ true → is_given line w u s ≡ true → t ≡ u  -- a section is in the hand of at most one train
-  pub in_use : (t s c : ℕ) → is_home line c s ≡ true → is_given line w t s ≡ true → centre.is_used_for t ((w.at c).book s) ≡ true  -- and then taken or out for that train at its home
+  -- at most one centre supervises a train
+  pub one_supervisor : (t c d : ℕ) (m n : centre.Mission) → (w.at c).mission t ≡ Some m → (w.at d).mission t ≡ Some n
+      → c ≡ d
+  -- none does while a Yield of the train is on the way
+  pub none_meanwhile : (t c : ℕ) (m : centre.Mission) (f : Frame) → (w.at c).mission t ≡ Some m
+      → Contains (frames_on_way line w) f → handed_over t f.body ≡ None
+  -- a section is in the hand of at most one train
+  pub one_train : (t u s : ℕ) → is_given line w t s ≡ true → is_given line w u s ≡ true → t ≡ u
+  -- and then taken or out for that train at its home
+  pub in_use : (t s c : ℕ) → is_home line c s ≡ true → is_given line w t s ≡ true
+      → centre.is_used_for t ((w.at c).book s) ≡ true
 
 -- ## One place
 
@@ -67,39 +75,54 @@ carries_right t body = false
 
 -- each thing that may be in one place alone is in one
 pub record HasOnePlace (line : Line) (w : World) : Type 0 where
-  pub sections : (s c : ℕ) → is_home line c s ≡ true → holders line w s ≡ user ((w.at c).book s)  -- a section in use is in one place, for the train that its home names; another is in none
+  -- a section in use is in one place, for the train that its home names; another is in none
+  pub sections : (s c : ℕ) → is_home line c s ≡ true → holders line w s ≡ user ((w.at c).book s)
   pub rights : (t r : ℕ) → registrar line t ≡ Some r
-      → count_by (λ c. (w.at c).has_right t) (centres_of line) + count_by (λ c. is_some ((w.at c).mission t)) (centres_of line)
-      + count_by (λ f. carries_right t f.body) (frames_on_way line w) ≡ 1  -- the right of a train of the line is at one centre, or in one mission, or in one frame
-  pub missions : (t : ℕ) → length (all_held line w t) ≤ 1  -- a train has one mission at most: a centre's, or one that a frame hands over
+      → count_by (λ c. (w.at c).has_right t) (centres_of line)
+      + count_by (λ c. is_some ((w.at c).mission t)) (centres_of line)
+      -- the right of a train of the line is at one centre, or in one mission, or in one frame
+      + count_by (λ f. carries_right t f.body) (frames_on_way line w) ≡ 1
+  -- a train has one mission at most: a centre's, or one that a frame hands over
+  pub missions : (t : ℕ) → length (all_held line w t) ≤ 1
 
 -- what holds of every world that a list of events leads to
 pub record IsSound (line : Line) (w : World) : Type 0 where
-  pub stands : StandsFor line w (read_off line w)  -- some state of the one line centre stands for it, and that is the state that is read off
+  -- some state of the one line centre stands for it, and that is the state that is read off
+  pub stands : StandsFor line w (read_off line w)
   pub safe : IsSafe line w  -- so each train has one supervisor at most, and each section one train
   pub one_place : HasOnePlace line w  -- no section in use and no right is lost or in two places
 
 -- ## One event
 
--- the event may free a section of train t: a message of the train is heard at its supervisor, and its report or end of mission clears the
--- section, or it grants the request that stands to keep no section so far, and has not run past what it keeps, or it ends its mission at
--- standstill, where it has reached its hand, and the section begins at its front or past it
+-- the event may free a section of train t: a message of the train is heard at its supervisor, and its report or end of
+-- mission clears the section, or it grants the request that stands to keep no section so far, and has not run past what
+-- it keeps, or it ends its mission at standstill, where it has reached its hand, and the section begins at its front or
+-- past it
 pub data MayFree (line : Line) (w : World) (t s : ℕ) : Event → Type 0 where
   cleared : (c : ℕ) (m : TrainMessage) (position : Position) (n : centre.Mission) (place : Place)
-      → m.nid_engine ≡ t → step.silence line c (w.at c) m ≡ None → (w.at c).mission t ≡ Some n → (m.body ≡ Report position) ⊎ (m.body ≡ EndOfMission position)
-      → place_on line n.place.track position ≡ Some place → is_cleared line place s ≡ true → MayFree line w t s (Bytes c (Ok m))
-  shortened : (c : ℕ) (m : TrainMessage) (position : Position) (n : centre.Mission) (p : centre.Proposal) (place : Place)
+      → m.nid_engine ≡ t → step.silence line c (w.at c) m ≡ None → (w.at c).mission t ≡ Some n
+      → (m.body ≡ Report position) ⊎ (m.body ≡ EndOfMission position)
+      → place_on line n.place.track position ≡ Some place → is_cleared line place s ≡ true
+      → MayFree line w t s (Bytes c (Ok m))
+  shortened : (c : ℕ) (m : TrainMessage) (position : Position) (n : centre.Mission) (p : centre.Proposal)
+      (place : Place)
       → m.nid_engine ≡ t → step.silence line c (w.at c) m ≡ None → (w.at c).mission t ≡ Some n → n.proposal ≡ Some p
       → m.body ≡ ShorteningGranted p.stamp position → place_on line n.place.track position ≡ Some place
       → place.front ≤ 10 * end line p.last_kept → p.last_kept < s → MayFree line w t s (Bytes c (Ok m))
   stopped : (c : ℕ) (m : TrainMessage) (position : Position) (n : centre.Mission) (place : Place) (r : ℕ)
-      → m.nid_engine ≡ t → step.silence line c (w.at c) m ≡ None → (w.at c).mission t ≡ Some n → m.body ≡ EndOfMission position → position.v_train ≡ 0
-      → place_on line n.place.track position ≡ Some place → is_given line w t r ≡ true → 10 * start line r < place.front → place.front ≤ 10 * start line s
+      → m.nid_engine ≡ t → step.silence line c (w.at c) m ≡ None → (w.at c).mission t ≡ Some n
+      → m.body ≡ EndOfMission position → position.v_train ≡ 0
+      → place_on line n.place.track position ≡ Some place → is_given line w t r ≡ true → 10 * start line r < place.front
+      → place.front ≤ 10 * start line s
       → MayFree line w t s (Bytes c (Ok m))
 
 -- what an event did to sections in hands, and what it told the interlocking
 pub record KeepsPromises (line : Line) (w : World) (event : Event) (answer : Answer) (new : World) : Type 0 where
-  pub freed : (t s : ℕ) → is_given line w t s ≡ true → is_given line new t s ≡ false → MayFree line w t s event  -- a section leaves a train's hand only by what the train said
+  -- a section leaves a train's hand only by what the train said
+  pub freed : (t s : ℕ) → is_given line w t s ≡ true → is_given line new t s ≡ false → MayFree line w t s event
   pub told : (o : Outcome) (s c : ℕ) → answer ≡ Answered o → is_home line c s ≡ true → Contains o.words (Told s)
-      → ((new.at c).book s ≡ centre.Shut) × ((new.at c).wish s ≡ false)  -- a section that is told back is shut, and not wished back any more
-  pub done : (o : Outcome) (s c : ℕ) → answer ≡ Answered o → event ≡ Unset c s → Contains o.words (Done s) → (new.at c).book s ≡ centre.Shut  -- a section that is taken back at once is shut
+      -- a section that is told back is shut, and not wished back any more
+      → ((new.at c).book s ≡ centre.Shut) × ((new.at c).wish s ≡ false)
+  -- a section that is taken back at once is shut
+  pub done : (o : Outcome) (s c : ℕ) → answer ≡ Answered o → event ≡ Unset c s → Contains o.words (Done s)
+      → (new.at c).book s ≡ centre.Shut

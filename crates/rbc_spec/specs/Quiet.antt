@@ -42,7 +42,8 @@ pub record Admits (line : Line) (v : LineState) (t c : ℕ) (said : Said) (new :
   pub place : Place
   pub waits : v.wait t c ≡ Some place
   pub no_mission : v.mission t ≡ None
-  pub says : Says t c unknown_group TrainAccepted [] v (record (begins line t c place v) { wait = put_pair v.wait t c None }) said new
+  pub says : Says t c unknown_group TrainAccepted [] v
+      (record (begins line t c place v) { wait = put_pair v.wait t c None }) said new
 
 -- a start that waits ends, and its sections are freed
 pub record Dismisses (line : Line) (v : LineState) (t c : ℕ) (said : Said) (new : LineState) : Type 0 where
@@ -58,7 +59,8 @@ pub record LaysDown (v : LineState) (t c : ℕ) (said : Said) (new : LineState) 
   pub of_train : v.mission t ≡ Some mission
   pub supervises : mission.supervisor ≡ At c
   pub heard : v.heard t c ≡ Some stamp
-  pub leaves : SaysNothing (set_mission t (Some (record mission { supervisor = Parted stamp; proposal = None })) v) said new
+  pub leaves : SaysNothing
+      (set_mission t (Some (record mission { supervisor = Parted stamp; proposal = None })) v) said new
 
 -- a mission that nobody supervises is taken up, with the later of both stamps
 pub record TakesUp (v : LineState) (t c : ℕ) (said : Said) (new : LineState) : Type 0 where
@@ -67,9 +69,13 @@ pub record TakesUp (v : LineState) (t c : ℕ) (said : Said) (new : LineState) :
   pub of_train : v.mission t ≡ Some mission
   pub parted : mission.supervisor ≡ Parted stamp
   pub leaves : SaysNothing
-      (record (set_mission t (Some (record mission { supervisor = At c })) v) { heard = put_pair v.heard t c (Some (option_map_or (max stamp) (v.heard t c) stamp)) }) said new
+      (record (set_mission t (Some (record mission { supervisor = At c })) v) {
+        heard = put_pair v.heard t c
+            (Some (option_map_or (max stamp) (v.heard t c) stamp));
+      }) said new
 
--- message 9 for a section of the hand (3.8.6), where a request to shorten may be made. The section need not be wished back
+-- message 9 for a section of the hand (3.8.6), where a request to shorten may be made. The section need not be wished
+-- back
 pub record Proposes (line : Line) (v : LineState) (t c s : ℕ) (said : Said) (new : LineState) : Type 0 where
   pub mission : LineMission
   pub hand : SectionRun
@@ -84,10 +90,13 @@ pub record Proposes (line : Line) (v : LineState) (t c s : ℕ) (said : Said) (n
   pub not_past : mission.place.front ≤ 10 * start line s
   pub within_reach : start line s ≤ group_start line mission.place + farthest
   pub says : Says t c mission.place.group (ShorteningRequest (start line s - group_start line mission.place)) [] v
-      (change_mission t (λ m. record m { proposal = Some (record { stamp = v.said t c + 1; last_kept = s - 1 }) }) v) said new
+      (change_mission t (λ m. record m {
+        proposal = Some
+            (record { stamp = v.said t c + 1; last_kept = s - 1 });
+      }) v) said new
 
--- message 24 with packet 131 (3.15.1): the next centre of the track, and where its first section in the hand begins, which is not behind
--- the group and has room in D_RBCTR
+-- message 24 with packet 131 (3.15.1): the next centre of the track, and where its first section in the hand begins,
+-- which is not behind the group and has room in D_RBCTR
 pub record Orders (line : Line) (v : LineState) (t c : ℕ) (said : Said) (new : LineState) : Type 0 where
   pub mission : LineMission
   pub next : ℕ
@@ -96,10 +105,12 @@ pub record Orders (line : Line) (v : LineState) (t c : ℕ) (said : Said) (new :
   pub supervises : mission.supervisor ≡ At c
   pub is_up : v.phase t c ≡ Up
   pub next_is : next_centre line c mission.place.track ≡ Some next
-  pub at_border : find (λ s. is_given_to t (v.mark s) && is_home line next s) (range_with_len 0 (section_count line)) ≡ Some border
+  pub at_border : find (λ s. is_given_to t (v.mark s) && is_home line next s) (range_with_len 0 (section_count line))
+      ≡ Some border
   pub ahead : group_start line mission.place ≤ start line border
   pub within_reach : start line border ≤ group_start line mission.place + farthest
-  pub says : Says t c mission.place.group (Transition (start line border - group_start line mission.place) line.nid_c (nid_rbc line next)) [] v v said new
+  pub says : Says t c mission.place.group
+      (Transition (start line border - group_start line mission.place) line.nid_c (nid_rbc line next)) [] v v said new
 
 -- message 24 with packet 42: the train is not supervised here and has no section of home c
 pub record EndsSession (line : Line) (v : LineState) (t c : ℕ) (said : Said) (new : LineState) : Type 0 where
@@ -139,4 +150,5 @@ both a b = record { sayings = a.sayings ++ b.sayings; words = a.words ++ b.words
 abbrev pub TakesAll : Line → LineState → List Quiet → Said → LineState → Type 0
 TakesAll line v [] said new = (said ≡ nothing) × (new ≡ v)
 TakesAll line v (q ∷ qs) said new =
-    (first : Said) × (others : Said) × (mid : LineState) × TakesQuiet line v q first mid × TakesAll line mid qs others new × (said ≡ both first others)
+    (first : Said) × (others : Said) × (mid : LineState) × TakesQuiet line v q first mid
+    × TakesAll line mid qs others new × (said ≡ both first others)

@@ -20,7 +20,8 @@ pub record Held : Type 0 where
 
 -- a mission that a centre has, as the line sees it
 abbrev pub seen : ℕ → centre.Mission → LineMission
-seen c m = record { place = m.place; has_data = m.has_data; is_ended = m.is_ended; proposal = m.proposal; supervisor = At c }
+seen c m =
+    record { place = m.place; has_data = m.has_data; is_ended = m.is_ended; proposal = m.proposal; supervisor = At c }
 
 abbrev pub held_at : World → ℕ → ℕ → Option Held
 held_at w t c = option_map (λ m. record { mission = seen c m; hand = m.hand }) ((w.at c).mission t)
@@ -29,7 +30,16 @@ held_at w t c = option_map (λ m. record { mission = seen c m; hand = m.hand }) 
 abbrev pub handed_over : ℕ → Body → Option Held
 handed_over t (Yield number u heard has_data is_ended place hand) =
     if u == t
-    then option_map (λ at. record { mission = record { place = at; has_data = has_data; is_ended = is_ended; proposal = None; supervisor = Parted heard }; hand = hand }) (carried_place place)
+    then option_map (λ at. record {
+      mission = record {
+        place = at;
+        has_data = has_data;
+        is_ended = is_ended;
+        proposal = None;
+        supervisor = Parted heard;
+      };
+      hand = hand;
+    }) (carried_place place)
     else None
 handed_over t body = None
 
@@ -43,7 +53,8 @@ frames_on_way line w = flat_map (λ a. flat_map (λ b. way w a b) (centres_of li
 
 -- what the centres have, and the frames on the way: at most one mission of a train
 abbrev pub all_held : Line → World → ℕ → List Held
-all_held line w t = filter_map (held_at w t) (centres_of line) ++ filter_map (λ f. handed_over t f.body) (frames_on_way line w)
+all_held line w t =
+    filter_map (held_at w t) (centres_of line) ++ filter_map (λ f. handed_over t f.body) (frames_on_way line w)
 
 abbrev pub held : Line → World → ℕ → Option Held
 held line w t = slice_get (all_held line w t) 0
@@ -62,8 +73,8 @@ mark_of None (centre.Out t) = Kept t
 
 -- ## The read-off
 
--- No V stands for a world that has a section in two hands, two missions of one train, or one elsewhere than at the line's centres. A hand is all that is
--- given to its train
+-- No V stands for a world that has a section in two hands, two missions of one train, or one elsewhere than at the
+-- line's centres. A hand is all that is given to its train
 pub record StandsFor (line : Line) (w : World) (v : LineState) : Type 0 where
   pub phase : (t c : ℕ) → v.phase t c ≡ (w.at c).phase t
   pub heard : (t c : ℕ) → v.heard t c ≡ (w.at c).heard t
@@ -71,7 +82,8 @@ pub record StandsFor (line : Line) (w : World) (v : LineState) : Type 0 where
   pub wait : (t c : ℕ) → v.wait t c ≡ (w.at c).wait t
   pub wish : (s c : ℕ) → is_home line c s ≡ true → v.wish s ≡ (w.at c).wish s
   pub mark : (s c : ℕ) → is_home line c s ≡ true → v.mark s ≡ mark_of (holder line w s) ((w.at c).book s)
-  pub in_use : (s c t : ℕ) → is_home line c s ≡ true → holder line w s ≡ Some t → centre.is_used_for t ((w.at c).book s) ≡ true
+  pub in_use : (s c t : ℕ) → is_home line c s ≡ true → holder line w s ≡ Some t
+      → centre.is_used_for t ((w.at c).book s) ≡ true
   pub mission : (t : ℕ) → v.mission t ≡ option_map (λ h. h.mission) (held line w t)
   pub none_else : (t c : ℕ) → is_centre line c ≡ false → (w.at c).mission t ≡ None
   pub one_seat : (t : ℕ) → length (all_held line w t) ≤ 1
@@ -91,8 +103,8 @@ read_off line w = record {
 
 -- ## The main theorem
 
--- of a whole list of events and the answers to it: they are a run of the one line centre from its beginning, and the world that they
--- leave is what the run's last state stands for
+-- of a whole list of events and the answers to it: they are a run of the one line centre from its beginning, and the
+-- world that they leave is what the run's last state stands for
 pub record IsLineRun (line : Line) (events : List Event) (answers : List Answer) (w : World) : Type 0 where
   pub last : LineState
   pub is_run : run.Run line line_beginning events answers last

@@ -47,7 +47,8 @@ reject t = say t unknown_group TrainRejected
 abbrev pub restart : Line → ℕ → Place → Mission → Act
 restart line t place m =
     if all_of (within m.hand) (covered line place)
-    then (change_mission t (λ n. record n { place = place; has_data = false; is_ended = false; proposal = None }) >> accept t)
+    then (change_mission t (λ n. record n { place = place; has_data = false; is_ended = false; proposal = None })
+    >> accept t)
     else reject t
 
 -- the mission begins with the sections of the place, which are in use for the train
@@ -58,7 +59,8 @@ begin line t place = set_mission t (Some (begun line place)) >> accept t
 abbrev pub start_here : Line → ℕ → Place → Act
 start_here line t place =
     choose (λ k. k.has_right t)
-    ((booked is_open (Taken t) (covered line place) >> become (λ k. record k { has_right = put k.has_right t false })) >> begin line t place)
+    ((booked is_open (Taken t) (covered line place) >> become (λ k. record k { has_right = put k.has_right t false }))
+    >> begin line t place)
     (reject t)
 
 -- a start elsewhere waits for the right, for which the registrar is asked
@@ -66,7 +68,8 @@ abbrev pub start_waiting : Line → ℕ → Place → Act
 start_waiting line t place =
     (booked is_open (Taken t) (covered line place) >> become (λ k. record k { wait = put k.wait t (Some place) }))
     >> where_so (λ k. not (k.has_asked t))
-    (option_map_or (λ r. send r (AskRight t)) (registrar line t) rest >> become (λ k. record k { has_asked = put k.has_asked t true }))
+    (option_map_or (λ r. send r (AskRight t)) (registrar line t) rest
+    >> become (λ k. record k { has_asked = put k.has_asked t true }))
 
 abbrev pub start_new : Line → ℕ → ℕ → Place → Act
 start_new line c t place =
@@ -87,28 +90,37 @@ start_mission line c t is_valid position k =
 abbrev pub authority : Line → Mission → ℕ
 authority line m = end line (behind m.hand - 1) - group_start line m.place
 
--- the section may follow in the hand: on the track, released here or next in the pool, and its end has room in L_ENDSECTION
+-- the section may follow in the hand: on the track, released here or next in the pool, and its end has room in
+-- L_ENDSECTION
 abbrev pub may_follow : Line → ℕ → Centre → Mission → ℕ → Bool
 may_follow line c k m s =
     (is_on line m.place.track s && (is_free line c k s || within m.pool s)) && has_room line m.place (end line s)
 
 -- the sections by which the hand is extended: as many as may follow, and as the hand has room for
 abbrev pub extension : Line → ℕ → Centre → Mission → SectionRun
-extension line c k m = record { first = behind m.hand; count = longest (may_follow line c k m) (behind m.hand) (most_in_hand - m.hand.count) }
+extension line c k m =
+    record {
+      first = behind m.hand;
+      count = longest (may_follow line c k m) (behind m.hand) (most_in_hand - m.hand.count);
+    }
 
 -- the mission with a longer hand, and what is left of its pool
 abbrev pub extended_by : SectionRun → Mission → Mission
-extended_by r m = record m { hand = joined m.hand r; pool = if is_empty m.pool then m.pool else part_from (behind r) m.pool }
+extended_by r m =
+    record m { hand = joined m.hand r; pool = if is_empty m.pool then m.pool else part_from (behind r) m.pool }
 
 -- a handover to centre d is announced where none stands and the hand has a section of home d
 abbrev pub announce_if_due : Line → ℕ → ℕ → Act
 announce_if_due line t d = with_mission t (λ m.
-    where_so (λ k. is_none m.handing && not (is_empty (part_at line d m.place.track m.hand))) (announce line t m.place.group d m))
+    where_so (λ k. is_none m.handing && not (is_empty (part_at line d m.place.track m.hand)))
+    (announce line t m.place.group d m))
 
--- more sections are asked for where the next behind the hand is on the track and of home d, the hand has room, the pool is empty, and no ask stands
+-- more sections are asked for where the next behind the hand is on the track and of home d, the hand has room, the pool
+-- is empty, and no ask stands
 abbrev pub ask_route_if_due : Line → ℕ → ℕ → Act
 ask_route_if_due line t d = with_mission t (λ m. where_so
-    (λ k. ((is_home line d (behind m.hand) && is_on line m.place.track (behind m.hand)) && nat_lt m.hand.count most_in_hand) && (is_empty m.pool && is_none (k.route_ask t)))
+    (λ k. ((is_home line d (behind m.hand) && is_on line m.place.track (behind m.hand))
+    && nat_lt m.hand.count most_in_hand) && (is_empty m.pool && is_none (k.route_ask t)))
     (ask_route t d m))
 
 -- what follows an extension at the border to centre d
@@ -138,7 +150,8 @@ clear line c t m place =
     let r = cleared line place m in
     if r.count == m.hand.count
     then (leave line c t m.place.track (joined m.hand m.pool) >> close line c t m)
-    else (leave line c t m.place.track r >> set_mission t (Some (record m { place = place; hand = part_from (behind r) m.hand })))
+    else (leave line c t m.place.track r
+    >> set_mission t (Some (record m { place = place; hand = part_from (behind r) m.hand })))
 
 abbrev pub report_here : Line → ℕ → ℕ → Position → Mission → Act
 report_here line c t position m = option_map_or (clear line c t m) (place_on line m.place.track position) rest
@@ -151,7 +164,10 @@ abbrev pub take_over : Line → ℕ → Act
 take_over line t k =
     let is_new : ℕ → Bool = λ d. is_centre line d && has (λ e. not e.is_taking) (k.expects d t) in
     record {
-      state = record k { expects = λ d. if is_new d then put (k.expects d) t (option_map taking (k.expects d t)) else k.expects d };
+      state = record k {
+        expects = λ d. if is_new d then put (k.expects d) t (option_map taking (k.expects d t))
+            else k.expects d;
+      };
       frames = λ d. option_map_or (λ e. if is_new d then TakingOver e.number t ∷ [] else []) (k.expects d t) [];
       sayings = [];
       words = [];
@@ -171,7 +187,8 @@ cut line c t last_kept m =
     leave line c t m.place.track (joined tail m.pool)
     >> (if tail.count == m.hand.count then close line c t m
     else (set_mission t (Some kept)
-    >> option_map_or (λ h. if is_empty (part_at line h.to m.place.track kept.hand) then cancel t kept else rest) m.handing rest))
+    >> option_map_or (λ h. if is_empty (part_at line h.to m.place.track kept.hand) then cancel t kept
+    else rest) m.handing rest))
 
 -- the train has granted the shortening: the hand is cut, if the train has not run past the proposed end
 abbrev pub granted : Line → ℕ → ℕ → Position → Mission → Proposal → Act
@@ -199,19 +216,22 @@ cut_ahead line c t m place =
 -- a train that ends its mission at standstill will not run into what lies ahead
 abbrev pub stand_still : Line → ℕ → ℕ → Position → Mission → Act
 stand_still line c t position m =
-    if position.v_train == 0 then option_map_or (cut_ahead line c t m) (place_on line m.place.track position) rest else rest
+    if position.v_train == 0 then option_map_or (cut_ahead line c t m) (place_on line m.place.track position) rest
+    else rest
 
 abbrev pub end_mission : Line → ℕ → ℕ → Position → Act
 end_mission line c t position =
     (with_mission t (report_here line c t position)
     >> with_mission t (stand_still line c t position))
-    >> with_mission t (λ m. return_pool line c t m >> change_mission t (λ n. record n { is_ended = true; proposal = None }))
+    >> with_mission t (λ m. return_pool line c t m
+    >> change_mission t (λ n. record n { is_ended = true; proposal = None }))
 
 -- ## A train's message
 
 abbrev pub answered : Line → ℕ → TrainMessage → TrainBody → Act
 answered line c m (TrainData position) =
-    change_mission m.nid_engine (λ n. record n { has_data = true }) >> say m.nid_engine unknown_group (DataAcknowledged m.t_train)
+    change_mission m.nid_engine (λ n. record n { has_data = true })
+    >> say m.nid_engine unknown_group (DataAcknowledged m.t_train)
 answered line c m (Request position) = request line c m.nid_engine position
 answered line c m (Report position) = report line c m.nid_engine position
 answered line c m (ShorteningGranted stamp position) = answer_granted line c m.nid_engine position
@@ -219,6 +239,7 @@ answered line c m (ShorteningRejected stamp position) = change_mission m.nid_eng
 answered line c m (EndOfMission position) = end_mission line c m.nid_engine position
 answered line c m InitiationOfSession =
     (close_session line c m.nid_engine >> set_phase m.nid_engine Opened) >> say m.nid_engine unknown_group SystemVersion
-answered line c m TerminationOfSession = close_session line c m.nid_engine >> say m.nid_engine unknown_group TerminationAcknowledged
+answered line c m TerminationOfSession =
+    close_session line c m.nid_engine >> say m.nid_engine unknown_group TerminationAcknowledged
 answered line c m (StartOfMission is_valid position) = start_mission line c m.nid_engine is_valid position
 answered line c m SessionEstablished = set_phase m.nid_engine Up

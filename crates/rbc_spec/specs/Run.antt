@@ -23,34 +23,40 @@ has_here v c t test = has (λ m. is_at c m.supervisor && test m) (v.mission t)
 -- the front of the report's place is in a section of home c
 abbrev pub has_front_at : Line → ℕ → Position → Bool
 has_front_at line c position =
-    has (λ place. list_any (λ s. is_home line c s && has_front line place s) (range_with_len 0 (section_count line))) (extent line position)
+    has (λ place. list_any (λ s. is_home line c s && has_front line place s) (range_with_len 0 (section_count line)))
+    (extent line position)
 
 -- the last section of a train's hand, or none
 abbrev pub last_of_hand : Line → LineState → ℕ → Option ℕ
-last_of_hand line v t = find (λ s. is_given_to t (v.mark s) && not (is_given_to t (v.mark (s + 1)))) (range_with_len 0 (section_count line))
+last_of_hand line v t =
+    find (λ s. is_given_to t (v.mark s) && not (is_given_to t (v.mark (s + 1)))) (range_with_len 0 (section_count line))
 
 -- the report has a place on the mission's track, not past the hand's end, which has room in L_ENDSECTION
 abbrev pub may_request_at : Line → LineState → ℕ → LineMission → Position → Bool
 may_request_at line v t m position = option_map_or
-    (λ place. has (λ s. nat_le place.front (10 * end line s) && has_room line place (end line s)) (last_of_hand line v t))
+    (λ place. has (λ s. nat_le place.front (10 * end line s) && has_room line place (end line s))
+    (last_of_hand line v t))
     (place_on line m.place.track position) false
 
 -- the answer names the request that stands
 abbrev pub answers_it : ℕ → LineMission → Bool
 answers_it stamp m = has (λ p. p.stamp == stamp) m.proposal
 
--- the reason holds of a message at centre c. A report elsewhere may have it that the train is not supervised here, and has it
--- where its front is in no section of home c (Silenced)
+-- the reason holds of a message at centre c. A report elsewhere may have it that the train is not supervised here, and
+-- has it where its front is in no section of home c (Silenced)
 abbrev pub holds : Line → LineState → ℕ → TrainMessage → TrainBody → Reason → Bool
 holds line v c m body StaleStamp = is_stale m.t_train (v.heard m.nid_engine c)
 holds line v c m body NoSession = is_closed (v.phase m.nid_engine c)
 holds line v c m body ForeignEngine = is_none (train_number line m.nid_engine)
 holds line v c m SessionEstablished WrongPhase = is_up (v.phase m.nid_engine c)
-holds line v c m (StartOfMission is_valid position) WrongPhase = not (is_up (v.phase m.nid_engine c)) || is_some (v.wait m.nid_engine c)
+holds line v c m (StartOfMission is_valid position) WrongPhase =
+    not (is_up (v.phase m.nid_engine c)) || is_some (v.wait m.nid_engine c)
 holds line v c m body WrongPhase = not (is_up (v.phase m.nid_engine c))
 holds line v c m body NotSupervised = not (has_here v c m.nid_engine (λ n. true))
-holds line v c m (Request position) NoPlace = has_here v c m.nid_engine (λ n. not (may_request_at line v m.nid_engine n position))
-holds line v c m (Report position) NoPlace = has_here v c m.nid_engine (λ n. is_none (place_on line n.place.track position))
+holds line v c m (Request position) NoPlace =
+    has_here v c m.nid_engine (λ n. not (may_request_at line v m.nid_engine n position))
+holds line v c m (Report position) NoPlace =
+    has_here v c m.nid_engine (λ n. is_none (place_on line n.place.track position))
 holds line v c m body NoPlace = false
 holds line v c m body NoTrainData = has_here v c m.nid_engine (λ n. not n.has_data)
 holds line v c m body ProposalPending = has_here v c m.nid_engine (λ n. is_some n.proposal)
@@ -62,8 +68,8 @@ holds line v c m body MissionEnded = has_here v c m.nid_engine (λ n. n.is_ended
 abbrev pub silence : Line → LineState → ℕ → TrainMessage → Option Reason
 silence line v c m = find (holds line v c m m.body) (reasons_of m.body)
 
--- a report that would be silent for this may be heard all the same: where its front is in a section of home c, the line centre
--- may listen to a train that it does not supervise there
+-- a report that would be silent for this may be heard all the same: where its front is in a section of home c, the line
+-- centre may listen to a train that it does not supervise there
 abbrev pub may_listen : Line → ℕ → TrainBody → Option Reason → Bool
 may_listen line c (Report position) (Some NotSupervised) = has_front_at line c position
 may_listen line c body reason = false
@@ -71,10 +77,14 @@ may_listen line c body reason = false
 -- ## Pieces
 
 -- the own step of a message: silent for its reason, and then nothing changes, or heard
-pub data Steps (line : Line) (v : LineState) (c : ℕ) (m : TrainMessage) (said : Said) (new : LineState) (why : Option Reason) : Type 0 where
-  silent : (reason : Reason) → silence line v c m ≡ Some reason → why ≡ Some reason → said ≡ nothing → new ≡ v → Steps line v c m said new why
-  heard : silence line v c m ≡ None → why ≡ None → Own line (hears c m v) c m m.body said new → Steps line v c m said new why
-  listened : may_listen line c m.body (silence line v c m) ≡ true → why ≡ None → said ≡ nothing → new ≡ hears c m v → Steps line v c m said new why
+pub data Steps (line : Line) (v : LineState) (c : ℕ) (m : TrainMessage) (said : Said) (new : LineState)
+    (why : Option Reason) : Type 0 where
+  silent : (reason : Reason) → silence line v c m ≡ Some reason → why ≡ Some reason → said ≡ nothing → new ≡ v
+      → Steps line v c m said new why
+  heard : silence line v c m ≡ None → why ≡ None → Own line (hears c m v) c m m.body said new
+      → Steps line v c m said new why
+  listened : may_listen line c m.body (silence line v c m) ≡ true → why ≡ None → said ≡ nothing → new ≡ hears c m v
+      → Steps line v c m said new why
 
 -- the own step of an event that has one
 abbrev pub OwnStep : Line → LineState → Event → Said → LineState → Option Reason → Type 0
@@ -86,10 +96,11 @@ OwnStep line v event said new why = ⊥
 
 -- of two sections that are told, the lower is told first
 abbrev pub TellsInOrder : List Word → Type 0
-TellsInOrder words = (i j s e : ℕ) → i < j → slice_get words i ≡ Some (Told s) → slice_get words j ≡ Some (Told e) → s < e
+TellsInOrder words =
+    (i j s e : ℕ) → i < j → slice_get words i ≡ Some (Told s) → slice_get words j ≡ Some (Told e) → s < e
 
--- the piece of an event: its own step, then quiet steps of its centre, none behind a silent message, and what they say in order, sections
--- that are told by their numbers. The piece of a delivery is quiet steps alone
+-- the piece of an event: its own step, then quiet steps of its centre, none behind a silent message, and what they say
+-- in order, sections that are told by their numbers. The piece of a delivery is quiet steps alone
 pub record Piece (line : Line) (v : LineState) (event : Event) (outcome : Outcome) (new : LineState) : Type 0 where
   pub own : Said
   pub mid : LineState
@@ -102,8 +113,8 @@ pub record Piece (line : Line) (v : LineState) (event : Event) (outcome : Outcom
   pub in_order : TellsInOrder outcome.words
   pub says : record { sayings = outcome.sayings; words = outcome.words } ≡ both own later
 
--- From v the one line centre may meet the event with this answer, and go on from new. Bytes that spell no message, a centre not
--- of the line, and a frame never sent change nothing
+-- From v the one line centre may meet the event with this answer, and go on from new. Bytes that spell no message, a
+-- centre not of the line, and a frame never sent change nothing
 abbrev pub Goes : Line → LineState → Event → Answer → LineState → Type 0
 Goes line v event (Answered outcome) new = Piece line v event outcome new
 Goes line v (Bytes c (Err number)) (Fault n) new = (is_centre line c ≡ true) × (n ≡ number) × (new ≡ v)

@@ -30,12 +30,14 @@ mission_has test mission = has test mission
 -- a report elsewhere concerns this centre: the train is expected, and its front is in a section of home c
 abbrev pub is_awaited : Line → ℕ → Centre → ℕ → Position → Bool
 is_awaited line c k t position = is_expected line k t
-    && has (λ place. list_any (λ s. is_home line c s && has_front line place s) (range_with_len 0 (section_count line))) (extent line position)
+    && has (λ place. list_any (λ s. is_home line c s && has_front line place s) (range_with_len 0 (section_count line)))
+    (extent line position)
 
 -- a request has a place on the mission's track, not past the hand's end, which has room in L_ENDSECTION
 abbrev pub may_request : Line → Mission → Position → Bool
 may_request line m position = option_map_or
-    (λ place. nat_le place.front (10 * end line (behind m.hand - 1)) && has_room line place (end line (behind m.hand - 1)))
+    (λ place. nat_le place.front (10 * end line (behind m.hand - 1))
+    && has_room line place (end line (behind m.hand - 1)))
     (place_on line m.place.track position) false
 
 -- the train is not supervised here, and its message does not concern this centre otherwise
@@ -57,8 +59,10 @@ is_out_of_phase k t body = not (is_up (k.phase t))
 
 -- the request that is answered does not stand
 abbrev pub is_unasked : Option Mission → TrainBody → Bool
-is_unasked mission (ShorteningGranted stamp position) = not (mission_has (λ m. has (λ p. p.stamp == stamp) m.proposal) mission)
-is_unasked mission (ShorteningRejected stamp position) = not (mission_has (λ m. has (λ p. p.stamp == stamp) m.proposal) mission)
+is_unasked mission (ShorteningGranted stamp position) =
+    not (mission_has (λ m. has (λ p. p.stamp == stamp) m.proposal) mission)
+is_unasked mission (ShorteningRejected stamp position) =
+    not (mission_has (λ m. has (λ p. p.stamp == stamp) m.proposal) mission)
 is_unasked mission body = false
 
 -- the reason holds of the message
@@ -82,7 +86,13 @@ silence line c k m = find (holds line c k m) (reasons_of m.body)
 -- each other centre is told that a section that is out is wished back: which of them has it is not known here
 abbrev pub withdraw : Line → ℕ → ℕ → ℕ → Act
 withdraw line c t s k =
-    record { state = k; frames = λ d. if is_linked line c d then RouteWithdraw t s ∷ [] else []; sayings = []; words = [] }
+    record {
+      state = k;
+      frames = λ d. if is_linked line c d then RouteWithdraw t s ∷ []
+          else [];
+      sayings = [];
+      words = [];
+    }
 
 -- a section that is in use is wished back: its hand is proposed to be cut, or it is withdrawn from where it is out
 abbrev pub wished : Line → ℕ → ℕ → Entry → Act
@@ -96,7 +106,8 @@ make s entry wish = become (λ k. record k { book = put k.book s entry; wish = p
 abbrev pub set : Line → ℕ → ℕ → Act
 set line c s k =
     if not (is_home line c s) then tell (NotHome s) k
-    else (become (λ j. record j { wish = put j.wish s false }) >> ((if is_unused (k.book s) then make s Open false else rest) >> tell (Done s))) k
+    else (become (λ j. record j { wish = put j.wish s false })
+    >> ((if is_unused (k.book s) then make s Open false else rest) >> tell (Done s))) k
 
 abbrev pub unset : Line → ℕ → ℕ → Act
 unset line c s k =
@@ -138,7 +149,8 @@ effect line c k (Train m) = option_map_or
 effect line c k (Set s) = record { reply = set line c s k; link = None; silence = None }
 effect line c k (Unset s) = record { reply = unset line c s k; link = None; silence = None }
 effect line c k (Deliver d f) =
-    let answer = link_answer line c k d f in record { reply = taken_by line c d f answer k; link = Some answer; silence = None }
+    let answer = link_answer line c k d f
+    in record { reply = taken_by line c d f answer k; link = Some answer; silence = None }
 
 -- the stamp of a step is one above the last, and above that of the frame that it is handed
 abbrev pub stamp_of : Centre → Event → ℕ
@@ -150,7 +162,8 @@ last_stamp = 1073741823
 
 -- a link has fewer than four of its 65 536 numbers left
 abbrev pub has_full_link : Line → ℕ → Centre → Bool
-has_full_link line c k = list_any (λ d. is_linked line c d && nat_lt 65532 (length (k.sent d))) (range_with_len 0 (length line.centres))
+has_full_link line c k =
+    list_any (λ d. is_linked line c d && nat_lt 65532 (length (k.sent d))) (range_with_len 0 (length line.centres))
 
 -- why a step is refused: its stamp would pass the last one, or a link is full
 pub data Refusal : Type 0 where
@@ -159,12 +172,14 @@ pub data Refusal : Type 0 where
 
 abbrev pub refusal : Line → ℕ → Centre → Event → Option Refusal
 refusal line c k event =
-    if nat_lt last_stamp (stamp_of k event) then Some ClockEnd else (if has_full_link line c k then Some LinkFull else None)
+    if nat_lt last_stamp (stamp_of k event) then Some ClockEnd
+    else (if has_full_link line c k then Some LinkFull else None)
 
 -- bodies as frames: numbered behind those sent before, with the step's stamp
 abbrev pub numbered : ℕ → ℕ → List Body → List Frame
 numbered stamp count [] = []
-numbered stamp count (body ∷ bodies) = record { number = count + 1; stamp = stamp; body = body } ∷ numbered stamp (count + 1) bodies
+numbered stamp count (body ∷ bodies) =
+    record { number = count + 1; stamp = stamp; body = body } ∷ numbered stamp (count + 1) bodies
 
 abbrev pub frames_of : ℕ → Centre → Reply → ℕ → List Frame
 frames_of stamp k reply d = numbered stamp (length (k.sent d)) (reply.frames d)

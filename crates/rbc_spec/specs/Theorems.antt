@@ -21,13 +21,16 @@ abbrev pub WholeLineTheorem : Type 0
 WholeLineTheorem = (line : Line) (events : List Event) (answers : List Answer) (w : World)
     → IsLine line → world_run line (new_world line) events ≡ Ok (answers, w) → IsLineRun line events answers w
 
--- Whatever has happened to the centres of a line, and whatever event they answer next: the one line centre may meet that event with the
--- same answer, between the states that are read off them; the event keeps its promises, and the new world is sound. A refused event changes
--- nothing, so this holds also of events behind refused ones
+-- Whatever has happened to the centres of a line, and whatever event they answer next: the one line centre may meet
+-- that event with the same answer, between the states that are read off them; the event keeps its promises, and the new
+-- world is sound. A refused event changes nothing, so this holds also of events behind refused ones
 abbrev pub EachEventTheorem : Type 0
-EachEventTheorem = (line : Line) (w new : World) (events : List Event) (answers : List Answer) (event : Event) (answer : Answer)
-    → IsLine line → world_run line (new_world line) events ≡ Ok (answers, w) → world_step line w event ≡ Ok (answer, new)
-    → Goes line (read_off line w) event answer (read_off line new) × KeepsPromises line w event answer new × IsSound line new
+EachEventTheorem =
+    (line : Line) (w new : World) (events : List Event) (answers : List Answer) (event : Event) (answer : Answer)
+    → IsLine line → world_run line (new_world line) events ≡ Ok (answers, w)
+    → world_step line w event ≡ Ok (answer, new)
+    → Goes line (read_off line w) event answer (read_off line new) × KeepsPromises line w event answer new
+    × IsSound line new
 
 -- ## A one-centre line
 
@@ -39,12 +42,15 @@ pub record IsOneCentreLine (line : Line) (c : ℕ) : Type 0 where
 -- a start at the registrar is accepted wherever the train has no mission and the sections are released
 abbrev pub IsStartAccepted : Line → LineState → ℕ → TrainMessage → TrainBody → Said → LineState → Type 0
 IsStartAccepted line v c m (StartOfMission is_valid position) said new =
-    (place : Place) → fit_place line is_valid position ≡ Some place → may_start line v c place ≡ true → is_registrar_of line c m.nid_engine ≡ true
+    (place : Place) → fit_place line is_valid position ≡ Some place → may_start line v c place ≡ true
+    → is_registrar_of line c m.nid_engine ≡ true
     → v.mission m.nid_engine ≡ None → Accepts m.nid_engine c v (begins line m.nid_engine c place v) said new
 IsStartAccepted line v c m body said new = Unit {0}
 
--- the own step of a message leaves no choice: it is silent for its reason, also a report elsewhere, and accepts where it may
-pub record ForcedMessageStep (line : Line) (v : LineState) (c : ℕ) (m : TrainMessage) (said : Said) (new : LineState) (why : Option Reason) : Type 0 where
+-- the own step of a message leaves no choice: it is silent for its reason, also a report elsewhere, and accepts where
+-- it may
+pub record ForcedMessageStep (line : Line) (v : LineState) (c : ℕ) (m : TrainMessage) (said : Said) (new : LineState)
+    (why : Option Reason) : Type 0 where
   pub silent : why ≡ silence line v c m
   pub starts : why ≡ None → IsStartAccepted line (hears c m v) c m m.body said new
 
@@ -67,7 +73,8 @@ ForcedOwnStep line v (Bytes c (Ok m)) said new why = ForcedMessageStep line v c 
 ForcedOwnStep line v event said new why = Unit {0}
 
 -- a piece without free choice
-pub record ForcedPiece (line : Line) (v : LineState) (event : Event) (outcome : Outcome) (new : LineState) : Type 0 where
+pub record ForcedPiece (line : Line) (v : LineState) (event : Event) (outcome : Outcome)
+    (new : LineState) : Type 0 where
   pub piece : Piece line v event outcome new
   pub own_step : ForcedOwnStep line v event piece.own piece.mid outcome.silence
   pub quiet_steps : ForcedQuietSteps line piece.mid event piece.quiets
@@ -92,4 +99,5 @@ pub record IsOneCentreRun (line : Line) (events : List Event) (answers : List An
 -- Where one centre has all sections and is every train's registrar, the run leaves no choice
 abbrev pub OneCentreTheorem : Type 0
 OneCentreTheorem = (line : Line) (c : ℕ) (events : List Event) (answers : List Answer) (w : World)
-    → IsLine line → IsOneCentreLine line c → world_run line (new_world line) events ≡ Ok (answers, w) → IsOneCentreRun line events answers w
+    → IsLine line → IsOneCentreLine line c → world_run line (new_world line) events ≡ Ok (answers, w)
+    → IsOneCentreRun line events answers w

@@ -8,9 +8,12 @@ use Rattle.rbc_mission.specs.Supervisions.{SupervisionState}
 use Rattle.rbc_train.specs.Desk.{last_said}
 use Rattle.rbc_train.specs.declared.train.TrainState.{TrainState}
 
--- each section of the hand of the mission, if one stands, begins no farther from the group of its place than D_RBCTR can say
+-- each section of the hand of the mission, if one stands, begins no farther from the group of its place than D_RBCTR
+-- can say
 abbrev pub IsNear : Line → SupervisionState → Type 0
-IsNear line c = (m : Mission) → c.mission ≡ Some m → (s : ℕ) → within m.hand s ≡ true → start line s - group_start line m.place ≤ 32767
+IsNear line c =
+    (m : Mission) → c.mission ≡ Some m → (s : ℕ) → within m.hand s ≡ true
+    → start line s - group_start line m.place ≤ 32767
 
 -- it is the same train, and the same is held of its hand
 pub record KeepsHand (old new : SupervisionState) : Type 0 where

@@ -1,4 +1,5 @@
--- A centre seen from one of its trains: the parts of its state that a message of the train finds, and those that it leaves.
+-- A centre seen from one of its trains: the parts of its state that a message of the train finds, and those that it
+-- leaves.
 use Rattle.std.specs.Prelude.{◌≡◌, ◌⊎◌, ◌+◌, ◌++◌, ◌≤◌, ◌<◌, ℕ, Bool, List, [], Some, None, Option, Result, Ok, Err, map, is_none, is_some, true, false, length}
 use Rattle.rbc_spec.specs.Maps.{put}
 use Rattle.rbc_spec.specs.SectionRuns.{within, behind, is_empty}
@@ -33,8 +34,8 @@ pub record HasPoolAt (line : Line) (c : ℕ) (mission : Option Mission) : Type 0
   pub follows : (m : Mission) → mission ≡ Some m → is_empty m.pool ≡ false → m.pool.first ≡ behind m.hand
   pub away : (m : Mission) → mission ≡ Some m → (s : ℕ) → within m.pool s ≡ true → is_home line c s ≡ false
 
--- The pool of the train's mission follows its hand and is of other homes, what is claimed for a start that waits is what its place covers,
--- and of each centre of the line it is known whether the train is expected from there
+-- The pool of the train's mission follows its hand and is of other homes, what is claimed for a start that waits is
+-- what its place covers, and of each centre of the line it is known whether the train is expected from there
 pub record IsKeptAt (line : Line) (c : ℕ) (p : TrainState) : Type 0 where
   pub one_train : p.waiting.engine ≡ p.supervision.engine
   pub form : (m : Mission) → p.supervision.mission ≡ Some m → HasRouteForm m
@@ -44,9 +45,12 @@ pub record IsKeptAt (line : Line) (c : ℕ) (p : TrainState) : Type 0 where
 
 -- each section of the hand of the train's mission is on its track
 abbrev pub IsOnTrack : Line → TrainState → Type 0
-IsOnTrack line p = (m : Mission) → p.supervision.mission ≡ Some m → (s : ℕ) → within m.hand s ≡ true → is_on line m.place.track s ≡ true
+IsOnTrack line p =
+    (m : Mission) → p.supervision.mission ≡ Some m → (s : ℕ) → within m.hand s ≡ true
+    → is_on line m.place.track s ≡ true
 
--- each section of the train's hand is held as it has to be at centre c: one of its home by a claim, and another by its name
+-- each section of the train's hand is held as it has to be at centre c: one of its home by a claim, and another by its
+-- name
 abbrev pub IsHeld : Line → ℕ → TrainState → Type 0
 IsHeld line c p = IsHeldAt p.supervision.engine (is_home line c) p.supervision.hand
 
@@ -85,7 +89,8 @@ pub record HasParts (line : Line) (c : ℕ) (k : Centre) (p : TrainState) (book 
   pub has_expects : (d : ℕ) → k.expects d p.supervision.engine ≡ expected_from p.expectations d
 
 -- and it hears the train, of the line, with a T_TRAIN above the last
-pub record HearsTrain (line : Line) (c : ℕ) (k : Centre) (stamp : ℕ) (p : TrainState) (book : Pages) (rights : Rights) : Type 0 where
+pub record HearsTrain (line : Line) (c : ℕ) (k : Centre) (stamp : ℕ) (p : TrainState) (book : Pages)
+    (rights : Rights) : Type 0 where
   pub parts : HasParts line c k p book rights
   pub known : is_none (train_number line p.supervision.engine) ≡ false
   pub timely : is_stale stamp p.heard ≡ false
@@ -130,12 +135,14 @@ unsaid mail told = record { saying = None; order = None; mail = mail; told = tol
 
 -- what a frame of train t came to at centre c, or a message that was answered, where it is left as k
 abbrev pub reply_left : Line → ℕ → ℕ → Centre → Heard → Reply
-reply_left line c t k h = posted (mail_to line c t (λ d. k.expects d t) h.mail) (replied k (told_train h.saying h.order) h.told)
+reply_left line c t k h =
+    posted (mail_to line c t (λ d. k.expects d t) h.mail) (replied k (told_train h.saying h.order) h.told)
 
 -- wherever centre c has the old parts, the act leaves the new ones, and comes to this
 abbrev pub Does : Line → ℕ → Act → TrainState → Pages → Rights → TrainState → Pages → Rights → Heard → Type 0
 Does line c act old book rights new book' rights' h =
-    (k : Centre) → HasParts line c k old book rights → act k ≡ reply_left line c old.supervision.engine (with_parts new book' rights' k) h
+    (k : Centre) → HasParts line c k old book rights
+    → act k ≡ reply_left line c old.supervision.engine (with_parts new book' rights' k) h
 
 -- what a message of train t came to at centre c, where it is left as k
 abbrev pub effect_left : Line → ℕ → ℕ → Centre → Result Heard Reason → Effect

@@ -10,9 +10,10 @@ use Rattle.rbc_train.specs.Letters.{letters}
 use Rattle.rbc_train.specs.Desk.{KeepsRights, posted, replied, with_right}
 use Rattle.rbc_train.specs.declared.letter.Letter.{Letter}
 
--- at centre c, where one is given back: it is in the registrar again, if that is here, or this letter takes it there. Nothing changes
--- where none is given back
-pub record GoesHome (line : Line) (c t : ℕ) (right : HeldRight) (letter : Option Letter) (rights rights' : Rights) : Type 0 where
+-- at centre c, where one is given back: it is in the registrar again, if that is here, or this letter takes it there.
+-- Nothing changes where none is given back
+pub record GoesHome (line : Line) (c t : ℕ) (right : HeldRight) (letter : Option Letter)
+    (rights rights' : Rights) : Type 0 where
   pub nothing : right ≡ Nothing → (letter ≡ None) × (rights' ≡ rights)
   pub goes : (i : ℕ) (k : Centre) → right ≡ Held (right_of i) → i < length rights → k.has_right t ≡ is_here rights i
       → return_right line c t k ≡ posted (letters letter) (replied (with_right t (is_here rights' i) k) [] [])

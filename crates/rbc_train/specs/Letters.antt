@@ -17,8 +17,8 @@ use Rattle.rbc_train.specs.declared.mail.Mail.{Mail}
 use Rattle.rbc_train.specs.declared.mail.Notice.{Notice}
 use Rattle.rbc_train.specs.declared.mail.Notice.TheVariants as notice
 
--- a train's message by which another centre may have to be told something: the right or sections may be asked for, or go home, and a
--- handover is announced, claimed, cancelled or yielded
+-- a train's message by which another centre may have to be told something: the right or sections may be asked for, or
+-- go home, and a handover is announced, claimed, cancelled or yielded
 abbrev pub tells_others : TrainBody → Bool
 tells_others (StartOfMission is_valid position) = true
 tells_others (Request position) = true
@@ -44,7 +44,8 @@ notices t e (notice.Announce name track) d = if d == name.to then Announce name.
 notices t e (notice.Cancel name) d = if d == name.to then Cancel name.number t ∷ [] else []
 notices t e (notice.TakingOver told) d = claims t told e d
 
--- what the sections of a run that go home from centre c send to each centre: frames hang on nothing that the centre keeps
+-- what the sections of a run that go home from centre c send to each centre: frames hang on nothing that the centre
+-- keeps
 abbrev pub going_home : Line → ℕ → ℕ → ℕ → SectionRun → ℕ → List Body
 going_home line c t track r d = if is_empty r then [] else (returned line c t track r (beginning line c)).frames d
 
@@ -60,7 +61,8 @@ no_sections = record { first = 0; count = 0 }
 
 -- these sections of a track, a notice, and a letter or none
 abbrev pub mail_home : ℕ → SectionRunCode → Notice → Option Letter → Mail
-mail_home track sections notice letter = record { track = track; first = sections; second = no_sections; notice = notice; letter = letter }
+mail_home track sections notice letter =
+    record { track = track; first = sections; second = no_sections; notice = notice; letter = letter }
 
 -- a letter or none, and no section
 abbrev pub mail_of : Option Letter → Mail

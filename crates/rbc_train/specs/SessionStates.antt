@@ -22,4 +22,5 @@ session_key (session_state.Up session) = Some (key_of session)
 
 -- this is what stands with the train: its session has come as far, and has that key
 abbrev pub Stands : Records → SessionState → ℕ → Type 0
-Stands sessions s t = (phase_at sessions t ≡ session_phase s) × ((key : ℕ) → session_key s ≡ Some key → train_at sessions key ≡ Some t)
+Stands sessions s t =
+    (phase_at sessions t ≡ session_phase s) × ((key : ℕ) → session_key s ≡ Some key → train_at sessions key ≡ Some t)

@@ -23,7 +23,8 @@ abbrev pub uncleared : Line → Place → SectionRun → SectionRun
 uncleared line place hand = rest_of (cleared_count line place hand) hand
 
 -- what a train at this place has cleared has left its hand, and this is told of it
-pub record LeavesFront (line : Line) (place : Place) (old new : SupervisionState) (words : List ℕ) (from to : Pages) : Type 0 where
+pub record LeavesFront (line : Line) (place : Place) (old new : SupervisionState) (words : List ℕ)
+    (from to : Pages) : Type 0 where
   pub supervision : new ≡ record old {
     mission = option_and_then (without_front place (cleared_count line place (hand_of old))) old.mission;
     hand = hand_rest (cleared_count line place (hand_of old)) old.hand;
@@ -41,12 +42,16 @@ pub record SendsHome (track : ℕ) (left : SupervisionState) (h : Heard) : Type 
 -- what is cut off the hand of a train that stands still at its place on this track, behind what it has cleared
 abbrev pub left_ahead : Line → ℕ → Position → SectionRun → Cut
 left_ahead line track position hand =
-    if position.v_train == 0 then option_map_or (λ place. ahead_of line (uncleared line place hand) place.front) (place_on line track position) Nothing else Nothing
+    if position.v_train == 0
+    then option_map_or (λ place. ahead_of line (uncleared line place hand) place.front)
+    (place_on line track position) Nothing else Nothing
 
 -- so many sections are kept behind those that it has cleared, and this is told of all that leaves the hand
-pub record IsAhead (line : Line) (t track : ℕ) (position : Position) (hand : SectionRun) (book : Pages) (keep : ℕ) (words : List ℕ) : Type 0 where
+pub record IsAhead (line : Line) (t track : ℕ) (position : Position) (hand : SectionRun) (book : Pages) (keep : ℕ)
+    (words : List ℕ) : Type 0 where
   pub still : position.v_train ≡ 0
   pub place : Place
   pub at : place_on line track position ≡ Some place
   pub cut : ahead_of line (uncleared line place hand) place.front ≡ Keep keep
-  pub told : words ≡ wished t (front_of (cleared_count line place hand) hand) book ++ wished t (rest_of (cleared_count line place hand + keep) hand) book
+  pub told : words ≡ wished t (front_of (cleared_count line place hand) hand) book
+      ++ wished t (rest_of (cleared_count line place hand + keep) hand) book

@@ -10,7 +10,8 @@ use Rattle.rbc_session.specs.SessionStates.{session_phase}
 use Rattle.rbc_session.specs.declared.session.SessionState.TheVariants as session_state
 use Rattle.rbc_train.specs.declared.train.TrainState.{TrainState}
 
--- what is kept of a train that was never heard, by its place in the line file and its NID_ENGINE, with what is expected of it
+-- what is kept of a train that was never heard, by its place in the line file and its NID_ENGINE, with what is expected
+-- of it
 abbrev pub unknown_state : ℕ → ℕ → List (Option centre.Expectation) → TrainState
 unknown_state i t e = record {
   session_state = session_state.Closed;

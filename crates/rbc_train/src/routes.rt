@@ -144,7 +144,8 @@ impl TrainState {
         requires { self.old.said < last_said }
         ensures exact { (rights : Rights) (k : spec.Centre) → HasParts line.now centre k self.old book.now rights
             → where_so (λ j. not (spec.uses_some line.now centre j self.old.supervision.engine)
-            && ((is_none (j.mission self.old.supervision.engine) && is_none (j.wait self.old.supervision.engine)) && not (spec.is_expected line.now j self.old.supervision.engine)))
+            && ((is_none (j.mission self.old.supervision.engine) && is_none (j.wait self.old.supervision.engine))
+            && not (spec.is_expected line.now j self.old.supervision.engine)))
             (end_order line.now centre self.old.supervision.engine) k
             ≡ replied (with_parts self.new book.now rights k) (sayings_of result) [] }
         ensures said { self.new ≡ record self.old { said = self.new.said } }

@@ -62,7 +62,9 @@ m_level_value level.Spare6 = 6
 m_level_value level.Spare7 = 7
 
 abbrev pub m_levels : List MLevel
-m_levels = level.Level0 ∷ level.Ntc ∷ level.Level1 ∷ level.Level2 ∷ level.Level3 ∷ level.Spare5 ∷ level.Spare6 ∷ level.Spare7 ∷ []
+m_levels =
+    level.Level0 ∷ level.Ntc ∷ level.Level1 ∷ level.Level2 ∷ level.Level3 ∷ level.Spare5 ∷ level.Spare6 ∷ level.Spare7
+    ∷ []
 
 unfoldable pub m_level_of : ℕ → Option MLevel
 m_level_of n = find (λ v. m_level_value v == n) m_levels

@@ -28,24 +28,29 @@ abbrev pub Gives : {X Y : Type 0} → (X → Y) → Result X StepFault → Resul
 Gives view (Ok x) step = step ≡ Ok (view x)
 Gives view (Err fault) step = IsRefusal fault step
 
--- a message makes room where it opens a session, where another centre may have to be told something, or where it is the first to name a
--- train of the line
+-- a message makes room where it opens a session, where another centre may have to be told something, or where it is the
+-- first to name a train of the line
 abbrev pub MakesRoom : Line → List ℕ → TrainMessage → Type 0
-MakesRoom line trains m = ((m.body ≡ InitiationOfSession) ⊎ (tells_others m.body ≡ true)) ⊎ (mention line m.nid_engine trains ≡ trains ++ m.nid_engine ∷ [])
+MakesRoom line trains m =
+    ((m.body ≡ InitiationOfSession) ⊎ (tells_others m.body ≡ true))
+    ⊎ (mention line m.nid_engine trains ≡ trains ++ m.nid_engine ∷ [])
 
--- bytes of a train want memory only where their message keeps a packet or makes room, or where their fault can be found behind a packet
+-- bytes of a train want memory only where their message keeps a packet or makes room, or where their fault can be found
+-- behind a packet
 abbrev pub BytesTakeMemory : Line → List ℕ → Result TrainText MsgFault → Type 0
 BytesTakeMemory line trains (Ok m) = (kept_packets m ≢ []) ⊎ MakesRoom line trains (step_message m)
 BytesTakeMemory line trains (Err fault) = IsBehindPackets fault
 
 -- a frame was sent under this number, and is the next that its receiver takes of its sender
 abbrev pub IsNextSent : World → ℕ → ℕ → ℕ → Type 0
-IsNextSent w from to number = (f : Frame) × (frame_sent w from to number ≡ Some f) × (f.number ≡ (w.at to).taken from + 1)
+IsNextSent w from to number =
+    (f : Frame) × (frame_sent w from to number ≡ Some f) × (f.number ≡ (w.at to).taken from + 1)
 
--- an event wants memory only where it is such bytes, at a centre of the line, takes a section back that is out at its home, or brings the
--- next frame of its link
+-- an event wants memory only where it is such bytes, at a centre of the line, takes a section back that is out at its
+-- home, or brings the next frame of its link
 abbrev pub TakesMemory : Line → World → WorldEvent → Type 0
-TakesMemory line w (event.Train c bytes) = (is_centre line c ≡ true) × BytesTakeMemory line w.trains (read_train bytes.items)
+TakesMemory line w (event.Train c bytes) =
+    (is_centre line c ≡ true) × BytesTakeMemory line w.trains (read_train bytes.items)
 TakesMemory line w (event.Deliver from to number) = IsNextSent w from to number
 TakesMemory line w (event.Unset c s) = (t : ℕ) × ((w.at c).book s ≡ Out t)
 TakesMemory line w other = ⊥

@@ -11,7 +11,8 @@ pub record WasReached (line : Line) (w : World) : Type 0 where
   pub answers : List Answer
   pub run : world_run line (new_world line) events ≡ Ok (answers, w)
 
--- centre c of this world may be told it: the interlocking says it, or it is a frame that was sent to the centre under some number
+-- centre c of this world may be told it: the interlocking says it, or it is a frame that was sent to the centre under
+-- some number
 abbrev pub MayBeTold : World → ℕ → CentreEvent → Type 0
 MayBeTold w c (of_centre.Train m) = ⊥
 MayBeTold w c (of_centre.Set s) = Unit {0}

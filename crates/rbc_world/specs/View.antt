@@ -85,7 +85,8 @@ pub record Shows (line : Line) (v : LineState) (shown : LineView) : Type 0 where
 -- the train at place i of the line file: its mission with its hand, wherever that is
 pub record IsTrainSeen (line : Line) (w : World) (i : ℕ) (shown : TrainView) : Type 0 where
   pub engine : option_map (λ p. p.nid_engine) (slice_get line.trains i) ≡ Some shown.nid_engine
-  pub sessions : EachOf (λ c p. ShowsSession (read_off line w) shown.nid_engine c p) (length line.centres) shown.sessions.items
+  pub sessions : EachOf (λ c p. ShowsSession (read_off line w) shown.nid_engine c p)
+      (length line.centres) shown.sessions.items
   pub mission : option_map held_shown shown.mission ≡ held line w shown.nid_engine
 
 abbrev pub AreTrainsSeen : Line → World → List TrainView → Type 0

@@ -104,14 +104,16 @@ fn rest_behind<R: Wait, N: Notes>(
         _ => {
             let name = hall.name(door.caller);
             notes.note(format_args!("{name}: no connection can be taken now: {error}"));
-            door.bell.park_timeout(rt, Duration::from_millis(DEAF_REST_MS));
+            door.bell
+                .park_timeout(rt, Duration::from_millis(DEAF_REST_MS));
         }
     }
 }
 
 // Rests a while at a door.
 fn rest<R: Wait>(rt: &R, door: &Door) {
-    door.bell.park_timeout(rt, Duration::from_millis(DOOR_REST_MS));
+    door.bell
+        .park_timeout(rt, Duration::from_millis(DOOR_REST_MS));
 }
 
 // A seat for a new connection. Where all are taken, another connection leaves its own: of those of trains the first

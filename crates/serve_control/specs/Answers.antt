@@ -17,5 +17,6 @@ refusal_row fault = codes "refused " ++ (decimal (number_of_fault fault) ++ code
 -- the event and what it led to at centre c, or why the commit was refused
 abbrev pub IsCommitPrint : Line → ℕ → WorldEvent → Result Outcome ShareFault → List ℕ → Type 0
 IsCommitPrint line c event (Ok outcome) text =
-    (rows : List ℕ) × IsOutcomePrint line (name_at line c) (outcome_of outcome) rows × (text ≡ event_row line event ++ rows)
+    (rows : List ℕ) × IsOutcomePrint line (name_at line c) (outcome_of outcome) rows
+    × (text ≡ event_row line event ++ rows)
 IsCommitPrint line c event (Err fault) text = text ≡ refusal_row fault

@@ -37,4 +37,5 @@ abbrev pub IsNoCommand : Line → List ℕ → CommandFault → Type 0
 IsNoCommand line text fault.Memory = Unit {0}
 IsNoCommand line text fault.Form =
     (text ≢ codes "stop")
-    × (((n : ℕ) × IsFirstFault line (rows text) (refused.Form n)) ⊎ ((asked : List Asked) × AskFor line text asked × (bidden asked ≡ None)))
+    × (((n : ℕ) × IsFirstFault line (rows text) (refused.Form n))
+    ⊎ ((asked : List Asked) × AskFor line text asked × (bidden asked ≡ None)))

@@ -17,8 +17,8 @@ CommitsAgain c old new e stamp = (outcome : Outcome) × CommitsAt c old new e ou
 abbrev pub first_share : Node → ShareValue
 first_share node = record { centre = centre_of node; receipts = [] }
 
--- The event of the entry is committed again at the node in the place of the centre that took it, through the share in the same place, and is
--- answered under the entry's stamp. All other shares stay.
+-- The event of the entry is committed again at the node in the place of the centre that took it, through the share in
+-- the same place, and is answered under the entry's stamp. All other shares stay.
 pub record IsResumed (nodes : List Node) (e : Entry) (old new : List ShareValue) : Type 0 where
   pub node : Node
   pub before : ShareValue

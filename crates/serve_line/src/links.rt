@@ -1,4 +1,3 @@
-
 use rbc_board::{Carrier, QueueCarrier};
 use serve_hall::{DirectedLink, Hall};
 use serve_journal::Held;

@@ -94,7 +94,8 @@ pub(crate) fn run_pages<R: Threads + Wait + Sync + Clock, N: Notes + Sync>(
                 break;
             }
             let Ok((stream, _)) = door.listener.accept() else {
-                door.bell.park_timeout(rt, Duration::from_millis(DOOR_REST_MS));
+                door.bell
+                    .park_timeout(rt, Duration::from_millis(DOOR_REST_MS));
                 continue;
             };
             let Some(seat) = door.free_seat() else {

@@ -41,7 +41,8 @@ abbrev pub IsAskedAt : List ℕ → Asked → Type 0
 IsAskedAt target asked.Page = target ≡ codes "/"
 IsAskedAt target asked.Line = target ≡ codes "/line.json"
 IsAskedAt target (asked.Now since) = is_now target ≡ true
-IsAskedAt target (asked.Refused refusal.Address) = (target ≢ codes "/") × (target ≢ codes "/line.json") × (is_now target ≡ false)
+IsAskedAt target (asked.Refused refusal.Address) =
+    (target ≢ codes "/") × (target ≢ codes "/line.json") × (is_now target ≡ false)
 IsAskedAt target other = ⊥
 
 -- the fields of a head that name a host
@@ -59,7 +60,8 @@ IsAskedBy h (asked.Refused refusal.Host) = HasHost h false
 IsAskedBy h (asked.Refused refusal.Method) = HasHost h true × (h.method ≢ codes "GET")
 IsAskedBy h other = HasHost h true × (h.method ≡ codes "GET") × IsAskedAt h.target other
 
--- more is waited for only where a head may come yet and few bytes have come; and nothing is given but to a whole head that asks for it
+-- more is waited for only where a head may come yet and few bytes have come; and nothing is given but to a whole head
+-- that asks for it
 abbrev pub IsAsked : List ℕ → Asked → Type 0
 IsAsked bytes asked.More = MayBecomeRequest bytes × (length bytes < 8192)
 IsAsked bytes (asked.Refused why) = ⊤

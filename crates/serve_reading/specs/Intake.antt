@@ -7,13 +7,15 @@ use Rattle.serve_reading.specs.declared.reading.IntakeEnd.{IntakeEnd}
 use Rattle.serve_reading.specs.declared.reading.IntakeEnd.TheVariants.{EndOfStream, Fault, Device}
 
 -- no byte came
-pub record IsQuiet (before : Option (List ℕ)) (piece : List ℕ) (old new : List TrainText) (after : Option (List ℕ)) : Type 0 where
+pub record IsQuiet (before : Option (List ℕ)) (piece : List ℕ) (old new : List TrainText)
+    (after : Option (List ℕ)) : Type 0 where
   pub nothing : piece ≡ []
   pub messages : new ≡ old
   pub stream : after ≡ before
 
 -- this piece came, and is fed to the stream; at the end of the bytes and at a read that failed none came
-abbrev pub Brings : Option (List ℕ) → List ℕ → List TrainText → List TrainText → Result (Unit {0}) IntakeEnd → Option (List ℕ) → Type 0
+abbrev pub Brings : Option (List ℕ) → List ℕ → List TrainText → List TrainText → Result (Unit {0}) IntakeEnd
+    → Option (List ℕ) → Type 0
 Brings before piece old new (Ok _) after = Fed before piece old new (Ok tt) after
 Brings before piece old new (Err (Fault fault)) after = Fed before piece old new (Err fault) after
 Brings before piece old new (Err EndOfStream) after = IsQuiet before piece old new after

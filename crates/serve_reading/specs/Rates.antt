@@ -20,7 +20,8 @@ abbrev pub Answers : ℕ → ℕ → ℕ → ℕ → List Ask → Type 0
 Answers rate burst level at [] = Unit {0}
 Answers rate burst level at (Passes time ∷ asks) =
     (left : ℕ) × (left + 1000 ≡ filled rate burst level (time - at)) × Answers rate burst left (max at time) asks
-Answers rate burst level at (Waits time ∷ asks) = Answers rate burst (filled rate burst level (time - at)) (max at time) asks
+Answers rate burst level at (Waits time ∷ asks) =
+    Answers rate burst (filled rate burst level (time - at)) (max at time) asks
 
 -- how many pass
 abbrev pub passed : List Ask → ℕ

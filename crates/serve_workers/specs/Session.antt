@@ -25,7 +25,8 @@ Joins c old new (m ∷ messages) =
 abbrev pub CommitsAll : ℕ → ShareValue → ShareValue → List TrainText → Result (Unit {0}) ShareFault → Type 0
 CommitsAll c old new messages (Ok _) = Joins c old new messages
 CommitsAll c old new messages (Err fault) =
-    (done : List TrainText) × (next : TrainText) × (later : List TrainText) × (messages ≡ done ++ next ∷ later) × Joins c old new done × RefusesAt c new (Train next) fault
+    (done : List TrainText) × (next : TrainText) × (later : List TrainText) × (messages ≡ done ++ next ∷ later)
+    × Joins c old new done × RefusesAt c new (Train next) fault
 
 -- the bytes show this fault, or memory ran out there
 abbrev pub Shows : List ℕ → StreamFault → Type 0
@@ -35,17 +36,19 @@ Shows bytes Failed = ⊥
 -- the bytes begin with a message that centre c refused
 abbrev pub BeginsRefused : ℕ → ShareValue → List ℕ → ShareFault → Type 0
 BeginsRefused c share bytes fault =
-    (first : List ℕ) × (later : List ℕ) × (next : TrainText) × (bytes ≡ first ++ later) × SpellsTrain first next × RefusesAt c share (Train next) fault
+    (first : List ℕ) × (later : List ℕ) × (next : TrainText) × (bytes ≡ first ++ later) × SpellsTrain first next
+    × RefusesAt c share (Train next) fault
 
--- What stands behind the last message that was committed: no whole message, and nothing wrong so far, where the source or the device ended;
--- what shows the fault; the message that was refused
+-- What stands behind the last message that was committed: no whole message, and nothing wrong so far, where the source
+-- or the device ended; what shows the fault; the message that was refused
 abbrev pub LeavesSo : ℕ → ShareValue → List ℕ → SessionEnd → Type 0
 LeavesSo c share rest EndOfStream = IsRest rest
 LeavesSo c share rest Device = IsRest rest
 LeavesSo c share rest (Fault fault) = Shows rest fault
 LeavesSo c share rest (Refused fault) = BeginsRefused c share rest fault
 
--- the bytes that were read are the spellings of the messages whose receipts the share has now, one behind another, and then the rest
+-- the bytes that were read are the spellings of the messages whose receipts the share has now, one behind another, and
+-- then the rest
 pub record Serves (c : ℕ) (old new : ShareValue) (read : List ℕ) (end : SessionEnd) : Type 0 where
   pub messages : List TrainText
   pub rest : List ℕ

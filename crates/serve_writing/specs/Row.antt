@@ -6,7 +6,8 @@ use Rattle.rbc_msgs.specs.TrackSpelling.{SpellsTrack}
 -- the bytes are the spellings of these messages, one behind another
 abbrev pub SpellRow : List ℕ → List TrackMessage → Type 0
 SpellRow bytes [] = bytes ≡ []
-SpellRow bytes (m ∷ others) = (first : List ℕ) × (later : List ℕ) × (bytes ≡ first ++ later) × SpellsTrack first m × SpellRow later others
+SpellRow bytes (m ∷ others) =
+    (first : List ℕ) × (later : List ℕ) × (bytes ≡ first ++ later) × SpellsTrack first m × SpellRow later others
 
 -- the bytes are whole messages
 abbrev pub IsRow : List ℕ → Type 0

@@ -1,4 +1,5 @@
--- The order in which a centre's replies to one train go out: by T_TRAIN, which counts what the centre says to the train.
+-- The order in which a centre's replies to one train go out: by T_TRAIN, which counts what the centre says to the
+-- train.
 use Rattle.std.specs.Prelude.{◌≡◌, ◌⊎◌, ℕ, ◌+◌, ◌<◌, Bool, List, [], ◌∷◌, ◌++◌, Contains, if◌then◌else◌, nat_lt, nat_le}
 use Rattle.rbc_spec.specs.Message.{TrackMessage}
 use Rattle.serve_writing.specs.declared.reply.Reply.{Reply}

@@ -1,6 +1,5 @@
 //! A frame over a queue.
 
-
 use crate::playing::Stopped;
 use rbc_board::{Carrier, QueueCarrier};
 use rbc_linkmsg::Frame;

@@ -24,10 +24,12 @@ abbrev pub unset_again_moves : List Move
 unset_again_moves = plain two_sections ++ asks_before_2 ++ plain (Happens (Unset 0 2) ∷ [])
 
 abbrev pub front_before_the_hand_moves : List Move
-front_before_the_hand_moves = plain (two_sections ++ train 1 0 5 (Report (at 100 300 None)) ∷ Happens (Unset 0 1) ∷ []) ++ asks_before_2
+front_before_the_hand_moves =
+    plain (two_sections ++ train 1 0 5 (Report (at 100 300 None)) ∷ Happens (Unset 0 1) ∷ []) ++ asks_before_2
 
 abbrev pub front_in_the_section_moves : List Move
-front_in_the_section_moves = to_the_border_moves ++ plain (train 1 0 6 (Report (at 102 210 None)) ∷ Happens (Unset 0 2) ∷ []) ++ asks_before_3
+front_in_the_section_moves =
+    to_the_border_moves ++ plain (train 1 0 6 (Report (at 102 210 None)) ∷ Happens (Unset 0 2) ∷ []) ++ asks_before_3
 
 abbrev pub section_out_of_reach_moves : List Move
 section_out_of_reach_moves =
@@ -65,13 +67,15 @@ cut_behind_the_border_moves =
 
 abbrev pub proposal_ends_with_the_session_moves : List Move
 proposal_ends_with_the_session_moves =
-    plain two_sections ++ asks_before_2 ++ plain (session 1 0 5 ++ train 1 0 7 (ShorteningGranted 3 in_section_1) ∷ []) ++ asks_before_2
+    plain two_sections ++ asks_before_2 ++ plain (session 1 0 5 ++ train 1 0 7 (ShorteningGranted 3 in_section_1) ∷ [])
+    ++ asks_before_2
 
 abbrev pub request_again_over_the_border_moves : List Move
 request_again_over_the_border_moves = over_the_border_moves ++ extends 0 (train 1 0 7 (Request in_section_1)) []
 
 abbrev pub request_while_asked_moves : List Move
-request_while_asked_moves = plain (sets 0 1 3) ++ first_authority in_section_1 2 ++ extends 0 (train 1 0 6 (Request in_section_1)) []
+request_while_asked_moves =
+    plain (sets 0 1 3) ++ first_authority in_section_1 2 ++ extends 0 (train 1 0 6 (Request in_section_1)) []
 
 abbrev pub full_hand_at_the_border_moves : List Move
 full_hand_at_the_border_moves = plain (sets 0 0 32) ++ first_authority (at 100 60 (Some 40)) 31

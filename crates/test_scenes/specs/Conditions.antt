@@ -15,7 +15,8 @@ use Rattle.test_scenes.specs.Shortening.{asks_to_shorten}
 -- section 2 of a hand of two lies ahead of the train
 abbrev pub two_sections : List Scene
 two_sections =
-    sets 0 1 2 ++ session 1 0 1 ++ train 1 0 3 (StartOfMission true (at 102 600 (Some 700))) ∷ train 1 0 4 (Report in_section_1) ∷ []
+    sets 0 1 2 ++ session 1 0 1
+    ++ train 1 0 3 (StartOfMission true (at 102 600 (Some 700))) ∷ train 1 0 4 (Report in_section_1) ∷ []
 
 abbrev pub two_sections_show : List (List Item)
 two_sections_show = all_done 1 2 ++ opened 1 ++ (Says 1 2 unknown_group TrainAccepted ∷ []) ∷ nothing ∷ []
@@ -34,7 +35,8 @@ unset_without_a_session =
 abbrev pub unset_without_a_session_shows : List (List Item)
 unset_without_a_session_shows =
     two_sections_show
-    ++ (Says 1 3 unknown_group TerminationAcknowledged ∷ []) ∷ asked 2 ∷ (Says 1 4 unknown_group SystemVersion ∷ []) ∷ asked 2
+    ++ (Says 1 3 unknown_group TerminationAcknowledged ∷ []) ∷ asked 2 ∷ (Says 1 4 unknown_group SystemVersion ∷ [])
+    ∷ asked 2
     ∷ nothing ∷ (Says 1 5 group_1 (ShorteningRequest 1000) ∷ Tells (Asked 2) ∷ []) ∷ []
 
 -- not when its mission is ended
@@ -43,18 +45,21 @@ unset_after_the_end = two_sections ++ train 1 0 5 (EndOfMission (moving in_secti
 
 abbrev pub unset_after_the_end_shows : List (List Item)
 unset_after_the_end_shows =
-    two_sections_show ++ nothing ∷ asked 2 ∷ shows (IsShut ∷ times 2 (Given 1) ++ times 5 IsShut) (2 ∷ []) ((0 ∷ []) ∷ [] ∷ []) ∷ []
+    two_sections_show ++ nothing ∷ asked 2
+    ∷ shows (IsShut ∷ times 2 (Given 1) ++ times 5 IsShut) (2 ∷ []) ((0 ∷ []) ∷ [] ∷ []) ∷ []
 
 -- not while it has been asked and has not answered
 abbrev pub unset_again : List Scene
 unset_again = two_sections ++ Happens (Unset 0 2) ∷ Happens (Unset 0 2) ∷ []
 
 abbrev pub unset_again_shows : List (List Item)
-unset_again_shows = two_sections_show ++ (Says 1 3 group_1 (ShorteningRequest 1000) ∷ Tells (Asked 2) ∷ []) ∷ asked 2 ∷ []
+unset_again_shows =
+    two_sections_show ++ (Says 1 3 group_1 (ShorteningRequest 1000) ∷ Tells (Asked 2) ∷ []) ∷ asked 2 ∷ []
 
 -- not for the first section of its hand, though its front is reported before that
 abbrev pub front_before_the_hand : List Scene
-front_before_the_hand = two_sections ++ train 1 0 5 (Report (at 100 300 None)) ∷ Happens (Unset 0 1) ∷ Happens (Unset 0 2) ∷ []
+front_before_the_hand =
+    two_sections ++ train 1 0 5 (Report (at 100 300 None)) ∷ Happens (Unset 0 1) ∷ Happens (Unset 0 2) ∷ []
 
 abbrev pub front_before_the_hand_shows : List (List Item)
 front_before_the_hand_shows =
@@ -62,11 +67,13 @@ front_before_the_hand_shows =
 
 -- not for a section where its front may be
 abbrev pub front_in_the_section : List Scene
-front_in_the_section = request_to_the_border ++ train 1 0 6 (Report (at 102 210 None)) ∷ Happens (Unset 0 2) ∷ Happens (Unset 0 3) ∷ []
+front_in_the_section =
+    request_to_the_border ++ train 1 0 6 (Report (at 102 210 None)) ∷ Happens (Unset 0 2) ∷ Happens (Unset 0 3) ∷ []
 
 abbrev pub front_in_the_section_shows : List (List Item)
 front_in_the_section_shows =
-    request_to_the_border_shows ++ nothing ∷ asked 2 ∷ (Says 1 5 82022 (ShorteningRequest 1000) ∷ Tells (Asked 3) ∷ []) ∷ []
+    request_to_the_border_shows
+    ++ nothing ∷ asked 2 ∷ (Says 1 5 82022 (ShorteningRequest 1000) ∷ Tells (Asked 3) ∷ []) ∷ []
 
 -- nor for one that starts too far behind the group for message 9 to say
 abbrev pub section_out_of_reach : List Scene
@@ -85,28 +92,33 @@ section_out_of_reach_shows =
 abbrev pub proposal_ends_with_the_session : List Scene
 proposal_ends_with_the_session =
     two_sections
-    ++ Happens (Unset 0 2) ∷ (session 1 0 5 ++ train 1 0 7 (ShorteningGranted 3 in_section_1) ∷ Happens (Unset 0 2) ∷ [])
+    ++ Happens (Unset 0 2) ∷
+    (session 1 0 5 ++ train 1 0 7 (ShorteningGranted 3 in_section_1) ∷ Happens (Unset 0 2) ∷ [])
 
 abbrev pub proposal_ends_with_the_session_shows : List (List Item)
 proposal_ends_with_the_session_shows =
     two_sections_show
-    ++ (Says 1 3 group_1 (ShorteningRequest 1000) ∷ Tells (Asked 2) ∷ []) ∷ (Says 1 4 unknown_group SystemVersion ∷ []) ∷ nothing
+    ++ (Says 1 3 group_1 (ShorteningRequest 1000) ∷ Tells (Asked 2) ∷ []) ∷ (Says 1 4 unknown_group SystemVersion ∷ [])
+    ∷ nothing
     ∷ silent Unasked ∷ (Says 1 5 group_1 (ShorteningRequest 1000) ∷ Tells (Asked 2) ∷ []) ∷ []
 
 -- or with the mission
 abbrev pub proposal_ends_with_the_mission : List Scene
 proposal_ends_with_the_mission =
-    two_sections ++ Happens (Unset 0 2) ∷ train 1 0 5 (EndOfMission (moving in_section_1)) ∷ train 1 0 6 (ShorteningGranted 3 in_section_1) ∷ []
+    two_sections ++ Happens (Unset 0 2) ∷ train 1 0 5 (EndOfMission (moving in_section_1))
+    ∷ train 1 0 6 (ShorteningGranted 3 in_section_1) ∷ []
 
 abbrev pub proposal_ends_with_the_mission_shows : List (List Item)
 proposal_ends_with_the_mission_shows =
-    two_sections_show ++ (Says 1 3 group_1 (ShorteningRequest 1000) ∷ Tells (Asked 2) ∷ []) ∷ nothing ∷ silent Unasked ∷ []
+    two_sections_show ++ (Says 1 3 group_1 (ShorteningRequest 1000) ∷ Tells (Asked 2) ∷ []) ∷ nothing ∷ silent Unasked
+    ∷ []
 
 -- ## Starts and requests
 
 -- a train that is supervised here can't start outside its hand, on an open section either
 abbrev pub start_outside_the_hand : List Scene
-start_outside_the_hand = two_sections ++ Happens (Set 0 3) ∷ train 1 0 5 (StartOfMission true (at 103 600 (Some 200))) ∷ Look ∷ []
+start_outside_the_hand =
+    two_sections ++ Happens (Set 0 3) ∷ train 1 0 5 (StartOfMission true (at 103 600 (Some 200))) ∷ Look ∷ []
 
 abbrev pub start_outside_the_hand_shows : List (List Item)
 start_outside_the_hand_shows =
@@ -126,7 +138,8 @@ abbrev pub request_while_asked : List Scene
 request_while_asked = sets 0 1 3 ++ start_and_request in_section_1 ++ train 1 0 6 (Request in_section_1) ∷ []
 
 abbrev pub request_while_asked_shows : List (List Item)
-request_while_asked_shows = all_done 1 3 ++ start_and_request_shows group_1 3000 asks_for_more ++ (Says 1 5 group_1 (Authority 3000) ∷ []) ∷ []
+request_while_asked_shows =
+    all_done 1 3 ++ start_and_request_shows group_1 3000 asks_for_more ++ (Says 1 5 group_1 (Authority 3000) ∷ []) ∷ []
 
 -- behind a hand of 32 no section is asked for
 abbrev pub full_hand_at_the_border : List Scene
@@ -159,12 +172,14 @@ yield_with_a_pool =
     over_the_border
     ++ Happens (Set 1 7) ∷ Happens (Delivery 0 1 2) ∷ Happens (Delivery 0 1 3) ∷ Happens (Delivery 1 0 2)
     ∷ (session 1 1 7
-    ++ train 1 1 9 (Report (at 104 100 (Some 200))) ∷ Happens (Delivery 1 0 3) ∷ Happens (Delivery 0 1 4) ∷ Happens (Delivery 0 1 5) ∷ Look ∷ [])
+    ++ train 1 1 9 (Report (at 104 100 (Some 200))) ∷ Happens (Delivery 1 0 3) ∷ Happens (Delivery 0 1 4)
+    ∷ Happens (Delivery 0 1 5) ∷ Look ∷ [])
 
 abbrev pub yield_with_a_pool_shows : List (List Item)
 yield_with_a_pool_shows =
     over_the_border_shows
-    ++ done 7 ∷ (Link Next ∷ []) ∷ (Link Next ∷ Sends 0 2 (RouteInfo 1 (record { first = 7; count = 1 })) ∷ []) ∷ (Link Next ∷ [])
+    ++ done 7 ∷ (Link Next ∷ []) ∷ (Link Next ∷ Sends 0 2 (RouteInfo 1 (record { first = 7; count = 1 })) ∷ [])
+    ∷ (Link Next ∷ [])
     ∷ (opened 1
     ++ (Sends 0 3 (TakingOver 1 1) ∷ [])
     ∷ (Link Next ∷ Sends 1 4 (RouteReturn 1 (record { first = 7; count = 1 })) ∷ Sends 1 5 the_yield ∷ [])
@@ -175,25 +190,30 @@ yield_with_a_pool_shows =
 abbrev pub cut_with_a_pool : List Scene
 cut_with_a_pool =
     route_on_the_way
-    ++ Happens (Delivery 1 0 1) ∷ Happens (Unset 0 3) ∷ train 1 0 6 (ShorteningGranted 5 in_section_1) ∷ Happens (Delivery 0 1 2) ∷ Look ∷ []
+    ++ Happens (Delivery 1 0 1) ∷ Happens (Unset 0 3) ∷ train 1 0 6 (ShorteningGranted 5 in_section_1)
+    ∷ Happens (Delivery 0 1 2) ∷ Look ∷ []
 
 abbrev pub cut_with_a_pool_shows : List (List Item)
 cut_with_a_pool_shows =
     route_on_the_way_shows
-    ++ (Link Next ∷ []) ∷ asks_to_shorten 5 ∷ (Sends 1 2 (RouteReturn 1 (record { first = 4; count = 3 })) ∷ Tells (Told 3) ∷ [])
-    ∷ (Link Next ∷ []) ∷ shows (IsShut ∷ times 2 (Given 1) ++ IsShut ∷ times 3 IsOpen ++ IsShut ∷ []) [] ((0 ∷ []) ∷ [] ∷ []) ∷ []
+    ++ (Link Next ∷ []) ∷ asks_to_shorten 5
+    ∷ (Sends 1 2 (RouteReturn 1 (record { first = 4; count = 3 })) ∷ Tells (Told 3) ∷ [])
+    ∷ (Link Next ∷ []) ∷ shows (IsShut ∷ times 2 (Given 1) ++ IsShut ∷ times 3 IsOpen ++ IsShut ∷ []) []
+    ((0 ∷ []) ∷ [] ∷ []) ∷ []
 
 -- a cut that leaves a section of B leaves the handover
 abbrev pub cut_behind_the_border : List Scene
 cut_behind_the_border =
     announced
-    ++ Happens (Unset 1 5) ∷ Happens (Delivery 1 0 2) ∷ Happens (Delivery 1 0 3) ∷ train 1 0 7 (ShorteningGranted 7 in_section_1)
+    ++ Happens (Unset 1 5) ∷ Happens (Delivery 1 0 2) ∷ Happens (Delivery 1 0 3)
+    ∷ train 1 0 7 (ShorteningGranted 7 in_section_1)
     ∷ Happens (Delivery 0 1 4) ∷ Look ∷ []
 
 abbrev pub cut_behind_the_border_shows : List (List Item)
 cut_behind_the_border_shows =
     announced_shows
     ++ (Sends 0 3 (RouteWithdraw 1 5) ∷ Tells (Asked 5) ∷ []) ∷ (Link Next ∷ [])
-    ∷ (Link Next ∷ Says 1 7 group_1 (ShorteningRequest 4000) ∷ []) ∷ (Sends 1 4 (RouteReturn 1 (record { first = 5; count = 2 })) ∷ [])
+    ∷ (Link Next ∷ Says 1 7 group_1 (ShorteningRequest 4000) ∷ [])
+    ∷ (Sends 1 4 (RouteReturn 1 (record { first = 5; count = 2 })) ∷ [])
     ∷ (Link Next ∷ Tells (Told 5) ∷ [])
     ∷ shows (IsShut ∷ times 4 (Given 1) ++ IsShut ∷ IsOpen ∷ IsShut ∷ []) [] ((0 ∷ []) ∷ [] ∷ []) ∷ []

@@ -12,7 +12,8 @@ use Rattle.test_scenes.specs.Moves.{Move, Played, play}
 
 -- the train can't be asked by centre c to shorten its authority before section s, whatever its hand
 abbrev pub is_barred : Line → LineState → (t c s : ℕ) → LineMission → Bool
-is_barred line v t c s m = not (((is_at c m.supervisor && is_up (v.phase t c)) && (not m.is_ended && is_none m.proposal))
+is_barred line v t c s m =
+    not (((is_at c m.supervisor && is_up (v.phase t c)) && (not m.is_ended && is_none m.proposal))
     && (nat_le m.place.front (10 * start line s) && nat_le (start line s) (group_start line m.place + 32767)))
 
 -- no train can be asked for a section of this mark
@@ -46,4 +47,5 @@ played_on v p = option_map_or (λ x. x.state) p v
 
 unfoldable pub leave_no_choice : Line → LineState → List Move → Bool
 leave_no_choice line v [] = true
-leave_no_choice line v (move ∷ moves) = leaves_no_choice line v move && leave_no_choice line (played_on v (play line v move)) moves
+leave_no_choice line v (move ∷ moves) =
+    leaves_no_choice line v move && leave_no_choice line (played_on v (play line v move)) moves

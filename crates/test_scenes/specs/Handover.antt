@@ -13,25 +13,32 @@ abbrev pub announced : List Scene
 announced = over_the_border ++ Happens (Delivery 0 1 2) ∷ Happens (Delivery 0 1 3) ∷ []
 
 abbrev pub announced_shows : List (List Item)
-announced_shows = over_the_border_shows ++ (Link Next ∷ []) ∷ (Link Next ∷ Sends 0 2 (RouteInfo 1 (record { first = 7; count = 0 })) ∷ []) ∷ []
+announced_shows =
+    over_the_border_shows ++ (Link Next ∷ [])
+    ∷ (Link Next ∷ Sends 0 2 (RouteInfo 1 (record { first = 7; count = 0 })) ∷ []) ∷ []
 
 -- the supervision in one frame: the last place and the hand, sections 1 to 6
 abbrev pub the_yield : Body
-the_yield = Yield 1 1 6 true false (record { track = 0; group = group_1; front = pos 16200; rear = Some (pos 13900) }) (record { first = 1; count = 6 })
+the_yield =
+    Yield 1 1 6 true false (record { track = 0; group = group_1; front = pos 16200; rear = Some (pos 13900) })
+    (record { first = 1; count = 6 })
 
 -- the train reports in section 4 to B, from this T_TRAIN on, which takes over; A yields, and what it takes twice is old
 abbrev pub handed_over : ℕ → List Scene
 handed_over t_train =
     announced
     ++ session 1 1 t_train
-    ++ train 1 1 (t_train + 2) (Report (at 104 100 (Some 200))) ∷ Happens (Delivery 1 0 2) ∷ Happens (Delivery 1 0 3) ∷ Look
-    ∷ Happens (Delivery 1 0 3) ∷ Look ∷ Happens (Delivery 1 0 3) ∷ Look ∷ LookAtFrame 0 1 4 ∷ Happens (Delivery 0 1 4) ∷ []
+    ++ train 1 1 (t_train + 2) (Report (at 104 100 (Some 200))) ∷ Happens (Delivery 1 0 2) ∷ Happens (Delivery 1 0 3)
+    ∷ Look
+    ∷ Happens (Delivery 1 0 3) ∷ Look ∷ Happens (Delivery 1 0 3) ∷ Look ∷ LookAtFrame 0 1 4 ∷ Happens (Delivery 0 1 4)
+    ∷ []
 
 abbrev pub handed_over_shows : List (List Item)
 handed_over_shows =
     announced_shows
     ++ opened 1
-    ++ (Sends 0 3 (TakingOver 1 1) ∷ []) ∷ (Link Next ∷ []) ∷ (Link Next ∷ Sends 1 4 the_yield ∷ []) ∷ shows_six_given []
+    ++ (Sends 0 3 (TakingOver 1 1) ∷ []) ∷ (Link Next ∷ []) ∷ (Link Next ∷ Sends 1 4 the_yield ∷ [])
+    ∷ shows_six_given []
     ∷ (Link Old ∷ []) ∷ shows_six_given [] ∷ (Link Old ∷ []) ∷ shows_six_given []
     ∷ (ShowsFrame (Some (record { number = 4; stamp = 17; body = the_yield })) ∷ []) ∷ (Link Next ∷ []) ∷ []
 
@@ -66,10 +73,12 @@ return_after_handover_shows = handed_over_shows ++ returns_home ∷ cleared_behi
 abbrev pub yield_carries_the_last_stamp_heard : List Scene
 yield_carries_the_last_stamp_heard =
     handed_over 1
-    ++ train 1 1 5 (Report (at 104 300 (Some 200))) ∷ train 1 1 7 (Report (at 104 300 (Some 200))) ∷ cleared_behind_the_border
+    ++ train 1 1 5 (Report (at 104 300 (Some 200))) ∷ train 1 1 7 (Report (at 104 300 (Some 200)))
+    ∷ cleared_behind_the_border
 
 abbrev pub yield_carries_the_last_stamp_heard_shows : List (List Item)
-yield_carries_the_last_stamp_heard_shows = handed_over_shows ++ silent StaleStamp ∷ returns_home ∷ cleared_behind_the_border_shows
+yield_carries_the_last_stamp_heard_shows =
+    handed_over_shows ++ silent StaleStamp ∷ returns_home ∷ cleared_behind_the_border_shows
 
 -- section 4 is wished back, and the hand is cut before it, while B is taking over
 abbrev pub cancelled_before_taking_over : List Scene
@@ -88,6 +97,8 @@ cancelled_before_taking_over_shows =
     ∷ (Link Next ∷ Says 1 7 group_1 (ShorteningRequest 3000) ∷ [])
     ∷ shows (IsShut ∷ times 6 (Given 1) ++ IsShut ∷ []) (4 ∷ []) ((0 ∷ []) ∷ [] ∷ [])
     ∷ (opened 1
-    ++ (Sends 0 4 (TakingOver 1 1) ∷ []) ∷ (Sends 1 4 (RouteReturn 1 (record { first = 4; count = 3 })) ∷ Sends 1 5 (Cancel 1 1) ∷ [])
+    ++ (Sends 0 4 (TakingOver 1 1) ∷ [])
+    ∷ (Sends 1 4 (RouteReturn 1 (record { first = 4; count = 3 })) ∷ Sends 1 5 (Cancel 1 1) ∷ [])
     ∷ shows (IsShut ∷ times 3 (Given 1) ++ times 3 (Kept 1) ++ IsShut ∷ []) (4 ∷ []) ((0 ∷ []) ∷ [] ∷ [])
-    ∷ (Link Next ∷ []) ∷ shows (IsShut ∷ times 3 (Given 1) ++ times 3 (Kept 1) ++ IsShut ∷ []) (4 ∷ []) ((0 ∷ []) ∷ [] ∷ []) ∷ [])
+    ∷ (Link Next ∷ []) ∷ shows (IsShut ∷ times 3 (Given 1) ++ times 3 (Kept 1) ++ IsShut ∷ []) (4 ∷ [])
+    ((0 ∷ []) ∷ [] ∷ []) ∷ [])

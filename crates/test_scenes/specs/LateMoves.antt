@@ -38,7 +38,8 @@ route_for_an_ended_mission_moves =
     ++ followed (Happens (Delivery 0 1 2)) (Unkeep 1 4 ∷ Unkeep 1 5 ∷ Unkeep 1 6 ∷ [])
 
 abbrev pub end_of_mission_with_a_pool_moves : List Move
-end_of_mission_with_a_pool_moves = route_moves ++ plain (Happens (Delivery 1 0 1) ∷ train 1 0 6 (EndOfMission (moving in_section_1)) ∷ [])
+end_of_mission_with_a_pool_moves =
+    route_moves ++ plain (Happens (Delivery 1 0 1) ∷ train 1 0 6 (EndOfMission (moving in_section_1)) ∷ [])
 
 abbrev pub awaited_moves : List Move
 awaited_moves =
@@ -83,7 +84,8 @@ cleared_elsewhere_moves =
     ++ plain (Happens (Delivery 0 1 2) ∷ train 2 1 5 (StartOfMission true (at 105 600 (Some 200))) ∷ [])
 
 abbrev pub cleared_with_a_pool_moves : List Move
-cleared_with_a_pool_moves = route_moves ++ plain (Happens (Delivery 1 0 1) ∷ train 1 0 6 (Report (at 104 210 (Some 200))) ∷ [])
+cleared_with_a_pool_moves =
+    route_moves ++ plain (Happens (Delivery 1 0 1) ∷ train 1 0 6 (Report (at 104 210 (Some 200))) ∷ [])
 
 abbrev pub cleared_over_the_border_moves : List Move
 cleared_over_the_border_moves =
@@ -94,7 +96,8 @@ cleared_over_the_border_moves =
 
 abbrev pub whole_hand_is_cut_moves : List Move
 whole_hand_is_cut_moves =
-    to_the_border_moves ++ asks_before_3 ++ plain (train 1 0 6 (Report (at 103 210 (Some 200))) ∷ train 1 0 7 (ShorteningGranted 5 in_section_1) ∷ [])
+    to_the_border_moves ++ asks_before_3
+    ++ plain (train 1 0 6 (Report (at 103 210 (Some 200))) ∷ train 1 0 7 (ShorteningGranted 5 in_section_1) ∷ [])
 
 -- ## Three centres
 
@@ -129,7 +132,9 @@ to_the_third_moves =
 
 -- B lays down
 abbrev pub yielded_on_moves : List Move
-yielded_on_moves = to_the_third_moves ++ plain (Happens (Delivery 2 1 2) ∷ []) ++ followed (Happens (Delivery 2 1 3)) (LayDown 1 1 ∷ [])
+yielded_on_moves =
+    to_the_third_moves ++ plain (Happens (Delivery 2 1 2) ∷ [])
+    ++ followed (Happens (Delivery 2 1 3)) (LayDown 1 1 ∷ [])
 
 -- and C takes up
 abbrev pub yield_with_a_third_home_moves : List Move
@@ -145,7 +150,8 @@ each_home_gets_its_section_back_moves =
 abbrev pub wish_at_a_third_centre_moves : List Move
 wish_at_a_third_centre_moves =
     yield_with_a_third_home_moves
-    ++ plain (Happens (Unset 0 1) ∷ Happens (Delivery 0 1 4) ∷ Happens (Delivery 0 2 1) ∷ train 1 2 15 (Report in_section_3) ∷ [])
+    ++ plain (Happens (Unset 0 1) ∷ Happens (Delivery 0 1 4) ∷ Happens (Delivery 0 2 1)
+    ∷ train 1 2 15 (Report in_section_3) ∷ [])
     ++ followed (Happens (Delivery 2 0 1)) (Unkeep 1 1 ∷ EndOrder 1 0 ∷ [])
 
 abbrev pub ended_mission_is_yielded_moves : List Move
@@ -165,7 +171,8 @@ stands_still_before_the_third_moves =
 
 abbrev pub any_two_are_linked_moves : List Move
 any_two_are_linked_moves =
-    plain (Happens (Set 0 1) ∷ Happens (Set 1 2) ∷ (session 1 0 1 ++ train 1 0 3 (StartOfMission true in_section_1) ∷ Happens (Delivery 0 1 1) ∷ []))
+    plain (Happens (Set 0 1) ∷ Happens (Set 1 2)
+    ∷ (session 1 0 1 ++ train 1 0 3 (StartOfMission true in_section_1) ∷ Happens (Delivery 0 1 1) ∷ []))
     ++ followed (Happens (Delivery 1 0 1)) (Admit 1 0 ∷ [])
     ++ plain (train 1 0 4 (TrainData in_section_1) ∷ [])
     ++ extends 0 (train 1 0 5 (Request in_section_1)) []

@@ -60,7 +60,8 @@ having_sent count = record (beginning line 0) { sent = λ d. times count (frame 
 -- what is asked for behind a hand at a border
 abbrev pub asks_behind : SectionRun → List Body
 asks_behind hand =
-    (ask_route 1 1 (record (begun line (record { track = 0; group = group_1; front = 16200; rear = None })) { hand = hand }) (beginning line 0)).frames 1
+    (ask_route 1 1 (record (begun line
+    (record { track = 0; group = group_1; front = 16200; rear = None })) { hand = hand }) (beginning line 0)).frames 1
 
 -- ## A whole run
 
@@ -71,7 +72,8 @@ run_items (Err why) = []
 
 -- a section is set, and a session opened
 abbrev pub set_and_session : List world.Event
-set_and_session = world.Set 0 1 ∷ world.Bytes 0 (Ok (record { t_train = 1; nid_engine = 1; body = InitiationOfSession })) ∷ []
+set_and_session =
+    world.Set 0 1 ∷ world.Bytes 0 (Ok (record { t_train = 1; nid_engine = 1; body = InitiationOfSession })) ∷ []
 
 abbrev pub set_and_session_shows : List (List Item)
 set_and_session_shows = done 1 ∷ (Says 1 1 unknown_group SystemVersion ∷ []) ∷ []

@@ -1,5 +1,5 @@
--- A move of the one line centre: an event, how the line centre takes it where the rules leave that open, and the quiet steps that it takes
--- then. What comes of it is computed; that it is a piece of the line centre is proved once.
+-- A move of the one line centre: an event, how the line centre takes it where the rules leave that open, and the quiet
+-- steps that it takes then. What comes of it is computed; that it is a piece of the line centre is proved once.
 use Rattle.std.specs.Prelude.{ℕ, nat_lt, Bool, true, false, ◌&&◌, ◌||◌, not, if◌then◌else◌, List, [], ◌∷◌, Option, Some, None, is_none, Ok, Err}
 use Rattle.std.specs.List.{list_all}
 use Rattle.std.specs.Option.{option_map_or}
@@ -37,7 +37,8 @@ pub record Played : Type 0 where
   pub state : LineState
 
 abbrev pub played : Step → Turn → Played
-played own later = record { shown = Speaks (record { said = both own.turn.said later.said; silence = own.why }); state = later.state }
+played own later =
+    record { shown = Speaks (record { said = both own.turn.said later.said; silence = own.why }); state = later.state }
 
 -- the section is below one that is told
 abbrev pub is_below : ℕ → Word → Bool
@@ -69,9 +70,11 @@ without_piece line (Unset c s) = allowed (not (is_centre line c)) Nowhere
 without_piece line (Delivery from to number) = Some NeverSent
 
 abbrev pub play_by : Line → LineState → Event → Choice → List Quiet → Option Played
-play_by line v event Unanswered quiets = option_map_or (λ shown. Some (record { shown = shown; state = v })) (without_piece line event) None
+play_by line v event Unanswered quiets =
+    option_map_or (λ shown. Some (record { shown = shown; state = v })) (without_piece line event) None
 play_by line v event choice quiets = option_map_or
-    (λ own. option_map_or (λ later. allowed (is_piece line event own quiets later) (played own later)) (quiet_turns line own.turn.state quiets) None)
+    (λ own. option_map_or (λ later. allowed (is_piece line event own quiets later) (played own later))
+    (quiet_turns line own.turn.state quiets) None)
     (own_step line v event choice) None
 
 unfoldable pub play : Line → LineState → Move → Option Played

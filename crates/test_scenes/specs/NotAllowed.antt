@@ -1,4 +1,5 @@
--- Moves that the rules of the one line centre do not allow, each beside one that they allow; and a world that no state stands for.
+-- Moves that the rules of the one line centre do not allow, each beside one that they allow; and a world that no state
+-- stands for.
 use Rattle.std.specs.Prelude.{ℕ, ◌==◌, List, [], ◌∷◌, ◌++◌, map, length, if◌then◌else◌, Option, Some, None}
 use Rattle.std.specs.List.{filter_map}
 use Rattle.rbc_spec.specs.Maps.{put}
@@ -63,7 +64,9 @@ kept_behind_silence_shows = tells (Done 0 ∷ []) ∷ None ∷ []
 
 -- sections 4 and 5 are kept for train 1, and 4 is wished back
 abbrev pub two_kept : List Move
-two_kept = plain (Happens (Set 1 4) ∷ []) ++ followed (Happens (Set 1 5)) (Keep 1 4 ∷ Keep 1 5 ∷ []) ++ plain (Happens (Unset 1 4) ∷ [])
+two_kept =
+    plain (Happens (Set 1 4) ∷ []) ++ followed (Happens (Set 1 5)) (Keep 1 4 ∷ Keep 1 5 ∷ [])
+    ++ plain (Happens (Unset 1 4) ∷ [])
 
 abbrev pub two_kept_shows : List (Option Shown)
 two_kept_shows = tells (Done 4 ∷ []) ∷ tells (Done 5 ∷ []) ∷ tells (Asked 4 ∷ []) ∷ []
@@ -87,13 +90,15 @@ told_out_of_order_shows = two_kept_shows ++ None ∷ []
 -- A has handed train 1 over, and its Yield is on the way to B
 unfoldable pub one_yield : World
 one_yield = world_in (new_world line) (world_run line (new_world line) (filter_map event_of
-    (announced ++ session 1 1 7 ++ train 1 1 9 (Report (at 104 100 (Some 200))) ∷ Happens (Delivery 1 0 2) ∷ Happens (Delivery 1 0 3) ∷ [])))
+    (announced ++ session 1 1 7
+    ++ train 1 1 9 (Report (at 104 100 (Some 200))) ∷ Happens (Delivery 1 0 2) ∷ Happens (Delivery 1 0 3) ∷ [])))
 
 -- the same Yield a second time, under the next number
 abbrev pub two_yields : World
 two_yields = record one_yield {
   at = put one_yield.at 0 (record (one_yield.at 0) {
-    sent = λ d. if d == 1 then (one_yield.at 0).sent 1 ++ record { number = 5; stamp = 18; body = the_yield } ∷ [] else (one_yield.at 0).sent d;
+    sent = λ d. if d == 1 then (one_yield.at 0).sent 1 ++ record { number = 5; stamp = 18; body = the_yield } ∷ []
+        else (one_yield.at 0).sent d;
   });
 }
 

@@ -27,7 +27,9 @@ is_right_placed l w t =
     && nat_le (length (all_held l w t)) 1
 
 abbrev pub has_one_place : Line → World → Bool
-has_one_place l w = list_all (is_placed l w) (range_with_len 0 (section_count l)) && list_all (is_right_placed l w) (map (λ p. p.nid_engine) l.trains)
+has_one_place l w =
+    list_all (is_placed l w) (range_with_len 0 (section_count l))
+    && list_all (is_right_placed l w) (map (λ p. p.nid_engine) l.trains)
 
 -- behind a step that is answered
 abbrev pub behind : Result (Answer × World) Refusal → (World → Bool) → Bool

@@ -1,5 +1,6 @@
--- Answers that no centres of a line may give, as the world outside sees them: each list of events with its answers ends where two trains may run
--- over one section, or one over a section that the interlocking has had back. Beside them stand answers that may be given.
+-- Answers that no centres of a line may give, as the world outside sees them: each list of events with its answers ends
+-- where two trains may run over one section, or one over a section that the interlocking has had back. Beside them
+-- stand answers that may be given.
 use Rattle.std.specs.Prelude.{ℕ, true, List, [], ◌∷◌, ◌++◌, Some, None, Ok}
 use Rattle.rbc_spec.specs.Message.{TrainBody, StartOfMission, Request, TrackBody, Authority, TrainAccepted}
 use Rattle.rbc_spec.specs.Outcome.{Saying, Word, Done}
@@ -25,7 +26,10 @@ talk t t_train body told = record {
   where
     all_said : List TrackBody → List Saying
     all_said [] = []
-    all_said (it ∷ more) = record { nid_engine = t; message = record { t_train = t_train; nid_lrbg = group_1; body = it } } ∷ all_said more
+    all_said (it ∷ more) = record {
+      nid_engine = t;
+      message = record { t_train = t_train; nid_lrbg = group_1; body = it };
+    } ∷ all_said more
 
 -- section s is released, at A
 abbrev pub released : (s : ℕ) → Exchange
@@ -59,7 +63,10 @@ train_1_asks metres = talk 1 2 (Request in_section_1) (Authority metres ∷ [])
 abbrev pub right_comes : Exchange
 right_comes = record {
   event = Delivery 1 0 1;
-  answer = answers_with (record { nid_engine = 2; message = record { t_train = 2; nid_lrbg = group_1; body = TrainAccepted } } ∷ []) [];
+  answer = answers_with (record {
+    nid_engine = 2;
+    message = record { t_train = 2; nid_lrbg = group_1; body = TrainAccepted };
+  } ∷ []) [];
 }
 
 -- ## The lists
@@ -78,7 +85,8 @@ over_a_waiting_start = train_1_starts ++ train_2_starts [] ∷ train_1_asks 2000
 
 -- an unset of a section that a train has is answered by Done
 abbrev pub unset_of_a_kept_section_is_done : List Exchange
-unset_of_a_kept_section_is_done = train_1_starts ++ record { event = Unset 0 1; answer = answers_with [] (Done 1 ∷ []) } ∷ []
+unset_of_a_kept_section_is_done =
+    train_1_starts ++ record { event = Unset 0 1; answer = answers_with [] (Done 1 ∷ []) } ∷ []
 
 -- a train that was never accepted is told an authority
 abbrev pub out_of_nothing : List Exchange

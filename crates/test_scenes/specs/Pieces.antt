@@ -1,5 +1,5 @@
--- Centres and the one line centre side by side: event by event a piece of the one line centre meets what the centres answer, and the
--- state that it leaves is the one that is read off the centres.
+-- Centres and the one line centre side by side: event by event a piece of the one line centre meets what the centres
+-- answer, and the state that it leaves is the one that is read off the centres.
 use Rattle.std.specs.Prelude.{◌≡◌, ℕ, List, [], ◌∷◌, map, Option, Some, None, Result, Ok, Err, length}
 use Rattle.std.specs.List.{filter, filter_map, range_with_len}
 use Rattle.rbc_spec.specs.Line.{Line}
@@ -50,8 +50,8 @@ sheet line v = record {
 
 -- ## Side by side
 
--- the centres' world and the line centre's state go on from event to event: the centres answer, the one line centre meets the answer
--- by a piece, and the state that is read off the centres is then the line centre's
+-- the centres' world and the line centre's state go on from event to event: the centres answer, the one line centre
+-- meets the answer by a piece, and the state that is read off the centres is then the line centre's
 abbrev pub GoesWith : Line → World → LineState → List Move → Type 0
 GoesWith line w v [] = Unit {0}
 GoesWith line w v (move ∷ moves) =
@@ -69,8 +69,8 @@ abbrev pub event_of : Scene → Option Event
 event_of (Happens event) = Some event
 event_of other = None
 
--- the moves are those of the scene's events, and from the beginning on the answers of the whole world are a run of the one line
--- centre by these moves, whose last state is the one read off
+-- the moves are those of the scene's events, and from the beginning on the answers of the whole world are a run of the
+-- one line centre by these moves, whose last state is the one read off
 pub record IsMetByRun (line : Line) (scene : List Scene) (moves : List Move) : Type 0 where
   pub answers : List Answer
   pub after : World
@@ -100,8 +100,8 @@ pub record IsLineRunOf (line : Line) (scene : List Scene) : Type 0 where
 
 -- ## What is computed of both
 
--- what is shown at an event, and the line behind it; or that the step is refused; or that the rules of the line centre do not allow
--- the move
+-- what is shown at an event, and the line behind it; or that the step is refused; or that the rules of the line centre
+-- do not allow the move
 pub data Seen : Type 0 where
   Shows : (shown : Shown) (line : Sheet) → Seen
   Refused : Seen
@@ -120,7 +120,8 @@ seen_after line (Err why) others = Refused ∷ []
 -- what the centres show
 unfoldable pub centres_show : Line → World → List Move → List Seen
 centres_show line w [] = []
-centres_show line w (move ∷ moves) = seen_after line (world_step line w move.event) (λ after. centres_show line after moves)
+centres_show line w (move ∷ moves) =
+    seen_after line (world_step line w move.event) (λ after. centres_show line after moves)
 
 abbrev pub seen_of_line : Line → Option Played → (LineState → List Seen) → List Seen
 seen_of_line line (Some p) others = Shows p.shown (sheet line p.state) ∷ others p.state

@@ -17,10 +17,13 @@ requests_without_place_moves =
 
 abbrev pub hand_out_of_reach_moves : List Move
 hand_out_of_reach_moves =
-    plain (sets 0 0 20) ++ first_authority (at 102 600 (Some 200)) 15 ++ plain (train 1 0 6 (Request (at 100 4600 (Some 200))) ∷ [])
+    plain (sets 0 0 20) ++ first_authority (at 102 600 (Some 200)) 15
+    ++ plain (train 1 0 6 (Request (at 100 4600 (Some 200))) ∷ [])
 
 abbrev pub other_scale_moves : List Move
-other_scale_moves = to_the_border_moves ++ plain (train 1 0 6 (Report (in_decimetres 2099)) ∷ train 1 0 7 (Report (in_decimetres 2100)) ∷ [])
+other_scale_moves =
+    to_the_border_moves ++ plain
+    (train 1 0 6 (Report (in_decimetres 2099)) ∷ train 1 0 7 (Report (in_decimetres 2100)) ∷ [])
 
 abbrev pub own_stamp_after_a_yield_moves : List Move
 own_stamp_after_a_yield_moves = handed_over_moves 7 ++ plain (train 1 1 9 (Report (at 104 300 (Some 200))) ∷ [])

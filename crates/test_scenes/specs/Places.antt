@@ -13,8 +13,10 @@ use Rattle.test_scenes.specs.Handover.{handed_over, handed_over_shows}
 -- not nominal, not in level 2, a distance or a doubt that is not known, and a group that the line has not
 abbrev pub without_place : List Position
 without_place =
-    record in_section_1 { is_nominal = false } ∷ record in_section_1 { is_level_2 = false } ∷ record in_section_1 { d_lrbg = 32767 }
-    ∷ record in_section_1 { l_doubtover = 32767 } ∷ record in_section_1 { l_doubtunder = 32767 } ∷ at 108 600 (Some 200) ∷ []
+    record in_section_1 { is_nominal = false } ∷ record in_section_1 { is_level_2 = false }
+    ∷ record in_section_1 { d_lrbg = 32767 }
+    ∷ record in_section_1 { l_doubtover = 32767 } ∷ record in_section_1 { l_doubtunder = 32767 } ∷ at 108 600 (Some 200)
+    ∷ []
 
 -- a report of each, which is not heard, and one of a distance that is known
 abbrev pub reports_without_place : List Scene
@@ -36,11 +38,13 @@ requests_without_place =
 abbrev pub requests_without_place_show : List (List Item)
 requests_without_place_show =
     start_shows
-    ++ (Says 1 3 unknown_group (DataAcknowledged 4) ∷ []) ∷ silent NoPlace ∷ silent NoPlace ∷ (Says 1 4 group_1 (Authority 1000) ∷ []) ∷ []
+    ++ (Says 1 3 unknown_group (DataAcknowledged 4) ∷ []) ∷ silent NoPlace ∷ silent NoPlace
+    ∷ (Says 1 4 group_1 (Authority 1000) ∷ []) ∷ []
 
 -- nor may the hand end too far behind its group for message 3 to say
 abbrev pub hand_out_of_reach : List Scene
-hand_out_of_reach = sets 0 0 20 ++ start_and_request (at 102 600 (Some 200)) ++ train 1 0 6 (Request (at 100 4600 (Some 200))) ∷ []
+hand_out_of_reach =
+    sets 0 0 20 ++ start_and_request (at 102 600 (Some 200)) ++ train 1 0 6 (Request (at 100 4600 (Some 200))) ∷ []
 
 abbrev pub hand_out_of_reach_shows : List (List Item)
 hand_out_of_reach_shows = all_done 0 20 ++ start_and_request_shows 82022 32000 [] ++ silent NoPlace ∷ []
@@ -53,7 +57,8 @@ starts_that_are_not_fit =
     sets 0 0 8
     ++ session 1 0 1
     ++ train 1 0 3 (StartOfMission false in_section_1) ∷ train 1 0 4 (StartOfMission true (at 101 600 None))
-    ∷ train 1 0 5 (StartOfMission true (at 100 209 (Some 200))) ∷ train 1 0 6 (StartOfMission true (at 107 981 (Some 200)))
+    ∷ train 1 0 5 (StartOfMission true (at 100 209 (Some 200)))
+    ∷ train 1 0 6 (StartOfMission true (at 107 981 (Some 200)))
     ∷ train 1 0 7 (StartOfMission true (at 107 980 (Some 200))) ∷ Look ∷ []
 
 -- one with the front at the track's end is
@@ -61,7 +66,8 @@ abbrev pub starts_that_are_not_fit_show : List (List Item)
 starts_that_are_not_fit_show =
     all_done 0 8
     ++ opened 1
-    ++ (Says 1 2 unknown_group TrainRejected ∷ []) ∷ (Says 1 3 unknown_group TrainRejected ∷ []) ∷ (Says 1 4 unknown_group TrainRejected ∷ [])
+    ++ (Says 1 2 unknown_group TrainRejected ∷ []) ∷ (Says 1 3 unknown_group TrainRejected ∷ [])
+    ∷ (Says 1 4 unknown_group TrainRejected ∷ [])
     ∷ (Says 1 5 unknown_group TrainRejected ∷ []) ∷ (Says 1 6 unknown_group TrainAccepted ∷ [])
     ∷ shows (times 7 IsOpen ++ Given 1 ∷ []) [] ((0 ∷ []) ∷ [] ∷ []) ∷ []
 
@@ -70,7 +76,8 @@ abbrev pub longest_train : List Scene
 longest_train =
     sets 0 0 40
     ++ session 1 0 1
-    ++ train 1 0 3 (StartOfMission true (at 132 50 (Some 3200))) ∷ train 1 0 4 (StartOfMission true (at 131 50 (Some 3100))) ∷ Look ∷ []
+    ++ train 1 0 3 (StartOfMission true (at 132 50 (Some 3200)))
+    ∷ train 1 0 4 (StartOfMission true (at 131 50 (Some 3100))) ∷ Look ∷ []
 
 abbrev pub longest_train_shows : List (List Item)
 longest_train_shows =
@@ -87,7 +94,9 @@ in_decimetres d_lrbg = record (at 102 d_lrbg (Some 200)) { scale = 1; l_doubtove
 
 -- the rear is 10 cm before the end of section 1, and then at it
 abbrev pub other_scale : List Scene
-other_scale = request_to_the_border ++ train 1 0 6 (Report (in_decimetres 2099)) ∷ Look ∷ train 1 0 7 (Report (in_decimetres 2100)) ∷ Look ∷ []
+other_scale =
+    request_to_the_border ++ train 1 0 6 (Report (in_decimetres 2099)) ∷ Look
+    ∷ train 1 0 7 (Report (in_decimetres 2100)) ∷ Look ∷ []
 
 abbrev pub other_scale_shows : List (List Item)
 other_scale_shows =

@@ -20,7 +20,8 @@ shows_b of_b wished supervisors = shows (IsShut ∷ times 3 (Given 1) ++ of_b) w
 abbrev pub withdrawn_from_the_pool : List Scene
 withdrawn_from_the_pool =
     route_on_the_way
-    ++ Happens (Delivery 1 0 1) ∷ Happens (Unset 1 5) ∷ Happens (Delivery 1 0 2) ∷ Look ∷ Happens (Delivery 0 1 2) ∷ Look
+    ++ Happens (Delivery 1 0 1) ∷ Happens (Unset 1 5) ∷ Happens (Delivery 1 0 2) ∷ Look ∷ Happens (Delivery 0 1 2)
+    ∷ Look
     ∷ train 1 0 6 (Request in_section_1) ∷ Look ∷ []
 
 abbrev pub withdrawn_from_the_pool_shows : List (List Item)
@@ -38,7 +39,8 @@ withdrawn_from_the_pool_shows =
 abbrev pub first_of_the_pool_withdrawn : List Scene
 first_of_the_pool_withdrawn =
     route_on_the_way
-    ++ Happens (Delivery 1 0 1) ∷ Happens (Unset 1 4) ∷ Happens (Delivery 1 0 2) ∷ Look ∷ Happens (Delivery 0 1 2) ∷ Look
+    ++ Happens (Delivery 1 0 1) ∷ Happens (Unset 1 4) ∷ Happens (Delivery 1 0 2) ∷ Look ∷ Happens (Delivery 0 1 2)
+    ∷ Look
     ∷ train 1 0 6 (Request in_section_1) ∷ Look ∷ []
 
 abbrev pub first_of_the_pool_withdrawn_shows : List (List Item)
@@ -55,7 +57,8 @@ first_of_the_pool_withdrawn_shows =
 abbrev pub last_of_the_pool_withdrawn : List Scene
 last_of_the_pool_withdrawn =
     route_on_the_way
-    ++ Happens (Delivery 1 0 1) ∷ Happens (Unset 1 6) ∷ Happens (Delivery 1 0 2) ∷ Look ∷ Happens (Delivery 0 1 2) ∷ Look
+    ++ Happens (Delivery 1 0 1) ∷ Happens (Unset 1 6) ∷ Happens (Delivery 1 0 2) ∷ Look ∷ Happens (Delivery 0 1 2)
+    ∷ Look
     ∷ train 1 0 6 (Request in_section_1) ∷ Look ∷ []
 
 abbrev pub last_of_the_pool_withdrawn_shows : List (List Item)
@@ -72,7 +75,8 @@ last_of_the_pool_withdrawn_shows =
 -- the mission is ended before the route comes: it goes home
 abbrev pub route_for_an_ended_mission : List Scene
 route_for_an_ended_mission =
-    route_on_the_way ++ train 1 0 6 (EndOfMission (moving in_section_1)) ∷ Happens (Delivery 1 0 1) ∷ Happens (Delivery 0 1 2) ∷ Look ∷ []
+    route_on_the_way ++ train 1 0 6 (EndOfMission (moving in_section_1)) ∷ Happens (Delivery 1 0 1)
+    ∷ Happens (Delivery 0 1 2) ∷ Look ∷ []
 
 abbrev pub route_for_an_ended_mission_shows : List (List Item)
 route_for_an_ended_mission_shows =
@@ -82,7 +86,8 @@ route_for_an_ended_mission_shows =
 
 -- the mission is ended with a pool: that goes home
 abbrev pub end_of_mission_with_a_pool : List Scene
-end_of_mission_with_a_pool = route_on_the_way ++ Happens (Delivery 1 0 1) ∷ train 1 0 6 (EndOfMission (moving in_section_1)) ∷ Look ∷ []
+end_of_mission_with_a_pool =
+    route_on_the_way ++ Happens (Delivery 1 0 1) ∷ train 1 0 6 (EndOfMission (moving in_section_1)) ∷ Look ∷ []
 
 abbrev pub end_of_mission_with_a_pool_shows : List (List Item)
 end_of_mission_with_a_pool_shows =
@@ -97,14 +102,16 @@ abbrev pub awaited : List Scene
 awaited =
     announced
     ++ (session 1 1 7
-    ++ train 1 1 9 (Report in_section_1) ∷ train 1 1 9 (Request (at 104 100 (Some 200))) ∷ train 1 1 9 (Report (at 104 100 (Some 200)))
+    ++ train 1 1 9 (Report in_section_1) ∷ train 1 1 9 (Request (at 104 100 (Some 200)))
+    ∷ train 1 1 9 (Report (at 104 100 (Some 200)))
     ∷ train 1 1 10 (Report (at 104 150 (Some 200))) ∷ train 1 1 10 (Report (at 104 150 (Some 200))) ∷ [])
 
 abbrev pub awaited_shows : List (List Item)
 awaited_shows =
     announced_shows
     ++ (opened 1
-    ++ silent NotSupervised ∷ silent NotSupervised ∷ (Sends 0 3 (TakingOver 1 1) ∷ []) ∷ nothing ∷ silent StaleStamp ∷ [])
+    ++ silent NotSupervised ∷ silent NotSupervised ∷ (Sends 0 3 (TakingOver 1 1) ∷ []) ∷ nothing ∷ silent StaleStamp
+    ∷ [])
 
 -- a route comes to a supervisor that has yielded: it goes home, and is given by the next supervisor
 abbrev pub route_after_the_yield : List Scene
@@ -112,7 +119,8 @@ route_after_the_yield =
     over_the_border
     ++ Happens (Set 1 7) ∷ Happens (Delivery 0 1 2)
     ∷ (session 1 1 7
-    ++ train 1 1 9 (Report (at 104 100 (Some 200))) ∷ Happens (Delivery 1 0 2) ∷ Happens (Delivery 0 1 3) ∷ Happens (Delivery 0 1 4)
+    ++ train 1 1 9 (Report (at 104 100 (Some 200))) ∷ Happens (Delivery 1 0 2) ∷ Happens (Delivery 0 1 3)
+    ∷ Happens (Delivery 0 1 4)
     ∷ train 1 1 10 (Request (at 104 100 (Some 200))) ∷ Happens (Delivery 1 0 3) ∷ Happens (Delivery 0 1 5) ∷ Look
     ∷ train 1 1 11 (Request (at 104 100 (Some 200))) ∷ Look ∷ [])
 
@@ -123,16 +131,20 @@ route_after_the_yield_shows =
     ∷ (opened 1
     ++ (Sends 0 2 (TakingOver 1 1) ∷ []) ∷ (Link Next ∷ Sends 1 4 the_yield ∷ [])
     ∷ (Link Next ∷ Sends 0 3 (RouteInfo 1 (record { first = 7; count = 1 })) ∷ []) ∷ (Link Next ∷ [])
-    ∷ (Says 1 2 82024 (Authority 3000) ∷ []) ∷ (Link Next ∷ Sends 1 5 (RouteReturn 1 (record { first = 7; count = 1 })) ∷ []) ∷ (Link Next ∷ [])
-    ∷ shows_b (times 3 (Given 1) ++ IsOpen ∷ []) [] (1 ∷ []) ∷ (Says 1 3 82024 (Authority 4000) ∷ []) ∷ shows_b (times 4 (Given 1)) [] (1 ∷ []) ∷ [])
+    ∷ (Says 1 2 82024 (Authority 3000) ∷ [])
+    ∷ (Link Next ∷ Sends 1 5 (RouteReturn 1 (record { first = 7; count = 1 })) ∷ []) ∷ (Link Next ∷ [])
+    ∷ shows_b (times 3 (Given 1) ++ IsOpen ∷ []) [] (1 ∷ []) ∷ (Says 1 3 82024 (Authority 4000) ∷ [])
+    ∷ shows_b (times 4 (Given 1)) [] (1 ∷ []) ∷ [])
 
 -- a wish comes to a supervisor that has yielded: the next one asks the train, and the hand is cut to A's sections
 abbrev pub wish_at_the_yield : List Scene
 wish_at_the_yield =
     announced
     ++ (session 1 1 7
-    ++ train 1 1 9 (Report (at 104 100 (Some 200))) ∷ Happens (Unset 1 4) ∷ Happens (Unset 1 5) ∷ Happens (Delivery 1 0 2) ∷ Happens (Delivery 1 0 3)
-    ∷ Happens (Delivery 1 0 4) ∷ Happens (Delivery 0 1 4) ∷ Look ∷ train 1 1 10 (ShorteningGranted 2 in_section_1) ∷ Look ∷ [])
+    ++ train 1 1 9 (Report (at 104 100 (Some 200))) ∷ Happens (Unset 1 4) ∷ Happens (Unset 1 5)
+    ∷ Happens (Delivery 1 0 2) ∷ Happens (Delivery 1 0 3)
+    ∷ Happens (Delivery 1 0 4) ∷ Happens (Delivery 0 1 4) ∷ Look ∷ train 1 1 10 (ShorteningGranted 2 in_section_1)
+    ∷ Look ∷ [])
 
 abbrev pub wish_at_the_yield_shows : List (List Item)
 wish_at_the_yield_shows =
@@ -169,7 +181,8 @@ cleared_elsewhere_shows =
 
 -- a hand with a pool is cleared: the pool goes home, and the mission is over
 abbrev pub cleared_with_a_pool : List Scene
-cleared_with_a_pool = route_on_the_way ++ Happens (Delivery 1 0 1) ∷ train 1 0 6 (Report (at 104 210 (Some 200))) ∷ Look ∷ []
+cleared_with_a_pool =
+    route_on_the_way ++ Happens (Delivery 1 0 1) ∷ train 1 0 6 (Report (at 104 210 (Some 200))) ∷ Look ∷ []
 
 abbrev pub cleared_with_a_pool_shows : List (List Item)
 cleared_with_a_pool_shows =
@@ -198,12 +211,14 @@ cleared_over_the_border_shows =
 abbrev pub whole_hand_is_cut : List Scene
 whole_hand_is_cut =
     request_to_the_border
-    ++ Happens (Unset 0 3) ∷ train 1 0 6 (Report (at 103 210 (Some 200))) ∷ Look ∷ train 1 0 7 (ShorteningGranted 5 in_section_1) ∷ Look ∷ []
+    ++ Happens (Unset 0 3) ∷ train 1 0 6 (Report (at 103 210 (Some 200))) ∷ Look
+    ∷ train 1 0 7 (ShorteningGranted 5 in_section_1) ∷ Look ∷ []
 
 abbrev pub whole_hand_is_cut_shows : List (List Item)
 whole_hand_is_cut_shows =
     request_to_the_border_shows
-    ++ asks_to_shorten 5 ∷ nothing ∷ shows (IsShut ∷ times 2 IsOpen ++ Given 1 ∷ times 4 IsShut) (3 ∷ []) ((0 ∷ []) ∷ [] ∷ [])
+    ++ asks_to_shorten 5 ∷ nothing
+    ∷ shows (IsShut ∷ times 2 IsOpen ++ Given 1 ∷ times 4 IsShut) (3 ∷ []) ((0 ∷ []) ∷ [] ∷ [])
     ∷ (Tells (Told 3) ∷ []) ∷ shows (IsShut ∷ times 2 IsOpen ++ times 5 IsShut) [] ([] ∷ [] ∷ []) ∷ []
 
 -- ## A start that waits
@@ -212,7 +227,8 @@ whole_hand_is_cut_shows =
 abbrev pub session_opens_over_a_waiting_start : List Scene
 session_opens_over_a_waiting_start =
     start_elsewhere
-    ++ train 2 0 4 (StartOfMission true in_section_1) ∷ Happens (Unset 0 1) ∷ train 2 0 4 InitiationOfSession ∷ Look ∷ Happens (Delivery 1 0 1) ∷ []
+    ++ train 2 0 4 (StartOfMission true in_section_1) ∷ Happens (Unset 0 1) ∷ train 2 0 4 InitiationOfSession ∷ Look
+    ∷ Happens (Delivery 1 0 1) ∷ []
 
 abbrev pub session_opens_over_a_waiting_start_shows : List (List Item)
 session_opens_over_a_waiting_start_shows =

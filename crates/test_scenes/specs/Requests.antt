@@ -14,7 +14,8 @@ use Rattle.test_scenes.specs.Starts.{opened, silent}
 abbrev pub start_and_request : Position → List Scene
 start_and_request position =
     session 1 0 1
-    ++ train 1 0 3 (StartOfMission true position) ∷ train 1 0 4 (TrainData position) ∷ train 1 0 5 (Request position) ∷ []
+    ++ train 1 0 3 (StartOfMission true position) ∷ train 1 0 4 (TrainData position) ∷ train 1 0 5 (Request position)
+    ∷ []
 
 -- which is given, to an end in metres from a group
 abbrev pub start_and_request_shows : (group l_endsection : ℕ) → List Item → List (List Item)
@@ -58,7 +59,8 @@ asks_again_each_round = sets 0 1 3 ++ start_and_request in_section_1 ++ round 1 
 
 abbrev pub asks_again_each_round_shows : List (List Item)
 asks_again_each_round_shows =
-    all_done 1 3 ++ start_and_request_shows group_1 3000 asks_for_more ++ round_shows 1 5 ++ round_shows 2 6 ++ round_shows 3 7
+    all_done 1 3 ++ start_and_request_shows group_1 3000 asks_for_more ++ round_shows 1 5 ++ round_shows 2 6
+    ++ round_shows 3 7
 
 -- the hand ends with the track, whatever the next one has
 abbrev pub end_of_the_track : List Scene
@@ -133,14 +135,16 @@ abbrev pub early_frame : List Scene
 early_frame =
     over_the_border
     ++ LookAtClock 1 ∷ Happens (Delivery 0 1 3) ∷ Look ∷ LookAtClock 1 ∷ Happens (Delivery 0 1 9) ∷ Look ∷ LookAtClock 1
-    ∷ Happens (Delivery 0 1 2) ∷ Happens (Delivery 0 1 3) ∷ Happens (Delivery 0 1 3) ∷ Happens (Delivery 0 1 1) ∷ Look ∷ []
+    ∷ Happens (Delivery 0 1 2) ∷ Happens (Delivery 0 1 3) ∷ Happens (Delivery 0 1 3) ∷ Happens (Delivery 0 1 1) ∷ Look
+    ∷ []
 
 abbrev pub early_frame_shows : List (List Item)
 early_frame_shows =
     over_the_border_shows
     ++ (ShowsClock 9 ∷ []) ∷ (Link Early ∷ []) ∷ shows_six_given (0 ∷ []) ∷ (ShowsClock 12 ∷ [])
     ∷ (NeverSent ∷ []) ∷ shows_six_given (0 ∷ []) ∷ (ShowsClock 12 ∷ [])
-    ∷ (Link Next ∷ []) ∷ (Link Next ∷ Sends 0 2 (RouteInfo 1 (record { first = 7; count = 0 })) ∷ []) ∷ (Link Old ∷ []) ∷ (Link Old ∷ [])
+    ∷ (Link Next ∷ []) ∷ (Link Next ∷ Sends 0 2 (RouteInfo 1 (record { first = 7; count = 0 })) ∷ []) ∷ (Link Old ∷ [])
+    ∷ (Link Old ∷ [])
     ∷ shows_six_given (0 ∷ []) ∷ []
 
 -- ## Limits of a hand
@@ -178,7 +182,8 @@ one_metre_too_far = sets 0 0 17 ++ start_and_request (at 100 600 (Some 200)) ++ 
 
 abbrev pub one_metre_too_far_shows : List (List Item)
 one_metre_too_far_shows =
-    all_done 0 17 ++ start_and_request_shows 82020 32000 [] ++ shows (times 16 (Given 1) ++ IsOpen ∷ []) [] ((0 ∷ []) ∷ [] ∷ []) ∷ []
+    all_done 0 17 ++ start_and_request_shows 82020 32000 []
+    ++ shows (times 16 (Given 1) ++ IsOpen ∷ []) [] ((0 ∷ []) ∷ [] ∷ []) ∷ []
 
 -- ## End of mission
 
@@ -188,14 +193,16 @@ end_of_mission = over_the_border ++ train 1 0 7 (EndOfMission (moving (at 102 21
 
 abbrev pub end_of_mission_shows : List (List Item)
 end_of_mission_shows =
-    over_the_border_shows ++ nothing ∷ shows (IsShut ∷ IsOpen ∷ times 5 (Given 1) ++ IsShut ∷ []) [] ((0 ∷ []) ∷ [] ∷ []) ∷ []
+    over_the_border_shows ++ nothing
+    ∷ shows (IsShut ∷ IsOpen ∷ times 5 (Given 1) ++ IsShut ∷ []) [] ((0 ∷ []) ∷ [] ∷ []) ∷ []
 
 -- behind sections 1 and 3, which are A's, section 2 is left of the hand, and these are the marks of B's sections 4 to 6
 abbrev pub shows_section_2 : (marks : List Mark) (wished : List ℕ) → List Item
-shows_section_2 marks wished = shows (IsShut ∷ IsOpen ∷ Given 1 ∷ IsOpen ∷ marks ++ IsShut ∷ []) wished ((0 ∷ []) ∷ [] ∷ [])
+shows_section_2 marks wished =
+    shows (IsShut ∷ IsOpen ∷ Given 1 ∷ IsOpen ∷ marks ++ IsShut ∷ []) wished ((0 ∷ []) ∷ [] ∷ [])
 
--- it ends at standstill: what lies ahead leaves the hand too, what B lent goes home, and the handover is cancelled, so the train is not
--- expected at B any more
+-- it ends at standstill: what lies ahead leaves the hand too, what B lent goes home, and the handover is cancelled, so
+-- the train is not expected at B any more
 abbrev pub end_at_standstill : List Scene
 end_at_standstill =
     over_the_border
@@ -225,7 +232,8 @@ end_at_standstill_with_a_wish_shows =
     ++ (Sends 0 2 (RouteWithdraw 1 5) ∷ Tells (Asked 5) ∷ [])
     ∷ (Sends 1 4 (RouteReturn 1 (record { first = 4; count = 3 })) ∷ Sends 1 5 (Cancel 1 1) ∷ [])
     ∷ shows_section_2 (times 3 (Kept 1)) (5 ∷ [])
-    ∷ (Link Next ∷ []) ∷ (Link Next ∷ Sends 0 3 (RouteInfo 1 (record { first = 7; count = 0 })) ∷ []) ∷ (Link Next ∷ Tells (Told 5) ∷ [])
+    ∷ (Link Next ∷ []) ∷ (Link Next ∷ Sends 0 3 (RouteInfo 1 (record { first = 7; count = 0 })) ∷ [])
+    ∷ (Link Next ∷ Tells (Told 5) ∷ [])
     ∷ shows_section_2 (IsOpen ∷ IsShut ∷ IsOpen ∷ []) [] ∷ []
 
 -- it ends at standstill, with the front still before the hand, or in its last section: nothing lies ahead

@@ -22,7 +22,8 @@ centres_named count = map (λ c. record { name = (65 + c) ∷ []; nid_rbc = c + 
 -- sections of a track, by their lengths and homes in order, from this number on
 abbrev pub sections_on : (track first : ℕ) → List (ℕ × ℕ) → List Section
 sections_on track first parts =
-    map (λ e. record { track = track; metres = e.1.0; home = e.1.1; balise = 100 + e.0 }) (zip (range_with_len first (length parts)) parts)
+    map (λ e. record { track = track; metres = e.1.0; home = e.1.1; balise = 100 + e.0 })
+    (zip (range_with_len first (length parts)) parts)
 
 -- a line with trains 1 and 2, by its centres, the names of its tracks, its sections, and the trains' registrars
 abbrev pub line_of : ℕ → List (List ℕ) → List Section → (registrar_1 registrar_2 : ℕ) → Line
@@ -61,12 +62,14 @@ line_of_a_and_b a b metres = line_of 2 (main ∷ []) (sections_on 0 0 (times a (
 
 -- two tracks of two sections, one of A and one of B
 abbrev pub line_of_two_tracks : Line
-line_of_two_tracks = line_of 2 (main ∷ (98 ∷ []) ∷ []) (sections_on 0 0 (times 2 (1000, 0)) ++ sections_on 1 2 (times 2 (1000, 1))) 0 0
+line_of_two_tracks =
+    line_of 2 (main ∷ (98 ∷ []) ∷ []) (sections_on 0 0 (times 2 (1000, 0)) ++ sections_on 1 2 (times 2 (1000, 1))) 0 0
 
 -- two sections at A, a short one at B and two at C, with trains 1 and 2 registered at one centre
 abbrev pub line_of_three : ℕ → Line
 line_of_three registrar =
-    line_of 3 (main ∷ []) (sections_on 0 0 ((1000, 0) ∷ (1000, 0) ∷ (200, 1) ∷ (1000, 2) ∷ (1000, 2) ∷ [])) registrar registrar
+    line_of 3 (main ∷ []) (sections_on 0 0
+    ((1000, 0) ∷ (1000, 0) ∷ (200, 1) ∷ (1000, 2) ∷ (1000, 2) ∷ [])) registrar registrar
 
 -- ## Trains
 
@@ -96,8 +99,8 @@ in_section_1 = at 101 600 (Some 200)
 abbrev pub group_1 : ℕ
 group_1 = 82021
 
--- what happens, in its order: events, and looks between them at the line, at a frame that was sent, at a centre's clock, and
--- at the trains that were named
+-- what happens, in its order: events, and looks between them at the line, at a frame that was sent, at a centre's
+-- clock, and at the trains that were named
 pub data Scene : Type 0 where
   Happens : (event : Event) → Scene
   Look : Scene
@@ -119,8 +122,8 @@ session t c t_train = train t c t_train InitiationOfSession ∷ train t c (t_tra
 
 -- ## What is seen
 
--- what a section is: kept for a train is one that is in use for it and in no hand. Astray is one in a hand that is not in
--- use at its home
+-- what a section is: kept for a train is one that is in use for it and in no hand. Astray is one in a hand that is not
+-- in use at its home
 pub data Mark : Type 0 where
   IsShut : Mark
   IsOpen : Mark
@@ -134,8 +137,8 @@ pub record View : Type 0 where
   pub wished : List ℕ
   pub supervisors : List (List ℕ)
 
--- what an answer says: what the link says to a frame, messages to trains, frames to a centre with their numbers, words to the
--- interlocking, and the reason of silence; or that nothing was done
+-- what an answer says: what the link says to a frame, messages to trains, frames to a centre with their numbers, words
+-- to the interlocking, and the reason of silence; or that nothing was done
 pub data Item : Type 0 where
   Link : (answer : LinkAnswer) → Item
   Says : (t t_train nid_lrbg : ℕ) (body : TrackBody) → Item
@@ -166,7 +169,8 @@ sent_to d frames = map (λ f. Sends d f.number f.body) frames
 
 abbrev pub items : Line → Answer → List Item
 items l (Answered o) =
-    listed Link o.link ++ map said o.sayings ++ flat_map (λ d. sent_to d (o.frames d)) (all_centres l) ++ map Tells o.words ++ listed Silence o.silence
+    listed Link o.link ++ map said o.sayings ++ flat_map (λ d. sent_to d (o.frames d)) (all_centres l)
+    ++ map Tells o.words ++ listed Silence o.silence
 items l NoCentre = Nowhere ∷ []
 items l NotSent = NeverSent ∷ []
 items l (Fault number) = BadBytes number ∷ []
@@ -194,7 +198,9 @@ mark_of (Out t) = Kept t
 
 -- the mark of a section with this entry at its home
 abbrev pub mark : Line → World → ℕ → Entry → Mark
-mark l w s entry = option_map_or (λ t. if is_used_for t entry then Given t else Astray) (find (is_in_hand l w s) (1 ∷ 2 ∷ [])) (mark_of entry)
+mark l w s entry =
+    option_map_or (λ t. if is_used_for t entry then Given t else Astray) (find (is_in_hand l w s) (1 ∷ 2 ∷ []))
+    (mark_of entry)
 
 -- the centre that has the section
 abbrev pub at_home : Line → World → ℕ → Centre
@@ -221,7 +227,8 @@ played l (Err why) others = (Refused why ∷ []) ∷ []
 unfoldable pub seen_from : Line → List Scene → World → List (List Item)
 seen_from l [] w = []
 seen_from l (Look ∷ scenes) w = (Shows (view l w) ∷ []) ∷ seen_from l scenes w
-seen_from l (LookAtFrame from to number ∷ scenes) w = (ShowsFrame (frame_sent w from to number) ∷ []) ∷ seen_from l scenes w
+seen_from l (LookAtFrame from to number ∷ scenes) w =
+    (ShowsFrame (frame_sent w from to number) ∷ []) ∷ seen_from l scenes w
 seen_from l (LookAtClock c ∷ scenes) w = (ShowsClock (w.at c).clock ∷ []) ∷ seen_from l scenes w
 seen_from l (LookAtTrains ∷ scenes) w = (ShowsTrains w.trains ∷ []) ∷ seen_from l scenes w
 seen_from l (Happens event ∷ scenes) w = played l (world_step l w event) (seen_from l scenes)

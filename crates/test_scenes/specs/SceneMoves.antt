@@ -1,5 +1,5 @@
--- Scenes of starts, requests, shortenings and handovers as moves of the one line centre: each event, and the quiet steps that the
--- line centre takes behind it.
+-- Scenes of starts, requests, shortenings and handovers as moves of the one line centre: each event, and the quiet
+-- steps that the line centre takes behind it.
 use Rattle.std.specs.Prelude.{ℕ, ◌+◌, true, List, [], ◌∷◌, ◌++◌, Some, None, Err}
 use Rattle.std.specs.List.{flat_map}
 use Rattle.rbc_spec.specs.Message.{InitiationOfSession, SessionEstablished, TerminationOfSession, StartOfMission, TrainData, Request, Report, ShorteningGranted, ShorteningRejected, EndOfMission}
@@ -59,17 +59,20 @@ right_comes_moves = plain start_elsewhere ++ followed (Happens (Delivery 1 0 1))
 
 abbrev pub right_serves_a_later_start_moves : List Move
 right_serves_a_later_start_moves =
-    plain (start_elsewhere ++ train 2 0 4 TerminationOfSession ∷ (session 2 0 5 ++ train 2 0 7 (StartOfMission true in_section_1) ∷ []))
+    plain (start_elsewhere ++ train 2 0 4 TerminationOfSession
+    ∷ (session 2 0 5 ++ train 2 0 7 (StartOfMission true in_section_1) ∷ []))
     ++ followed (Happens (Delivery 1 0 1)) (Admit 2 0 ∷ [])
 
 abbrev pub ask_delivered_twice_moves : List Move
-ask_delivered_twice_moves = plain (start_elsewhere ++ Happens (Delivery 0 1 1) ∷ []) ++ unanswered (Happens (Delivery 0 1 2))
+ask_delivered_twice_moves =
+    plain (start_elsewhere ++ Happens (Delivery 0 1 1) ∷ []) ++ unanswered (Happens (Delivery 0 1 2))
 
 -- train 1 has a mission at A, and its start at B is dismissed
 abbrev pub right_is_refused_moves : List Move
 right_is_refused_moves =
     start_moves
-    ++ plain (Happens (Set 1 5) ∷ (session 1 1 20 ++ train 1 1 22 (StartOfMission true (at 105 600 (Some 200))) ∷ Happens (Delivery 1 0 1) ∷ []))
+    ++ plain (Happens (Set 1 5)
+    ∷ (session 1 1 20 ++ train 1 1 22 (StartOfMission true (at 105 600 (Some 200))) ∷ Happens (Delivery 1 0 1) ∷ []))
     ++ followed (Happens (Delivery 0 1 1)) (Dismiss 1 1 ∷ [])
 
 -- ## Requests and reports
@@ -87,10 +90,12 @@ to_the_border_moves = plain (sets 0 1 3) ++ first_authority in_section_1 2 ++ pl
 -- a question and its answer change nothing, and nor does the next request
 abbrev pub round_moves : (k t_train : ℕ) → List Move
 round_moves k t_train =
-    plain (Happens (Delivery 0 1 k) ∷ Happens (Delivery 1 0 k) ∷ []) ++ extends 0 (train 1 0 t_train (Request in_section_1)) []
+    plain (Happens (Delivery 0 1 k) ∷ Happens (Delivery 1 0 k) ∷ [])
+    ++ extends 0 (train 1 0 t_train (Request in_section_1)) []
 
 abbrev pub asks_again_each_round_moves : List Move
-asks_again_each_round_moves = plain (sets 0 1 3) ++ first_authority in_section_1 2 ++ round_moves 1 6 ++ round_moves 2 7 ++ round_moves 3 8
+asks_again_each_round_moves =
+    plain (sets 0 1 3) ++ first_authority in_section_1 2 ++ round_moves 1 6 ++ round_moves 2 7 ++ round_moves 3 8
 
 abbrev pub end_of_the_track_moves : List Move
 end_of_the_track_moves = plain (sets 0 1 1 ++ sets 1 2 2) ++ first_authority in_section_1 0
@@ -104,19 +109,22 @@ no_integrity_moves = to_the_border_moves ++ plain (train 1 0 6 (Report (at 102 2
 -- B lends three sections: they are kept for the train
 abbrev pub route_moves : List Move
 route_moves =
-    plain (sets 0 1 3 ++ sets 1 4 3) ++ first_authority in_section_1 2 ++ followed (Happens (Delivery 0 1 1)) (Keep 1 4 ∷ Keep 1 5 ∷ Keep 1 6 ∷ [])
+    plain (sets 0 1 3 ++ sets 1 4 3) ++ first_authority in_section_1 2
+    ++ followed (Happens (Delivery 0 1 1)) (Keep 1 4 ∷ Keep 1 5 ∷ Keep 1 6 ∷ [])
 
 -- the next request gives them to it, and it is ordered to B
 abbrev pub over_the_border_moves : List Move
 over_the_border_moves =
-    route_moves ++ plain (Happens (Delivery 1 0 1) ∷ []) ++ extends 3 (train 1 0 6 (Request in_section_1)) (Order 1 0 ∷ [])
+    route_moves ++ plain (Happens (Delivery 1 0 1) ∷ [])
+    ++ extends 3 (train 1 0 6 (Request in_section_1)) (Order 1 0 ∷ [])
 
 abbrev pub early_frame_moves : List Move
 early_frame_moves =
     over_the_border_moves
     ++ plain (Happens (Delivery 0 1 3) ∷ [])
     ++ unanswered (Happens (Delivery 0 1 9))
-    ++ plain (Happens (Delivery 0 1 2) ∷ Happens (Delivery 0 1 3) ∷ Happens (Delivery 0 1 3) ∷ Happens (Delivery 0 1 1) ∷ [])
+    ++ plain (Happens (Delivery 0 1 2) ∷ Happens (Delivery 0 1 3) ∷ Happens (Delivery 0 1 3) ∷ Happens (Delivery 0 1 1)
+    ∷ [])
 
 abbrev pub hand_of_32_sections_moves : List Move
 hand_of_32_sections_moves = plain (sets 0 0 40) ++ first_authority (at 101 60 (Some 40)) 31
@@ -138,7 +146,9 @@ abbrev pub lent_come_home : List Move
 lent_come_home = followed (Happens (Delivery 0 1 4)) (Unkeep 1 4 ∷ Unkeep 1 5 ∷ Unkeep 1 6 ∷ [])
 
 abbrev pub ends_at_standstill : List Move
-ends_at_standstill = plain (train 1 0 7 (EndOfMission (at 102 210 (Some 200))) ∷ Happens (Delivery 0 1 2) ∷ Happens (Delivery 0 1 3) ∷ []) ++ lent_come_home
+ends_at_standstill =
+    plain (train 1 0 7 (EndOfMission (at 102 210 (Some 200))) ∷ Happens (Delivery 0 1 2) ∷ Happens (Delivery 0 1 3)
+    ∷ []) ++ lent_come_home
 
 abbrev pub end_at_standstill_moves : List Move
 end_at_standstill_moves =
@@ -158,7 +168,8 @@ end_at_the_end_of_the_hand_moves = over_the_border_moves ++ plain (train 1 0 7 (
 
 abbrev pub unset_in_a_hand_moves : List Move
 unset_in_a_hand_moves =
-    plain (sets 0 1 2 ++ session 1 0 1 ++ train 1 0 3 (StartOfMission true (at 102 600 (Some 700))) ∷ train 1 0 4 (Report in_section_1) ∷ [])
+    plain (sets 0 1 2 ++ session 1 0 1
+    ++ train 1 0 3 (StartOfMission true (at 102 600 (Some 700))) ∷ train 1 0 4 (Report in_section_1) ∷ [])
     ++ followed (Happens (Unset 0 2)) (Propose 1 0 2 ∷ [])
 
 -- section 3 is wished back, and the train is asked to shorten its authority before it
@@ -170,13 +181,15 @@ start_drops_the_proposal_moves =
     plain (sets 0 1 7)
     ++ first_authority in_section_1 6
     ++ asks_before_3
-    ++ plain (train 1 0 6 (Request in_section_1) ∷ train 1 0 7 (StartOfMission true in_section_1) ∷ train 1 0 8 (ShorteningGranted 5 in_section_1)
+    ++ plain (train 1 0 6 (Request in_section_1) ∷ train 1 0 7 (StartOfMission true in_section_1)
+    ∷ train 1 0 8 (ShorteningGranted 5 in_section_1)
     ∷ train 1 0 9 (Request in_section_1) ∷ train 1 0 10 (TrainData in_section_1) ∷ [])
     ++ extends 0 (train 1 0 11 (Request in_section_1)) []
 
 abbrev pub shortening_in_one_centre_moves : List Move
 shortening_in_one_centre_moves =
-    plain (sets 0 1 7) ++ first_authority in_section_1 6 ++ asks_before_3 ++ plain (train 1 0 6 (ShorteningGranted 5 in_section_1) ∷ [])
+    plain (sets 0 1 7) ++ first_authority in_section_1 6 ++ asks_before_3
+    ++ plain (train 1 0 6 (ShorteningGranted 5 in_section_1) ∷ [])
 
 -- the hand is cut; the sections that B lent come home
 abbrev pub late_route_moves : List Move
@@ -188,20 +201,23 @@ late_route_moves =
     ++ plain (Happens (Delivery 1 0 2) ∷ [])
 
 abbrev pub answer_to_another_proposal_moves : List Move
-answer_to_another_proposal_moves = route_moves ++ asks_before_3 ++ plain (train 1 0 6 (ShorteningGranted 4 in_section_1) ∷ [])
+answer_to_another_proposal_moves =
+    route_moves ++ asks_before_3 ++ plain (train 1 0 6 (ShorteningGranted 4 in_section_1) ∷ [])
 
 abbrev pub granted_past_the_proposed_end_moves : List Move
 granted_past_the_proposed_end_moves =
     route_moves ++ asks_before_3 ++ plain (train 1 0 6 (ShorteningGranted 5 (at 102 990 (Some 200))) ∷ [])
 
 abbrev pub another_answer_at_the_border_moves : List Move
-another_answer_at_the_border_moves = to_the_border_moves ++ asks_before_3 ++ plain (train 1 0 6 (ShorteningGranted 4 in_section_1) ∷ [])
+another_answer_at_the_border_moves =
+    to_the_border_moves ++ asks_before_3 ++ plain (train 1 0 6 (ShorteningGranted 4 in_section_1) ∷ [])
 
 abbrev pub asking_again_tries_again_moves : List Move
 asking_again_tries_again_moves =
     to_the_border_moves
     ++ asks_before_3
-    ++ plain (train 1 0 6 (ShorteningGranted 5 (at 102 990 (Some 200))) ∷ train 1 0 7 (ShorteningGranted 5 in_section_1) ∷ [])
+    ++ plain (train 1 0 6 (ShorteningGranted 5 (at 102 990 (Some 200))) ∷ train 1 0 7 (ShorteningGranted 5 in_section_1)
+    ∷ [])
     ++ asks_before_3
     ++ plain (train 1 0 7 (ShorteningRejected 6 in_section_1) ∷ train 1 0 8 (ShorteningRejected 6 in_section_1) ∷ [])
 

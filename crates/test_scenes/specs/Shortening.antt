@@ -27,13 +27,15 @@ abbrev pub unset_in_a_hand : List Scene
 unset_in_a_hand =
     sets 0 1 2
     ++ session 1 0 1
-    ++ train 1 0 3 (StartOfMission true (at 102 600 (Some 700))) ∷ Look ∷ train 1 0 4 (Report in_section_1) ∷ Happens (Unset 0 2) ∷ Look ∷ []
+    ++ train 1 0 3 (StartOfMission true (at 102 600 (Some 700))) ∷ Look ∷ train 1 0 4 (Report in_section_1)
+    ∷ Happens (Unset 0 2) ∷ Look ∷ []
 
 abbrev pub unset_in_a_hand_shows : List (List Item)
 unset_in_a_hand_shows =
     all_done 1 2
     ++ opened 1
-    ++ (Says 1 2 unknown_group TrainAccepted ∷ []) ∷ shows (IsShut ∷ times 2 (Given 1) ++ times 5 IsShut) [] ((0 ∷ []) ∷ [] ∷ [])
+    ++ (Says 1 2 unknown_group TrainAccepted ∷ [])
+    ∷ shows (IsShut ∷ times 2 (Given 1) ++ times 5 IsShut) [] ((0 ∷ []) ∷ [] ∷ [])
     ∷ nothing ∷ (Says 1 3 group_1 (ShorteningRequest 1000) ∷ Tells (Asked 2) ∷ [])
     ∷ shows (IsShut ∷ times 2 (Given 1) ++ times 5 IsShut) (2 ∷ []) ((0 ∷ []) ∷ [] ∷ []) ∷ []
 
@@ -43,7 +45,8 @@ start_drops_the_proposal =
     sets 0 1 7
     ++ start_and_request in_section_1
     ++ Happens (Unset 0 3) ∷ train 1 0 6 (Request in_section_1) ∷ train 1 0 7 (StartOfMission true in_section_1)
-    ∷ train 1 0 8 (ShorteningGranted 5 in_section_1) ∷ train 1 0 9 (Request in_section_1) ∷ train 1 0 10 (TrainData in_section_1)
+    ∷ train 1 0 8 (ShorteningGranted 5 in_section_1) ∷ train 1 0 9 (Request in_section_1)
+    ∷ train 1 0 10 (TrainData in_section_1)
     ∷ train 1 0 11 (Request in_section_1) ∷ []
 
 abbrev pub start_drops_the_proposal_shows : List (List Item)
@@ -57,7 +60,8 @@ start_drops_the_proposal_shows =
 -- a hand of seven sections of one centre is cut before section 3
 abbrev pub shortening_in_one_centre : List Scene
 shortening_in_one_centre =
-    sets 0 1 7 ++ start_and_request in_section_1 ++ Look ∷ Happens (Unset 0 3) ∷ train 1 0 6 (ShorteningGranted 5 in_section_1) ∷ Look ∷ []
+    sets 0 1 7 ++ start_and_request in_section_1
+    ++ Look ∷ Happens (Unset 0 3) ∷ train 1 0 6 (ShorteningGranted 5 in_section_1) ∷ Look ∷ []
 
 abbrev pub shortening_in_one_centre_shows : List (List Item)
 shortening_in_one_centre_shows =
@@ -74,7 +78,8 @@ abbrev pub shortening_and_a_late_route : List Scene
 shortening_and_a_late_route =
     route_on_the_way
     ++ Happens (Unset 0 3) ∷ Look ∷ train 1 0 6 (ShorteningGranted 5 in_section_1) ∷ Look
-    ∷ Happens (Delivery 1 0 1) ∷ Happens (Unset 1 4) ∷ Look ∷ Happens (Delivery 0 1 2) ∷ Look ∷ Happens (Delivery 1 0 2) ∷ Look ∷ []
+    ∷ Happens (Delivery 1 0 1) ∷ Happens (Unset 1 4) ∷ Look ∷ Happens (Delivery 0 1 2) ∷ Look ∷ Happens (Delivery 1 0 2)
+    ∷ Look ∷ []
 
 -- sections 1 and 2 are left to the train, with these marks of sections 4 to 6
 abbrev pub shortening_and_a_late_route_shows : List (List Item)
@@ -92,7 +97,8 @@ shortening_and_a_late_route_shows =
 
 -- the train answers an earlier message
 abbrev pub answer_to_another_proposal : List Scene
-answer_to_another_proposal = route_on_the_way ++ Happens (Unset 0 3) ∷ train 1 0 6 (ShorteningGranted 4 in_section_1) ∷ Look ∷ []
+answer_to_another_proposal =
+    route_on_the_way ++ Happens (Unset 0 3) ∷ train 1 0 6 (ShorteningGranted 4 in_section_1) ∷ Look ∷ []
 
 abbrev pub answer_to_another_proposal_shows : List (List Item)
 answer_to_another_proposal_shows = route_on_the_way_shows ++ asks_to_shorten 5 ∷ silent Unasked ∷ shows_wished ∷ []
@@ -108,17 +114,21 @@ granted_past_the_proposed_end_shows = route_on_the_way_shows ++ asks_to_shorten 
 -- ## At a border with no route
 
 abbrev pub another_answer_at_the_border : List Scene
-another_answer_at_the_border = request_to_the_border ++ Happens (Unset 0 3) ∷ train 1 0 6 (ShorteningGranted 4 in_section_1) ∷ Look ∷ []
+another_answer_at_the_border =
+    request_to_the_border ++ Happens (Unset 0 3) ∷ train 1 0 6 (ShorteningGranted 4 in_section_1) ∷ Look ∷ []
 
 abbrev pub another_answer_at_the_border_shows : List (List Item)
-another_answer_at_the_border_shows = request_to_the_border_shows ++ asks_to_shorten 5 ∷ silent Unasked ∷ shows_wished_at_the_border ∷ []
+another_answer_at_the_border_shows =
+    request_to_the_border_shows ++ asks_to_shorten 5 ∷ silent Unasked ∷ shows_wished_at_the_border ∷ []
 
 -- a proposal is dropped, asked for again, and rejected
 abbrev pub asking_again_tries_again : List Scene
 asking_again_tries_again =
     request_to_the_border
-    ++ Happens (Unset 0 3) ∷ train 1 0 6 (ShorteningGranted 5 (at 102 990 (Some 200))) ∷ Look ∷ train 1 0 7 (ShorteningGranted 5 in_section_1)
-    ∷ Happens (Unset 0 3) ∷ train 1 0 7 (ShorteningRejected 6 in_section_1) ∷ train 1 0 8 (ShorteningRejected 6 in_section_1) ∷ Look ∷ []
+    ++ Happens (Unset 0 3) ∷ train 1 0 6 (ShorteningGranted 5 (at 102 990 (Some 200))) ∷ Look
+    ∷ train 1 0 7 (ShorteningGranted 5 in_section_1)
+    ∷ Happens (Unset 0 3) ∷ train 1 0 7 (ShorteningRejected 6 in_section_1)
+    ∷ train 1 0 8 (ShorteningRejected 6 in_section_1) ∷ Look ∷ []
 
 abbrev pub asking_again_tries_again_shows : List (List Item)
 asking_again_tries_again_shows =

@@ -40,7 +40,8 @@ set_and_unset =
 abbrev pub set_and_unset_shows : List (List Item)
 set_and_unset_shows =
     done 0 ∷ done 0 ∷ done 7 ∷ done 0 ∷ done 1
-    ∷ (Tells (NotHome 4) ∷ []) ∷ (Tells (NotHome 3) ∷ []) ∷ (Tells (NotHome 8) ∷ []) ∷ (Tells (NotHome 65535) ∷ []) ∷ (Tells (NotHome 4) ∷ [])
+    ∷ (Tells (NotHome 4) ∷ []) ∷ (Tells (NotHome 3) ∷ []) ∷ (Tells (NotHome 8) ∷ []) ∷ (Tells (NotHome 65535) ∷ [])
+    ∷ (Tells (NotHome 4) ∷ [])
     ∷ shows (times 7 IsShut ++ IsOpen ∷ []) [] ([] ∷ [] ∷ []) ∷ done 3
     ∷ shows (times 3 IsShut ++ IsOpen ∷ times 3 IsShut ++ IsOpen ∷ []) [] ([] ∷ [] ∷ []) ∷ []
 
@@ -63,20 +64,25 @@ session_opens_again_shows = (Says 1 1 unknown_group SystemVersion ∷ []) ∷ si
 -- trains are listed as they are first named: one that the line has not isn't, and nowhere but at a centre
 abbrev pub trains_are_named : List Scene
 trains_are_named =
-    train 3 0 1 InitiationOfSession ∷ LookAtTrains ∷ train 1 2 1 InitiationOfSession ∷ Happens (Bytes 0 (Err 3)) ∷ Happens (Bytes 2 (Err 3)) ∷ LookAtTrains
-    ∷ train 2 1 1 SessionEstablished ∷ LookAtTrains ∷ train 1 0 1 InitiationOfSession ∷ train 2 0 1 InitiationOfSession ∷ LookAtTrains ∷ []
+    train 3 0 1 InitiationOfSession ∷ LookAtTrains ∷ train 1 2 1 InitiationOfSession ∷ Happens (Bytes 0 (Err 3))
+    ∷ Happens (Bytes 2 (Err 3)) ∷ LookAtTrains
+    ∷ train 2 1 1 SessionEstablished ∷ LookAtTrains ∷ train 1 0 1 InitiationOfSession ∷ train 2 0 1 InitiationOfSession
+    ∷ LookAtTrains ∷ []
 
 abbrev pub trains_are_named_show : List (List Item)
 trains_are_named_show =
-    silent ForeignEngine ∷ (ShowsTrains [] ∷ []) ∷ (Nowhere ∷ []) ∷ (BadBytes 3 ∷ []) ∷ (Nowhere ∷ []) ∷ (ShowsTrains [] ∷ [])
-    ∷ silent NoSession ∷ (ShowsTrains (2 ∷ []) ∷ []) ∷ (Says 1 1 unknown_group SystemVersion ∷ []) ∷ (Says 2 1 unknown_group SystemVersion ∷ [])
+    silent ForeignEngine ∷ (ShowsTrains [] ∷ []) ∷ (Nowhere ∷ []) ∷ (BadBytes 3 ∷ []) ∷ (Nowhere ∷ [])
+    ∷ (ShowsTrains [] ∷ [])
+    ∷ silent NoSession ∷ (ShowsTrains (2 ∷ []) ∷ []) ∷ (Says 1 1 unknown_group SystemVersion ∷ [])
+    ∷ (Says 2 1 unknown_group SystemVersion ∷ [])
     ∷ (ShowsTrains (2 ∷ 1 ∷ []) ∷ []) ∷ []
 
 -- a session is opened over one that is up
 abbrev pub session_opens_over_a_session : List Scene
 session_opens_over_a_session =
     session 1 0 1
-    ++ train 1 0 3 InitiationOfSession ∷ train 1 0 4 (Report in_section_1) ∷ train 1 0 4 SessionEstablished ∷ train 1 0 5 (Report in_section_1) ∷ []
+    ++ train 1 0 3 InitiationOfSession ∷ train 1 0 4 (Report in_section_1) ∷ train 1 0 4 SessionEstablished
+    ∷ train 1 0 5 (Report in_section_1) ∷ []
 
 abbrev pub session_opens_over_a_session_shows : List (List Item)
 session_opens_over_a_session_shows =
@@ -107,7 +113,8 @@ messages_without_a_session_show =
 abbrev pub messages_before_the_session_is_up : List Scene
 messages_before_the_session_is_up =
     train 1 0 1 InitiationOfSession ∷ train 1 0 3 (TrainData in_section_1) ∷ train 1 0 3 (Request in_section_1)
-    ∷ train 1 0 3 (Report in_section_1) ∷ train 1 0 3 (ShorteningGranted 2 in_section_1) ∷ train 1 0 3 (ShorteningRejected 2 in_section_1)
+    ∷ train 1 0 3 (Report in_section_1) ∷ train 1 0 3 (ShorteningGranted 2 in_section_1)
+    ∷ train 1 0 3 (ShorteningRejected 2 in_section_1)
     ∷ train 1 0 3 (EndOfMission in_section_1) ∷ train 1 0 3 (StartOfMission true in_section_1)
     ∷ train 1 0 2 SessionEstablished ∷ train 1 0 3 SessionEstablished ∷ train 1 0 3 TerminationOfSession ∷ []
 
@@ -135,9 +142,12 @@ messages_without_a_mission_show =
 -- where several reasons hold, the first is given
 abbrev pub first_reason : List Scene
 first_reason =
-    train 3 0 1 TerminationOfSession ∷ train 1 0 5 InitiationOfSession ∷ train 1 0 5 SessionEstablished ∷ train 1 0 6 SessionEstablished
-    ∷ train 1 0 6 (Report in_section_1) ∷ train 1 0 7 TerminationOfSession ∷ train 1 0 7 SessionEstablished ∷ train 1 0 8 SessionEstablished
-    ∷ train 1 0 8 InitiationOfSession ∷ train 1 0 8 (EndOfMission in_section_1) ∷ train 1 0 9 (EndOfMission in_section_1) ∷ []
+    train 3 0 1 TerminationOfSession ∷ train 1 0 5 InitiationOfSession ∷ train 1 0 5 SessionEstablished
+    ∷ train 1 0 6 SessionEstablished
+    ∷ train 1 0 6 (Report in_section_1) ∷ train 1 0 7 TerminationOfSession ∷ train 1 0 7 SessionEstablished
+    ∷ train 1 0 8 SessionEstablished
+    ∷ train 1 0 8 InitiationOfSession ∷ train 1 0 8 (EndOfMission in_section_1)
+    ∷ train 1 0 9 (EndOfMission in_section_1) ∷ []
 
 abbrev pub first_reason_shows : List (List Item)
 first_reason_shows =
@@ -180,22 +190,26 @@ request_without_train_data_shows = start_shows ++ silent NoTrainData ∷ shows_t
 
 -- the session ends, the hand stays
 abbrev pub hand_outlives_the_session : List Scene
-hand_outlives_the_session = start ++ train 1 0 4 TerminationOfSession ∷ Look ∷ train 1 0 5 (Request in_section_1) ∷ Look ∷ []
+hand_outlives_the_session =
+    start ++ train 1 0 4 TerminationOfSession ∷ Look ∷ train 1 0 5 (Request in_section_1) ∷ Look ∷ []
 
 abbrev pub hand_outlives_the_session_shows : List (List Item)
 hand_outlives_the_session_shows =
     start_shows
-    ++ (Says 1 3 unknown_group TerminationAcknowledged ∷ []) ∷ shows_train_1_in_section_1 ∷ silent NoSession ∷ shows_train_1_in_section_1 ∷ []
+    ++ (Says 1 3 unknown_group TerminationAcknowledged ∷ []) ∷ shows_train_1_in_section_1 ∷ silent NoSession
+    ∷ shows_train_1_in_section_1 ∷ []
 
 -- the mission is ended, and starts again within its hand
 abbrev pub start_after_the_end_of_mission : List Scene
 start_after_the_end_of_mission =
     start
-    ++ train 1 0 4 (EndOfMission in_section_1) ∷ train 1 0 5 (TrainData in_section_1) ∷ train 1 0 6 (StartOfMission true in_section_1) ∷ Look ∷ []
+    ++ train 1 0 4 (EndOfMission in_section_1) ∷ train 1 0 5 (TrainData in_section_1)
+    ∷ train 1 0 6 (StartOfMission true in_section_1) ∷ Look ∷ []
 
 abbrev pub start_after_the_end_of_mission_shows : List (List Item)
 start_after_the_end_of_mission_shows =
-    start_shows ++ nothing ∷ silent MissionEnded ∷ (Says 1 3 unknown_group TrainAccepted ∷ []) ∷ shows_train_1_in_section_1 ∷ []
+    start_shows ++ nothing ∷ silent MissionEnded ∷ (Says 1 3 unknown_group TrainAccepted ∷ [])
+    ∷ shows_train_1_in_section_1 ∷ []
 
 -- the first section of a hand is wished back and no more
 abbrev pub unset_of_the_first_section : List Scene
@@ -211,13 +225,16 @@ unset_of_the_first_section_shows =
 
 -- train 2, which is registered at B, starts at A
 abbrev pub start_elsewhere : List Scene
-start_elsewhere = Happens (Set 0 1) ∷ (session 2 0 1 ++ train 2 0 3 (StartOfMission true in_section_1) ∷ Look ∷ Happens (Delivery 0 1 1) ∷ [])
+start_elsewhere =
+    Happens (Set 0 1) ∷ (session 2 0 1
+    ++ train 2 0 3 (StartOfMission true in_section_1) ∷ Look ∷ Happens (Delivery 0 1 1) ∷ [])
 
 abbrev pub start_elsewhere_shows : List (List Item)
 start_elsewhere_shows =
     done 1
     ∷ (opened 2
-    ++ (Sends 1 1 (AskRight 2) ∷ []) ∷ shows_section_1 (Kept 2) ([] ∷ [] ∷ []) ∷ (Link Next ∷ Sends 0 1 (GiveRight 2) ∷ []) ∷ [])
+    ++ (Sends 1 1 (AskRight 2) ∷ []) ∷ shows_section_1 (Kept 2) ([] ∷ [] ∷ [])
+    ∷ (Link Next ∷ Sends 0 1 (GiveRight 2) ∷ []) ∷ [])
 
 -- its right comes from B
 abbrev pub right_comes : List Scene
@@ -265,7 +282,8 @@ abbrev pub ask_delivered_twice : List Scene
 ask_delivered_twice = start_elsewhere ++ Happens (Delivery 0 1 1) ∷ Happens (Delivery 0 1 2) ∷ Look ∷ []
 
 abbrev pub ask_delivered_twice_shows : List (List Item)
-ask_delivered_twice_shows = start_elsewhere_shows ++ (Link Old ∷ []) ∷ (NeverSent ∷ []) ∷ shows_section_1 (Kept 2) ([] ∷ [] ∷ []) ∷ []
+ask_delivered_twice_shows =
+    start_elsewhere_shows ++ (Link Old ∷ []) ∷ (NeverSent ∷ []) ∷ shows_section_1 (Kept 2) ([] ∷ [] ∷ []) ∷ []
 
 -- train 1 has a mission at A and starts at B: its right is refused
 abbrev pub right_is_refused : List Scene
@@ -273,13 +291,15 @@ right_is_refused =
     start
     ++ Happens (Set 1 5)
     ∷ (session 1 1 20
-    ++ train 1 1 22 (StartOfMission true (at 105 600 (Some 200))) ∷ Look ∷ Happens (Delivery 1 0 1) ∷ Happens (Delivery 0 1 1) ∷ Look ∷ [])
+    ++ train 1 1 22 (StartOfMission true (at 105 600 (Some 200))) ∷ Look ∷ Happens (Delivery 1 0 1)
+    ∷ Happens (Delivery 0 1 1) ∷ Look ∷ [])
 
 abbrev pub right_is_refused_shows : List (List Item)
 right_is_refused_shows =
     start_shows
     ++ done 5
     ∷ (opened 1
-    ++ (Sends 0 1 (AskRight 1) ∷ []) ∷ shows (IsShut ∷ Given 1 ∷ times 3 IsShut ++ Kept 1 ∷ times 2 IsShut) [] ((0 ∷ []) ∷ [] ∷ [])
+    ++ (Sends 0 1 (AskRight 1) ∷ [])
+    ∷ shows (IsShut ∷ Given 1 ∷ times 3 IsShut ++ Kept 1 ∷ times 2 IsShut) [] ((0 ∷ []) ∷ [] ∷ [])
     ∷ (Link Next ∷ Sends 1 1 (RefuseRight 1) ∷ []) ∷ (Link Next ∷ Says 1 2 unknown_group TrainRejected ∷ [])
     ∷ shows (IsShut ∷ Given 1 ∷ times 3 IsShut ++ IsOpen ∷ times 2 IsShut) [] ((0 ∷ []) ∷ [] ∷ []) ∷ [])

@@ -78,7 +78,12 @@ abbrev pub delivered_as : Line → ℕ → Result (Outcome × Centre) Refusal �
 delivered_as l d (Ok (o, k)) = Some (record {
   link = o.link;
   taken = k.taken d;
-  effect = effect_of l (record { state = k; frames = λ e. map (λ f. f.body) (o.frames e); sayings = o.sayings; words = o.words });
+  effect = effect_of l (record {
+    state = k;
+    frames = λ e. map (λ f. f.body) (o.frames e);
+    sayings = o.sayings;
+    words = o.words;
+  });
 })
 delivered_as l d (Err why) = None
 
@@ -187,16 +192,18 @@ mission_at_a hand pool handing = record {
 
 -- ## Frames
 
--- of an engine, section or track that the line has not; without a question that stands, or with another first section; of rights that are
--- here, or whose registrar is elsewhere; of no handover
+-- of an engine, section or track that the line has not; without a question that stands, or with another first section;
+-- of rights that are here, or whose registrar is elsewhere; of no handover
 abbrev pub strays_to_a : List Body
 strays_to_a =
     AskRight 2 ∷ AskRight 3 ∷ GiveRight 1 ∷ GiveRight 3 ∷ RefuseRight 1 ∷ ReturnRight 1 ∷ ReturnRight 2
     ∷ RouteAsk 1 8 5 ∷ RouteAsk 3 1 5
-    ∷ RouteInfo 1 (record { first = 5; count = 1 }) ∷ RouteInfo 1 (record { first = 4; count = 5 }) ∷ RouteInfo 2 (record { first = 4; count = 1 })
+    ∷ RouteInfo 1 (record { first = 5; count = 1 }) ∷ RouteInfo 1 (record { first = 4; count = 5 })
+    ∷ RouteInfo 2 (record { first = 4; count = 1 })
     ∷ RouteInfo 3 (record { first = 4; count = 1 })
     ∷ RouteWithdraw 1 7 ∷ RouteWithdraw 1 9 ∷ RouteWithdraw 2 2
-    ∷ RouteReturn 1 (record { first = 1; count = 1 }) ∷ RouteReturn 1 (record { first = 7; count = 2 }) ∷ RouteReturn 2 (record { first = 1; count = 3 })
+    ∷ RouteReturn 1 (record { first = 1; count = 1 }) ∷ RouteReturn 1 (record { first = 7; count = 2 })
+    ∷ RouteReturn 2 (record { first = 1; count = 3 })
     ∷ Announce 1 1 1 ∷ Announce 1 3 0 ∷ Cancel 1 1 ∷ TakingOver 1 1 ∷ the_yield ∷ []
 
 -- sections of A from B, which is not their home
@@ -219,17 +226,22 @@ yield_of number t track group front hand =
 abbrev pub one_to_six : SectionRun
 one_to_six = record { first = 1; count = 6 }
 
--- under another number, of another train, with a track that is not the hand's, a group that is not of the line, a front before the group, an own
--- section that is not out, and sections that the line has not
+-- under another number, of another train, with a track that is not the hand's, a group that is not of the line, a front
+-- before the group, an own section that is not out, and sections that the line has not
 abbrev pub strays_to_the_taking : List Body
 strays_to_the_taking =
-    yield_of 2 1 0 group_1 (pos 16200) one_to_six ∷ yield_of 1 2 0 group_1 (pos 16200) one_to_six ∷ yield_of 1 3 0 group_1 (pos 16200) one_to_six
-    ∷ yield_of 1 1 1 group_1 (pos 16200) one_to_six ∷ yield_of 1 1 0 82100 (pos 16200) one_to_six ∷ yield_of 1 1 0 group_1 (pos 9999) one_to_six
-    ∷ yield_of 1 1 0 group_1 (pos 16200) (record { first = 1; count = 7 }) ∷ yield_of 1 1 0 group_1 (pos 16200) (record { first = 5; count = 5 }) ∷ []
+    yield_of 2 1 0 group_1 (pos 16200) one_to_six ∷ yield_of 1 2 0 group_1 (pos 16200) one_to_six
+    ∷ yield_of 1 3 0 group_1 (pos 16200) one_to_six
+    ∷ yield_of 1 1 1 group_1 (pos 16200) one_to_six ∷ yield_of 1 1 0 82100 (pos 16200) one_to_six
+    ∷ yield_of 1 1 0 group_1 (pos 9999) one_to_six
+    ∷ yield_of 1 1 0 group_1 (pos 16200) (record { first = 1; count = 7 })
+    ∷ yield_of 1 1 0 group_1 (pos 16200) (record { first = 5; count = 5 }) ∷ []
 
 -- a front before the track: one decimetre, and as far as its four bytes go
 abbrev pub fronts_before_the_track : List Body
-fronts_before_the_track = yield_of 1 1 0 group_1 (pos 0 -ℤ pos 1) one_to_six ∷ yield_of 1 1 0 group_1 (pos 0 -ℤ pos 2147483648) one_to_six ∷ []
+fronts_before_the_track =
+    yield_of 1 1 0 group_1 (pos 0 -ℤ pos 1) one_to_six ∷ yield_of 1 1 0 group_1 (pos 0 -ℤ pos 2147483648) one_to_six
+    ∷ []
 
 -- a front at the start of its group is taken
 abbrev pub least_front : Body
@@ -239,7 +251,15 @@ abbrev pub missions_taken : List (Option Mission)
 missions_taken = map (λ body. (received line 1 0 body taking_over).state.mission 1) (the_yield ∷ least_front ∷ [])
 
 abbrev pub mission_at : ℕ → Mission
-mission_at front = record (mission_at_a one_to_six no_run None) { place = record { track = 0; group = group_1; front = front; rear = Some (pos 13900) } }
+mission_at front =
+    record (mission_at_a one_to_six no_run None) {
+      place = record {
+        track = 0;
+        group = group_1;
+        front = front;
+        rear = Some (pos 13900);
+      };
+    }
 
 -- ## What they come to
 
@@ -250,7 +270,8 @@ calm_asking = calm_at_a (mission_at_a (record { first = 1; count = 3 }) no_run N
 -- its hand of six is announced to B
 abbrev pub calm_announcing : Effect
 calm_announcing =
-    calm_at_a (mission_at_a one_to_six (record { first = 7; count = 0 }) (Some (record { number = 1; to = 1 }))) 6 6 (Some 7) 1
+    calm_at_a (mission_at_a one_to_six (record { first = 7; count = 0 }) (Some (record { number = 1; to = 1 }))) 6 6
+    (Some 7) 1
 
 abbrev pub calm_expecting : Effect
 calm_expecting = calm_at_b Closed None 0 (record { number = 1; is_taking = false })

@@ -25,13 +25,15 @@ from_the_first_shows =
     ++ (Link Next ∷ Sends 0 1 (RouteInfo 1 (record { first = 2; count = 1 })) ∷ [])
     ∷ shows (IsShut ∷ Given 1 ∷ Kept 1 ∷ IsOpen ∷ IsShut ∷ []) [] ((0 ∷ []) ∷ [] ∷ [])
     ∷ (Link Next ∷ [])
-    ∷ (Says 1 5 group_1 (Authority 1200) ∷ Says 1 6 group_1 (Transition 1000 5 2) ∷ Sends 1 2 (Announce 1 1 0) ∷ []) ∷ [])
+    ∷ (Says 1 5 group_1 (Authority 1200) ∷ Says 1 6 group_1 (Transition 1000 5 2) ∷ Sends 1 2 (Announce 1 1 0) ∷ [])
+    ∷ [])
 
 abbrev pub border_of_the_first : List Scene
 border_of_the_first = from_the_first ++ Look ∷ []
 
 abbrev pub border_of_the_first_shows : List (List Item)
-border_of_the_first_shows = from_the_first_shows ++ shows (IsShut ∷ Given 1 ∷ Given 1 ∷ IsOpen ∷ IsShut ∷ []) [] ((0 ∷ []) ∷ [] ∷ []) ∷ []
+border_of_the_first_shows =
+    from_the_first_shows ++ shows (IsShut ∷ Given 1 ∷ Given 1 ∷ IsOpen ∷ IsShut ∷ []) [] ((0 ∷ []) ∷ [] ∷ []) ∷ []
 
 -- in section 2, with the rear still in section 1
 abbrev pub in_section_2 : Position
@@ -48,7 +50,8 @@ from_the_second =
     ++ Happens (Delivery 0 1 2)
     ∷ (session 1 1 7
     ++ train 1 1 9 (Report in_section_2) ∷ Happens (Delivery 1 0 2) ∷ Look ∷ Happens (Delivery 0 1 3) ∷ Look
-    ∷ train 1 1 10 (Request in_section_2) ∷ Happens (Delivery 1 2 1) ∷ Happens (Delivery 2 1 1) ∷ train 1 1 11 (Request in_section_2) ∷ [])
+    ∷ train 1 1 10 (Request in_section_2) ∷ Happens (Delivery 1 2 1) ∷ Happens (Delivery 2 1 1)
+    ∷ train 1 1 11 (Request in_section_2) ∷ [])
 
 abbrev pub from_the_second_shows : List (List Item)
 from_the_second_shows =
@@ -100,7 +103,8 @@ yielded_on = to_the_third ++ Happens (Delivery 2 1 2) ∷ Happens (Delivery 2 1 
 abbrev pub yielded_on_shows : List (List Item)
 yielded_on_shows =
     to_the_third_shows
-    ++ (Link Next ∷ []) ∷ (Link Next ∷ Sends 2 4 (Yield 1 1 11 true false last_at_b (record { first = 1; count = 3 })) ∷ []) ∷ []
+    ++ (Link Next ∷ []) ∷ (Link Next ∷ Sends 2 4 (Yield 1 1 11 true false last_at_b (record { first = 1; count = 3 }))
+    ∷ []) ∷ []
 
 abbrev pub yield_with_a_third_home : List Scene
 yield_with_a_third_home = yielded_on ++ Look ∷ Happens (Delivery 1 2 4) ∷ Look ∷ []
@@ -112,23 +116,27 @@ shows_at_the_third wished = shows (IsShut ∷ times 3 (Given 1) ++ IsShut ∷ []
 abbrev pub yield_with_a_third_home_shows : List (List Item)
 yield_with_a_third_home_shows =
     yielded_on_shows
-    ++ shows (IsShut ∷ times 3 (Given 1) ++ IsShut ∷ []) [] ([] ∷ [] ∷ []) ∷ (Link Next ∷ []) ∷ shows_at_the_third [] ∷ []
+    ++ shows (IsShut ∷ times 3 (Given 1) ++ IsShut ∷ []) [] ([] ∷ [] ∷ []) ∷ (Link Next ∷ []) ∷ shows_at_the_third []
+    ∷ []
 
 -- in section 3, with sections 1 and 2 behind the rear
 abbrev pub in_section_3 : Position
 in_section_3 = at 103 300 (Some 200)
 
--- C sends both cleared sections home, each to its centre, which ends its session as it has nothing of the train any more
+-- C sends both cleared sections home, each to its centre, which ends its session as it has nothing of the train any
+-- more
 abbrev pub each_home_gets_its_section_back : List Scene
 each_home_gets_its_section_back =
     yielded_on
-    ++ Happens (Delivery 1 2 4) ∷ train 1 2 15 (Report in_section_3) ∷ Look ∷ Happens (Delivery 2 0 1) ∷ Look ∷ Happens (Delivery 2 1 4) ∷ Look ∷ []
+    ++ Happens (Delivery 1 2 4) ∷ train 1 2 15 (Report in_section_3) ∷ Look ∷ Happens (Delivery 2 0 1) ∷ Look
+    ∷ Happens (Delivery 2 1 4) ∷ Look ∷ []
 
 abbrev pub each_home_gets_its_section_back_shows : List (List Item)
 each_home_gets_its_section_back_shows =
     yielded_on_shows
     ++ (Link Next ∷ [])
-    ∷ (Sends 0 1 (RouteReturn 1 (record { first = 1; count = 1 })) ∷ Sends 1 4 (RouteReturn 1 (record { first = 2; count = 1 })) ∷ [])
+    ∷ (Sends 0 1 (RouteReturn 1 (record { first = 1; count = 1 }))
+    ∷ Sends 1 4 (RouteReturn 1 (record { first = 2; count = 1 })) ∷ [])
     ∷ shows (IsShut ∷ Kept 1 ∷ Kept 1 ∷ Given 1 ∷ IsShut ∷ []) [] ((2 ∷ []) ∷ [] ∷ [])
     ∷ (Link Next ∷ Says 1 7 unknown_group (EndSession 5 1) ∷ [])
     ∷ shows (IsShut ∷ IsOpen ∷ Kept 1 ∷ Given 1 ∷ IsShut ∷ []) [] ((2 ∷ []) ∷ [] ∷ [])
@@ -146,9 +154,11 @@ abbrev pub wish_at_a_third_centre_shows : List (List Item)
 wish_at_a_third_centre_shows =
     yielded_on_shows
     ++ (Link Next ∷ [])
-    ∷ (Sends 1 4 (RouteWithdraw 1 1) ∷ Sends 2 1 (RouteWithdraw 1 1) ∷ Tells (Asked 1) ∷ []) ∷ (Link Next ∷ []) ∷ (Link Next ∷ [])
+    ∷ (Sends 1 4 (RouteWithdraw 1 1) ∷ Sends 2 1 (RouteWithdraw 1 1) ∷ Tells (Asked 1) ∷ []) ∷ (Link Next ∷ [])
+    ∷ (Link Next ∷ [])
     ∷ shows_at_the_third (1 ∷ [])
-    ∷ (Sends 0 1 (RouteReturn 1 (record { first = 1; count = 1 })) ∷ Sends 1 4 (RouteReturn 1 (record { first = 2; count = 1 })) ∷ [])
+    ∷ (Sends 0 1 (RouteReturn 1 (record { first = 1; count = 1 }))
+    ∷ Sends 1 4 (RouteReturn 1 (record { first = 2; count = 1 })) ∷ [])
     ∷ shows (IsShut ∷ Kept 1 ∷ Kept 1 ∷ Given 1 ∷ IsShut ∷ []) (1 ∷ []) ((2 ∷ []) ∷ [] ∷ [])
     ∷ (Link Next ∷ Says 1 7 unknown_group (EndSession 5 1) ∷ Tells (Told 1) ∷ [])
     ∷ shows (IsShut ∷ IsShut ∷ Kept 1 ∷ Given 1 ∷ IsShut ∷ []) [] ((2 ∷ []) ∷ [] ∷ []) ∷ []
@@ -157,7 +167,8 @@ wish_at_a_third_centre_shows =
 abbrev pub ended_mission_is_yielded : List Scene
 ended_mission_is_yielded =
     to_the_third
-    ++ train 1 1 15 (EndOfMission (at 103 210 (Some 200))) ∷ Happens (Delivery 2 1 2) ∷ Happens (Delivery 2 1 3) ∷ Look ∷ Happens (Delivery 1 2 4)
+    ++ train 1 1 15 (EndOfMission (at 103 210 (Some 200))) ∷ Happens (Delivery 2 1 2) ∷ Happens (Delivery 2 1 3) ∷ Look
+    ∷ Happens (Delivery 1 2 4)
     ∷ train 1 2 15 (Request (at 103 210 (Some 200))) ∷ train 1 2 16 (Request (at 103 210 (Some 200))) ∷ Look ∷ []
 
 abbrev pub ended_mission_is_yielded_shows : List (List Item)
@@ -165,17 +176,20 @@ ended_mission_is_yielded_shows =
     to_the_third_shows
     ++ (Sends 0 3 (RouteReturn 1 (record { first = 1; count = 1 })) ∷ []) ∷ (Link Next ∷ [])
     ∷ (Link Next ∷ Says 1 5 unknown_group (EndSession 5 2)
-    ∷ Sends 2 4 (Yield 1 1 15 true true (record { track = 0; group = 82023; front = pos 24300; rear = Some (pos 22000) }) (record { first = 3; count = 1 })) ∷ [])
+    ∷ Sends 2 4 (Yield 1 1 15 true true
+    (record { track = 0; group = 82023; front = pos 24300; rear = Some (pos 22000) })
+    (record { first = 3; count = 1 })) ∷ [])
     ∷ shows (IsShut ∷ Kept 1 ∷ IsOpen ∷ Given 1 ∷ IsShut ∷ []) [] ([] ∷ [] ∷ [])
     ∷ (Link Next ∷ []) ∷ (Silence StaleStamp ∷ []) ∷ (Silence MissionEnded ∷ [])
     ∷ shows (IsShut ∷ Kept 1 ∷ IsOpen ∷ Given 1 ∷ IsShut ∷ []) [] ((2 ∷ []) ∷ [] ∷ []) ∷ []
 
--- a mission that ends at B at standstill, in B's section, gives C's section back, so its handover is cancelled; A's section is behind the train and
--- stays. C has said that it takes over, and does not get the mission
+-- a mission that ends at B at standstill, in B's section, gives C's section back, so its handover is cancelled; A's
+-- section is behind the train and stays. C has said that it takes over, and does not get the mission
 abbrev pub stands_still_before_the_third : List Scene
 stands_still_before_the_third =
     to_the_third
-    ++ train 1 1 15 (EndOfMission in_section_2) ∷ Look ∷ Happens (Delivery 2 1 2) ∷ Happens (Delivery 2 1 3) ∷ Happens (Delivery 1 2 4) ∷ Happens (Delivery 1 2 5) ∷ Look ∷ []
+    ++ train 1 1 15 (EndOfMission in_section_2) ∷ Look ∷ Happens (Delivery 2 1 2) ∷ Happens (Delivery 2 1 3)
+    ∷ Happens (Delivery 1 2 4) ∷ Happens (Delivery 1 2 5) ∷ Look ∷ []
 
 abbrev pub stands_still_before_the_third_shows : List (List Item)
 stands_still_before_the_third_shows =
@@ -193,19 +207,24 @@ any_two_are_linked =
     Happens (Set 0 1) ∷ Happens (Set 1 2)
     ∷ (session 1 0 1
     ++ train 1 0 3 (StartOfMission true in_section_1) ∷ Happens (Delivery 0 1 1) ∷ Happens (Delivery 1 0 1)
-    ∷ train 1 0 4 (TrainData in_section_1) ∷ train 1 0 5 (Request in_section_1) ∷ Happens (Delivery 0 1 2) ∷ Happens (Delivery 1 0 2)
+    ∷ train 1 0 4 (TrainData in_section_1) ∷ train 1 0 5 (Request in_section_1) ∷ Happens (Delivery 0 1 2)
+    ∷ Happens (Delivery 1 0 2)
     ∷ train 1 0 6 (Request in_section_1) ∷ Happens (Delivery 0 1 3)
     ∷ (session 1 1 7
-    ++ train 1 1 9 (Report in_section_2) ∷ Happens (Delivery 1 0 3) ∷ Happens (Unset 0 1) ∷ Happens (Delivery 0 2 1) ∷ Look ∷ []))
+    ++ train 1 1 9 (Report in_section_2) ∷ Happens (Delivery 1 0 3) ∷ Happens (Unset 0 1) ∷ Happens (Delivery 0 2 1)
+    ∷ Look ∷ []))
 
 abbrev pub any_two_are_linked_shows : List (List Item)
 any_two_are_linked_shows =
     done 1 ∷ done 2
     ∷ (opened 1
-    ++ (Sends 1 1 (AskRight 1) ∷ []) ∷ (Link Next ∷ Sends 0 1 (GiveRight 1) ∷ []) ∷ (Link Next ∷ Says 1 2 unknown_group TrainAccepted ∷ [])
-    ∷ (Says 1 3 unknown_group (DataAcknowledged 4) ∷ []) ∷ (Says 1 4 group_1 (Authority 1000) ∷ Sends 1 2 (RouteAsk 1 2 31) ∷ [])
+    ++ (Sends 1 1 (AskRight 1) ∷ []) ∷ (Link Next ∷ Sends 0 1 (GiveRight 1) ∷ [])
+    ∷ (Link Next ∷ Says 1 2 unknown_group TrainAccepted ∷ [])
+    ∷ (Says 1 3 unknown_group (DataAcknowledged 4) ∷ [])
+    ∷ (Says 1 4 group_1 (Authority 1000) ∷ Sends 1 2 (RouteAsk 1 2 31) ∷ [])
     ∷ (Link Next ∷ Sends 0 2 (RouteInfo 1 (record { first = 2; count = 1 })) ∷ []) ∷ (Link Next ∷ [])
-    ∷ (Says 1 5 group_1 (Authority 1200) ∷ Says 1 6 group_1 (Transition 1000 5 2) ∷ Sends 1 3 (Announce 1 1 0) ∷ []) ∷ (Link Next ∷ [])
+    ∷ (Says 1 5 group_1 (Authority 1200) ∷ Says 1 6 group_1 (Transition 1000 5 2) ∷ Sends 1 3 (Announce 1 1 0) ∷ [])
+    ∷ (Link Next ∷ [])
     ∷ (opened 1
     ++ (Sends 0 3 (TakingOver 1 1) ∷ [])
     ∷ (Link Next ∷ Sends 1 4 (Yield 1 1 6 true false last_at_a (record { first = 1; count = 2 })) ∷ [])

@@ -1,4 +1,3 @@
-
 use crate::asking::{A, B, FRAMES, asking, node_of, withdrawing};
 use crate::narrow::Narrow;
 use crate::tried::Tried;
