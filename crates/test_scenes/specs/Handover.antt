@@ -37,8 +37,8 @@ abbrev pub handed_over_shows : List (List Item)
 handed_over_shows =
     announced_shows
     ++ opened 1
-    ++ (Sends 0 3 (TakingOver 1 1) ∷ []) ∷ (Link Next ∷ []) ∷ (Link Next ∷ Sends 1 4 the_yield ∷ [])
-    ∷ shows_six_given []
+    ++ (Sends 0 3 (TakingOver 1 1) ∷ []) ∷ (Link Next ∷ [])
+    ∷ (Link Next ∷ Sends 1 4 the_yield ∷ []) ∷ shows_six_given []
     ∷ (Link Old ∷ []) ∷ shows_six_given [] ∷ (Link Old ∷ []) ∷ shows_six_given []
     ∷ (ShowsFrame (Some (record { number = 4; stamp = 17; body = the_yield })) ∷ []) ∷ (Link Next ∷ []) ∷ []
 
