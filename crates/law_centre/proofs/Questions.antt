@@ -10,6 +10,7 @@ use Rattle.rbc_spec.specs.Sections.{is_on}
 use Rattle.rbc_spec.specs.Frame.{Body}
 use Rattle.rbc_spec.specs.Centre.{Centre, Mission, beginning}
 use Rattle.rbc_spec.specs.Acts.{Act, Reply, ◌>>◌, set_mission, change_mission}
+use Rattle.rbc_spec.specs.Rules.{extension}
 use Rattle.rbc_spec.specs.Links.{is_wanted}
 use Rattle.rbc_spec.specs.Step.{Event, taken, stamp_of, ticked}
 use Rattle.law_base.proofs.Puts.{put_here, put_other}
@@ -50,16 +51,16 @@ none_before s pool none = let no : pool.count ≡ 0 = eqb-true pool.count 0 none
 module _ (line : Line) (c : ℕ) where
   turned : (may : May) (was : Centre) (t : ℕ) (o : Option Mission) (k : Centre) → AsksForEmptyPools k → Turn line c may was t k o → (first : ℕ) → k.route_ask t ≡ Some first → HasEmptyPool o
   turned may was t _ k h (mission_begins place why none) first asks = refl
-  turned may was t _ k h (grows m place r so has) first asks =
-      ap is_empty (cond-true (is_empty m.pool) m.pool (part_from (behind r) m.pool) (h t first m asks has)) ∙ h t first m asks has
-  turned may was t _ k h (clears m place r position has placed) first asks = h t first m asks has
-  turned may was t _ k h (cuts m n last_kept has same) first asks = refl
-  turned may was t _ k h (comes d number place hand has_data is_ended so taken_so) first asks = refl
+  turned may was t _ k h (grows m place position j so has said placed) first asks =
+      ap is_empty (cond-true (is_empty m.pool) m.pool (part_from (behind (extension line c j (record m { place = place }))) m.pool) (h t first m asks has)) ∙ h t first m asks has
+  turned may was t _ k h (clears m place position has said placed some) first asks = h t first m asks has
+  turned may was t _ k h (cuts m n last_kept has same some) first asks = refl
+  turned may was t _ k h (comes d number time carried place hand has_data is_ended so taken_so came carries) first asks = refl
 
   changed : (may : May) (was : Centre) (t : ℕ) (f : Mission → Mission) (k : Centre) → Change line may was t k f → (first : ℕ) (m : Mission) → k.route_ask t ≡ Some first → is_empty m.pool ≡ true → is_empty (f m).pool ≡ true
   changed may was t _ k no_pool first m asks empty = refl
   changed may was t _ k (less_pool s) first m asks empty = none_before s m.pool empty
-  changed may was t _ k (pools r none) first m asks empty = absurd (none_asked first (sym none ∙ asks))
+  changed may was t _ k (pools d r none came wanted) first m asks empty = absurd (none_asked first (sym none ∙ asks))
   changed may was t f k change first m asks empty = empty
 
   -- a question is asked where the pool is empty
@@ -78,8 +79,8 @@ module _ (line : Line) (c : ℕ) where
   -- ## Each small move, and so each step
 
   moves : (may : May) (was k : Centre) (q : Reply) → Move line c may was k q → Keeps k q
-  moves may was _ _ (asks_route t d m k its has empty home none) h = asked t (behind m.hand) m k has empty h
-  moves may was _ _ (announces t d m k its so has none) h = change_at t (hand_to d (k.announced + 1)) k h (λ first n asks empty. empty)
+  moves may was _ _ (asks_route t d m k its has empty home none ahead more) h = asked t (behind m.hand) m k has empty h
+  moves may was _ _ (announces t d m k its so has none ahead same) h = change_at t (hand_to d (k.announced + 1)) k h (λ first n asks empty. empty)
   moves may was _ _ (recalls t m x k its has stands none) h = change_at t no_handover k h (λ first n asks empty. empty)
   moves may was _ _ (closes t m k has none) h = set_at t None k h (λ first asks. tt)
   moves may was _ _ (closes_handed t m x k its has stands) h = change_at t no_handover (set_mission t None k).state (set_at t None k h (λ first asks. tt)) (λ first n asks empty. empty)

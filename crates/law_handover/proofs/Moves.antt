@@ -16,7 +16,7 @@ use Rattle.rbc_spec.specs.Rules.{authority, extension, extended_by, announce_if_
 use Rattle.rbc_spec.specs.Links.{lendable, taking_over}
 use Rattle.rbc_spec.specs.Step.{withdraw}
 use Rattle.law_base.proofs.Puts.{itself}
-use Rattle.law_walk.proofs.Moves.{May, still as of_train, asking, speaking, MaySend, goes_back, goes_home, to_some, no_handover, Turn, begins, grows, clears, cuts, comes, Change, no_proposal, Closed, Walk, of_walk}
+use Rattle.law_walk.proofs.Moves.{May, still as of_train, asking, speaking, by_itself, MaySend, goes_back, goes_home, to_some, no_handover, Turn, begins, grows, clears, cuts, comes, Change, no_proposal, Closed, Walk, of_walk}
 use Rattle.law_walk.proofs.Moves.{Move, sends, returns, withdraws, takes_over, asks_right, asks_route, announces, recalls, closes, closes_handed, yields, expects, sets, changes, Answer, gives, refuses, lends_some}
 use Rattle.law_walk.proofs.Acts.{propose_if_walks, end_order_walks, taking_over_walks}
 use Rattle.law_walk.proofs.Messages.{announce_if_walks, ask_if_walks, report_here_walks, cut_walks}
@@ -57,9 +57,9 @@ and_nothing : (to : Option ℕ) (body : Body) → IsNeutral body → (e : ℕ) �
 and_nothing to body is e = All-append IsNeutral (to_some to body e) [] (all_neutral to body is e) (All-nil IsNeutral)
 
 module _ (line : Line) (c : ℕ) where
-  sent_neutral : (may : May) (d : ℕ) (body : Body) → MaySend line may d body → IsNeutral body
-  sent_neutral may d _ (goes_back t its is) = neutral _ refl refl
-  sent_neutral may d _ (goes_home t r its some home) = neutral _ refl refl
+  sent_neutral : (may : May) (d : ℕ) (body : Body) → MaySend line c may d body → IsNeutral body
+  sent_neutral may d _ (goes_back t its away is) = neutral _ refl refl
+  sent_neutral may d _ (goes_home t r its some home came) = neutral _ refl refl
 
   goes_withdraw : (t s : ℕ) (k : Centre) → Goes k (withdraw line c t s k)
   goes_withdraw t s k = apart k k (withdraw line c t s k).frames (record { expects = λ a u. refl; announced = refl; handing = λ b u. refl }) (λ d. by_link (is_linked line c d))
@@ -73,10 +73,10 @@ module _ (line : Line) (c : ℕ) where
   module _ (may : May) (still_expected : may.expects ≡ false) (was : Centre) where
     goes_turn : (t : ℕ) (o : Option Mission) (k : Centre) → Turn line c may was t k o → Goes k (set_mission t o k)
     goes_turn t _ k (begins place why none) = goes_set t _ k (λ b. sym (ap (handing_to b) none))
-    goes_turn t _ k (grows m place r so has) = goes_set_some t m _ k has refl
-    goes_turn t _ k (clears m place r position has placed) = goes_set_some t m _ k has refl
-    goes_turn t _ k (cuts m n last_kept has same) = goes_set_some t n _ k has (sym (ap (λ (q : Mission). q.handing) same))
-    goes_turn t _ k (comes d number place hand has_data is_ended so taken) = cc
+    goes_turn t _ k (grows m place position j so has said placed) = goes_set_some t m _ k has refl
+    goes_turn t _ k (clears m place position has said placed some) = goes_set_some t m _ k has refl
+    goes_turn t _ k (cuts m n last_kept has same some) = goes_set_some t n _ k has (sym (ap (λ (q : Mission). q.handing) same))
+    goes_turn t _ k (comes d number time carried place hand has_data is_ended so taken came carries) = cc
 
     same_handing : (t : ℕ) (f : Mission → Mission) (k : Centre) → Change line may was t k f → (m : Mission) → (f m).handing ≡ m.handing
     same_handing t _ k no_proposal m = refl
@@ -91,14 +91,14 @@ module _ (line : Line) (c : ℕ) where
 
     moves : (allow : Allowance) → IsAllowed allow may → (k : Centre) (q : Reply) → Move line c may was k q → GoesWith allow k q
     moves allow allowed _ _ (sends d body k why) = loosened allow k _ _ (goes_send d body k (sent_neutral may d body why))
-    moves allow allowed _ _ (returns t track r k its) = loosened allow k _ _ (goes_returned line c t track r k)
+    moves allow allowed _ _ (returns t track r m k its has few) = loosened allow k _ _ (goes_returned line c t track r k)
     moves allow allowed _ _ (withdraws t s k home at) = loosened allow k _ _ (goes_withdraw t s k)
     moves allow allowed _ _ (takes_over t k its) = loosened allow k _ _ (goes_take_over line t k)
-    moves allow allowed _ _ (asks_right t place to k its is none) = loosened allow k _ _ (apart k _ _ (record { expects = λ a u. refl; announced = refl; handing = λ b u. refl })
+    moves allow allowed _ _ (asks_right t place to k its fits away is none) = loosened allow k _ _ (apart k _ _ (record { expects = λ a u. refl; announced = refl; handing = λ b u. refl })
         (and_nothing to (AskRight t) (neutral _ refl refl)))
-    moves allow allowed _ _ (asks_route t d m k its has empty home none) = loosened allow k _ _ (apart k _ _ (record { expects = λ a u. refl; announced = refl; handing = λ b u. refl })
+    moves allow allowed _ _ (asks_route t d m k its has empty home none ahead more) = loosened allow k _ _ (apart k _ _ (record { expects = λ a u. refl; announced = refl; handing = λ b u. refl })
         (and_nothing (Some d) (RouteAsk t (behind m.hand) (min (most_in_hand - m.hand.count) (512 - behind m.hand))) (neutral _ refl refl)))
-    moves allow allowed _ _ (announces t d m k its so has none) = loosened allow k _ _
+    moves allow allowed _ _ (announces t d m k its so has none ahead same) = loosened allow k _ _
         (goes_sent none_allowed d t (Announce (k.announced + 1) t m.place.track) k _ _ (announce_sent t d m.place.track m k _ has none refl refl refl) (λ e. twice (e == d)))
       where
         twice : (b : Bool) → ((if b then Announce (k.announced + 1) t m.place.track ∷ [] else []) ++ []) ++ [] ≡ (if b then Announce (k.announced + 1) t m.place.track ∷ [] else [])
@@ -118,7 +118,7 @@ module _ (line : Line) (c : ℕ) where
         (option_map_or (λ n. n) (k.heard t) 0) m.has_data m.is_ended (yielded_place m.place) m.hand allow
         (λ x is. subst (λ v. allow h.to t v ≡ true) (eqb-true h.number x (and_parts (t == t) (h.number == x) is).1) (allowed t h its so)))
         (λ e. refl)
-    moves allow allowed _ _ (expects d t e k so) = cc
+    moves allow allowed _ _ (expects d t e k so why) = cc
     moves allow allowed _ _ (sets t o k turn) = loosened allow k _ _ (goes_turn t o k turn)
     moves allow allowed _ _ (changes t f k change) = loosened allow k _ _ (goes_change t f k (same_handing t f k change))
     moves allow allowed k q move = loosened allow k q.state _ (still k q.state refl refl refl)
@@ -159,13 +159,13 @@ module _ (line : Line) where
   goes_end_order c t k = of_moves line c (of_train t) refl k refl k _ (end_order_walks line c (of_train t) k t k)
 
   pub goes_announce_if : (t d : ℕ) (k : Centre) → Goes k (announce_if_due line t d k)
-  goes_announce_if t d k = of_moves line 0 (asking t) refl k refl k _ (announce_if_walks line 0 (asking t) k t refl refl d k)
+  goes_announce_if t d k = of_moves line 0 (asking t) refl k refl k _ (announce_if_walks line 0 (asking t) k t refl refl d (by_itself refl) k refl)
 
   pub goes_ask_if : (t d : ℕ) (k : Centre) → Goes k (ask_route_if_due line t d k)
-  goes_ask_if t d k = of_moves line 0 (of_train t) refl k refl k _ (ask_if_walks line 0 (of_train t) k t refl d k)
+  goes_ask_if t d k = of_moves line 0 (of_train t) refl k refl k _ (ask_if_walks line 0 (of_train t) k t refl d (by_itself refl) k)
 
   pub goes_report_here : (c t : ℕ) (position : Position) (m : Mission) (k : Centre) → k.mission t ≡ Some m → Goes k (report_here line c t position m k)
-  goes_report_here c t position m k at = of_moves line c (speaking t) refl k refl k _ (report_here_walks line c (speaking t) k t refl refl position m k at)
+  goes_report_here c t position m k at = of_moves line c (speaking t) refl k refl k _ (report_here_walks line c (speaking t) k t refl refl position (record {}) m k at)
 
   pub goes_cut : (c t last_kept : ℕ) (m n : Mission) (k : Centre) → k.mission t ≡ Some n → record n { proposal = None } ≡ record m { proposal = None } → Goes k (cut line c t last_kept m k)
   goes_cut c t last_kept m n k at same = of_moves line c (speaking t) refl k refl k _ (cut_walks line c (speaking t) k t refl refl last_kept m n k at same)

@@ -39,7 +39,7 @@ module _ (line : Line) (c : ℕ) where
   goes_message : (m : TrainMessage) (k : Centre) (o : Option Reason)
       → Goes k (option_map_or {U = Effect} (λ why. record { reply = rest k; link = None; silence = Some why }) o (record { reply = hear_and_answer line c m k; link = None; silence = None })).reply
   goes_message m k (Some why) = goes_rest k
-  goes_message m k None = of_moves line c (may_do m.nid_engine m.body) refl (hear m k).state refl k (hear_and_answer line c m k) (heard_walks line c m k)
+  goes_message m k None = of_moves line c (may_do m m.body) refl (hear m k).state refl k (hear_and_answer line c m k) (heard_walks line c m k)
 
   goes_frame : (d : ℕ) (f : Frame) (k : Centre) (answer : outcome.Taken) → answer ≢ Next → Goes k (taken_by line c d f answer k)
   goes_frame d f k Next other = absurd (other refl)

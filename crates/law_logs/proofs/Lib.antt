@@ -1,4 +1,3 @@
-pub mod Effects
 pub mod Stamps
 pub mod Parts
 pub mod Merged

@@ -8,7 +8,7 @@ use Rattle.rbc_spec.specs.Frame.{Frame, Body}
 use Rattle.rbc_spec.specs.Outcome.{Outcome}
 use Rattle.rbc_spec.specs.Centre.{Centre}
 use Rattle.rbc_spec.specs.Step.{Event, Train, Set, Unset, Deliver, Refusal, effect, numbered, refusal, stamp_of, ticked, taken, step}
-use Rattle.law_logs.proofs.Effects.{clock_kept}
+use Rattle.law_walk.proofs.Clock.{stamp_above, clock_kept}
 use Rattle.law_logs.specs.Logs.{IsStamped, IsAboveItsFrame}
 
 numbered_stamp : (stamp count : ℕ) (bodies : List Body) → All (λ (f : Frame). f.stamp ≡ stamp) (numbered stamp count bodies)
@@ -20,12 +20,6 @@ numbered_at stamp count [] i f is = cc
 numbered_at stamp count (b ∷ bs) zero f is = omega (arith, ap (λ (g : Frame). g.number) (same_Some (record { number = count + 1; stamp = stamp; body = b }) f is))
 numbered_at stamp count (b ∷ bs) (suc i) f is = omega (arith, numbered_at stamp (count + 1) bs i f is)
 
-above_clock : (k : Centre) (event : Event) → k.clock < stamp_of k event
-above_clock k (Train m) = omega arith
-above_clock k (Set s) = omega arith
-above_clock k (Unset s) = omega arith
-above_clock k (Deliver d f) = omega arith
-
 above_frame : (k : Centre) (event : Event) → IsAboveItsFrame event (stamp_of k event)
 above_frame k (Train m) = tt
 above_frame k (Set s) = tt
@@ -35,7 +29,7 @@ above_frame k (Deliver d f) = omega arith
 taken_stamped : (line : Line) (c : ℕ) (event : Event) (k : Centre) → IsStamped k event (taken line c event k).0 (taken line c event k).1
 taken_stamped line c event k = record {
   clock = clock_kept line c event (ticked (stamp_of k event) k);
-  above_clock = above_clock k event;
+  stamp_above = stamp_above k event;
   above_frame = above_frame k event;
   sent = λ d. refl;
   frames = λ d. numbered_stamp (stamp_of k event) _ ((effect line c (ticked (stamp_of k event) k) event).reply.frames d);

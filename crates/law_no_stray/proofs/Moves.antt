@@ -82,9 +82,9 @@ waits_asked t wait new asked place is same old u some = ⊎_elim
 module _ (line : Line) (ok : IsLine line) (c : ℕ) where
   -- ## Bodies that neither ask nor answer
 
-  sent_known : (may : May) → IsOfLine line may → (d : ℕ) (body : Body) → MaySend line may d body → IsBodyKnown line c d body
-  sent_known may known d _ (goes_back t its is) = record { known = known t its; sent = record {} }
-  sent_known may known d _ (goes_home t r its some home) = record { known = known t its; sent = record {} }
+  sent_known : (may : May) → IsOfLine line may → (d : ℕ) (body : Body) → MaySend line c may d body → IsBodyKnown line c d body
+  sent_known may known d _ (goes_back t its away is) = record { known = known t its; sent = record {} }
+  sent_known may known d _ (goes_home t r its some home came) = record { known = known t its; sent = record {} }
 
   alone_known : (d : ℕ) (body : Body) → IsBodyKnown line c d body → (e : ℕ) → All (IsBodyKnown line c e) (to_some (Some d) body e ++ [])
   alone_known d body is e = All-append (IsBodyKnown line c e) (to_some (Some d) body e) [] (to_only line c d body is e) (All-nil (IsBodyKnown line c e))
@@ -163,7 +163,7 @@ module _ (line : Line) (ok : IsLine line) (c : ℕ) where
 
   moves : (may : May) → IsOfLine line may → (was k : Centre) (q : Reply) → Move line c may was k q → Holds k q
   moves may known was _ _ (sends d body k why) old = goes_send line c d body k (sent_known may known d body why)
-  moves may known was _ _ (returns t track r k its) old =
+  moves may known was _ _ (returns t track r m k its has few) old =
       aside line c k k (returned line c t track r k).frames refl refl refl (λ outs. outs) (returned_known line c t track r k (known t its))
   moves may known was _ _ (withdraws t s k home at) old = goes_withdraw t s k home (old.each s t (ap (is_out_for t) at ∙ itself t))
   moves may known was _ _ (takes_over t k its) old = goes_take_over t k (known t its)
@@ -175,10 +175,10 @@ module _ (line : Line) (ok : IsLine line) (c : ℕ) where
   moves may known was _ _ (start_waits t place k asked) old =
       goes_wait t (Some place) k (λ waits. record { each = waits_asked t k.wait (put k.wait t (Some place)) k.has_asked place asked (λ u. refl) (λ u other some. waits.each u some) })
   moves may known was _ _ (none_waits t k) old = goes_wait t None k (λ waits. record { each = λ u some. waits.each u (waits_no_more t k.wait u some).1 })
-  moves may known was _ _ (asks_right t place to k its is none) old = right_asked_for t place to k (known t its) is none
-  moves may known was _ _ (asks_route t d m k its has empty home none) old =
+  moves may known was _ _ (asks_right t place to k its fits away is none) old = right_asked_for t place to k (known t its) is none
+  moves may known was _ _ (asks_route t d m k its has empty home none ahead more) old =
       route_asked_for t d (behind m.hand) (min (most_in_hand - m.hand.count) (512 - behind m.hand)) k (known t its) home none
-  moves may known was _ _ (announces t d m k its so has none) old = aside line c k _ _ refl refl refl (λ outs. record { each = outs.each })
+  moves may known was _ _ (announces t d m k its so has none ahead same) old = aside line c k _ _ refl refl refl (λ outs. record { each = outs.each })
       (λ e. All-append (IsBodyKnown line c e) (to_some (Some d) (Announce (k.announced + 1) t m.place.track) e ++ []) [] (alone_known d (Announce (k.announced + 1) t m.place.track) (record { known = known t its; sent = record {} }) e) (All-nil (IsBodyKnown line c e)))
   moves may known was _ _ (recalls t m h k its has stands none) old =
       aside line c k _ _ refl refl refl (λ outs. record { each = outs.each }) (alone_known h.to (Cancel h.number t) (record { known = known t its; sent = record {} }))

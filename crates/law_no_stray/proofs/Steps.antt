@@ -16,13 +16,13 @@ use Rattle.rbc_spec.specs.Step.{Event, Train, Set, Unset, Deliver, Effect, effec
 use Rattle.law_walk.proofs.Moves.{setting}
 use Rattle.law_walk.proofs.Messages.{may_do}
 use Rattle.law_walk.proofs.Frames.{received_taking}
-use Rattle.law_walk.proofs.Steps.{heard_walks, set_walks, unset_walks}
+use Rattle.law_walk.proofs.Steps.{heard_train, heard_walks, set_walks, unset_walks}
 use Rattle.law_network.specs.Flow.{centre_count}
 use Rattle.law_walk.specs.Trains.{train_of}
 use Rattle.law_handover.specs.Steps.{IsByItself, left_by, sent_by}
 use Rattle.law_no_unasked.specs.Asked.{Question, OfRight, OfRoute, questions}
 use Rattle.law_no_unasked.proofs.Asking.{of_line, none_comes, comes_with}
-use Rattle.law_no_unasked.proofs.Steps.{heard_train, of_no_train}
+use Rattle.law_no_unasked.proofs.Steps.{of_no_train}
 use Rattle.law_no_stray.specs.Due.{IsDue}
 use Rattle.law_no_stray.specs.Questions.{HasKnownOuts}
 use Rattle.law_no_stray.proofs.Acts.{IsAnswering, Comes, Goes, goes_rest}
@@ -40,7 +40,7 @@ module _ (line : Line) (ok : IsLine line) (c : ℕ) where
       → Goes line c k (option_map_or {U = Effect} (λ why. record { reply = rest k; link = None; silence = Some why }) o
       (record { reply = hear_and_answer line c m k; link = None; silence = None })).reply
   goes_message m k (Some why) is outs = goes_rest line c k
-  goes_message m k None is outs = of_moves line ok c (may_do m.nid_engine m.body) (of_line line (may_do m.nid_engine m.body) m.nid_engine refl (heard_train line c k m is)) (hear m k).state k
+  goes_message m k None is outs = of_moves line ok c (may_do m m.body) (of_line line (may_do m m.body) m.nid_engine refl (heard_train line c k m is)) (hear m k).state k
       (hear_and_answer line c m k) (heard_walks line c m k) outs
 
   goes_frame : (d : ℕ) (f : Frame) (k : Centre) (answer : outcome.Taken) → answer ≢ Next → Goes line c k (taken_by line c d f answer k)

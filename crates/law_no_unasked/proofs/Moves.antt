@@ -66,9 +66,9 @@ one_alone false body = refl
 module _ (line : Line) (ok : IsLine line) (c : ℕ) where
   -- ## Bodies that neither ask nor answer
 
-  sent_aside : (may : May) → IsOfLine line may → (d : ℕ) (body : Body) → MaySend line may d body → IsAside line c d body
-  sent_aside may known d _ (goes_back t its is) = record { none = refl; body = ap (has (λ r. r == d)) is ∙ itself d }
-  sent_aside may known d _ (goes_home t r its some home) = return_aside line c d t r (known t its) some home
+  sent_aside : (may : May) → IsOfLine line may → (d : ℕ) (body : Body) → MaySend line c may d body → IsAside line c d body
+  sent_aside may known d _ (goes_back t its away is) = record { none = refl; body = ap (has (λ r. r == d)) is ∙ itself d }
+  sent_aside may known d _ (goes_home t r its some home came) = return_aside line c d t r (known t its) some home
 
   -- a body to one centre
   to_one_aside : (d : ℕ) (body : Body) → IsAside line c d body → (e : ℕ) → All (IsAside line c e) (to_some (Some d) body e)
@@ -138,13 +138,13 @@ module _ (line : Line) (ok : IsLine line) (c : ℕ) where
 
   moves : (may : May) → IsOfLine line may → (was k : Centre) (q : Reply) → Move line c may was k q → Goes line c k q
   moves may known was _ _ (sends d body k why) = goes_send line c d body k (sent_aside may known d body why)
-  moves may known was _ _ (returns t track r k its) = aside line c k k (returned line c t track r k).frames refl refl (returned_aside line c ok t track r k (known t its))
+  moves may known was _ _ (returns t track r m k its has few) = aside line c k k (returned line c t track r k).frames refl refl (returned_aside line c ok t track r k (known t its))
   moves may known was _ _ (withdraws t s k home at) = goes_withdraw t s k
   moves may known was _ _ (takes_over t k its) = goes_take_over t k
-  moves may known was _ _ (asks_right t place to k its is none) = right_asked_for t place to k none
-  moves may known was _ _ (asks_route t d m k its has empty home none) =
+  moves may known was _ _ (asks_right t place to k its fits away is none) = right_asked_for t place to k none
+  moves may known was _ _ (asks_route t d m k its has empty home none ahead more) =
       route_asked_for t d (behind m.hand) (min (most_in_hand - m.hand.count) (512 - behind m.hand)) k home none
-  moves may known was _ _ (announces t d m k its so has none) = aside line c k _ _ refl refl
+  moves may known was _ _ (announces t d m k its so has none ahead same) = aside line c k _ _ refl refl
       (λ e. All-append (IsAside line c e) (to_some (Some d) (Announce (k.announced + 1) t m.place.track) e ++ []) [] (alone_aside d (Announce (k.announced + 1) t m.place.track) (record { none = refl; body = record {} }) e) (All-nil (IsAside line c e)))
   moves may known was _ _ (recalls t m h k its has stands none) = aside line c k _ _ refl refl (alone_aside h.to (Cancel h.number t) (record { none = refl; body = record {} }))
   moves may known was _ _ (closes_handed t m h k its has stands) = aside line c k _ _ refl refl (alone_aside h.to (Cancel h.number t) (record { none = refl; body = record {} }))

@@ -21,32 +21,12 @@ use Rattle.law_centre.proofs.Reasons.{not_for}
 use Rattle.law_walk.proofs.Moves.{setting}
 use Rattle.law_walk.proofs.Messages.{may_do}
 use Rattle.law_walk.proofs.Frames.{received_taking}
-use Rattle.law_walk.proofs.Steps.{heard_walks, set_walks, unset_walks}
+use Rattle.law_walk.proofs.Steps.{heard_train, heard_walks, set_walks, unset_walks}
 use Rattle.law_network.specs.Flow.{Flow, centre_count}
 use Rattle.law_handover.specs.Steps.{IsByItself, left_by, sent_by}
 use Rattle.law_no_unasked.specs.Asked.{Question, OfRight, OfRoute, questions, IsBodyAsked, IsAsked}
 use Rattle.law_no_unasked.proofs.Asking.{IsOfLine, of_line, IsAsking, Comes, Goes, none_comes, comes_with, goes_rest}
 use Rattle.law_no_unasked.proofs.Moves.{of_moves, comes_taken}
-
--- a message that is answered is of a train of the line
-pub heard_train : (line : Line) (c : ℕ) (k : Centre) (m : TrainMessage) → step.silence line c k m ≡ None → is_train line m.nid_engine ≡ true
-heard_train line c k m heard = known (train_number line m.nid_engine) (not_for line c k m m.body 0 ForeignEngine refl heard (first m.body))
-  where
-    first : (body : TrainBody) → slice_get (reasons_of body) 0 ≡ Some ForeignEngine
-    first (TrainData position) = refl
-    first (Request position) = refl
-    first (Report position) = refl
-    first (ShorteningGranted stamp position) = refl
-    first (ShorteningRejected stamp position) = refl
-    first (EndOfMission position) = refl
-    first InitiationOfSession = refl
-    first TerminationOfSession = refl
-    first (StartOfMission is_valid position) = refl
-    first SessionEstablished = refl
-
-    known : (o : Option ℕ) → is_none o ≡ false → is_some o ≡ true
-    known None is = cc
-    known (Some n) is = refl
 
 -- a word of the interlocking is of no train
 pub of_no_train : (line : Line) → IsOfLine line setting
@@ -59,7 +39,7 @@ module _ (line : Line) (ok : IsLine line) (c : ℕ) where
       → Goes line c k (option_map_or {U = Effect} (λ why. record { reply = rest k; link = None; silence = Some why }) o
       (record { reply = hear_and_answer line c m k; link = None; silence = None })).reply
   goes_message m k (Some why) is = goes_rest line c k
-  goes_message m k None is = of_moves line ok c (may_do m.nid_engine m.body) (of_line line (may_do m.nid_engine m.body) m.nid_engine refl (heard_train line c k m is)) (hear m k).state k
+  goes_message m k None is = of_moves line ok c (may_do m m.body) (of_line line (may_do m m.body) m.nid_engine refl (heard_train line c k m is)) (hear m k).state k
       (hear_and_answer line c m k) (heard_walks line c m k)
 
   goes_frame : (d : ℕ) (f : Frame) (k : Centre) (answer : outcome.Taken) → answer ≢ Next → Goes line c k (taken_by line c d f answer k)

@@ -25,7 +25,7 @@ module _ (line : Line) (c : ℕ) where
   Keeps act = (k : Centre) → Same k (act k)
 
   moves : (may : May) (was : Centre) → may.announces ≡ false → (k : Centre) (q : Reply) → Move line c may was k q → Same k q
-  moves may was never _ _ (announces t d m k its so has none) = cc
+  moves may was never _ _ (announces t d m k its so has none ahead same) = cc
   moves may was never k q move = record { law = refl }
 
   joins : (a b : Act) (k : Centre) → Same k (a k) → Same (a k).state (b (a k).state) → Same k ((a >> b) k)
@@ -57,4 +57,4 @@ module _ (line : Line) (c : ℕ) where
   no_request body is = refl
 
   pub heard_keeps : (m : TrainMessage) → IsSessionOrReport m.body → Keeps (hear_and_answer line c m)
-  heard_keeps m is k = of_moves (may_do m.nid_engine m.body) (hear m k).state (no_request m.body is) k (hear_and_answer line c m k) (heard_walks line c m k)
+  heard_keeps m is k = of_moves (may_do m m.body) (hear m k).state (no_request m.body is) k (hear_and_answer line c m k) (heard_walks line c m k)

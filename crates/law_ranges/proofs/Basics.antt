@@ -1,10 +1,10 @@
 -- What a line's order and its limits give of the ranges of engines, sections, runs and links.
-use Rattle.std.proofs.Common.{◌≡◌, ◌≢◌, inl, inr, ℕ, ◌+◌, ◌-◌, ◌<◌, ◌≤◌, ◌==◌, ◌&&◌, ◌||◌, not, Bool, true, false, List, length, get_or, Option, Some, None, is_some, refl, sym, ap, ◌∙◌, arith, All, eqb-true, eq-eqb, lt-ltb}
+use Rattle.std.proofs.Common.{◌≡◌, ◌≢◌, inl, inr, ℕ, ◌+◌, ◌-◌, ◌<◌, ◌≤◌, ◌==◌, ◌&&◌, ◌||◌, not, Bool, true, false, List, length, get_or, Option, Some, None, is_some, refl, sym, ap, ◌∙◌, subst, arith, All, eqb-true, eq-eqb, lt-ltb}
 use Rattle.std.specs.Option.{option_map_or}
 use Rattle.std.specs.List.{position}
 use Rattle.std.proofs.lemmas.Bool.{and_parts, and_from, eqb-false, or_left, or_right}
 use Rattle.std.proofs.lemmas.Bool.Decides.{eqb_tells}
-use Rattle.std.proofs.lemmas.Option.{slice_get_within}
+use Rattle.std.proofs.lemmas.Option.{slice_get_within, same_Some}
 use Rattle.std.proofs.lemmas.List.Quantifiers.{position-Some}
 use Rattle.std.proofs.lemmas.List.Elements.{All-get_or}
 use Rattle.rbc_spec.specs.SectionRuns.{SectionRun, within, is_empty, shared}
@@ -51,6 +51,10 @@ pub linked_centre : (line : Line) (c d : ℕ) → is_linked line c d ≡ true �
 linked_centre line c d is =
     let ends = (and_parts (is_centre line c && is_centre line d) (not (c == d)) is).0 in
     (and_parts (is_centre line c) (is_centre line d) ends).0
+
+-- what holds of a value holds of each that it is
+pub of_some : {X : Type 0} (P : X → Type 0) (x : X) → P x → (y : X) → Some x ≡ Some y → P y
+of_some P x is y same = subst P (same_Some x y same) is
 
 -- a run whose sections are of the line
 pub run_range : (least most : ℕ) (r : SectionRun) → least ≤ r.count → r.count ≤ most → 1 ≤ r.count → ((s : ℕ) → within r s ≡ true → s < 512) → HasRunRange least most r

@@ -1,10 +1,8 @@
 pub mod Basics
 pub mod Places
-pub mod Sent
-pub mod Reports
-pub mod Requests
-pub mod Events
-pub mod Frames
+pub mod Missions
+pub mod Kept
+pub mod Moves
 pub mod Steps
 pub mod Worlds
 pub mod Few

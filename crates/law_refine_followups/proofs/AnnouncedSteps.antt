@@ -12,14 +12,14 @@ use Rattle.rbc_spec.specs.Frame.{Frame, Body}
 use Rattle.rbc_spec.specs.Outcome.{Reason, Taken as LinkAnswer, Next, Old, Early, NoLink}
 use Rattle.rbc_spec.specs.Centre.{Centre, Mission, Handing, beginning, is_free, is_open}
 use Rattle.rbc_spec.specs.Acts.{Act, Reply, hear, rest, begun, part_at, set_mission, ◌>>◌}
-use Rattle.rbc_spec.specs.Rules.{ask_route_if_due, grant, answered}
+use Rattle.rbc_spec.specs.Rules.{ask_route_if_due, grant, answered, cleared}
 use Rattle.rbc_spec.specs.Links.{may_take, may_arrive, received}
 use Rattle.rbc_spec.specs.Step as step
 use Rattle.rbc_spec.specs.Step.{Event, Train, Set, Unset, Deliver, stamp_of, link_answer, taken_by, set, unset, hear_and_answer}
 use Rattle.law_base.proofs.Puts.{put_there}
 use Rattle.law_base.proofs.Runs.{each_within}
 use Rattle.law_local.proofs.Ordered.{is_ordered}
-use Rattle.law_walk.proofs.Moves.{May, still, setting, MayBegin, waited, all_free, Turn, begins, grows, clears, cuts, comes, Change, restarts, no_handover, Move, announces, recalls, closes, closes_handed, yields, sets, changes, Answer, nothing_waits, Closed, Walk, of_walk}
+use Rattle.law_walk.proofs.Moves.{May, still, by_itself, setting, MayBegin, waited, all_free, Turn, begins, grows, clears, cuts, comes, Change, restarts, no_handover, Move, announces, recalls, closes, closes_handed, yields, sets, changes, Answer, nothing_waits, Closed, Walk, of_walk}
 use Rattle.law_walk.proofs.Messages.{may_do, ask_if_walks, answered_walks}
 use Rattle.law_walk.proofs.Frames.{frame_may, of_taking, received_taking}
 use Rattle.law_walk.proofs.Steps.{set_walks, unset_walks}
@@ -49,9 +49,9 @@ module _ (line : Line) (ok : IsLine line) (c : ℕ) where
   -- ## Each small move but those of a request
 
   module _ (may : May) (quiet : may.announces ≡ false) (was : Centre) (facts : Facts was) where
-    own_covered : (t : ℕ) (place : Place) → MayBegin line c t was place → (s : ℕ) → within (covered line place) s ≡ true → is_home line c s ≡ true
+    own_covered : (t : ℕ) (place : Place) → MayBegin line c may t was place → (s : ℕ) → within (covered line place) s ≡ true → is_home line c s ≡ true
     own_covered t place (waited at) s has = facts.1 t s (ap (λ o. wait_has line o s) at ∙ has)
-    own_covered t place (all_free free) s has = (and_parts (is_home line c s) (is_open (was.book s)) (each_within (is_free line c was) (covered line place) free s has)).0
+    own_covered t place (all_free fits free) s has = (and_parts (is_home line c s) (is_open (was.book s)) (each_within (is_free line c was) (covered line place) free s has)).0
 
     arrives : (d number t : ℕ) (hand : SectionRun) (place : Place) → may_take line c was d number t place hand ≡ true → all_of (may_arrive line c was t place.track) hand ≡ true
     arrives d number t hand place may = (and_parts _ (all_of (may_arrive line c was t place.track) hand) (and_parts _ (nat_le (10 * group_start line place) place.front && all_of (may_arrive line c was t place.track) hand) (and_parts _ _ may).1).1).1
@@ -63,11 +63,11 @@ module _ (line : Line) (ok : IsLine line) (c : ℕ) where
 
     turned : (t : ℕ) (o : Option Mission) (k : Centre) → H k → Turn line c may was t k o → FitsOption o
     turned t _ k old (begins place why none) = unhanded line ok c (begun line place) refl (own_hand line ok c (begun line place) (own_covered t place why))
-    turned t _ k old (grows m place r so has) = cc
-    turned t _ k old (clears m place r position has placed) = moved line ok c m _ (placed_on line m.place.track position place placed).track_is refl (from_part line ok c (behind r) m.hand) (old t m has)
-    turned t _ k old (cuts m n last_kept has same) = moved line ok c n _ (ap (λ (q : Mission). q.place.track) (sym same)) (ap (λ (q : Mission). q.handing) (sym same))
+    turned t _ k old (grows m place position j so has said placed) = cc
+    turned t _ k old (clears m place position has said placed some) = moved line ok c m _ (placed_on line m.place.track position place placed).track_is refl (from_part line ok c (behind (cleared line place m)) m.hand) (old t m has)
+    turned t _ k old (cuts m n last_kept has same some) = moved line ok c n _ (ap (λ (q : Mission). q.place.track) (sym same)) (ap (λ (q : Mission). q.handing) (sym same))
         (λ s kept. subst (λ (q : Mission). within q.hand s ≡ true) (sym same) (before_part line ok c (last_kept + 1) m.hand s kept)) (old t n has)
-    turned t _ k old (comes d number place hand has_data is_ended so may) =
+    turned t _ k old (comes d number time carried place hand has_data is_ended so may came carries) =
         let m : Mission = record { place = place; hand = hand; pool = no_run; has_data = has_data; is_ended = is_ended; proposal = None; handing = None } in
         unhanded line ok c m refl (came_fits line ok c t was d place m refl (arrives d number t hand place may))
 
@@ -83,14 +83,14 @@ module _ (line : Line) (ok : IsLine line) (c : ℕ) where
         (subst (λ x. is_empty (part_at line x n.place.track n.hand) ≡ true) (same_Some h.to d (sym to ∙ next)) empty))
 
     changed : (t : ℕ) (f : Mission → Mission) (k : Centre) → Change line may was t k f → (m : Mission) → k.mission t ≡ Some m → F m → F (f m)
-    changed t _ k (restarts n place is_valid position has had fit all) m at fits =
+    changed t _ k (restarts n place is_valid position has had said fit all) m at fits =
         let fit_at = fit_is line is_valid position place fit in
         let covers : IsHandAt line place (covered line place) = fit_hand line (is_ordered line ok) place fit_at.0 (reported line position place fit_at.1) in
         moved line ok c m _ (same_track line n.place place n.hand (facts.0 t n had) covers all ∙ ap (λ (q : Mission). q.place.track) (same_Some n m (sym has ∙ at))) refl (λ s there. there) fits
     changed t f k change m at fits = record { announced = fits.announced; onward = fits.onward }
 
     moves : (k : Centre) (q : Reply) → Move line c may was k q → Keeps k q
-    moves _ _ (announces t d m k its so has none) old = cc
+    moves _ _ (announces t d m k its so has none ahead same) old = cc
     moves _ _ (recalls t n h k its has stands empty) old = change_all line ok c t no_handover k (recalled t n h k has stands empty) old
     moves _ _ (closes t m k has none) old = set_to t None k old tt
     moves _ _ (closes_handed t m h k its has stands) old = change_all line ok c t no_handover (set_mission t None k).state
@@ -122,7 +122,7 @@ module _ (line : Line) (ok : IsLine line) (c : ℕ) where
     message_all m (Request position) old = by_mission (was.mission m.nid_engine) refl
       where
         asks : (e : ℕ) (i : Centre) → H i → H (ask_route_if_due line m.nid_engine e i).state
-        asks e i = of_moves (still m.nid_engine) refl was facts i (ask_route_if_due line m.nid_engine e i) (ask_if_walks line c (still m.nid_engine) was m.nid_engine refl e i)
+        asks e i = of_moves (still m.nid_engine) refl was facts i (ask_route_if_due line m.nid_engine e i) (ask_if_walks line c (still m.nid_engine) was m.nid_engine refl e (by_itself refl) i)
 
         by_place : (n : Mission) → was.mission m.nid_engine ≡ Some n → (o : Option Place) → place_on line n.place.track position ≡ o
             → H (option_map_or (λ place. grant line c m.nid_engine (record n { place = place })) o rest was).state
@@ -133,7 +133,7 @@ module _ (line : Line) (ok : IsLine line) (c : ℕ) where
             → H (option_map_or (λ n. option_map_or (λ place. grant line c m.nid_engine (record n { place = place })) (place_on line n.place.track position) rest was) o (rest was)).state
         by_mission None none = old
         by_mission (Some n) at = by_place n at (place_on line n.place.track position) refl
-    message_all m body old = of_moves (may_do m.nid_engine body) refl was facts was (answered line c m body was) (answered_walks line c was m body) old
+    message_all m body old = of_moves (may_do m body) refl was facts was (answered line c m body was) (answered_walks line c was m body) old
 
   -- ## A step
 

@@ -184,7 +184,7 @@ module _ (line : Line) (c : ℕ) where
   answered_in_order m (EndOfMission position) = end_in_order line c m.nid_engine position
   answered_in_order m InitiationOfSession = then_none _ _ (then_none _ _ (close_session_in_order line c m.nid_engine) (record { each = λ k. refl })) (record { each = λ k. refl })
   answered_in_order m TerminationOfSession = then_none _ _ (close_session_in_order line c m.nid_engine) (record { each = λ k. refl })
-  answered_in_order m body = quiet (answered line c m body) (record { each = λ k. silent line c (may_do m.nid_engine body) refl k k (answered line c m body k) (answered_walks line c k m body) })
+  answered_in_order m body = quiet (answered line c m body) (record { each = λ k. silent line c (may_do m body) refl k k (answered line c m body k) (answered_walks line c k m body) })
 
   trains : (t : ℕ) (act : Act) → IsOrdered act → IsOrdered (of_train line t act)
   trains t act tells = branch TellsInOrder none_in_order (is_train line t) act rest tells (quiet rest (record { each = λ k. refl }))

@@ -1,5 +1,5 @@
 -- The acts that several rules share are walks.
-use Rattle.std.proofs.Common.{sym, subst, if◌then◌else◌, Option, Some, None, refl, ◌≡◌, ℕ, ◌+◌, ◌-◌, ◌==◌, ◌&&◌, true, Some, None}
+use Rattle.std.proofs.Common.{sym, subst, if◌then◌else◌, Option, Some, None, refl, ◌≡◌, ℕ, ◌+◌, ◌-◌, ◌==◌, ◌&&◌, ◌≤◌, arith, true, false, Some, None}
 use Rattle.std.specs.Option.{option_map_or}
 use Rattle.std.proofs.lemmas.Bool.{and_parts, eqb-true}
 use Rattle.rbc_spec.specs.Maps.{put}
@@ -13,7 +13,7 @@ use Rattle.rbc_spec.specs.Centre.{Centre, Out, Mission, Handing, Closed, is_up, 
 use Rattle.rbc_spec.specs.Acts.{Act, become, rest, ◌>>◌, where_so, with_some, send, say, booked, freed, returned, leave, set_mission, change_mission, return_pool, cancel, return_right, close, begun, may_propose, propose, propose_if_so, part_at, announce, end_order, yield}
 use Rattle.rbc_spec.specs.Rules.{drop_wait, set_phase, close_session, accept, reject, begin}
 use Rattle.rbc_spec.specs.Links.{taking_over}
-use Rattle.law_walk.proofs.Moves.{May, MayBegin, goes_back, hand_to, no_handover, Walk, joined, says, sends, returns, lends, frees, phases, waits_no_more, rights, sets, changes, begins, no_proposal, proposes, no_pool, announces, recalls, closes, closes_handed, yields, Walks, step, resting, both, by_bool, by_option, branch, when, with}
+use Rattle.law_walk.proofs.Moves.{May, MayBegin, goes_back, hand_to, no_handover, Walk, joined, says, sends, returns, lends, frees, phases, waits_no_more, rights, sets, changes, begins, no_proposal, proposes, no_pool, announces, recalls, closes, closes_handed, yields, IsAhead, Walks, step, resting, both, by_bool, by_option, either, branch, when, with}
 
 module _ (line : Line) (c : ℕ) (may : May) (was : Centre) (t : ℕ) where
   abbrev Goes : Act → Type 0
@@ -47,7 +47,7 @@ module _ (line : Line) (c : ℕ) (may : May) (was : Centre) (t : ℕ) where
   pub reject_walks : Goes (reject t)
   reject_walks k = step line c may was (says t unknown_group TrainRejected k)
 
-  pub begin_walks : (place : Place) → MayBegin line c t was place → (k : Centre) → k.mission t ≡ None → Walk line c may was k (begin line t place k)
+  pub begin_walks : (place : Place) → MayBegin line c may t was place → (k : Centre) → k.mission t ≡ None → Walk line c may was k (begin line t place k)
   begin_walks place why k none = joined (set_mission t (Some (begun line place))) (accept t) k (step line c may was (sets t (Some (begun line place)) k (begins place why none))) (accept_walks _)
 
 -- ## Of the train of the event
@@ -56,11 +56,12 @@ module _ (line : Line) (c : ℕ) (may : May) (was : Centre) (t : ℕ) (its : may
   abbrev Its : Act → Type 0
   Its act = Walks line c may was act
 
-  pub leave_walks : may.speaks ≡ true → (track : ℕ) (r : SectionRun) → Its (leave line c t track r)
-  leave_walks so track r = both line c may was (freed line c (is_taken_for t) r) (returned line c t track r) (λ k. step line c may was (frees (is_taken_for t) r k so)) (λ k. step line c may was (returns t track r k its))
+  pub leave_walks : may.speaks ≡ true → (track : ℕ) (r : SectionRun) (m : Mission) (k : Centre) → k.mission t ≡ Some m → r.count ≤ m.hand.count + m.pool.count → Walk line c may was k (leave line c t track r k)
+  unfolding ◌>>◌
+  leave_walks so track r m k has few = joined (freed line c (is_taken_for t) r) (returned line c t track r) k (step line c may was (frees (is_taken_for t) r k so)) (step line c may was (returns t track r m _ its has few))
 
-  pub return_pool_walks : (m : Mission) → Its (return_pool line c t m)
-  return_pool_walks m = both line c may was _ _ (λ k. step line c may was (returns t m.place.track m.pool k its)) (λ k. step line c may was (changes t (λ n. record n { pool = no_run }) k no_pool))
+  pub return_pool_walks : (m : Mission) (k : Centre) → k.mission t ≡ Some m → Walk line c may was k (return_pool line c t m k)
+  return_pool_walks m k has = joined _ _ k (step line c may was (returns t m.place.track m.pool m k its has (omega arith))) (step line c may was (changes t (λ n. record n { pool = no_run }) _ no_pool))
 
   -- the handover of a mission is cancelled, where the hand has nothing of the next centre
   pub recall_walks : (m : Mission) (k : Centre) → k.mission t ≡ Some m → ((h : Handing) → m.handing ≡ Some h → is_empty (part_at line h.to m.place.track m.hand) ≡ true) → Walk line c may was k (cancel t m k)
@@ -72,12 +73,12 @@ module _ (line : Line) (c : ℕ) (may : May) (was : Centre) (t : ℕ) (its : may
       by_handing (Some h) stands = step line c may was (recalls t m h k its has stands (none h stands))
 
   pub return_right_walks : Its (return_right line c t)
-  return_right_walks = branch line c may was (is_registrar_of line c t) (become (λ k. record k { has_right = put k.has_right t true })) (option_map_or (λ r. send r (ReturnRight t)) (registrar line t) rest)
-      (λ k. step line c may was (rights t true k)) (by_registrar (registrar line t) refl)
+  return_right_walks k = either line c may was (is_registrar_of line c t) (become (λ j. record j { has_right = put j.has_right t true })) (option_map_or (λ r. send r (ReturnRight t)) (registrar line t) rest) k
+      (λ here. step line c may was (rights t true k)) (λ away. by_registrar away (registrar line t) refl)
     where
-      by_registrar : (o : Option ℕ) → registrar line t ≡ o → Its (option_map_or (λ r. send r (ReturnRight t)) o rest)
-      by_registrar None none k = resting line c may was k
-      by_registrar (Some r) is k = step line c may was (sends r (ReturnRight t) k (goes_back t its is))
+      by_registrar : is_registrar_of line c t ≡ false → (o : Option ℕ) → registrar line t ≡ o → Walk line c may was k (option_map_or (λ r. send r (ReturnRight t)) o rest k)
+      by_registrar away None none = resting line c may was k
+      by_registrar away (Some r) is = step line c may was (sends r (ReturnRight t) k (goes_back t its away is))
 
   -- a mission closes that was m, but for its request to shorten
   pub close_walks : (m n : Mission) (k : Centre) → k.mission t ≡ Some n → n.handing ≡ m.handing → Walk line c may was k (close line c t m k)
@@ -88,17 +89,17 @@ module _ (line : Line) (c : ℕ) (may : May) (was : Centre) (t : ℕ) (its : may
       by_handing None none = step line c may was (closes t n k has none)
       by_handing (Some h) stands = step line c may was (closes_handed t n h k its has stands)
 
-  pub announce_walks : may.announces ≡ true → (group d : ℕ) (m : Mission) (k : Centre) → k.mission t ≡ Some m → m.handing ≡ None → Walk line c may was k (announce line t group d m k)
+  pub announce_walks : may.announces ≡ true → (group d : ℕ) (m : Mission) (k : Centre) → k.mission t ≡ Some m → m.handing ≡ None → IsAhead line c may d → k.announced ≡ was.announced → Walk line c may was k (announce line t group d m k)
   unfolding ◌>>◌
-  announce_walks so group d m k has none = joined ((send d (Announce (k.announced + 1) t m.place.track) >> become (λ j. record j { announced = k.announced + 1 })) >> change_mission t (hand_to d (k.announced + 1)))
+  announce_walks so group d m k has none ahead same = joined ((send d (Announce (k.announced + 1) t m.place.track) >> become (λ j. record j { announced = k.announced + 1 })) >> change_mission t (hand_to d (k.announced + 1)))
       (say t group (Transition (start line (part_at line d m.place.track m.hand).first - group_start line m.place) line.nid_c (nid_rbc line d))) k
-      (step line c may was (announces t d m k its so has none))
+      (step line c may was (announces t d m k its so has none ahead same))
       (step line c may was (says t group (Transition (start line (part_at line d m.place.track m.hand).first - group_start line m.place) line.nid_c (nid_rbc line d)) _))
 
   yield_walks : (m : Mission) (h : Handing) (k : Centre) → may.yields ≡ Some h → k.mission t ≡ Some m → m.handing ≡ Some h → Walk line c may was k (yield line c t m h k)
   unfolding ◌>>◌
   yield_walks m h k may_yield has stands = joined (goes >> gives) (if is_empty (part_at line c m.place.track m.hand) then end_order line c t else rest) k
-      (joined goes gives k (joined (returned line c t m.place.track m.pool) (booked (is_taken_for t) (Out t) m.hand) k (step line c may was (returns t m.place.track m.pool k its)) (step line c may was (lends (is_taken_for t) t m.hand k its)))
+      (joined goes gives k (joined (returned line c t m.place.track m.pool) (booked (is_taken_for t) (Out t) m.hand) k (step line c may was (returns t m.place.track m.pool m k its has (omega arith))) (step line c may was (lends (is_taken_for t) t m.hand k its)))
       (step line c may was (yields t m h (goes k).state its may_yield has stands)))
       (branch line c may was (is_empty (part_at line c m.place.track m.hand)) (end_order line c t) rest (end_order_walks line c may was t) (resting line c may was) _)
     where

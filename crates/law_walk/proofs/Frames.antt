@@ -1,5 +1,5 @@
 -- What a frame comes to is a walk, an answer, or both.
-use Rattle.std.proofs.Common.{◌≡◌, refl, ap, ◌∙◌, ℕ, ◌&&◌, [], ◌++◌, Bool, false, not, if◌then◌else◌, length, max, Some, None, is_some, is_none, nat_lt, true, Option}
+use Rattle.std.proofs.Common.{◌≡◌, refl, ap, ◌∙◌, ℕ, arith, ◌&&◌, [], ◌++◌, Bool, false, not, if◌then◌else◌, length, max, Some, None, is_some, is_none, nat_lt, true, Option}
 use Rattle.std.specs.Option.{option_map_or}
 use Rattle.std.proofs.lemmas.Bool.{and_parts}
 use Rattle.std.specs.List.{find, range_with_len}
@@ -7,7 +7,7 @@ use Rattle.rbc_spec.specs.Maps.{has, put}
 use Rattle.rbc_spec.specs.SectionRuns.{SectionRun, no_run, within, is_empty, part_before, part_from, all_of}
 use Rattle.rbc_spec.specs.Line.{Line, is_home, section}
 use Rattle.rbc_spec.specs.Place.{Place, covered}
-use Rattle.rbc_spec.specs.Frame.{Body, AskRight, GiveRight, RefuseRight, ReturnRight, RouteAsk, RouteInfo, RouteWithdraw, RouteReturn, Announce, Cancel, TakingOver, Yield, carried_place}
+use Rattle.rbc_spec.specs.Frame.{Body, YieldedPlace, AskRight, GiveRight, RefuseRight, ReturnRight, RouteAsk, RouteInfo, RouteWithdraw, RouteReturn, Announce, Cancel, TakingOver, Yield, carried_place}
 use Rattle.rbc_spec.specs.Centre.{Centre, Handing, Taken, Mission, is_out_for, is_taken_for, uses_some, is_expected, is_registrar_of}
 use Rattle.rbc_spec.specs.Acts.{Act, Reply, become, rest, ◌>>◌, with_some, send, booked, freed, returned, set_mission, change_mission, return_right, propose_if_so, end_order}
 use Rattle.rbc_spec.specs.Rules.{choose, begin, reject}
@@ -15,7 +15,7 @@ use Rattle.rbc_spec.specs.Links.{right_asked, answered_ask, right_given, right_r
 use Rattle.law_base.proofs.Lists.{none_is}
 use Rattle.law_base.proofs.Puts.{put_there}
 use Rattle.law_walk.specs.Trains.{train_of}
-use Rattle.law_walk.proofs.Moves.{May, Walk, Answer, Closed, of_walk, has_place_for_route, gives, refuses, begins_at, not_needed, drops, nothing_waits, lends_some, told, waited, goes_home, rests, sends, returns, books, frees, expects, hears, sets, changes, comes, less_pool, pools, Walks, step, resting, both, by_bool, branch, when, with}
+use Rattle.law_walk.proofs.Moves.{May, Came, joined, said_before, one_more, no_more, Walk, Answer, Closed, of_walk, has_place_for_route, gives, refuses, begins_at, not_needed, drops, nothing_waits, lends_some, told, waited, goes_home, rests, sends, returns, books, frees, expects, hears, sets, changes, comes, less_pool, pools, Walks, step, resting, both, by_bool, either, branch, when, with}
 use Rattle.law_walk.proofs.Acts.{return_right_walks, propose_if_walks, end_order_walks, taking_over_walks, reject_walks, begin_walks}
 
 -- ## Frames that neither ask nor answer
@@ -30,30 +30,31 @@ module _ (line : Line) (c d : ℕ) (may : May) (was : Centre) (t : ℕ) (its : m
   withdrawn_walks : (s : ℕ) → Goes (route_withdrawn line c t s)
   withdrawn_walks s = with line c may was (λ k. k.mission t)
       (λ m. if within m.pool s then (returned line c t m.place.track (part_from s m.pool) >> change_mission t (λ n. record n { pool = part_before s n.pool })) else propose_if_so line t s)
-      (λ k m has. branch line c may was (within m.pool s) (returned line c t m.place.track (part_from s m.pool) >> change_mission t (λ n. record n { pool = part_before s n.pool })) (propose_if_so line t s)
-      (both line c may was (returned line c t m.place.track (part_from s m.pool)) (change_mission t (λ n. record n { pool = part_before s n.pool }))
-      (λ j. step line c may was (returns t m.place.track (part_from s m.pool) j its)) (λ j. step line c may was (changes t (λ n. record n { pool = part_before s n.pool }) j (less_pool s))))
-      (propose_if_walks line c may was t s) k)
+      (λ k m has. either line c may was (within m.pool s) (returned line c t m.place.track (part_from s m.pool) >> change_mission t (λ n. record n { pool = part_before s n.pool })) (propose_if_so line t s) k
+      (λ pooled. joined (returned line c t m.place.track (part_from s m.pool)) (change_mission t (λ n. record n { pool = part_before s n.pool })) k
+      (step line c may was (returns t m.place.track (part_from s m.pool) m k its has (omega arith))) (step line c may was (changes t (λ n. record n { pool = part_before s n.pool }) _ (less_pool s))))
+      (λ other. propose_if_walks line c may was t s k))
 
   home_walks : may.speaks ≡ true → (r : SectionRun) → Goes (route_returned line c t r)
   home_walks so r = both line c may was (freed line c (is_out_for t) r) _ (λ k. step line c may was (frees (is_out_for t) r k so))
       (when line c may was (λ k. not (uses_some line c k t) && ((is_none (k.mission t) && is_none (k.wait t)) && not (is_expected line k t))) (end_order line c t) (end_order_walks line c may was t))
 
-  announced_walks : may.expects ≡ true → (number : ℕ) → Goes (announced d number t)
-  announced_walks so number = when line c may was (λ k. is_none (k.expects d t)) (expect d t (Some (record { number = number; is_taking = false }))) (λ k. step line c may was (expects d t (Some (record { number = number; is_taking = false })) k so))
+  announced_walks : may.expects ≡ true → (number track : ℕ) → may.cause ≡ Came d (Announce number t track) → Goes (announced d number t)
+  announced_walks so number track came = when line c may was (λ k. is_none (k.expects d t)) (expect d t (Some (record { number = number; is_taking = false }))) (λ k. step line c may was (expects d t (Some (record { number = number; is_taking = false })) k so (one_more number track came)))
 
   cancelled_walks : may.expects ≡ true → (number : ℕ) → Goes (cancelled d number t)
-  cancelled_walks so number = when line c may was (λ k. is_under number (k.expects d t)) (expect d t None) (λ k. step line c may was (expects d t None k so))
+  cancelled_walks so number = when line c may was (λ k. is_under number (k.expects d t)) (expect d t None) (λ k. step line c may was (expects d t None k so no_more))
 
-  yielded_walks : may.expects ≡ true → (number : ℕ) (hand : SectionRun) (heard : ℕ) (has_data is_ended : Bool) (place : Place) → Walk line c may was was (yielded line c d number t hand heard has_data is_ended place was)
-  yielded_walks so number hand heard has_data is_ended place =
+  yielded_walks : may.expects ≡ true → (number : ℕ) (hand : SectionRun) (heard : ℕ) (has_data is_ended : Bool) (carried : YieldedPlace) (place : Place)
+      → may.cause ≡ Came d (Yield number t heard has_data is_ended carried hand) → carried_place carried ≡ Some place → Walk line c may was was (yielded line c d number t hand heard has_data is_ended place was)
+  yielded_walks so number hand heard has_data is_ended carried place came placed =
       let m : Mission = record { place = place; hand = hand; pool = no_run; has_data = has_data; is_ended = is_ended; proposal = None; handing = None } in
       by_bool line c may was (may_take line c was d number t place hand) (take_mission line c d t heard m was) (rest was) was
       (λ taken. both line c may was _ (with_some (λ k. find (λ s. is_home line c s && k.wish s) (range_with_len hand.first hand.count)) (propose_if_so line t))
       (both line c may was (booked (is_out_for t) (Taken t) hand >> set_mission t (Some m)) (become (λ k. record k { heard = put k.heard t (Some (option_map_or (max heard) (k.heard t) heard)) }) >> expect d t None)
-      (both line c may was (booked (is_out_for t) (Taken t) hand) (set_mission t (Some m)) (λ k. step line c may was (books (is_out_for t) t hand k)) (λ k. step line c may was (sets t (Some m) k (comes d number place hand has_data is_ended so taken))))
+      (both line c may was (booked (is_out_for t) (Taken t) hand) (set_mission t (Some m)) (λ k. step line c may was (books (is_out_for t) t hand k)) (λ k. step line c may was (sets t (Some m) k (comes d number heard carried place hand has_data is_ended so taken came placed))))
       (both line c may was (become (λ k. record k { heard = put k.heard t (Some (option_map_or (max heard) (k.heard t) heard)) })) (expect d t None)
-      (λ k. step line c may was (hears t (Some (option_map_or (max heard) (k.heard t) heard)) k)) (λ k. step line c may was (expects d t None k so))))
+      (λ k. step line c may was (hears t (Some (option_map_or (max heard) (k.heard t) heard)) k (said_before d number heard has_data is_ended carried hand came))) (λ k. step line c may was (expects d t None k so no_more))))
       (with line c may was (λ k. find (λ s. is_home line c s && k.wish s) (range_with_len hand.first hand.count)) (propose_if_so line t) (λ k s found. propose_if_walks line c may was t s k)) was)
       (λ left. resting line c may was was)
 
@@ -87,7 +88,7 @@ frame_yields d (TakingOver number t) = Some (record { number = number; to = d })
 frame_yields d body = None
 
 abbrev pub frame_may : ℕ → Body → May
-frame_may d body = record { announces = false; speaks = frame_speaks body; expects = frame_expects body; train = Some (train_of body); yields = frame_yields d body }
+frame_may d body = record { announces = false; speaks = frame_speaks body; expects = frame_expects body; train = Some (train_of body); yields = frame_yields d body; cause = Came d body }
 
 -- why a question or an answer that comes has no effect
 pub data Idle (line : Line) (c d : ℕ) (was : Centre) : Body → Type 0 where
@@ -192,7 +193,7 @@ module _ (line : Line) (c d : ℕ) (was : Centre) where
   told_taking t r known = taking_if (RouteInfo t r) (has_place_for_route line d r (was.route_ask t)) _ (rest was)
       (λ so. answers_then (become (λ j. record j { route_ask = put j.route_ask t None })) (choose (λ j. has (is_wanted line r) (j.mission t)) (change_mission t (λ m. record m { pool = r })) (if is_empty r then rest else send d (RouteReturn t r))) known (told t r so)
       (by_bool line c may was (has (is_wanted line r) (was.mission t)) (change_mission t (λ m. record m { pool = r }) ended) ((if is_empty r then rest else send d (RouteReturn t r)) ended) ended
-      (λ wanted. step line c may was (changes t (λ m. record m { pool = r }) ended (pools r (put_there was.route_ask t None))))
+      (λ wanted. step line c may was (changes t (λ m. record m { pool = r }) ended (pools d r (put_there was.route_ask t None) refl wanted)))
       (λ unwanted. by_empty so (is_empty r) refl)))
       (λ away. idle (no_place t r away))
     where
@@ -204,7 +205,7 @@ module _ (line : Line) (c d : ℕ) (was : Centre) where
 
       by_empty : has_place_for_route line d r (was.route_ask t) ≡ true → (b : Bool) → is_empty r ≡ b → Walk line c may was ended ((if b then rest else send d (RouteReturn t r)) ended)
       by_empty so true none = resting line c may was ended
-      by_empty so false some = step line c may was (sends d (RouteReturn t r) ended (goes_home t r refl some (and_parts _ (all_of (is_home line d) r) so).1))
+      by_empty so false some = step line c may was (sends d (RouteReturn t r) ended (goes_home t r refl some (and_parts _ (all_of (is_home line d) r) so).1 refl))
 
   -- ## A frame
 
@@ -223,14 +224,14 @@ module _ (line : Line) (c d : ℕ) (was : Centre) where
   received_taking (RouteInfo t r) = of_train_taking (RouteInfo t r) _ (told_taking t r)
   received_taking (RouteWithdraw t s) = of_walks (RouteWithdraw t s) _ refl (so_or_rests (RouteWithdraw t s) (is_some (section line s)) (route_withdrawn line c t s) (withdrawn_walks line c d (frame_may d (RouteWithdraw t s)) was t refl s))
   received_taking (RouteReturn t r) = of_walks (RouteReturn t r) _ refl (so_or_rests (RouteReturn t r) (all_of (λ s. is_some (section line s)) r) (route_returned line c t r) (home_walks line c d (frame_may d (RouteReturn t r)) was t refl refl r))
-  received_taking (Announce number t track) = of_walks (Announce number t track) _ refl (so_or_rests (Announce number t track) (nat_lt track (length line.tracks)) (announced d number t) (announced_walks line c d (frame_may d (Announce number t track)) was t refl refl number))
+  received_taking (Announce number t track) = of_walks (Announce number t track) _ refl (so_or_rests (Announce number t track) (nat_lt track (length line.tracks)) (announced d number t) (announced_walks line c d (frame_may d (Announce number t track)) was t refl refl number track refl))
   received_taking (Cancel number t) = of_walks (Cancel number t) _ refl (cancelled_walks line c d (frame_may d (Cancel number t)) was t refl refl number was)
   received_taking (TakingOver number t) = of_walks (TakingOver number t) _ refl (taking_over_walks line c (frame_may d (TakingOver number t)) was t refl d number refl was)
-  received_taking (Yield number t heard has_data is_ended place hand) = of_walks (Yield number t heard has_data is_ended place hand) _ refl (by_place (carried_place place))
+  received_taking (Yield number t heard has_data is_ended place hand) = of_walks (Yield number t heard has_data is_ended place hand) _ refl (by_place (carried_place place) refl)
     where
       may : May
       may = frame_may d (Yield number t heard has_data is_ended place hand)
 
-      by_place : (o : Option Place) → Walk line c may was was (option_map_or (yielded line c d number t hand heard has_data is_ended) o rest was)
-      by_place None = resting line c may was was
-      by_place (Some at) = yielded_walks line c d may was t refl refl number hand heard has_data is_ended at
+      by_place : (o : Option Place) → carried_place place ≡ o → Walk line c may was was (option_map_or (yielded line c d number t hand heard has_data is_ended) o rest was)
+      by_place None none = resting line c may was was
+      by_place (Some at) placed = yielded_walks line c d may was t refl refl number hand heard has_data is_ended place at refl placed

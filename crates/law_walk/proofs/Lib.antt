@@ -3,3 +3,4 @@ pub mod Acts
 pub mod Messages
 pub mod Frames
 pub mod Steps
+pub mod Clock

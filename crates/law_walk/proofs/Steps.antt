@@ -1,24 +1,45 @@
 -- What holds of each small move holds of each step.
-use Rattle.std.proofs.Common.{◌≡◌, refl, ℕ, Bool, true, false, not, if◌then◌else◌, Option, Some, None}
+use Rattle.std.proofs.Common.{◌≡◌, refl, ℕ, Bool, true, false, not, if◌then◌else◌, Option, Some, None, is_some, is_none, slice_get}
 use Rattle.std.specs.Option.{option_map_or}
 use Rattle.rbc_spec.specs.Maps.{put}
-use Rattle.rbc_spec.specs.Line.{Line, is_home}
-use Rattle.rbc_spec.specs.Message.{TrainMessage}
+use Rattle.rbc_spec.specs.Line.{Line, is_home, train_number}
+use Rattle.rbc_spec.specs.Message.{TrainMessage, TrainBody, TrainData, Request, Report, ShorteningGranted, ShorteningRejected, EndOfMission, InitiationOfSession, TerminationOfSession, StartOfMission, SessionEstablished}
 use Rattle.rbc_spec.specs.Frame.{Frame, Body}
-use Rattle.rbc_spec.specs.Outcome.{Reason, Done, Asked, NotHome, Taken as LinkAnswer, Next, Old, Early, NoLink}
+use Rattle.rbc_spec.specs.Outcome.{Reason, ForeignEngine, reasons_of, Done, Asked, NotHome, Taken as LinkAnswer, Next, Old, Early, NoLink}
 use Rattle.rbc_spec.specs.Centre.{Centre, Entry, Shut, Open, Taken, Out, is_unused, is_out_for}
 use Rattle.rbc_spec.specs.Acts.{Act, Reply, become, rest, ◌>>◌, hear}
 use Rattle.rbc_spec.specs.Rules.{tell, answered}
-use Rattle.rbc_spec.specs.Links.{received}
-use Rattle.rbc_spec.specs.Step.{Event, Train, Set, Unset, Deliver, Effect, effect, silence, hear_and_answer, wished, make, set, unset, link_answer, taken_by}
-use Rattle.law_walk.proofs.Moves.{May, setting, Walk, Answer, joined, rests, hears, tells, wishes, makes, withdraws, Walks, Closed, of_walk, step, resting, both, by_bool, branch}
+use Rattle.rbc_spec.specs.Links.{is_train, received}
+use Rattle.rbc_spec.specs.Step.{Event, Train, Set, Unset, Deliver, Effect, effect, silence, holds, hear_and_answer, wished, make, set, unset, link_answer, taken_by}
+use Rattle.law_base.proofs.Lists.{none_passes}
+use Rattle.law_walk.proofs.Moves.{May, setting, said_now, Walk, Answer, joined, rests, hears, tells, wishes, makes, withdraws, Walks, Closed, of_walk, step, resting, both, by_bool, branch}
 use Rattle.law_walk.proofs.Acts.{propose_if_walks}
 use Rattle.law_walk.proofs.Messages.{may_do, answered_walks}
 use Rattle.law_walk.proofs.Frames.{frame_may, of_taking, received_taking}
 
+-- a message that is answered is of a train of the line
+pub heard_train : (line : Line) (c : ℕ) (k : Centre) (m : TrainMessage) → silence line c k m ≡ None → is_train line m.nid_engine ≡ true
+heard_train line c k m heard = known (train_number line m.nid_engine) (none_passes (holds line c k m) (reasons_of m.body) 0 ForeignEngine heard (first m.body))
+  where
+    first : (body : TrainBody) → slice_get (reasons_of body) 0 ≡ Some ForeignEngine
+    first (TrainData position) = refl
+    first (Request position) = refl
+    first (Report position) = refl
+    first (ShorteningGranted stamp position) = refl
+    first (ShorteningRejected stamp position) = refl
+    first (EndOfMission position) = refl
+    first InitiationOfSession = refl
+    first TerminationOfSession = refl
+    first (StartOfMission is_valid position) = refl
+    first SessionEstablished = refl
+
+    known : (o : Option ℕ) → is_none o ≡ false → is_some o ≡ true
+    known None is = cc
+    known (Some n) is = refl
+
 -- from the state that the message is heard in
-pub heard_walks : (line : Line) (c : ℕ) (m : TrainMessage) (k : Centre) → Walk line c (may_do m.nid_engine m.body) (hear m k).state k (hear_and_answer line c m k)
-heard_walks line c m k = joined (hear m) (answered line c m m.body) k (step line c (may_do m.nid_engine m.body) (hear m k).state (hears m.nid_engine (Some m.t_train) k)) (answered_walks line c (hear m k).state m m.body)
+pub heard_walks : (line : Line) (c : ℕ) (m : TrainMessage) (k : Centre) → Walk line c (may_do m m.body) (hear m k).state k (hear_and_answer line c m k)
+heard_walks line c m k = joined (hear m) (answered line c m m.body) k (step line c (may_do m m.body) (hear m k).state (hears m.nid_engine (Some m.t_train) k (said_now m refl))) (answered_walks line c (hear m k).state m m.body)
 
 module _ (line : Line) (c : ℕ) (may : May) (was : Centre) where
   abbrev Goes : Act → Type 0
@@ -66,7 +87,7 @@ module _ (line : Line) (c : ℕ) (may : May) (was : Centre) where
 
 module _ (line : Line) (c : ℕ) (P : Centre → Reply → Type 0) (closed : (may : May) (was : Centre) → Closed line c may was P) where
   pub of_message : (m : TrainMessage) (k : Centre) → P k (hear_and_answer line c m k)
-  of_message m k = of_walk line c (may_do m.nid_engine m.body) (hear m k).state P (closed (may_do m.nid_engine m.body) (hear m k).state) k (hear_and_answer line c m k) (heard_walks line c m k)
+  of_message m k = of_walk line c (may_do m m.body) (hear m k).state P (closed (may_do m m.body) (hear m k).state) k (hear_and_answer line c m k) (heard_walks line c m k)
 
   pub of_train : (m : TrainMessage) (k : Centre) → P k (effect line c k (Train m)).reply
   of_train m k = by_silence (silence line c k m)

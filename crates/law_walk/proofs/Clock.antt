@@ -1,12 +1,18 @@
--- No step touches its centre's clock beyond its stamp.
-use Rattle.std.proofs.Common.{◌≡◌, ℕ, refl, ◌∙◌}
+-- The stamp of a step is above its centre's clock, which no step touches beyond that.
+use Rattle.std.proofs.Common.{◌≡◌, ℕ, ◌<◌, refl, ◌∙◌, arith}
 use Rattle.rbc_spec.specs.Line.{Line}
 use Rattle.rbc_spec.specs.Frame.{Body}
 use Rattle.rbc_spec.specs.Centre.{Centre}
 use Rattle.rbc_spec.specs.Acts.{Act, Reply, ◌>>◌}
-use Rattle.rbc_spec.specs.Step.{Event, effect}
+use Rattle.rbc_spec.specs.Step.{Event, Train, Set, Unset, Deliver, stamp_of, effect}
 use Rattle.law_walk.proofs.Moves.{May, Move, rests, Answer, nothing_waits}
 use Rattle.law_walk.proofs.Steps.{of_effect}
+
+pub stamp_above : (k : Centre) (event : Event) → k.clock < stamp_of k event
+stamp_above k (Train m) = omega arith
+stamp_above k (Set s) = omega arith
+stamp_above k (Unset s) = omega arith
+stamp_above k (Deliver d f) = omega arith
 
 -- what an act leaves has the clock that there was
 abbrev KeepsClock : Centre → Reply → Type 0
