@@ -5,3 +5,4 @@ pub mod Puts
 pub mod Lines
 pub mod Acts
 pub mod Standstill
+pub mod Worlds

@@ -1,5 +1,5 @@
 -- Laws of functions with another value at one place, or at one pair.
-use Rattle.std.proofs.Common.{eq-eqb, ◌≡◌, ℕ, ◌==◌, true, false, cond, refl, sym, ap, ◌∙◌, inl, inr}
+use Rattle.std.proofs.Common.{eq-eqb, ◌≡◌, ℕ, ◌==◌, true, false, cond, refl, sym, ap, ◌∙◌, inl, inr, subst}
 use Rattle.std.proofs.lemmas.Bool.{cond-true, cond-false, ne_eqb}
 use Rattle.std.proofs.lemmas.Bool.Decides.{eqb_tells}
 use Rattle.rbc_spec.specs.Maps.{put, put_pair}
@@ -56,3 +56,10 @@ put_pair_there f t c x = elim (eqb_tells t t) as (λ _. put_pair f t c x t c ≡
 -- a number is itself
 pub itself : (t : ℕ) → (t == t) ≡ true
 itself t = eq-eqb t t refl
+
+-- what holds of each value of a function holds behind another value at one place, if it holds of that
+pub put_holds : {X : Type 0} (P : ℕ → X → Type 0) (f : ℕ → X) (t : ℕ) (x : X) → ((u : ℕ) → P u (f u)) → P t x → (u : ℕ) → P u (put f t x u)
+put_holds P f t x old new u = elim (eqb_tells u t) as (λ _. P u (put f t x u)) [
+  | inl e ↦ rw (e.0) (subst (λ v. P v x) (sym e.1) new)
+  | inr e ↦ rw (e.0) (old u)
+]

@@ -14,21 +14,13 @@ use Rattle.rbc_spec.specs.Centre.{Centre, Entry, Out, Mission, Expectation, is_o
 use Rattle.rbc_spec.specs.Acts.{Reply, returned}
 use Rattle.rbc_spec.specs.Rules.{taking, take_over}
 use Rattle.rbc_spec.specs.Step.{withdraw}
-use Rattle.law_base.proofs.Puts.{itself}
+use Rattle.law_base.proofs.Puts.{itself, put_holds}
 use Rattle.law_base.proofs.Runs.{within_from}
 use Rattle.law_local.proofs.Ordered.{is_ordered}
 use Rattle.law_network.proofs.Homes.{in_both}
 use Rattle.law_walk.proofs.Moves.{to_some}
 use Rattle.law_ranges.specs.Ranges.{HasMissionRanges, HasStartRanges, HasStateParts, IsSentInRange}
 use Rattle.law_ranges.proofs.Basics.{of_some, part_range, each_home}
-
--- what holds of each value of a function holds behind another value at one place, if it holds of that
-pub put_holds : {X : Type 0} (P : ℕ → X → Type 0) (f : ℕ → X) (t : ℕ) (x : X) → ((u : ℕ) → P u (f u)) → P t x → (u : ℕ) → P u (put f t x u)
-put_holds P f t x old new u = by_same (u == t) refl
-  where
-    by_same : (b : Bool) → (u == t) ≡ b → P u (if b then x else f u)
-    by_same true same = subst (λ v. P v x) (sym (eqb-true u t same)) new
-    by_same false apart = old u
 
 -- each train that an entry is out for has an engine
 abbrev pub IsOutFine : Entry → Type 0

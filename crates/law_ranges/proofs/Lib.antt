@@ -5,4 +5,3 @@ pub mod Kept
 pub mod Moves
 pub mod Steps
 pub mod Worlds
-pub mod Few
