@@ -1,5 +1,5 @@
 -- Laws of lists, and of ranges of numbers under a test.
-use Rattle.std.proofs.Common.{◌≡◌, ℕ, zero, suc, ◌+◌, ◌<◌, ◌≤◌, Bool, true, false, ◌||◌, if◌then◌else◌, List, [], ◌∷◌, ◌++◌, slice_get, Option, Some, None, is_none, refl, sym, ap, ◌∙◌, inl, inr, subst, arith}
+use Rattle.std.proofs.Common.{◌≡◌, ◌⊎◌, ⊎_elim, length, ℕ, zero, suc, ◌+◌, ◌<◌, ◌≤◌, Bool, true, false, ◌||◌, if◌then◌else◌, List, [], ◌∷◌, ◌++◌, slice_get, Option, Some, None, is_none, refl, sym, ap, ◌∙◌, inl, inr, subst, arith}
 use Rattle.std.specs.List.{filter, find, list_any, list_all, range_with_len, All}
 use Rattle.std.proofs.lemmas.Bool.{and_parts, and_from, or_left, or_right}
 use Rattle.std.proofs.lemmas.Bool.Decides.{eqb_tells}
@@ -13,6 +13,19 @@ none_is (Some x) is = cc
 -- what holds of each item holds of the one at a place
 pub each_at : {X : Type 0} (P : X → Type 0) (xs : List X) (i : ℕ) (x : X) → All P xs → slice_get xs i ≡ Some x → P x
 each_at P xs i x all at = subst P (get_or_from_slice_get xs i x x at) (All-get_or P xs i x (slice_get_within xs i x at) all)
+
+-- an item of two lists in a row is of the first or of the second
+pub get_append : {X : Type 0} (xs ys : List X) (i : ℕ) (x : X) → slice_get (xs ++ ys) i ≡ Some x → (slice_get xs i ≡ Some x) ⊎ ((j : ℕ) × (i ≡ length xs + j) × (slice_get ys j ≡ Some x))
+get_append [] ys i x is = inr (i, omega arith, is)
+get_append (y ∷ xs) ys zero x is = inl is
+get_append (y ∷ xs) ys (suc i) x is = ⊎_elim
+    (λ (front : slice_get xs i ≡ Some x). inl front)
+    (λ (back : (j : ℕ) × (i ≡ length xs + j) × (slice_get ys j ≡ Some x)). inr (back.0, omega (arith, back.1), back.2))
+    (get_append xs ys i x is)
+
+pub there_is : {X : Type 0} (o : Option X) → is_none o ≡ false → (x : X) × (o ≡ Some x)
+there_is None is = cc
+there_is (Some x) is = (x, refl)
 
 -- ## What is found
 

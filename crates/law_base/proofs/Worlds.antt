@@ -1,13 +1,14 @@
 -- What each event of a world comes to: a step of one centre, or nothing; and what each event of a run keeps.
-use Rattle.std.proofs.Common.{◌≡◌, ℕ, ◌-◌, ◌==◌, Bool, true, false, if◌then◌else◌, List, [], ◌∷◌, All, Option, Some, None, Result, Ok, Err, slice_get, refl, ap, subst}
+use Rattle.std.proofs.Common.{◌≡◌, ℕ, zero, suc, ◌+◌, ◌-◌, ◌==◌, Bool, true, false, if◌then◌else◌, List, [], ◌∷◌, All, Option, Some, None, Result, Ok, Err, slice_get, refl, ap, subst, arith}
 use Rattle.std.specs.Option.{option_map_or}
 use Rattle.std.proofs.lemmas.List.Elements.{All-nil, All-cons, All-head, All-tail}
+use Rattle.std.proofs.lemmas.Option.{same_Some}
 use Rattle.rbc_spec.specs.Maps.{put}
 use Rattle.rbc_spec.specs.Line.{Line, is_centre}
 use Rattle.rbc_spec.specs.Message.{TrainMessage}
-use Rattle.rbc_spec.specs.Frame.{Frame}
+use Rattle.rbc_spec.specs.Frame.{Frame, Body}
 use Rattle.rbc_spec.specs.Step as centre
-use Rattle.rbc_spec.specs.Step.{Refusal, step, refusal, taken}
+use Rattle.rbc_spec.specs.Step.{Refusal, step, refusal, taken, numbered}
 use Rattle.rbc_spec.specs.World.{World, Event, Bytes, Set, Unset, Delivery, Answer, Answered, NoCentre, NotSent, Fault, frame_sent, mention, stepped, at_centre, takes, world_step, world_run, ◌>>=◌}
 use Rattle.law_base.proofs.Lists.{each_at}
 
@@ -63,6 +64,12 @@ module _ (line : Line) (w : World) (P : Event → Answer → World → Type 0) (
   of_event (Set c s) = at_leaves (Set c s) c _ (λ to. takes_leaves (Set c s) c (centre.Set s) w.trains (sets c s to))
   of_event (Unset c s) = at_leaves (Unset c s) c _ (λ to. takes_leaves (Unset c s) c (centre.Unset s) w.trains (unsets c s to))
   of_event (Delivery a b number) = delivery_leaves a b number (frame_sent w a b number) refl
+
+-- the frames of a step are numbered one after another
+pub numbered_at : (stamp n : ℕ) (bodies : List Body) (i : ℕ) (f : Frame) → slice_get (numbered stamp n bodies) i ≡ Some f → f.number ≡ n + i + 1
+numbered_at stamp n [] i f is = cc
+numbered_at stamp n (b ∷ bs) zero f is = omega (arith, ap (λ (g : Frame). g.number) (same_Some (record { number = n + 1; stamp = stamp; body = b }) f is))
+numbered_at stamp n (b ∷ bs) (suc i) f is = omega (arith, numbered_at stamp (n + 1) bs i f is)
 
 -- what holds of each frame that was sent holds of one
 pub of_sent : (P : Frame → Type 0) (w : World) (a b number : ℕ) (f : Frame) → All P ((w.at a).sent b) → frame_sent w a b number ≡ Some f → P f

@@ -32,10 +32,6 @@ abbrev pub IsBeyond : ℕ → ℕ → Body → Type 0
 IsBeyond bound low (RouteReturn t r) = 0 < low → bound ≤ r.first
 IsBeyond bound low body = ⊤
 
-pub beyond_none : (bound : ℕ) (body : Body) → IsBeyond bound 0 body
-beyond_none bound (RouteReturn t r) = λ none. absurd (omega (arith, none))
-beyond_none bound body = tt
-
 closer : (bound low low' : ℕ) (body : Body) → low' ≤ low → IsBeyond bound low body → IsBeyond bound low' body
 closer bound low low' (RouteReturn t r) less far = λ some. far (omega (arith, less, some))
 closer bound low low' body less far = tt

@@ -28,7 +28,7 @@ use Rattle.law_centre_sound.proofs.Held.{Held, held, shut_unbooked, held_mission
 use Rattle.law_centre_sound.proofs.Sends.{Sound, leaves, none_sent, rest_sound, then_sound, if_reply, or_reply}
 use Rattle.law_centre_sound.proofs.Again.{grown_law, again, free_sound}
 use Rattle.law_centre_sound.proofs.Interlocking.{propose_sound}
-use Rattle.law_centre_sound.proofs.Requests.{some_is_none}
+use Rattle.law_base.proofs.Lists.{none_is}
 
 -- what was out is taken for the train again
 back_taken : (t : ℕ) (b hand : Bool) (e : Entry) → is_taken_for t e ≡ hand → (b ≡ true → is_out_for t e ≡ true) → is_taken_for t (booked_for t (b && is_out_for t e) e) ≡ (hand || b)
@@ -102,7 +102,7 @@ module _ (line : Line) (ok : IsLine line) (c : ℕ) where
     front_parts = and_parts _ _ may
 
     none : k.mission t ≡ None
-    none = some_is_none (k.mission t) (and_parts (is_none (k.mission t)) _ (and_parts _ (is_none (k.mission t) && not (k.has_right t)) front_parts.0).1).0
+    none = none_is (k.mission t) (and_parts (is_none (k.mission t)) _ (and_parts _ (is_none (k.mission t) && not (k.has_right t)) front_parts.0).1).0
 
     tracks : (is_on_track line place.track hand ≡ true) × (has (is_on line place.track) (section_of_group line place.group) ≡ true)
     tracks = and_parts _ _ (and_parts _ (nat_le (10 * group_start line place) place.front && all_of (may_arrive line c k t place.track) hand) front_parts.1).0

@@ -30,10 +30,7 @@ use Rattle.law_centre_sound.proofs.Sends.{Sound, leaves, none_sent, one_sent, th
 use Rattle.law_centre_sound.proofs.Again.{grown_law, again, same_hand, free_sound, said_sound}
 use Rattle.law_centre_sound.proofs.Places.{IsReported, reported}
 use Rattle.law_centre_sound.proofs.Leaving.{held_changed, next_is_centre}
-
-pub some_is_none : {X : Type 0} (o : Option X) → is_none o ≡ true → o ≡ None
-some_is_none (Some x) is = cc
-some_is_none None is = refl
+use Rattle.law_base.proofs.Lists.{none_is}
 
 -- an open section is taken for none
 pub open_untaken : (t : ℕ) (k : Centre) (s : ℕ) → is_open (k.book s) ≡ true → is_taken_for t (k.book s) ≡ false
@@ -153,7 +150,7 @@ module _ (line : Line) (ok : IsLine line) (c : ℕ) where
   border_sound t d k old to next = then_sound line c (announce_if_due line t d) (ask_route_if_due line t d) k
       (or_reply line c (k.mission t) _ (rest k)
       (λ m at. if_reply line c (is_none m.handing && not (is_empty (part_at line d m.place.track m.hand))) (announce line t m.place.group d m k) (rest k)
-      (λ due. announce_sound t m.place.group d m k old at (some_is_none m.handing (and_parts (is_none m.handing) _ due).0) (next m at)
+      (λ due. announce_sound t m.place.group d m k old at (none_is m.handing (and_parts (is_none m.handing) _ due).0) (next m at)
       (not-true (is_empty (part_at line d m.place.track m.hand)) (and_parts (is_none m.handing) (not (is_empty (part_at line d m.place.track m.hand))) due).1))
       (λ no. rest_sound line c k old))
       (λ none. rest_sound line c k old))

@@ -20,9 +20,9 @@ use Rattle.law_centre_sound.proofs.Sends.{Sound, leaves, none_sent, one_sent, re
 use Rattle.law_centre_sound.proofs.Again.{free_sound, said_sound, dropped_sound}
 use Rattle.law_centre_sound.proofs.Leaving.{right_sent}
 use Rattle.law_centre_sound.proofs.Starts.{begun_is}
-use Rattle.law_centre_sound.proofs.Requests.{some_is_none}
 use Rattle.rbc_spec.specs.Line.{registrar}
 use Rattle.rbc_spec.specs.Frame.{ReturnRight}
+use Rattle.law_base.proofs.Lists.{none_is}
 
 module _ (line : Line) (ok : IsLine line) (c : ℕ) where
   has_right_sound : (right : ℕ → Bool) (k : Centre) → IsCentreSound line c k → IsCentreSound line c (record k { has_right = right })
@@ -84,7 +84,7 @@ module _ (line : Line) (ok : IsLine line) (c : ℕ) where
       (λ asked. then_sound line c (answered_ask t) _ k (answered_sound t k old)
       (λ j is sound. if_reply line c (is_some (j.wait t) && is_none (j.mission t)) _ (return_right line c t j)
       (λ both. or_reply line c (j.wait t) _ (rest j)
-      (λ place at. begins t place j sound at (some_is_none (j.mission t) (and_parts (is_some (j.wait t)) (is_none (j.mission t)) both).1))
+      (λ place at. begins t place j sound at (none_is (j.mission t) (and_parts (is_some (j.wait t)) (is_none (j.mission t)) both).1))
       (λ none. rest_sound line c j sound))
       (λ no. right_back t j sound)))
       (λ unasked. rest_sound line c k old)

@@ -23,7 +23,8 @@ use Rattle.law_network.specs.Sound.{IsHandAt, IsMissionAt, IsCentreSound}
 use Rattle.law_centre_sound.proofs.Held.{Held, held, still, ends_less, sound_again, held_booked, held_mission, held_wait, held_aside}
 use Rattle.law_centre_sound.proofs.Sends.{Sound, leaves, none_sent, one_sent, rest_sound, then_sound, if_sound, if_reply, or_sound, or_reply}
 use Rattle.law_centre_sound.proofs.Again.{IsKnown, grown_law, waiting_law, again, changed_sound, free_sound, said_sound}
-use Rattle.law_centre_sound.proofs.Places.{IsReported, reported, moved, fit_is, fit_hand, same_track}
+use Rattle.law_centre.proofs.Places.{fit_is}
+use Rattle.law_centre_sound.proofs.Places.{IsReported, reported, moved, fit_hand, same_track}
 use Rattle.law_centre_sound.proofs.Leaving.{registrar_is_centre}
 use Rattle.law_centre_sound.proofs.Requests.{open_untaken}
 

@@ -40,7 +40,7 @@ neutral (Yield number t heard has_data is_ended place hand) none nothing = cc
 neutral (TakingOver number t) none nothing = cc
 neutral body none nothing = record { follows = λ u n. refl; announces = λ u h. refl; takes_over = λ u h. refl; yields = λ u h. refl }
 
-one_alone : (b : Bool) (body : Body) → (if b then body ∷ [] else []) ++ [] ≡ (if b then body ∷ [] else [])
+pub one_alone : (b : Bool) (body : Body) → (if b then body ∷ [] else []) ++ [] ≡ (if b then body ∷ [] else [])
 one_alone true body = refl
 one_alone false body = refl
 

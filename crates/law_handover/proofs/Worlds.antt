@@ -1,19 +1,18 @@
 -- Each step of a world keeps all of it sound.
-use Rattle.std.proofs.Common.{◌≡◌, ◌≢◌, ℕ, ◌+◌, ◌-◌, ◌==◌, Bool, true, false, if◌then◌else◌, List, [], ◌∷◌, map, slice_get, Option, Some, None, Result, Ok, Err, refl, sym, ap, ◌∙◌, subst, inl, inr}
-use Rattle.std.specs.Option.{option_map_or}
+use Rattle.std.proofs.Common.{◌≡◌, ◌≢◌, ℕ, ◌+◌, ◌-◌, ◌==◌, Bool, true, false, if◌then◌else◌, List, [], ◌∷◌, map, slice_get, Option, Some, None, Ok, refl, sym, ap, ◌∙◌, subst, inl, inr}
 use Rattle.law_counting.specs.Network.{took, acted, TakesHead}
 use Rattle.law_counting.specs.Resource.{Resource, IsFair}
 use Rattle.law_counting.proofs.Network.{each_head}
 use Rattle.rbc_spec.specs.Maps.{put}
 use Rattle.rbc_spec.specs.Line.{Line, IsLine, is_centre, is_linked}
 use Rattle.rbc_spec.specs.Frame.{Frame, Body}
-use Rattle.rbc_spec.specs.Outcome.{Outcome, Next, Old, Early, NoLink}
+use Rattle.rbc_spec.specs.Outcome.{Next, Old, Early, NoLink}
 use Rattle.rbc_spec.specs.Outcome as outcome
 use Rattle.rbc_spec.specs.Centre.{Centre, beginning}
 use Rattle.rbc_spec.specs.Step as centre
-use Rattle.rbc_spec.specs.Step.{Effect, Refusal, step, refusal, taken, taken_by, offered, link_answer, stamp_of, ticked, state_after}
-use Rattle.rbc_spec.specs.World.{World, Event, Bytes, Set, Unset, Delivery, Answer, NoCentre, NotSent, new_world, frame_sent, mention, stepped, at_centre, takes, world_step, world_run}
-use Rattle.law_local.proofs.Worlds.{world_of, bind_ok}
+use Rattle.rbc_spec.specs.Step.{Effect, taken, taken_by, offered, link_answer, stamp_of, ticked, state_after}
+use Rattle.rbc_spec.specs.World.{World, Event, Set, Unset, Answer, new_world, frame_sent, world_step, world_run}
+use Rattle.law_base.proofs.Worlds.{Brings, says, sets, unsets, delivers, of_event, keeps_run}
 use Rattle.law_network.specs.Flow.{Flow, flow_of, in_world, centre_count}
 use Rattle.law_network.specs.Counts.{rights, tokens}
 use Rattle.law_network.specs.Numbers.{taken_after}
@@ -140,30 +139,6 @@ module _ (line : Line) (ok : IsLine line) (w : World) (old : IsWorldSound line w
 
   -- ## An event
 
-  abbrev Leaves : Result (Answer × World) Refusal → Type 0
-  Leaves r = (answer : Answer) (new : World) → r ≡ Ok (answer, new) → IsFlowSound line (flow_of new)
-
-  abbrev Sound : World → Type 0
-  Sound x = IsFlowSound line (flow_of x)
-
-  stands_still : (answer : Answer) → Leaves (Ok (answer, w))
-  stands_still answer other new is = subst Sound (ap (λ r. world_of w r) is) old.flow
-
-  stepped_sound : (c : ℕ) (trains : List ℕ) (o : Option Refusal) (x : Outcome × Centre) → Sound (in_world w c x.1 trains) → Leaves (stepped w c trains (option_map_or (λ why. Err why) o (Ok x)))
-  stepped_sound c trains (Some why) x sound answer new is = cc
-  stepped_sound c trains None x sound answer new is = subst Sound (ap (λ r. world_of w r) is) sound
-
-  takes_sound : (c : ℕ) (trains : List ℕ) (event : centre.Event) → After c event trains → Leaves (takes line w c trains event)
-  unfolding step
-  takes_sound c trains event after = stepped_sound c trains (refusal line c (w.at c) event) (taken line c event (w.at c)) after
-
-  at_sound : (c : ℕ) (answered : Result (Answer × World) Refusal) → (is_centre line c ≡ true → Leaves answered) → Leaves (at_centre line w c answered)
-  at_sound c answered here = chosen (is_centre line c) here
-    where
-      chosen : (b : Bool) → (b ≡ true → Leaves answered) → Leaves (if b then answered else Ok (NoCentre, w))
-      chosen true h = h refl
-      chosen false h = stands_still NoCentre
-
   frame_sound : (a b number : ℕ) (f : Frame) → frame_sent w a b number ≡ Some f → (answer : outcome.Taken) → link_answer line b (w.at b) a f ≡ answer → After b (centre.Deliver a f) w.trains
   frame_sound a b number f sent Next is = let between = sent_between line w old.flow a b number f sent in
       after_head a b between.0 between.1 f (next_sent w old.numbered a b number f sent (linked_next (is_linked line b a) ((w.at b).taken a) f.number is).1) is w.trains
@@ -171,20 +146,14 @@ module _ (line : Line) (ok : IsLine line) (w : World) (old : IsWorldSound line w
   frame_sound a b number f sent Early is = after_other a b (sent_between line w old.flow a b number f sent).1 f Early (λ e. cc) is w.trains
   frame_sound a b number f sent NoLink is = after_other a b (sent_between line w old.flow a b number f sent).1 f NoLink (λ e. cc) is w.trains
 
-  delivery_sound : (a b number : ℕ) (o : Option Frame) → frame_sent w a b number ≡ o → Leaves (option_map_or (λ f. takes line w b w.trains (centre.Deliver a f)) o (Ok (NotSent, w)))
-  delivery_sound a b number None sent = stands_still NotSent
-  delivery_sound a b number (Some f) sent = takes_sound b w.trains (centre.Deliver a f) (frame_sound a b number f sent (link_answer line b (w.at b) a f) refl)
+  step_sound : (event : Event) (c : ℕ) (own : centre.Event) (trains : List ℕ) → Brings line w event c own trains → After c own trains
+  step_sound _ c _ trains (says _ m to) = after_itself c to (centre.Train m) trains (record {}) (record {}) (λ r. refl) (train_keeps line c m (ticked (stamp_of (w.at c) (centre.Train m)) (w.at c)))
+  step_sound _ c _ trains (sets _ s to) = after_itself c to (centre.Set s) trains (record {}) (record {}) (λ r. refl) ((set_keeps line c s).each (ticked (stamp_of (w.at c) (centre.Set s)) (w.at c)))
+  step_sound _ c _ trains (unsets _ s to) = after_itself c to (centre.Unset s) trains (record {}) (record {}) (λ r. refl) ((unset_keeps line c s).each (ticked (stamp_of (w.at c) (centre.Unset s)) (w.at c)))
+  step_sound _ _ _ trains (delivers a b number f sent) = frame_sound a b number f sent (link_answer line b (w.at b) a f) refl
 
-  event_sound : (event : Event) → Leaves (world_step line w event)
-  unfolding world_step
-  event_sound (Bytes c (Ok m)) = at_sound c _ (λ to. takes_sound c (mention line m.nid_engine w.trains) (centre.Train m)
-      (after_itself c to (centre.Train m) (mention line m.nid_engine w.trains) (record {}) (record {}) (λ r. refl) (train_keeps line c m (ticked (stamp_of (w.at c) (centre.Train m)) (w.at c)))))
-  event_sound (Bytes c (Err number)) = at_sound c _ (λ to. stands_still _)
-  event_sound (Set c s) = at_sound c _ (λ to. takes_sound c w.trains (centre.Set s)
-      (after_itself c to (centre.Set s) w.trains (record {}) (record {}) (λ r. refl) ((set_keeps line c s).each (ticked (stamp_of (w.at c) (centre.Set s)) (w.at c)))))
-  event_sound (Unset c s) = at_sound c _ (λ to. takes_sound c w.trains (centre.Unset s)
-      (after_itself c to (centre.Unset s) w.trains (record {}) (record {}) (λ r. refl) ((unset_keeps line c s).each (ticked (stamp_of (w.at c) (centre.Unset s)) (w.at c)))))
-  event_sound (Delivery a b number) = delivery_sound a b number (frame_sent w a b number) refl
+  event_sound : (event : Event) (answer : Answer) (new : World) → world_step line w event ≡ Ok (answer, new) → IsFlowSound line (flow_of new)
+  event_sound = of_event line w (λ e a x. IsFlowSound line (flow_of x)) (λ e a idle. old.flow) (λ e c own trains brings none. step_sound e c own trains brings)
 
   pub world_step_sound : (event : Event) (answer : Answer) (new : World) → world_step line w event ≡ Ok (answer, new) → IsWorldSound line new
   world_step_sound event answer new is = record { flow = event_sound event answer new is; numbered = world_step_numbered line w old.numbered event answer new is }
@@ -198,17 +167,6 @@ world_begins line = record {
   numbered = line_begins_numbered line;
 }
 
--- the world of the answers
-abbrev last_of : World → Result (List Answer × World) Refusal → World
-last_of w (Ok x) = x.1
-last_of w (Err why) = w
-
 pub world_run_sound : (line : Line) → IsLine line → (events : List Event) (w : World) → IsWorldSound line w → (answers : List Answer) (last : World)
     → world_run line w events ≡ Ok (answers, last) → IsWorldSound line last
-unfolding world_run
-world_run_sound line ok [] w old answers last is = subst (IsWorldSound line) (ap (λ r. last_of w r) is) old
-world_run_sound line ok (event ∷ events) w old answers last is =
-    let first = bind_ok (world_step line w event) _ (answers, last) is in
-    let others = bind_ok (world_run line first.0.1 events) _ (answers, last) first.2 in
-    subst (IsWorldSound line) (ap (λ r. last_of w r) others.2)
-    (world_run_sound line ok events first.0.1 (world_step_sound line ok w old event first.0.0 first.0.1 first.1) others.0.0 others.0.1 others.1)
+world_run_sound line ok = keeps_run line (IsWorldSound line) (world_step_sound line ok)

@@ -1,5 +1,5 @@
 -- What is left of a log, and where a frame stands that is delivered.
-use Rattle.std.proofs.Common.{◌≡◌, ◌⊎◌, ℕ, zero, suc, ◌+◌, ◌-◌, ◌≤◌, List, [], ◌∷◌, ◌++◌, length, All, Contains, Option, Some, None, slice_get, refl, sym, ap, subst, ◌∙◌, arith, append_assoc, append-nil, length-append, inl, inr, ⊎_elim}
+use Rattle.std.proofs.Common.{◌≡◌, ℕ, zero, suc, ◌+◌, ◌-◌, ◌≤◌, List, [], ◌∷◌, ◌++◌, length, All, Contains, Option, Some, None, slice_get, refl, sym, ap, subst, ◌∙◌, arith, append_assoc, append-nil, length-append, ⊎_elim}
 use Rattle.std.proofs.lemmas.List.Elements.{All-nil, All-append, All-head, All-tail}
 use Rattle.std.proofs.lemmas.Option.{slice_get_read}
 use Rattle.rbc_spec.specs.Line.{Line}
@@ -7,15 +7,7 @@ use Rattle.rbc_spec.specs.Frame.{Frame}
 use Rattle.rbc_spec.specs.Centre.{Centre, beginning}
 use Rattle.law_logs.specs.Logs.{LogEntry, Replays, sent_to}
 use Rattle.law_logs.proofs.Stamps.{stamped}
-
--- a frame of two lists in a row is of the first or of the second
-get_append : (xs ys : List Frame) (i : ℕ) (f : Frame) → slice_get (xs ++ ys) i ≡ Some f → (slice_get xs i ≡ Some f) ⊎ ((j : ℕ) × (i ≡ length xs + j) × (slice_get ys j ≡ Some f))
-get_append [] ys i f is = inr (i, omega arith, is)
-get_append (x ∷ xs) ys zero f is = inl is
-get_append (x ∷ xs) ys (suc i) f is = ⊎_elim
-    (λ (front : slice_get xs i ≡ Some f). inl front)
-    (λ (back : (j : ℕ) × (i ≡ length xs + j) × (slice_get ys j ≡ Some f)). inr (back.0, omega (arith, back.1), back.2))
-    (get_append xs ys i f is)
+use Rattle.law_base.proofs.Lists.{get_append}
 
 module _ (line : Line) (c : ℕ) where
   -- what was sent on the way

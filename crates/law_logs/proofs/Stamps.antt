@@ -1,8 +1,7 @@
 -- A step by its stamp.
-use Rattle.std.proofs.Common.{◌≡◌, ℕ, zero, suc, ◌+◌, ◌<◌, List, [], ◌∷◌, length, All, Option, Some, None, Result, Ok, Err, slice_get, refl, ap, subst, arith}
+use Rattle.std.proofs.Common.{◌≡◌, ℕ, ◌+◌, List, [], ◌∷◌, length, All, Option, Some, None, Result, Ok, Err, refl, subst, arith}
 use Rattle.std.specs.Option.{option_map_or}
 use Rattle.std.proofs.lemmas.List.Elements.{All-nil, All-cons}
-use Rattle.std.proofs.lemmas.Option.{same_Some}
 use Rattle.rbc_spec.specs.Line.{Line}
 use Rattle.rbc_spec.specs.Frame.{Frame, Body}
 use Rattle.rbc_spec.specs.Outcome.{Outcome}
@@ -10,15 +9,11 @@ use Rattle.rbc_spec.specs.Centre.{Centre}
 use Rattle.rbc_spec.specs.Step.{Event, Train, Set, Unset, Deliver, Refusal, effect, numbered, refusal, stamp_of, ticked, taken, step}
 use Rattle.law_walk.proofs.Clock.{stamp_above, clock_kept}
 use Rattle.law_logs.specs.Logs.{IsStamped, IsAboveItsFrame}
+use Rattle.law_base.proofs.Worlds.{numbered_at}
 
 numbered_stamp : (stamp count : ℕ) (bodies : List Body) → All (λ (f : Frame). f.stamp ≡ stamp) (numbered stamp count bodies)
 numbered_stamp stamp count [] = All-nil (λ (f : Frame). f.stamp ≡ stamp)
 numbered_stamp stamp count (b ∷ bs) = All-cons (λ (f : Frame). f.stamp ≡ stamp) _ _ refl (numbered_stamp stamp (count + 1) bs)
-
-numbered_at : (stamp count : ℕ) (bodies : List Body) (i : ℕ) (f : Frame) → slice_get (numbered stamp count bodies) i ≡ Some f → f.number ≡ count + i + 1
-numbered_at stamp count [] i f is = cc
-numbered_at stamp count (b ∷ bs) zero f is = omega (arith, ap (λ (g : Frame). g.number) (same_Some (record { number = count + 1; stamp = stamp; body = b }) f is))
-numbered_at stamp count (b ∷ bs) (suc i) f is = omega (arith, numbered_at stamp (count + 1) bs i f is)
 
 above_frame : (k : Centre) (event : Event) → IsAboveItsFrame event (stamp_of k event)
 above_frame k (Train m) = tt
@@ -29,7 +24,7 @@ above_frame k (Deliver d f) = omega arith
 taken_stamped : (line : Line) (c : ℕ) (event : Event) (k : Centre) → IsStamped k event (taken line c event k).0 (taken line c event k).1
 taken_stamped line c event k = record {
   clock = clock_kept line c event (ticked (stamp_of k event) k);
-  stamp_above = stamp_above k event;
+  above_clock = stamp_above k event;
   above_frame = above_frame k event;
   sent = λ d. refl;
   frames = λ d. numbered_stamp (stamp_of k event) _ ((effect line c (ticked (stamp_of k event) k) event).reply.frames d);

@@ -16,7 +16,7 @@ use Rattle.law_network.specs.Sound.{IsCentreSound, IsFlowSound, IsBodySound, Los
 use Rattle.law_network.specs.Numbers.{IsNumbered}
 use Rattle.law_network.specs.Shows.{Shows}
 
-none_way : (line : Line) (a b : ℕ) → way (flow_of (new_world line)) a b ≡ []
+pub none_way : (line : Line) (a b : ℕ) → way (flow_of (new_world line)) a b ≡ []
 unfolding new_world beginning
 none_way line a b = refl
 

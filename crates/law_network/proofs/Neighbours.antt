@@ -46,9 +46,6 @@ behind_one (x ∷ xs) i = refl
 differ : (a b : ℕ) → not (a == b) ≡ true → a ≢ b
 differ a b is same = elim (eqb_tells a b) [ inl e ↦ let wrong : false ≡ true = sym (ap not e.0) ∙ is in cc | inr e ↦ e.1 same ]
 
-same_is : (a b : ℕ) → a ≡ b → (a == b) ≡ true
-same_is a b e = elim (eqb_tells a b) [ inl x ↦ x.0 | inr x ↦ absurd (x.1 e) ]
-
 apart_is : (a b : ℕ) → a ≢ b → not (a == b) ≡ true
 apart_is a b e = elim (eqb_tells a b) [ inl x ↦ absurd (e x.1) | inr x ↦ ap not x.0 ]
 

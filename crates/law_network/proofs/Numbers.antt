@@ -1,39 +1,24 @@
 -- Frames keep their numbers: what a step sends on a link is numbered behind what was sent before.
-use Rattle.std.proofs.Common.{◌≡◌, ◌≢◌, ◌⊎◌, ℕ, zero, suc, ◌+◌, ◌-◌, ◌≤◌, ◌==◌, Bool, true, false, if◌then◌else◌, List, [], ◌∷◌, ◌++◌, length, map, Option, Some, None, Result, Ok, Err, nat_le, slice_get, sym, ap, ◌∙◌, subst, inl, inr, arith, ⊎_elim}
-use Rattle.std.specs.Option.{option_map_or}
-use Rattle.std.proofs.lemmas.Bool.{cases_eq, cond-true, cond-false}
+use Rattle.std.proofs.Common.{◌≡◌, ℕ, zero, suc, ◌+◌, ◌-◌, ◌≤◌, ◌==◌, Bool, true, false, if◌then◌else◌, List, [], ◌∷◌, length, map, Option, Some, None, Ok, nat_le, slice_get, sym, ap, ◌∙◌, subst, inl, inr, arith, ⊎_elim}
+use Rattle.std.proofs.lemmas.Bool.{cond-true, cond-false}
 use Rattle.std.proofs.lemmas.Bool.Decides.{eqb_tells}
 use Rattle.std.proofs.lemmas.Option.{same_Some}
 use Rattle.law_counting.specs.Network.{TakesHead}
 use Rattle.law_counting.proofs.Network.{next_is_head}
-use Rattle.law_counting.proofs.Sums.{put_same, put_other}
-use Rattle.rbc_spec.specs.Maps.{put}
-use Rattle.rbc_spec.specs.Line.{Line, is_centre}
-use Rattle.rbc_spec.specs.Frame.{Frame, Body}
-use Rattle.rbc_spec.specs.Outcome.{Outcome, Next, Old, Early}
+use Rattle.rbc_spec.specs.Line.{Line}
+use Rattle.rbc_spec.specs.Frame.{Frame}
+use Rattle.rbc_spec.specs.Outcome.{Next, Old, Early}
 use Rattle.rbc_spec.specs.Centre.{Centre}
 use Rattle.rbc_spec.specs.Step as centre
-use Rattle.rbc_spec.specs.Step.{Effect, Refusal, step, refusal, taken, numbered, frames_of, state_after, offered}
-use Rattle.rbc_spec.specs.World.{World, Event, Bytes, Set, Unset, Delivery, Answer, NoCentre, NotSent, frame_sent, mention, stepped, at_centre, takes, world_step}
-use Rattle.law_local.proofs.Worlds.{world_of}
+use Rattle.rbc_spec.specs.Step.{Effect, taken, frames_of, state_after, offered}
+use Rattle.rbc_spec.specs.World.{World, Event, Answer, frame_sent, world_step}
+use Rattle.law_base.proofs.Puts.{put_holds}
+use Rattle.law_base.proofs.Worlds.{of_event, numbered_at}
 use Rattle.law_network.specs.Flow.{flow_of}
 use Rattle.law_network.specs.Numbers.{HasNumbers, IsNumbered}
+use Rattle.law_base.proofs.Lists.{get_append}
 
 -- ## A centre
-
-numbered_at : (stamp n : ℕ) (bodies : List Body) (i : ℕ) (f : Frame) → slice_get (numbered stamp n bodies) i ≡ Some f → f.number ≡ n + i + 1
-numbered_at stamp n [] i f is = cc
-numbered_at stamp n (b ∷ bs) zero f is = omega (arith, ap (λ (g : Frame). g.number) (same_Some (record { number = n + 1; stamp = stamp; body = b }) f is))
-numbered_at stamp n (b ∷ bs) (suc i) f is = omega (arith, numbered_at stamp (n + 1) bs i f is)
-
--- an item of two lists in a row is of the first or of the second
-get_append : (xs ys : List Frame) (i : ℕ) (f : Frame) → slice_get (xs ++ ys) i ≡ Some f → (slice_get xs i ≡ Some f) ⊎ ((j : ℕ) × (i ≡ length xs + j) × (slice_get ys j ≡ Some f))
-get_append [] ys i f is = inr (i, omega arith, is)
-get_append (x ∷ xs) ys zero f is = inl is
-get_append (x ∷ xs) ys (suc i) f is = ⊎_elim
-    (λ (front : slice_get xs i ≡ Some f). inl front)
-    (λ (back : (j : ℕ) × (i ≡ length xs + j) × (slice_get ys j ≡ Some f)). inr (back.0, omega (arith, back.1), back.2))
-    (get_append xs ys i f is)
 
 -- behind an effect of a step
 pub numbers_after : (stamp : ℕ) (k : Centre) (e : Effect) → HasNumbers k → HasNumbers (state_after stamp k e)
@@ -51,47 +36,9 @@ numbers_taken line c event k old = numbers_after (centre.stamp_of k event) k (ce
 -- ## A world
 
 module _ (line : Line) (w : World) (has : IsNumbered w) where
-  put_numbered : (c : ℕ) (k : Centre) (trains : List ℕ) → HasNumbers k → IsNumbered (record { at = put w.at c k; trains = trains })
-  put_numbered c k trains h = record {
-    centres = λ d. ⊎_elim
-        (λ (here : d ≡ c). subst (λ e. HasNumbers (put w.at c k e)) (sym here) (subst HasNumbers (sym (put_same w.at c k)) h))
-        (λ (apart : d ≢ c). subst HasNumbers (sym (put_other w.at c k d apart)) (has.centres d))
-        (cases_eq d c);
-  }
-
-  -- the world behind an answer is numbered
-  abbrev LeavesNumbered : Result (Answer × World) Refusal → Type 0
-  LeavesNumbered r = (answer : Answer) (new : World) → r ≡ Ok (answer, new) → IsNumbered new
-
-  stands_still : (answer : Answer) → LeavesNumbered (Ok (answer, w))
-  stands_still answer other new is = subst IsNumbered (ap (λ r. world_of w r) is) has
-
-  stepped_numbered : (c : ℕ) (trains : List ℕ) (o : Option Refusal) (x : Outcome × Centre) → HasNumbers x.1 → LeavesNumbered (stepped w c trains (option_map_or (λ why. Err why) o (Ok x)))
-  stepped_numbered c trains (Some why) x h answer new is = cc
-  stepped_numbered c trains None x h answer new is = subst IsNumbered (ap (λ r. world_of w r) is) (put_numbered c x.1 trains h)
-
-  takes_numbered : (c : ℕ) (trains : List ℕ) (event : centre.Event) → LeavesNumbered (takes line w c trains event)
-  unfolding step
-  takes_numbered c trains event = stepped_numbered c trains (refusal line c (w.at c) event) (taken line c event (w.at c)) (numbers_taken line c event (w.at c) (has.centres c))
-
-  at_numbered : (c : ℕ) (done : Result (Answer × World) Refusal) → LeavesNumbered done → LeavesNumbered (at_centre line w c done)
-  at_numbered c done h = chosen (is_centre line c)
-    where
-      chosen : (b : Bool) → LeavesNumbered (if b then done else Ok (NoCentre, w))
-      chosen true = h
-      chosen false = stands_still NoCentre
-
-  sent_numbered : (a b : ℕ) (o : Option Frame) → LeavesNumbered (option_map_or (λ f. takes line w b w.trains (centre.Deliver a f)) o (Ok (NotSent, w)))
-  sent_numbered a b None = stands_still NotSent
-  sent_numbered a b (Some f) = takes_numbered b w.trains (centre.Deliver a f)
-
   pub world_step_numbered : (event : Event) (answer : Answer) (new : World) → world_step line w event ≡ Ok (answer, new) → IsNumbered new
-  unfolding world_step
-  world_step_numbered (Bytes c (Ok m)) = at_numbered c _ (takes_numbered c (mention line m.nid_engine w.trains) (centre.Train m))
-  world_step_numbered (Bytes c (Err number)) = at_numbered c _ (stands_still _)
-  world_step_numbered (Set c s) = at_numbered c _ (takes_numbered c w.trains (centre.Set s))
-  world_step_numbered (Unset c s) = at_numbered c _ (takes_numbered c w.trains (centre.Unset s))
-  world_step_numbered (Delivery a b number) = sent_numbered a b (frame_sent w a b number)
+  world_step_numbered = of_event line w (λ e a x. IsNumbered x) (λ e a idle. has)
+      (λ e c own trains brings none. record { centres = put_holds (λ d k. HasNumbers k) w.at c (taken line c own (w.at c)).1 has.centres (numbers_taken line c own (w.at c) (has.centres c)) })
 
 -- ## A link
 

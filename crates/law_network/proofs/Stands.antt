@@ -18,7 +18,7 @@ use Rattle.rbc_spec.specs.Frame.{Body, Yield, yielded_place}
 use Rattle.rbc_spec.specs.Centre as centre
 use Rattle.rbc_spec.specs.Centre.{Entry, is_used_for}
 use Rattle.rbc_spec.specs.LineCentre as line_centre
-use Rattle.rbc_spec.specs.LineCentre.{LineState, Mark, LineMission, is_given_to}
+use Rattle.rbc_spec.specs.LineCentre.{LineState, Mark, is_given_to}
 use Rattle.rbc_spec.specs.World.{World}
 use Rattle.rbc_spec.specs.ReadOff.{Held, StandsFor, held, holder, mark_of, seen}
 use Rattle.rbc_spec.specs.Promises.{is_given}

@@ -4,7 +4,7 @@ use Rattle.std.proofs.lemmas.Bool.{cases_eq, and_parts, ne_eqb, eqb-true}
 use Rattle.rbc_spec.specs.Maps.{put}
 use Rattle.rbc_spec.specs.Line.{Line}
 use Rattle.rbc_spec.specs.Frame.{Body, GiveRight, RefuseRight, ReturnRight}
-use Rattle.rbc_spec.specs.Centre.{Centre, Entry, Shut, Open, Taken, Out, is_unused, is_out_for, is_used_for, is_registrar_of}
+use Rattle.rbc_spec.specs.Centre.{Centre, Entry, Shut, Open, Taken, Out, is_out_for, is_used_for, is_registrar_of}
 use Rattle.rbc_spec.specs.Acts.{Reply, rest, become, ◌>>◌, send}
 use Rattle.rbc_spec.specs.Links.{right_asked, right_returned, is_train}
 use Rattle.law_network.specs.Flow.{centre_count}
@@ -19,12 +19,6 @@ used_out t Shut h = cc
 used_out t Open h = cc
 used_out t (Taken u) h = cc
 used_out t (Out u) h = h
-
-pub unused_here : (u : ℕ) (e : Entry) → is_unused e ≡ true → is_out_for u e ≡ false
-unused_here u Shut h = refl
-unused_here u Open h = refl
-unused_here u (Taken v) h = cc
-unused_here u (Out v) h = cc
 
 -- out for one train, a section is out for no other
 pub out_apart : (t u : ℕ) (e : Entry) → t ≢ u → is_out_for t e ≡ true → is_out_for u e ≡ false

@@ -16,7 +16,7 @@ use Rattle.law_network.specs.Flow.{centre_count}
 use Rattle.law_no_copy.proofs.Tally.{Tally, IsTally, fair_rest, fair_both, fair_if, fair_plain}
 use Rattle.law_no_copy.proofs.Leaving.{Makes}
 use Rattle.law_no_copy.proofs.Borders.{fair_propose_if}
-use Rattle.law_no_copy.proofs.Comes.{unused_here}
+use Rattle.law_local.proofs.Entries.{unused_out}
 
 module _ (line : Line) (c : ℕ) (y : Tally) (is : IsTally line c y) where
   -- each other centre is told; nothing is inside
@@ -40,7 +40,7 @@ module _ (line : Line) (c : ℕ) (y : Tally) (is : IsTally line c y) where
   fair_make : (s : ℕ) (e : Entry) (k : Centre) → is_unused e ≡ true → is_unused (k.book s) ≡ true → Makes line c y is k (make s e false k)
   fair_make s e k same unused = record {
     law = omega (arith, sent_none y.res (centre_count line) c, still (is.unused (k.book s) e unused));
-    back = λ so. omega (arith, sent_none y.res (centre_count line) c, still_back ((is.back so).here e (k.book s) (unused_here y.train e same) (unused_here y.train (k.book s) unused)));
+    back = λ so. omega (arith, sent_none y.res (centre_count line) c, still_back ((is.back so).here e (k.book s) (unused_out y.train e same) (unused_out y.train (k.book s) unused)));
   }
     where
       still : y.entry (k.book s) ≤ y.entry e → y.entry (k.book y.section) ≤ y.entry (put k.book s e y.section)

@@ -1,5 +1,5 @@
 -- No step of a world loses a right or a token, so none is ever lost.
-use Rattle.std.proofs.Common.{◌≡◌, ◌≢◌, ℕ, true, Some, None, List, [], ◌∷◌, Result, Ok, refl, ap, subst, ltb-true}
+use Rattle.std.proofs.Common.{◌≡◌, ◌≢◌, ℕ, true, Some, None, List, [], Ok, refl, ap, subst, ltb-true}
 use Rattle.law_counting.specs.Network.{took, acted, TakesHead, IsCounted}
 use Rattle.law_counting.specs.Resource.{Resource, IsExact}
 use Rattle.law_counting.proofs.Network.{each_head}
@@ -10,9 +10,9 @@ use Rattle.rbc_spec.specs.Outcome.{Next, Old, Early, NoLink}
 use Rattle.rbc_spec.specs.Outcome as outcome
 use Rattle.rbc_spec.specs.Centre.{Centre}
 use Rattle.rbc_spec.specs.Step as centre
-use Rattle.rbc_spec.specs.Step.{Refusal, Effect, taken_by, link_answer, stamp_of, ticked, state_after}
+use Rattle.rbc_spec.specs.Step.{Effect, taken_by, link_answer, stamp_of, ticked, state_after}
 use Rattle.rbc_spec.specs.World.{World, Event, Answer, new_world, world_step, world_run}
-use Rattle.law_local.proofs.Worlds.{bind_ok}
+use Rattle.law_base.proofs.Worlds.{keeps_run}
 use Rattle.law_network.specs.Flow.{Flow, flow_of, centre_count}
 use Rattle.law_network.specs.Counts.{rights, tokens}
 use Rattle.law_network.specs.Keeping.{nothing_came, came_with}
@@ -113,21 +113,12 @@ module _ (line : Line) (ok : IsLine line) (w : World) (sound : IsWorldSound line
 
 -- ## A run
 
-same_ok : (p q : List Answer × World) → ◌≡◌ {A = Result (List Answer × World) Refusal} (Ok p) (Ok q) → p ≡ q
-same_ok p q e = cc
-
 run_loses_nothing : (line : Line) → IsLine line → (events : List Event) (w : World) → IsWorldSound line w → IsAsked line (flow_of w) → LosesNothing line (flow_of w)
     → (answers : List Answer) (last : World) → world_run line w events ≡ Ok (answers, last) → LosesNothing line (flow_of last)
-unfolding world_run
-run_loses_nothing line ok [] w sound asked whole answers last is =
-    subst (λ (x : World). LosesNothing line (flow_of x)) (ap (λ (q : List Answer × World). q.1) (same_ok ([], w) (answers, last) is)) whole
-run_loses_nothing line ok (event ∷ events) w sound asked whole answers last is =
-    let first = bind_ok (world_step line w event) _ (answers, last) is in
-    let others = bind_ok (world_run line first.0.1 events) _ (answers, last) first.2 in
-    subst (λ (x : World). LosesNothing line (flow_of x)) (ap (λ (q : List Answer × World). q.1) (same_ok (first.0.0 ∷ others.0.0, others.0.1) (answers, last) others.2))
-    (run_loses_nothing line ok events first.0.1 (world_step_sound line ok w sound event first.0.0 first.0.1 first.1)
-    (step_keeps_asked line ok w sound asked event first.0.0 first.0.1 first.1) (step_loses_nothing line ok w sound asked whole event first.0.0 first.0.1 first.1)
-    others.0.0 others.0.1 others.1)
+run_loses_nothing line ok events w sound asked whole answers last is = (keeps_run line (λ x. IsWorldSound line x × IsAsked line (flow_of x) × LosesNothing line (flow_of x))
+    (λ x old event answer new went.
+    (world_step_sound line ok x old.0 event answer new went, step_keeps_asked line ok x old.0 old.1 event answer new went, step_loses_nothing line ok x old.0 old.1 old.2 event answer new went))
+    events w (sound, asked, whole) answers last is).2
 
 -- whatever happens to a line
 pub never_lost : (line : Line) → IsLine line → (events : List Event) (answers : List Answer) (w : World) → world_run line (new_world line) events ≡ Ok (answers, w)

@@ -28,10 +28,11 @@ use Rattle.law_no_loss.proofs.Ready.{registrar_known}
 use Rattle.law_no_loss.proofs.Rights.{rights_kept}
 use Rattle.law_no_unasked.specs.Asked.{Question, OfRight, OfRoute, questions}
 use Rattle.law_no_unasked.proofs.Asking.{IsOfLine, of_line, none_comes, comes_with, none_inside}
-use Rattle.law_no_unasked.proofs.Moves.{put_apart, named, other_named, one_alone, refused_too}
+use Rattle.law_no_unasked.proofs.Moves.{put_apart, named, other_named, refused_too}
 use Rattle.law_no_stray.specs.Due.{IsDue}
 use Rattle.law_no_stray.specs.Questions.{HasAsked, IsBodyKnown, HasKnownOuts}
 use Rattle.law_no_stray.proofs.Acts.{IsAnswering, Comes, Goes, aside, still, stays_in, freed_less, to_only, goes_send, returned_known, comes_then, goes_then, sends_one, ends_one, waits_no_more}
+use Rattle.law_handover.proofs.Moves.{one_alone}
 
 -- a question that did not stand, and does, is asked
 stands_anew : (z e o n : Bool) → (z ≡ false → n ≡ o) → 0 + one_if (e && n) ≤ (one_if (z && e) + 0) + one_if (e && o)
@@ -172,7 +173,7 @@ module _ (line : Line) (ok : IsLine line) (c : ℕ) where
       aside line c k (booked test (Out t) r k).state (λ d. []) refl refl refl (known_outs line t test r k (known t its)) (λ d. All-nil (IsBodyKnown line c d))
   moves may known was _ _ (frees test r k so) old = still line c k (freed line c test r k).state refl refl refl (freed_less line c test r k)
   moves may known was _ _ (makes s entry wish k unused) old = still line c k (make s entry wish k).state refl refl refl (λ e t out. stays_in line c (e == s) entry (k.book e) t (unused t) out)
-  moves may known was _ _ (start_waits t place k asked) old =
+  moves may known was _ _ (start_waits t place k fits asked) old =
       goes_wait t (Some place) k (λ waits. record { each = waits_asked t k.wait (put k.wait t (Some place)) k.has_asked place asked (λ u. refl) (λ u other some. waits.each u some) })
   moves may known was _ _ (none_waits t k) old = goes_wait t None k (λ waits. record { each = λ u some. waits.each u (waits_no_more t k.wait u some).1 })
   moves may known was _ _ (asks_right t place to k its fits away is none) old = right_asked_for t place to k (known t its) is none

@@ -1,8 +1,8 @@
 -- No question is lost in a world, and no frame of it is stray.
-use Rattle.std.proofs.Common.{◌≡◌, ◌≢◌, ℕ, ◌==◌, ◌&&◌, Bool, true, false, Some, List, [], ◌∷◌, Result, Ok, refl, sym, ap, subst, arith, ⊎_elim, ltb-true}
+use Rattle.std.proofs.Common.{◌≡◌, ◌≢◌, ℕ, ◌==◌, ◌&&◌, Bool, true, false, Some, List, [], Ok, refl, sym, subst, arith, ⊎_elim, ltb-true}
 use Rattle.std.proofs.lemmas.Bool.{cases_eq}
 use Rattle.law_counting.specs.Sums.{one_if}
-use Rattle.law_counting.specs.Network.{way, took, acted, TakesHead, IsCounted}
+use Rattle.law_counting.specs.Network.{took, acted, TakesHead, IsCounted}
 use Rattle.law_counting.specs.Resource.{IsFair}
 use Rattle.law_counting.proofs.Network.{each_start, each_head, each_acted, each_took, counted_took}
 use Rattle.law_counting.proofs.Resource.{at_cap_start, placed_exact, placed_exact_took}
@@ -13,9 +13,9 @@ use Rattle.rbc_spec.specs.Frame.{Frame, Body}
 use Rattle.rbc_spec.specs.Outcome.{Next}
 use Rattle.rbc_spec.specs.Centre.{Centre, beginning}
 use Rattle.rbc_spec.specs.Step as centre
-use Rattle.rbc_spec.specs.Step.{Refusal, link_answer}
+use Rattle.rbc_spec.specs.Step.{link_answer}
 use Rattle.rbc_spec.specs.World.{World, Event, Answer, new_world, frame_sent, world_step, world_run}
-use Rattle.law_local.proofs.Worlds.{bind_ok}
+use Rattle.law_base.proofs.Worlds.{keeps_run}
 use Rattle.law_network.specs.Flow.{Flow, flow_of, centre_count}
 use Rattle.law_network.proofs.Numbers.{next_sent}
 use Rattle.law_handover.specs.Steps.{left_by, sent_by}
@@ -31,12 +31,9 @@ use Rattle.law_no_stray.specs.Questions.{HasAsked, IsBodyKnown, HasKnownOuts, Le
 use Rattle.law_no_stray.proofs.Acts.{IsAnswering}
 use Rattle.law_no_stray.proofs.Steps.{step_answering, taken_answering}
 use Rattle.law_no_stray.proofs.Heads.{known_head, due_head}
+use Rattle.law_network.proofs.Begins.{none_way}
 
 -- ## At the beginning
-
-none_way : (line : Line) (a b : ℕ) → way (flow_of (new_world line)) a b ≡ []
-unfolding new_world beginning
-none_way line a b = refl
 
 none_used : (b : Bool) → 0 ≡ one_if (b && false)
 none_used true = refl
@@ -120,9 +117,6 @@ pub record IsReachedSo (line : Line) (w : World) : Type 0 where
   pub asked : IsAsked line (flow_of w)
   pub answered : LeavesNone line (flow_of w)
 
-same_ok : (p q : List Answer × World) → ◌≡◌ {A = Result (List Answer × World) Refusal} (Ok p) (Ok q) → p ≡ q
-same_ok p q e = cc
-
 pub step_reached : (line : Line) → IsLine line → (w : World) → IsReachedSo line w → (event : Event) (answer : Answer) (new : World) → world_step line w event ≡ Ok (answer, new)
     → IsReachedSo line new
 step_reached line ok w old event answer new is = record {
@@ -133,13 +127,7 @@ step_reached line ok w old event answer new is = record {
 
 pub run_reached : (line : Line) → IsLine line → (events : List Event) (w : World) → IsReachedSo line w → (answers : List Answer) (last : World)
     → world_run line w events ≡ Ok (answers, last) → IsReachedSo line last
-unfolding world_run
-run_reached line ok [] w old answers last is = subst (IsReachedSo line) (ap (λ (q : List Answer × World). q.1) (same_ok ([], w) (answers, last) is)) old
-run_reached line ok (event ∷ events) w old answers last is =
-    let first = bind_ok (world_step line w event) _ (answers, last) is in
-    let others = bind_ok (world_run line first.0.1 events) _ (answers, last) first.2 in
-    subst (IsReachedSo line) (ap (λ (q : List Answer × World). q.1) (same_ok (first.0.0 ∷ others.0.0, others.0.1) (answers, last) others.2))
-    (run_reached line ok events first.0.1 (step_reached line ok w old event first.0.0 first.0.1 first.1) others.0.0 others.0.1 others.1)
+run_reached line ok = keeps_run line (IsReachedSo line) (step_reached line ok)
 
 -- whatever happens to a line
 pub each_reached : (line : Line) → IsLine line → (events : List Event) (answers : List Answer) (w : World) → world_run line (new_world line) events ≡ Ok (answers, w) → IsReachedSo line w

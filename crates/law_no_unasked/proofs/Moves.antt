@@ -25,6 +25,7 @@ use Rattle.law_walk.proofs.Moves.{Answer, gives, refuses, begins_at, not_needed,
 use Rattle.law_walk.proofs.Frames.{frame_may, Taking, foreign, idle, walks, answers, answers_then}
 use Rattle.law_no_unasked.specs.Asked.{Question, OfRight, OfRoute, questions, IsBodyAsked}
 use Rattle.law_no_unasked.proofs.Asking.{IsOfLine, of_line, IsAsking, IsAside, Comes, Goes, none_comes, comes_with, still, aside, goes_rest, goes_send, return_aside, returned_aside, goes_then, comes_then, comes_too, sends_one, ends_one}
+use Rattle.law_handover.proofs.Moves.{one_alone}
 
 -- a question that did not stand, and does
 pub more_stands : (z e o n : Bool) → (z ≡ true → (o ≡ false) × (n ≡ true)) → (z ≡ false → n ≡ o) → (one_if (z && e) + 0) + one_if (e && o) ≤ 0 + one_if (e && n)
@@ -57,11 +58,6 @@ other_named first asked t new u n same other = ⊎_elim
     (ap (named n) (put_same asked t new) ∙ same (sym (ap (λ b. b && (first == n)) (ap (λ v. t == v) (sym is) ∙ itself t)) ∙ other)))
     (λ (apart : t ≢ u). ap (named n) (put_other asked t new u (λ is. apart (sym is))))
     (cases_eq t u)
-
--- one body is sent, and then nothing
-pub one_alone : (b : Bool) (body : Body) → (if b then body ∷ [] else []) ++ [] ≡ (if b then body ∷ [] else [])
-one_alone true body = refl
-one_alone false body = refl
 
 module _ (line : Line) (ok : IsLine line) (c : ℕ) where
   -- ## Bodies that neither ask nor answer

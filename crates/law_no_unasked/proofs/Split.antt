@@ -1,17 +1,15 @@
 -- A step of a world is an act of a centre by itself, or at the head of a link: what both keep, each step keeps.
-use Rattle.std.proofs.Common.{◌≡◌, ◌≢◌, ℕ, ◌+◌, Bool, true, false, if◌then◌else◌, List, Option, Some, None, Result, Ok, Err, refl, sym, ap, ◌∙◌, subst}
-use Rattle.std.specs.Option.{option_map_or}
+use Rattle.std.proofs.Common.{◌≡◌, ◌≢◌, ℕ, ◌+◌, true, List, Some, Ok, refl, sym, ap, ◌∙◌, subst}
 use Rattle.law_counting.specs.Network.{took, acted, TakesHead}
 use Rattle.rbc_spec.specs.Maps.{put}
 use Rattle.rbc_spec.specs.Line.{Line, is_centre, is_linked}
 use Rattle.rbc_spec.specs.Frame.{Frame}
-use Rattle.rbc_spec.specs.Outcome.{Outcome, Next, Old, Early, NoLink}
+use Rattle.rbc_spec.specs.Outcome.{Next, Old, Early, NoLink}
 use Rattle.rbc_spec.specs.Outcome as outcome
-use Rattle.rbc_spec.specs.Centre.{Centre}
 use Rattle.rbc_spec.specs.Step as centre
-use Rattle.rbc_spec.specs.Step.{Refusal, step, refusal, taken, link_answer, stamp_of, ticked}
-use Rattle.rbc_spec.specs.World.{World, Event, Bytes, Set, Unset, Delivery, Answer, NoCentre, NotSent, frame_sent, mention, stepped, at_centre, takes, world_step}
-use Rattle.law_local.proofs.Worlds.{world_of}
+use Rattle.rbc_spec.specs.Step.{taken, link_answer, stamp_of, ticked}
+use Rattle.rbc_spec.specs.World.{World, Event, Set, Unset, Answer, frame_sent, world_step}
+use Rattle.law_base.proofs.Worlds.{Brings, says, sets, unsets, delivers, of_event}
 use Rattle.law_network.specs.Flow.{Flow, flow_of, in_world}
 use Rattle.law_network.specs.Numbers.{IsNumbered, taken_after}
 use Rattle.law_network.specs.Sound.{IsFlowSound}
@@ -65,27 +63,6 @@ module _ (line : Line) (w : World) (sound : IsFlowSound line (flow_of w)) (numbe
 
   -- ## An event
 
-  abbrev Leaves : Result (Answer × World) Refusal → Type 0
-  Leaves r = (answer : Answer) (new : World) → r ≡ Ok (answer, new) → P (flow_of new)
-
-  stands_still : (answer : Answer) → Leaves (Ok (answer, w))
-  stands_still answer other new is = subst (λ (x : World). P (flow_of x)) (ap (λ r. world_of w r) is) old
-
-  stepped_keeps : (c : ℕ) (trains : List ℕ) (o : Option Refusal) (x : Outcome × Centre) → P (flow_of (in_world w c x.1 trains)) → Leaves (stepped w c trains (option_map_or (λ why. Err why) o (Ok x)))
-  stepped_keeps c trains (Some why) x kept answer new is = cc
-  stepped_keeps c trains None x kept answer new is = subst (λ (y : World). P (flow_of y)) (ap (λ r. world_of w r) is) kept
-
-  takes_keeps : (c : ℕ) (trains : List ℕ) (event : centre.Event) → After c event trains → Leaves (takes line w c trains event)
-  unfolding step
-  takes_keeps c trains event after = stepped_keeps c trains (refusal line c (w.at c) event) (taken line c event (w.at c)) after
-
-  at_keeps : (c : ℕ) (answered : Result (Answer × World) Refusal) → (is_centre line c ≡ true → Leaves answered) → Leaves (at_centre line w c answered)
-  at_keeps c answered here = chosen (is_centre line c) here
-    where
-      chosen : (b : Bool) → (b ≡ true → Leaves answered) → Leaves (if b then answered else Ok (NoCentre, w))
-      chosen true h = h refl
-      chosen false h = stands_still NoCentre
-
   frame_keeps : (a b number : ℕ) (f : Frame) → frame_sent w a b number ≡ Some f → (answer : outcome.Taken) → link_answer line b (w.at b) a f ≡ answer → After b (centre.Deliver a f) w.trains
   frame_keeps a b number f sent answer is = by_answer answer is
     where
@@ -101,17 +78,11 @@ module _ (line : Line) (w : World) (sound : IsFlowSound line (flow_of w)) (numbe
       by_answer Early at = other Early (λ e. cc) at
       by_answer NoLink at = other NoLink (λ e. cc) at
 
-  delivery_keeps : (a b number : ℕ) (o : Option Frame) → frame_sent w a b number ≡ o → Leaves (option_map_or (λ f. takes line w b w.trains (centre.Deliver a f)) o (Ok (NotSent, w)))
-  delivery_keeps a b number None sent = stands_still NotSent
-  delivery_keeps a b number (Some f) sent = takes_keeps b w.trains (centre.Deliver a f) (frame_keeps a b number f sent (link_answer line b (w.at b) a f) refl)
+  step_keeps : (event : Event) (c : ℕ) (own : centre.Event) (trains : List ℕ) → Brings line w event c own trains → After c own trains
+  step_keeps _ c _ trains (says _ m to) = after_itself c to (centre.Train m) trains (record {}) (train_keeps line c m (ticked (stamp_of (w.at c) (centre.Train m)) (w.at c)))
+  step_keeps _ c _ trains (sets _ s to) = after_itself c to (centre.Set s) trains (record {}) ((set_keeps line c s).each (ticked (stamp_of (w.at c) (centre.Set s)) (w.at c)))
+  step_keeps _ c _ trains (unsets _ s to) = after_itself c to (centre.Unset s) trains (record {}) ((unset_keeps line c s).each (ticked (stamp_of (w.at c) (centre.Unset s)) (w.at c)))
+  step_keeps _ _ _ trains (delivers a b number f sent) = frame_keeps a b number f sent (link_answer line b (w.at b) a f) refl
 
-  pub world_step_keeps : (event : Event) → Leaves (world_step line w event)
-  unfolding world_step
-  world_step_keeps (Bytes c (Ok m)) = at_keeps c _ (λ to. takes_keeps c (mention line m.nid_engine w.trains) (centre.Train m)
-      (after_itself c to (centre.Train m) (mention line m.nid_engine w.trains) (record {}) (train_keeps line c m (ticked (stamp_of (w.at c) (centre.Train m)) (w.at c)))))
-  world_step_keeps (Bytes c (Err number)) = at_keeps c _ (λ to. stands_still _)
-  world_step_keeps (Set c s) = at_keeps c _ (λ to. takes_keeps c w.trains (centre.Set s)
-      (after_itself c to (centre.Set s) w.trains (record {}) ((set_keeps line c s).each (ticked (stamp_of (w.at c) (centre.Set s)) (w.at c)))))
-  world_step_keeps (Unset c s) = at_keeps c _ (λ to. takes_keeps c w.trains (centre.Unset s)
-      (after_itself c to (centre.Unset s) w.trains (record {}) ((unset_keeps line c s).each (ticked (stamp_of (w.at c) (centre.Unset s)) (w.at c)))))
-  world_step_keeps (Delivery a b number) = delivery_keeps a b number (frame_sent w a b number) refl
+  pub world_step_keeps : (event : Event) (answer : Answer) (new : World) → world_step line w event ≡ Ok (answer, new) → P (flow_of new)
+  world_step_keeps = of_event line w (λ e a x. P (flow_of x)) (λ e a idle. old) (λ e c own trains brings none. step_keeps e c own trains brings)

@@ -1,23 +1,21 @@
 -- Each step of a centre keeps what is asked for, by itself and at the head of a link.
-use Rattle.std.proofs.Common.{◌≡◌, ◌≢◌, ℕ, true, false, List, is_some, is_none, slice_get, Option, Some, None, refl, ltb-true}
+use Rattle.std.proofs.Common.{◌≡◌, ◌≢◌, ℕ, true, List, Option, Some, None, refl, ltb-true}
 use Rattle.std.specs.Option.{option_map_or}
 use Rattle.law_counting.specs.Network.{took, acted, TakesHead, IsCounted}
 use Rattle.law_counting.specs.Resource.{IsFair}
 use Rattle.law_counting.proofs.Network.{counted_took, each_acted, each_took}
 use Rattle.law_counting.proofs.Resource.{placed_sound, placed_sound_took}
 use Rattle.rbc_spec.specs.Maps.{put}
-use Rattle.rbc_spec.specs.Line.{Line, IsLine, is_centre, train_number}
-use Rattle.rbc_spec.specs.Message.{TrainMessage, TrainBody, TrainData, Request, Report, ShorteningGranted, ShorteningRejected, EndOfMission, InitiationOfSession, TerminationOfSession}
-use Rattle.rbc_spec.specs.Message.{StartOfMission, SessionEstablished}
+use Rattle.rbc_spec.specs.Line.{Line, IsLine, is_centre}
+use Rattle.rbc_spec.specs.Message.{TrainMessage}
 use Rattle.rbc_spec.specs.Frame.{Frame, Body}
-use Rattle.rbc_spec.specs.Outcome.{Reason, ForeignEngine, reasons_of, Next, Old, Early, NoLink}
+use Rattle.rbc_spec.specs.Outcome.{Reason, Next, Old, Early, NoLink}
 use Rattle.rbc_spec.specs.Outcome as outcome
 use Rattle.rbc_spec.specs.Centre.{Centre}
 use Rattle.rbc_spec.specs.Acts.{rest, become, ◌>>◌, hear}
-use Rattle.rbc_spec.specs.Links.{is_train, received}
+use Rattle.rbc_spec.specs.Links.{received}
 use Rattle.rbc_spec.specs.Step as step
 use Rattle.rbc_spec.specs.Step.{Event, Train, Set, Unset, Deliver, Effect, effect, set, unset, hear_and_answer, taken_by, link_answer, stamp_of, ticked, state_after}
-use Rattle.law_centre.proofs.Reasons.{not_for}
 use Rattle.law_walk.proofs.Moves.{setting}
 use Rattle.law_walk.proofs.Messages.{may_do}
 use Rattle.law_walk.proofs.Frames.{received_taking}

@@ -1,6 +1,5 @@
 -- Each step of a world keeps what is asked for.
-use Rattle.std.proofs.Common.{◌≡◌, ℕ, [], Ok, refl, arith}
-use Rattle.law_counting.specs.Network.{way}
+use Rattle.std.proofs.Common.{◌≡◌, [], Ok, arith}
 use Rattle.law_counting.proofs.Network.{each_start, each_head}
 use Rattle.law_counting.proofs.Resource.{within_start}
 use Rattle.rbc_spec.specs.Line.{Line, IsLine}
@@ -13,10 +12,7 @@ use Rattle.rbc_spec.specs.Step.{Deliver}
 use Rattle.law_no_unasked.specs.Asked.{questions, IsBodyAsked, IsAsked}
 use Rattle.law_no_unasked.proofs.Steps.{step_asking, taken_asking, asked_acted, asked_taken}
 use Rattle.law_no_unasked.proofs.Split.{world_step_keeps}
-
-none_way : (line : Line) (a b : ℕ) → way (flow_of (new_world line)) a b ≡ []
-unfolding new_world beginning
-none_way line a b = refl
+use Rattle.law_network.proofs.Begins.{none_way}
 
 pub begins_asked : (line : Line) → IsAsked line (flow_of (new_world line))
 unfolding new_world beginning

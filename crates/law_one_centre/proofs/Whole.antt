@@ -8,7 +8,8 @@ use Rattle.rbc_spec.specs.ReadOff.{read_off}
 use Rattle.rbc_spec.specs.Theorems.{IsOneCentreLine, GoesForced, ForcedRun, IsOneCentreRun}
 use Rattle.law_local.specs.Local.{IsLocal}
 use Rattle.law_local.proofs.Ordered.{is_ordered}
-use Rattle.law_local.proofs.Worlds.{new_local, world_step_local, bind_ok}
+use Rattle.law_base.proofs.Worlds.{bind_ok}
+use Rattle.law_local.proofs.Worlds.{new_local, world_step_local}
 use Rattle.law_refinement.specs.Meets.{Meets}
 use Rattle.law_refinement.proofs.Lines.{line_begins, is_read, stands_read}
 use Rattle.law_one_centre.proofs.Events.{each_event_goes}

@@ -1,14 +1,14 @@
 -- What is seen outside follows the one line centre's state through a train's message that is heard.
-use Rattle.std.proofs.Common.{◌≡◌, ℕ, zero, suc, ◌+◌, ◌-◌, ◌*◌, ◌<◌, ◌≤◌, ◌==◌, ◌&&◌, ◌||◌, not, nat_le, nat_lt, Bool, true, false, List, [], ◌∷◌, Option, Some, None, option_map, if◌then◌else◌, refl, sym, ap, ◌∙◌, inl, inr, subst, arith, eqb-true, eq-eqb, leb-true, ltb-true, min}
+use Rattle.std.proofs.Common.{◌≡◌, ℕ, zero, suc, ◌+◌, ◌-◌, ◌*◌, ◌<◌, ◌≤◌, ◌==◌, ◌&&◌, ◌||◌, not, nat_le, nat_lt, Bool, true, false, List, [], ◌∷◌, Option, Some, None, option_map, if◌then◌else◌, refl, sym, ap, ◌∙◌, inl, inr, subst, arith, eqb-true, leb-true, ltb-true, min}
 use Rattle.std.specs.Option.{option_map_or, option_and_then}
 use Rattle.std.specs.List.{find, list_any, range_with_len}
 use Rattle.std.proofs.lemmas.Bool.{and_parts, or_cases, or_left, or_right, cases_lt, both_ways}
 use Rattle.std.proofs.lemmas.Option.{same_Some}
 use Rattle.rbc_spec.specs.Maps.{has, put, put_pair}
 use Rattle.rbc_spec.specs.SectionRuns.{SectionRun, within, behind, all_of}
-use Rattle.rbc_spec.specs.Line.{Line, Section, section, section_of_group, IsLine, is_centre, is_home, start, end}
+use Rattle.rbc_spec.specs.Line.{Line, section_of_group, IsLine, is_centre, is_home, start, end}
 use Rattle.rbc_spec.specs.Sections.{is_on, section_count}
-use Rattle.rbc_spec.specs.Place.{Place, Position, has_place, place_behind, covered, extent, is_fit, fit_place, place_on, is_cleared, has_room, group_start}
+use Rattle.rbc_spec.specs.Place.{Place, Position, covered, extent, fit_place, place_on, is_cleared, has_room, group_start}
 use Rattle.rbc_spec.specs.Message.{TrainMessage, TrainBody, TrainData, Request, Report, ShorteningGranted, ShorteningRejected, EndOfMission, InitiationOfSession, TerminationOfSession, StartOfMission, SessionEstablished}
 use Rattle.rbc_spec.specs.Centre.{Proposal, is_registrar_of}
 use Rattle.rbc_spec.specs.LineCentre.{LineState, LineMission, Mark, Shut, Open, Kept, Given, Supervisor, At, Parted, is_given_to, is_kept_for, is_mark_open, is_at, supervises, is_waiting_at, is_waiting, release, set_mission, change_mission, close_if_empty, Said}
@@ -19,10 +19,10 @@ use Rattle.law_base.proofs.Lines.{on_line}
 use Rattle.law_base.proofs.Lists.{any-range}
 use Rattle.law_base.proofs.Puts.{put_other, put_there, put_pair_there}
 use Rattle.law_base.proofs.Runs.{within_true, within_from, each_within, same_tests}
-use Rattle.law_centre.proofs.Places.{extent_ahead, IsPlacedOn, placed_on}
+use Rattle.law_centre.proofs.Places.{extent_ahead, has_group, fit_is, IsPlacedOn, placed_on}
 use Rattle.law_local.proofs.Fits.{fit_parts}
 use Rattle.law_runs.proofs.Waits.{WaitsKeep, IsLoose, opened, kept_for, PutAt, there, elsewhere, put_at}
-use Rattle.law_runs.proofs.Frees.{by_test, own_leaves, closed_mark}
+use Rattle.law_runs.proofs.Frees.{by_test, own_leaves, closed_mark, closed_wait}
 use Rattle.law_outside.specs.Outside as outside
 use Rattle.law_outside.specs.Outside.{View, is_placed, Stretch, accepted, all_told, change_stretch, reports, grants, last_before, stands, metres_behind}
 use Rattle.law_outside.proofs.Marks.{Stays, Moves, by, if_true, if_false, loose_stays, given_moves, released_moves}
@@ -57,50 +57,10 @@ supervised_is v c t = by_mission (v.mission t) refl
 
 -- ## Places
 
-on_its_track : (line : Line) (s : ℕ) (q : Section) → section line s ≡ Some q → is_on line q.track s ≡ true
-on_its_track line s q at = ap (λ (o : Option Section). option_map_or (λ x. x.track == q.track) o false) at ∙ eq-eqb q.track q.track refl
-
-abbrev HasGroup : Line → Place → Type 0
-HasGroup line place = has (is_on line place.track) (section_of_group line place.group) ≡ true
-
-by_section : (line : Line) (s : ℕ) (p : Position) (place : Place) (o : Option Section) → section_of_group line p.nid_lrbg ≡ Some s → section line s ≡ o
-    → option_map (λ q. place_behind line s q p) o ≡ Some place → HasGroup line place
-by_section line s p place (Some q) group at is =
-    let same : place_behind line s q p ≡ place = cc in
-    subst (HasGroup line) same (ap (λ o. option_map_or (is_on line q.track) o false) group ∙ on_its_track line s q at)
-by_section line s p place None group at is = cc
-
-by_group : (line : Line) (p : Position) (place : Place) (o : Option ℕ) → section_of_group line p.nid_lrbg ≡ o
-    → option_and_then (λ s. option_map (λ q. place_behind line s q p) (section line s)) o ≡ Some place → HasGroup line place
-by_group line p place (Some s) at is = by_section line s p place (section line s) at refl is
-by_group line p place None at is = cc
-
-by_place : (line : Line) (p : Position) (place : Place) (b : Bool)
-    → (if b then option_and_then (λ s. option_map (λ q. place_behind line s q p) (section line s)) (section_of_group line p.nid_lrbg) else None) ≡ Some place → HasGroup line place
-by_place line p place true is = by_group line p place (section_of_group line p.nid_lrbg) refl is
-by_place line p place false is = cc
-
-has_group : (line : Line) (p : Position) (place : Place) → extent line p ≡ Some place → HasGroup line place
-unfolding extent
-has_group line p place is = by_place line p place (has_place p) is
-
 pub reported_is : (line : Line) (p : Position) (place : Place) → extent line p ≡ Some place → IsReported line place
 reported_is line p place is = record { group = has_group line p place is; ahead = extent_ahead line p place is }
 
 -- ## A place that is fit for a start
-
-fit_is : (line : Line) (is_valid : Bool) (p : Position) (place : Place) → fit_place line is_valid p ≡ Some place → (is_fit line place ≡ true) × (extent line p ≡ Some place)
-fit_is line is_valid p place is = by_extent (extent line p) refl is
-  where
-    by_check : (q : Place) → extent line p ≡ Some q → (b : Bool) → (is_valid && is_fit line q) ≡ b → (if b then Some q else None) ≡ Some place → (is_fit line place ≡ true) × (extent line p ≡ Some place)
-    by_check q at true fits is =
-        let same : q ≡ place = cc in
-        (subst (λ (x : Place). is_fit line x ≡ true) same (and_parts is_valid (is_fit line q) fits).1, at ∙ ap (λ x. Some x) same)
-    by_check q at false fits is = cc
-
-    by_extent : (o : Option Place) → extent line p ≡ o → option_map_or (λ q. if is_valid && is_fit line q then Some q else None) o None ≡ Some place → (is_fit line place ≡ true) × (extent line p ≡ Some place)
-    by_extent (Some q) at is = by_check q at (is_valid && is_fit line q) refl is
-    by_extent None at is = cc
 
 start_good : (line : Line) (is_valid : Bool) (p : Position) (place : Place) → fit_place line is_valid p ≡ Some place → IsStart line place
 start_good line is_valid p place is = let h = fit_is line is_valid p place is in record { fit = fit_parts line place h.0; ahead = reported_is line p place h.1 }
@@ -132,10 +92,6 @@ closed_left line t v n low is = by_any (list_any (λ s. is_given_to t (v.mark s)
     by_any true some = let one = any_one (λ s. is_given_to t (v.mark s)) 0 (section_count line) some in subst (Left (given v t) n) (sym is) (some_left one.0 one.1)
     by_any false none = subst (Left (given v t) n) (sym (put_there v.mission t None))
         (none_left (λ s. by (given v t s) (λ so. let below = low s so in absurd (both_ways _ none (any-range (λ e. is_given_to t (v.mark e)) 0 (section_count line) s (omega arith) (omega (arith, below)) so))) (λ fails. fails)))
-
-closed_wait : (b : Bool) (x y : LineState) → y.wait ≡ x.wait → (if b then x else y).wait ≡ x.wait
-closed_wait true x y same = refl
-closed_wait false x y same = same
 
 closed_other : (line : Line) (t u : ℕ) (v : LineState) → (u ≡ t → ⊥) → (close_if_empty line t v).mission u ≡ v.mission u
 closed_other line t u v apart = by_any (list_any (λ s. is_given_to t (v.mark s)) (range_with_len 0 (section_count line)))

@@ -14,7 +14,7 @@ use Rattle.rbc_spec.specs.Centre.{Mission, Expectation, Phase, Closed, Opened, U
 use Rattle.rbc_spec.specs.Step.{Refusal}
 use Rattle.rbc_spec.specs.World.{World, Event, Bytes, Set, Unset, Delivery, Answer, world_step, world_run}
 use Rattle.law_base.proofs.Lists.{any-range_none}
-use Rattle.law_local.proofs.Worlds.{bind_ok}
+use Rattle.law_base.proofs.Worlds.{bind_ok}
 use Rattle.law_network.specs.Flow.{flow_of, centre_count}
 use Rattle.law_network.specs.Pairs.{follows, handing_to}
 use Rattle.law_network.proofs.Frames.{way_is}

@@ -11,12 +11,12 @@ use Rattle.rbc_spec.specs.World.{World, Event, Unset, Answer, Answered, new_worl
 use Rattle.rbc_spec.specs.ReadOff.{holder, mark_of, read_off}
 use Rattle.rbc_spec.proofs.Safe.{given_mark}
 use Rattle.rbc_spec.specs.Promises.{is_given, MayFree, KeepsPromises, IsSound, user}
-use Rattle.law_local.proofs.Worlds.{bind_ok}
+use Rattle.law_base.proofs.Worlds.{bind_ok}
 use Rattle.law_network.proofs.Neighbours.{home_below}
 use Rattle.law_handover.proofs.Worlds.{world_begins, world_run_sound, world_step_sound}
 use Rattle.law_runs.proofs.Runs.{run_of_none, whole_run}
 use Rattle.law_runs.proofs.Promised.{given_is, given_home, given_held}
-use Rattle.law_refinement.proofs.Promises.{promises, sound_behind, run_sound}
+use Rattle.law_refinement.proofs.Promises.{promises, sound_behind, run_sound, run_further}
 use Rattle.law_promises.specs.Promised.{IsFreedWithin, IsTakenBack}
 
 -- ## One event
@@ -72,21 +72,6 @@ module _ (line : Line) (ok : IsLine line) (w new : World) (events : List Event) 
 
 same_ok : (p q : List Answer × World) → ◌≡◌ {A = Result (List Answer × World) Refusal} (Ok p) (Ok q) → p ≡ q
 same_ok p q e = cc
-
--- one more event behind a run
-run_further : (line : Line) (event : Event) (answer : Answer) (new : World) (events : List Event) (w : World) (answers : List Answer) (last : World)
-    → world_run line w events ≡ Ok (answers, last) → world_step line last event ≡ Ok (answer, new) → world_run line w (events ++ event ∷ []) ≡ Ok (answers ++ answer ∷ [], new)
-unfolding world_run
-run_further line event answer new [] w answers last is further =
-    subst (λ (q : List Answer × World). world_step line q.1 event ≡ Ok (answer, new) → world_run line w (event ∷ []) ≡ Ok (q.0 ++ answer ∷ [], new)) (same_ok ([], w) (answers, last) is)
-    (λ e. whole_run line w event [] (answer, new) (Ok ([], new)) e (run_of_none line new)) further
-run_further line event answer new (e ∷ events) w answers last is further =
-    let first = bind_ok (world_step line w e) _ (answers, last) is in
-    let others = bind_ok (world_run line first.0.1 events) _ (answers, last) first.2 in
-    let same = same_ok (first.0.0 ∷ others.0.0, others.0.1) (answers, last) others.2 in
-    let rest = run_further line event answer new events first.0.1 others.0.0 others.0.1 others.1
-    (subst (λ (u : World). world_step line u event ≡ Ok (answer, new)) (sym (ap (λ (q : List Answer × World). q.1) same)) further) in
-    whole_run line w e (events ++ event ∷ []) first.0 (Ok (others.0.0 ++ answer ∷ [], new)) first.1 rest ∙ ap (λ (q : List Answer × World). Ok (q.0 ++ answer ∷ [], new)) same
 
 module _ (line : Line) (ok : IsLine line) (t s : ℕ) where
   abbrev pub given_in : World → Bool

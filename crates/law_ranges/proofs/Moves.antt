@@ -15,7 +15,7 @@ use Rattle.rbc_spec.specs.Acts.{Act, begun, Reply, ◌>>◌, freed, set_mission}
 use Rattle.rbc_spec.specs.Rules.{extension, extended_by}
 use Rattle.rbc_spec.specs.Links.{is_wanted, lendable}
 use Rattle.law_base.proofs.Longest.{longest_few}
-use Rattle.law_centre_sound.proofs.Places.{fit_is}
+use Rattle.law_centre.proofs.Places.{fit_is}
 use Rattle.law_walk.proofs.Moves.{May, Cause, Alone, Wish, Message, Came, position_of, Reports, Starts, IsAhead, next_of, by_itself, Hears, said_now, said_before, Expects, one_more, no_more, MayBegin, waited, all_free, Turn, begins, grows, clears, cuts, comes, Change, no_pool, less_pool, pools, restarts, MaySend, goes_back, goes_home, to_some, hand_to, no_handover}
 use Rattle.law_walk.proofs.Moves.{Move, sends, returns, withdraws, takes_over, books, lends, frees, makes, expects, hears, waits, waits_no_more, asks_right, asks_route, announces, recalls, closes, closes_handed, yields, sets, changes, Answer, gives, refuses, begins_at, drops, lends_some, Closed}
 use Rattle.law_ranges.specs.Ranges.{HasPositionRanges, HasStartRanges, HasMissionRanges, IsReportInRange, HasMessageRanges, IsSentInRange}

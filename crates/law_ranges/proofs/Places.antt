@@ -1,5 +1,5 @@
 -- The places of reports in range, and of starts that are fit, have their ranges.
-use Rattle.std.proofs.Common.{◌≡◌, ℕ, zero, suc, ◌+◌, ◌-◌, ◌*◌, ◌<◌, ◌≤◌, ◌==◌, ◌&&◌, if◌then◌else◌, cond, Bool, true, false, List, [], ◌∷◌, length, take, filter, Option, Some, None, option_map, option_and_then, ℤ, pos, negsuc, ◌-ℤ◌, nat_lt, refl, subst, arith, ⊎_elim, All, ltb-true, le-leb, eqb-true}
+use Rattle.std.proofs.Common.{◌≡◌, ℕ, zero, suc, ◌+◌, ◌-◌, ◌*◌, ◌<◌, ◌≤◌, ◌==◌, ◌&&◌, cond, Bool, true, false, List, [], ◌∷◌, length, take, filter, Option, Some, None, option_map, ℤ, pos, negsuc, ◌-ℤ◌, nat_lt, refl, subst, arith, ⊎_elim, All, ltb-true, le-leb, eqb-true}
 use Rattle.std.specs.Option.{option_map_or}
 use Rattle.std.specs.List.{sum_by}
 use Rattle.std.proofs.lemmas.Bool.{and_parts, and_from, cases_Bool}
@@ -15,7 +15,7 @@ use Rattle.rbc_spec.proofs.Sums.{sum_up_to, sum_kept, sum_left}
 use Rattle.law_local.proofs.Ordered.{is_ordered}
 use Rattle.law_local.proofs.Fits.{fit_parts, begun_local}
 use Rattle.law_base.proofs.Lists.{each_at}
-use Rattle.law_centre.proofs.Places.{placed_on}
+use Rattle.law_centre.proofs.Places.{behind_group, placed_on}
 use Rattle.law_ranges.specs.Ranges.{HasPositionRanges}
 use Rattle.law_ranges.proofs.Basics.{on_below, run_range}
 
@@ -99,23 +99,7 @@ module _ (line : Line) (ok : IsLine line) where
         by_length None low over front = refl
 
     pub extent_range : (place : Place) → extent line p ≡ Some place → HasPlaceRange (yielded_place place)
-    unfolding extent
-    extent_range place is = by_known (has_place p) refl is
-      where
-        by_section : (s : ℕ) (o : Option Section) → has_place p ≡ true → section_of_group line p.nid_lrbg ≡ Some s → section line s ≡ o → option_map (λ q. place_behind line s q p) o ≡ Some place
-            → HasPlaceRange (yielded_place place)
-        by_section s (Some q) known group at is = subst (λ (x : Place). HasPlaceRange (yielded_place x)) (same_Some (place_behind line s q p) place is) (behind_range s q known group at)
-        by_section s None known group at is = cc
-
-        by_group : (o : Option ℕ) → has_place p ≡ true → section_of_group line p.nid_lrbg ≡ o → option_and_then (λ s. option_map (λ q. place_behind line s q p) (section line s)) o ≡ Some place
-            → HasPlaceRange (yielded_place place)
-        by_group (Some s) known at is = by_section s (section line s) known at refl is
-        by_group None known at is = cc
-
-        by_known : (b : Bool) → has_place p ≡ b → (if b then option_and_then (λ s. option_map (λ q. place_behind line s q p) (section line s)) (section_of_group line p.nid_lrbg) else None) ≡ Some place
-            → HasPlaceRange (yielded_place place)
-        by_known true known is = by_group (section_of_group line p.nid_lrbg) known refl is
-        by_known false known is = cc
+    extent_range place is = let b = behind_group line p place is in subst (λ (x : Place). HasPlaceRange (yielded_place x)) b.is (behind_range b.s b.q b.known b.group b.at)
 
     pub place_on_range : (track : ℕ) (place : Place) → place_on line track p ≡ Some place → HasPlaceRange (yielded_place place)
     place_on_range track place is = extent_range place (placed_on line track p place is).extent_is

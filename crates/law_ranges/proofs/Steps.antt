@@ -131,23 +131,11 @@ holds_few line c k old = record {
 
 brings_few : (body : Body) → HasBodyRange body → BringsFew body
 brings_few (RouteReturn t r) range = let few = range.1.count.1 in omega (arith, few)
-brings_few (AskRight t) range = tt
-brings_few (GiveRight t) range = tt
-brings_few (RefuseRight t) range = tt
-brings_few (ReturnRight t) range = tt
-brings_few (RouteAsk t first most) range = tt
-brings_few (RouteInfo t r) range = tt
-brings_few (RouteWithdraw t s) range = tt
-brings_few (Announce number t track) range = tt
-brings_few (Cancel number t) range = tt
-brings_few (TakingOver number t) range = tt
-brings_few (Yield number t heard has_data is_ended place hand) range = tt
+brings_few body range = tt
 
 pub takes_few : (line : Line) (c : ℕ) (event : Event) → HasEventRanges line c event → TakesFew event
-takes_few line c (Train m) range = tt
-takes_few line c (Set s) range = tt
-takes_few line c (Unset s) range = tt
 takes_few line c (Deliver d f) range = brings_few f.body range
+takes_few line c event range = tt
 
 -- bodies in range, as frames that are counted where there is a link
 frames_range : (line : Line) (c d stamp n : ℕ) (bodies : List Body) → All (IsSentInRange line c d) bodies → (is_linked line c d ≡ true → All IsCountedInRange (numbered stamp n bodies))

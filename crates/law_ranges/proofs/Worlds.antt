@@ -1,5 +1,5 @@
 -- Each frame of a world is in range, and each of its answers says, tells and sends little.
-use Rattle.std.proofs.Common.{◌≡◌, ℕ, List, All, Ok, Err, None}
+use Rattle.std.proofs.Common.{◌≡◌, ℕ, List, All, Ok, None}
 use Rattle.std.proofs.lemmas.List.Elements.{All-nil, All-append}
 use Rattle.rbc_spec.specs.Maps.{put}
 use Rattle.rbc_spec.specs.Line.{Line, IsLine}

@@ -1,22 +1,20 @@
 -- What was reached stands for its read-off, and is sound.
-use Rattle.std.proofs.Common.{◌≡◌, List, [], ◌∷◌, Result, Ok, Err, ap, subst}
+use Rattle.std.proofs.Common.{◌≡◌, List, [], Ok}
 use Rattle.rbc_spec.specs.Line.{Line, IsLine}
-use Rattle.rbc_spec.specs.Step.{Refusal}
-use Rattle.rbc_spec.specs.World.{World, Event, Answer, new_world, world_step, world_run}
+use Rattle.rbc_spec.specs.World.{World, Event, Answer, new_world, world_run}
 use Rattle.rbc_spec.specs.ReadOff.{StandsFor, read_off}
 use Rattle.rbc_spec.specs.Promises.{IsSound}
 use Rattle.rbc_spec.proofs.Safe.{safe}
-use Rattle.law_local.proofs.Worlds.{bind_ok}
 use Rattle.law_network.specs.Flow.{flow_of}
 use Rattle.law_network.specs.Sound.{LosesNothing}
 use Rattle.law_network.proofs.OnePlace.{has_one_place}
-use Rattle.law_handover.specs.Worlds.{IsWorldSound}
-use Rattle.law_handover.proofs.Worlds.{world_begins, world_step_sound}
+use Rattle.law_handover.proofs.Worlds.{world_begins}
 use Rattle.law_no_loss.proofs.Worlds.{never_lost}
 use Rattle.law_refinement.specs.Meets.{Meets}
 use Rattle.law_refinement.specs.Announced.{IsAnnounced}
 use Rattle.law_refinement.proofs.Lines.{run_read, stands_read}
-use Rattle.law_refinement.proofs.Waits.{WaitsAtCentres, begins_so, event_so}
+use Rattle.law_refinement.proofs.Waits.{WaitsAtCentres, begins_so}
+use Rattle.law_refinement.proofs.Promises.{run_so}
 
 -- a world that is met by what is read off it, and loses nothing, is sound
 pub sound_met : (line : Line) → IsLine line → (w : World) → Meets line w (read_off line w) → LosesNothing line (flow_of w) → IsSound line w
@@ -24,23 +22,7 @@ sound_met line ok w meets whole =
     let stands = stands_read line w (read_off line w) meets in
     record { stands = stands; safe = safe line w (read_off line w) stands; one_place = has_one_place line ok w meets.sound.flow whole }
 
--- the world of the answers
-abbrev last_of : World → Result (List Answer × World) Refusal → World
-last_of w (Ok x) = x.1
-last_of w (Err why) = w
-
 module _ (line : Line) (ok : IsLine line) where
-  run_waits : (events : List Event) (w : World) → IsWorldSound line w → WaitsAtCentres line w → (answers : List Answer) (last : World)
-      → world_run line w events ≡ Ok (answers, last) → WaitsAtCentres line last
-  unfolding world_run
-  run_waits [] w sound so answers last is = subst (WaitsAtCentres line) (ap (λ r. last_of w r) is) so
-  run_waits (event ∷ events) w sound so answers last is =
-      let first = bind_ok (world_step line w event) _ (answers, last) is in
-      let others = bind_ok (world_run line first.0.1 events) _ (answers, last) first.2 in
-      subst (WaitsAtCentres line) (ap (λ r. last_of w r) others.2)
-      (run_waits events first.0.1 (world_step_sound line ok w sound event first.0.0 first.0.1 first.1) (event_so line w sound.flow so event first.0.0 first.0.1 first.1)
-      others.0.0 others.0.1 others.1)
-
   module _ (events : List Event) (answers : List Answer) (w : World) (is : world_run line (new_world line) events ≡ Ok (answers, w)) where
     pub meets : Meets line w (read_off line w)
     meets = (run_read line ok events answers w is).1
@@ -52,7 +34,7 @@ module _ (line : Line) (ok : IsLine line) where
     loses_nothing = never_lost line ok events answers w is
 
     pub waits : WaitsAtCentres line w
-    waits = run_waits events (new_world line) (world_begins line) (begins_so line) answers w is
+    waits = run_so line ok events (new_world line) (world_begins line) (begins_so line) answers w is
 
     pub stands : StandsFor line w (read_off line w)
     stands = stands_read line w (read_off line w) meets

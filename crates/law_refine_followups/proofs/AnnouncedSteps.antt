@@ -23,10 +23,10 @@ use Rattle.law_walk.proofs.Moves.{May, still, by_itself, setting, MayBegin, wait
 use Rattle.law_walk.proofs.Messages.{may_do, ask_if_walks, answered_walks}
 use Rattle.law_walk.proofs.Frames.{frame_may, of_taking, received_taking}
 use Rattle.law_walk.proofs.Steps.{set_walks, unset_walks}
-use Rattle.law_centre.proofs.Places.{placed_on}
+use Rattle.law_centre.proofs.Places.{placed_on, fit_is}
 use Rattle.law_network.specs.Counts.{wait_has}
 use Rattle.law_network.specs.Sound.{IsHandAt, IsCentreSound}
-use Rattle.law_centre_sound.proofs.Places.{reported, fit_is, fit_hand, same_track}
+use Rattle.law_centre_sound.proofs.Places.{reported, fit_hand, same_track}
 use Rattle.law_handover.specs.Steps.{left_by}
 use Rattle.law_refine_followups.specs.Announced.{AnnouncesAll}
 use Rattle.law_refine_followups.proofs.Announced.{Fits, FitsAll, own_hand, from_part, before_part, unhanded, moved, set_all, change_all, came_fits, grant_all}

@@ -1,10 +1,10 @@
 -- Each message that changes a mission is heard, and then its own part is the own step of the one line centre; and what it comes to is that
 -- part and what follows.
-use Rattle.std.proofs.Common.{subst, ◌≡◌, ℕ, ◌-◌, ◌*◌, ◌==◌, ◌&&◌, not, nat_le, true, false, Option, Some, None, is_none, refl, sym, ap, ◌∙◌, append_assoc, slice_get}
+use Rattle.std.proofs.Common.{subst, ◌≡◌, ℕ, ◌-◌, ◌*◌, ◌==◌, ◌&&◌, not, nat_le, true, false, Option, Some, None, refl, sym, ap, ◌∙◌, append_assoc, slice_get}
 use Rattle.std.specs.Option.{option_map_or}
 use Rattle.std.proofs.lemmas.Bool.{and_parts, not-false}
 use Rattle.law_base.proofs.Acts.{alike_then, then_alike}
-use Rattle.law_base.proofs.Lists.{none_passes}
+use Rattle.law_base.proofs.Lists.{none_passes, there_is}
 use Rattle.law_base.proofs.Puts.{put_there}
 use Rattle.rbc_spec.specs.Maps.{has}
 use Rattle.rbc_spec.specs.SectionRuns.{behind}
@@ -34,10 +34,6 @@ use Rattle.law_refine_missions.proofs.Grants.{request_answers}
 
 pub not_for : (line : Line) (c : ℕ) (k : Centre) (m : TrainMessage) (n : ℕ) (why : Reason) → silence line c k m ≡ None → slice_get (reasons_of m.body) n ≡ Some why → holds line c k m why ≡ false
 not_for line c k m n why none at = none_passes (holds line c k m) (reasons_of m.body) n why none at
-
-there_is : {X : Type 0} (o : Option X) → is_none o ≡ false → (x : X) × (o ≡ Some x)
-there_is None is = cc
-there_is (Some x) is = (x, refl)
 
 module _ (line : Line) (c t_train t : ℕ) (k : Centre) where
   pub supervised_end : (position : Position) → silence line c k (of_train t_train t (EndOfMission position)) ≡ None → (m : Mission) × (k.mission t ≡ Some m)

@@ -1,6 +1,6 @@
 -- Sessions that are established, train data, and rejected requests to shorten.
-use Rattle.std.proofs.Common.{◌≡◌, ℕ, ◌+◌, true, false, [], Option, Some, None, is_none, slice_get, refl, sym, ap}
-use Rattle.law_base.proofs.Lists.{none_passes}
+use Rattle.std.proofs.Common.{◌≡◌, ℕ, ◌+◌, true, false, [], Option, Some, None, slice_get, refl, sym, ap}
+use Rattle.law_base.proofs.Lists.{none_passes, there_is}
 use Rattle.rbc_spec.specs.Maps.{put, put_pair}
 use Rattle.rbc_spec.specs.Line.{Line, is_centre}
 use Rattle.rbc_spec.specs.Place.{Position}
@@ -17,11 +17,6 @@ use Rattle.law_network.specs.Shows.{Shows}
 use Rattle.law_abstraction.proofs.Shows.{part_stays, part_changes}
 use Rattle.law_refine_sessions.specs.Heard.{message, LeadsAlone}
 use Rattle.law_refine_sessions.proofs.Changes.{silent, heard_alone, one_said, shows_talk, shows_change}
-
--- what is not none is something
-some_of : {X : Type 0} (o : Option X) → is_none o ≡ false → (x : X) × (o ≡ Some x)
-some_of None is = cc
-some_of (Some x) is = (x, refl)
 
 module _ (line : Line) (w : Flow) (v : LineState) (sound : IsFlowSound line w) (sees : Shows line w v) (c t_train t stamp : ℕ) (at : is_centre line c ≡ true) where
   abbrev k : Centre
@@ -57,7 +52,7 @@ module _ (line : Line) (w : Flow) (v : LineState) (sound : IsFlowSound line w) (
   unfolding ◌>>◌
   data_heard position heard =
       let body : TrainBody = TrainData position in
-      let here = some_of ((w.at c).mission t) (not_for body 4 NotSupervised heard refl) in
+      let here = there_is ((w.at c).mission t) (not_for body 4 NotSupervised heard refl) in
       let y : Centre = (reply body).state in
       heard_alone line w c (m body) v (reply body) (says t c (change_mission t (λ n. record n { has_data = true }) (hears c (m body) v)))
       (record { said_is = one_said line w v c t unknown_group (DataAcknowledged t_train) [] sees; new_is = refl })
@@ -71,7 +66,7 @@ module _ (line : Line) (w : Flow) (v : LineState) (sound : IsFlowSound line w) (
   unfolding ◌>>◌
   rejected asked position heard =
       let body : TrainBody = ShorteningRejected asked position in
-      let here = some_of ((w.at c).mission t) (not_for body 4 NotSupervised heard refl) in
+      let here = there_is ((w.at c).mission t) (not_for body 4 NotSupervised heard refl) in
       let y : Centre = (reply body).state in
       heard_alone line w c (m body) v (reply body) (without_ask t (hears c (m body) v)) (record { said_is = refl; new_is = refl })
       (shows_change line w v sound sees c at y (λ d. []) (silent c) t here.0 here.1 (λ n. record n { proposal = None }) (λ n. record n { proposal = None }) (λ u. refl) refl refl

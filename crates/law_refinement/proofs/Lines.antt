@@ -6,7 +6,7 @@ use Rattle.rbc_spec.specs.LineCentre.{LineState, line_beginning}
 use Rattle.rbc_spec.specs.World.{World, Event, Answer, new_world, world_step, world_run}
 use Rattle.rbc_spec.specs.Run.{Run}
 use Rattle.rbc_spec.specs.ReadOff.{StandsFor, IsLineRun, read_off}
-use Rattle.law_local.proofs.Worlds.{bind_ok}
+use Rattle.law_base.proofs.Worlds.{bind_ok}
 use Rattle.law_network.proofs.Begins.{line_shows}
 use Rattle.law_network.proofs.Stands.{stands}
 use Rattle.law_handover.proofs.Worlds.{world_begins}

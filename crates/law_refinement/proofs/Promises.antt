@@ -9,7 +9,7 @@ use Rattle.rbc_spec.specs.ReadOff.{StandsFor, read_off}
 use Rattle.rbc_spec.specs.Promises.{KeepsPromises, IsSound}
 use Rattle.rbc_spec.specs.Theorems.{WholeLineTheorem, EachEventTheorem}
 use Rattle.rbc_spec.proofs.Safe.{safe}
-use Rattle.law_local.proofs.Worlds.{bind_ok}
+use Rattle.law_base.proofs.Worlds.{bind_ok, keeps_run}
 use Rattle.law_network.proofs.OnePlace.{has_one_place}
 use Rattle.law_handover.specs.Worlds.{IsWorldSound}
 use Rattle.law_handover.proofs.Worlds.{world_begins, world_step_sound}
@@ -26,19 +26,13 @@ same_ok : (p q : List Answer × World) → ◌≡◌ {A = Result (List Answer ×
 same_ok p q e = cc
 
 -- nothing waits elsewhere than at centres, whatever happened
-run_so : (line : Line) → IsLine line → (events : List Event) (w : World) → IsWorldSound line w → WaitsAtCentres line w → (answers : List Answer) (last : World)
+pub run_so : (line : Line) → IsLine line → (events : List Event) (w : World) → IsWorldSound line w → WaitsAtCentres line w → (answers : List Answer) (last : World)
     → world_run line w events ≡ Ok (answers, last) → WaitsAtCentres line last
-unfolding world_run
-run_so line ok [] w sound so answers last is = subst (WaitsAtCentres line) (ap (λ (q : List Answer × World). q.1) (same_ok ([], w) (answers, last) is)) so
-run_so line ok (event ∷ events) w sound so answers last is =
-    let first = bind_ok (world_step line w event) _ (answers, last) is in
-    let others = bind_ok (world_run line first.0.1 events) _ (answers, last) first.2 in
-    subst (WaitsAtCentres line) (ap (λ (q : List Answer × World). q.1) (same_ok (first.0.0 ∷ others.0.0, others.0.1) (answers, last) others.2))
-    (run_so line ok events first.0.1 (world_step_sound line ok w sound event first.0.0 first.0.1 first.1) (event_so line w sound.flow so event first.0.0 first.0.1 first.1)
-    others.0.0 others.0.1 others.1)
+run_so line ok events w sound so answers last is = (keeps_run line (λ x. IsWorldSound line x × WaitsAtCentres line x)
+    (λ x old event answer new went. (world_step_sound line ok x old.0 event answer new went, event_so line x old.0.flow old.1 event answer new went)) events w (sound, so) answers last is).1
 
 -- one more event behind a run
-run_further : (line : Line) (event : Event) (answer : Answer) (new : World) (events : List Event) (w : World) (answers : List Answer) (last : World)
+pub run_further : (line : Line) (event : Event) (answer : Answer) (new : World) (events : List Event) (w : World) (answers : List Answer) (last : World)
     → world_run line w events ≡ Ok (answers, last) → world_step line last event ≡ Ok (answer, new) → world_run line w (events ++ event ∷ []) ≡ Ok (answers ++ answer ∷ [], new)
 unfolding world_run
 run_further line event answer new [] w answers last is further =

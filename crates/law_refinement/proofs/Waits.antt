@@ -1,19 +1,16 @@
 -- A start that waits keeps its sections; nothing waits elsewhere than at centres of the line.
-use Rattle.std.proofs.Common.{◌≡◌, ℕ, Bool, true, false, if◌then◌else◌, List, [], Option, Some, None, Result, Ok, Err, refl, sym, ap, ◌∙◌, subst, arith}
-use Rattle.std.specs.Option.{option_map_or}
+use Rattle.std.proofs.Common.{◌≡◌, ℕ, Bool, true, false, List, [], Option, Some, None, Ok, refl, sym, ap, ◌∙◌, arith}
 use Rattle.law_counting.proofs.Sums.{one_if_true, one_if_some}
 use Rattle.law_base.proofs.Puts.{put_other}
+use Rattle.law_base.proofs.Worlds.{Brings, says, sets, unsets, delivers, of_event}
+use Rattle.rbc_spec.specs.Maps.{put}
 use Rattle.rbc_spec.specs.SectionRuns.{within}
 use Rattle.rbc_spec.specs.Line.{Line, is_centre, is_home}
 use Rattle.rbc_spec.specs.Place.{Place, covered}
-use Rattle.rbc_spec.specs.Frame.{Frame}
-use Rattle.rbc_spec.specs.Outcome.{Outcome}
 use Rattle.rbc_spec.specs.Centre.{Centre, is_taken_for, is_used_for, beginning}
 use Rattle.rbc_spec.specs.LineCentre.{LineState}
 use Rattle.rbc_spec.specs.Step as step
-use Rattle.rbc_spec.specs.Step.{Refusal}
-use Rattle.rbc_spec.specs.World.{World, Event, Bytes, Set, Unset, Delivery, Answer, NoCentre, NotSent, new_world, frame_sent, mention, stepped, at_centre, takes, world_step}
-use Rattle.law_local.proofs.Worlds.{world_of}
+use Rattle.rbc_spec.specs.World.{World, Event, Answer, new_world, world_step}
 use Rattle.law_network.specs.Flow.{flow_of}
 use Rattle.law_network.specs.Counts.{wait_has}
 use Rattle.law_network.specs.Keeping.{nothing_came}
@@ -36,36 +33,19 @@ begins_so line = record { none = λ c t away. refl }
 -- ## Whatever happens
 
 module _ (line : Line) (w : World) (sound : IsFlowSound line (flow_of w)) (old : WaitsAtCentres line w) where
-  abbrev Leaves : Result (Answer × World) Refusal → Type 0
-  Leaves r = (answer : Answer) (new : World) → r ≡ Ok (answer, new) → WaitsAtCentres line new
+  stays_so : (c : ℕ) (k : Centre) (trains : List ℕ) → is_centre line c ≡ true → WaitsAtCentres line (record { at = put w.at c k; trains = trains })
+  stays_so c k trains to = record {
+    none = λ d t away. ap (λ (x : Centre). x.wait t) (put_other w.at c d k (λ (here : d ≡ c). let wrong : true ≡ false = sym to ∙ sym (ap (is_centre line) here) ∙ away in cc)) ∙ old.none d t away;
+  }
 
-  stands_still : (answer : Answer) → Leaves (Ok (answer, w))
-  stands_still answer other new is = subst (WaitsAtCentres line) (ap (λ r. world_of w r) is) old
+  at_centre_of_line : (event : Event) (c : ℕ) (own : step.Event) (trains : List ℕ) → Brings line w event c own trains → is_centre line c ≡ true
+  at_centre_of_line _ _ _ _ (says c m to) = to
+  at_centre_of_line _ _ _ _ (sets c s to) = to
+  at_centre_of_line _ _ _ _ (unsets c s to) = to
+  at_centre_of_line _ _ _ _ (delivers a b number f sent) = (sent_between line w sound a b number f sent).1
 
-  stepped_so : (c : ℕ) → is_centre line c ≡ true → (trains : List ℕ) (done : Result (Outcome × Centre) Refusal) → Leaves (stepped w c trains done)
-  stepped_so c to trains (Err why) answer new is = cc
-  stepped_so c to trains (Ok x) answer new is = subst (WaitsAtCentres line) (ap (λ r. world_of w r) is) (record {
-    none = λ d t away. ap (λ (k : Centre). k.wait t) (put_other w.at c d x.1 (λ (here : d ≡ c). let wrong : true ≡ false = sym to ∙ sym (ap (is_centre line) here) ∙ away in cc)) ∙ old.none d t away;
-  })
-
-  at_so : (c : ℕ) (done : Result (Answer × World) Refusal) → (is_centre line c ≡ true → Leaves done) → Leaves (at_centre line w c done)
-  at_so c done here = chosen (is_centre line c) here
-    where
-      chosen : (b : Bool) → (b ≡ true → Leaves done) → Leaves (if b then done else Ok (NoCentre, w))
-      chosen true h = h refl
-      chosen false h = stands_still NoCentre
-
-  delivery_so : (a b number : ℕ) (o : Option Frame) → frame_sent w a b number ≡ o → Leaves (option_map_or (λ f. takes line w b w.trains (step.Deliver a f)) o (Ok (NotSent, w)))
-  delivery_so a b number None sent = stands_still NotSent
-  delivery_so a b number (Some f) sent = stepped_so b (sent_between line w sound a b number f sent).1 w.trains (step.step line b (step.Deliver a f) (w.at b))
-
-  pub event_so : (event : Event) → Leaves (world_step line w event)
-  unfolding world_step
-  event_so (Bytes c (Ok m)) = at_so c _ (λ to. stepped_so c to (mention line m.nid_engine w.trains) (step.step line c (step.Train m) (w.at c)))
-  event_so (Bytes c (Err number)) = at_so c _ (λ to. stands_still _)
-  event_so (Set c s) = at_so c _ (λ to. stepped_so c to w.trains (step.step line c (step.Set s) (w.at c)))
-  event_so (Unset c s) = at_so c _ (λ to. stepped_so c to w.trains (step.step line c (step.Unset s) (w.at c)))
-  event_so (Delivery a b number) = delivery_so a b number (frame_sent w a b number) refl
+  pub event_so : (event : Event) (answer : Answer) (new : World) → world_step line w event ≡ Ok (answer, new) → WaitsAtCentres line new
+  event_so = of_event line w (λ e a x. WaitsAtCentres line x) (λ e a idle. old) (λ e c own trains brings none. stays_so c _ trains (at_centre_of_line e c own trains brings))
 
 -- ## What waits is kept
 

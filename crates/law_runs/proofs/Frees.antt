@@ -175,7 +175,7 @@ pub closed_mark : (b : Bool) (x y : LineState) → y.mark ≡ x.mark → (if b t
 closed_mark true x y same = refl
 closed_mark false x y same = same
 
-closed_wait : (b : Bool) (x y : LineState) → y.wait ≡ x.wait → (if b then x else y).wait ≡ x.wait
+pub closed_wait : (b : Bool) (x y : LineState) → y.wait ≡ x.wait → (if b then x else y).wait ≡ x.wait
 closed_wait true x y same = refl
 closed_wait false x y same = same
 

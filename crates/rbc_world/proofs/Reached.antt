@@ -8,7 +8,7 @@ use Rattle.rbc_spec.specs.Outcome.{Outcome}
 use Rattle.rbc_spec.specs.Step as step
 use Rattle.rbc_spec.specs.Step.{Refusal}
 use Rattle.rbc_spec.specs.World.{World, Event, Bytes, Set, Unset, Delivery, Answer, Answered, new_world, world_step, world_run, at_centre as told_at, takes, mention}
-use Rattle.law_local.proofs.Worlds.{bind_ok}
+use Rattle.law_base.proofs.Worlds.{bind_ok}
 use Rattle.law_reached.proofs.Whole.{whole_run, run_of_none, run_of_cons}
 use Rattle.rbc_centre.specs.States as one
 use Rattle.rbc_centre.specs.Answer.{Steps}
