@@ -51,6 +51,8 @@ impl Run {
     pub(crate) fn goes_on(self, next: Run) -> bool
         ensures { MatchBool result (GoesOn self next) (¬ GoesOn self next) }
     {
-        self.behind() == u32::from(next.first) && self.track == next.track && self.page() == next.page()
+        self.behind() == u32::from(next.first)
+            && self.track == next.track
+            && self.page() == next.page()
     }
 }
