@@ -7,7 +7,7 @@ use Rattle.std.proofs.lemmas.List.{length-drop, length-take-le}
 use Rattle.std.proofs.lemmas.Option.{slice_get_within, same_Some, none-some}
 use Rattle.rbc_spec.specs.SectionRuns.{SectionRun, within}
 use Rattle.rbc_spec.specs.Centre.{is_taken_for}
-use Rattle.rbc_book.specs.Book.{Pages, is_own, entry_at}
+use Rattle.rbc_book.specs.Book.{Pages, is_own, entry_at, wish_at}
 use Rattle.rbc_book.specs.Claim.{claim_on}
 use Rattle.rbc_book.specs.declared.claim.Claim.{Claim}
 use Rattle.rbc_book.proofs.Pages.{foreign_is_shut}
@@ -118,12 +118,22 @@ token_is h k token o is some = by (slice_get h.holds k) refl (sym is ∙ some)
     by None at e = absurd (none-some token e)
     by (Some x) at e = record { held = x; at = at; is = sym (same_Some (token_of (h.first + k) x) token e) }
 
+-- what holds of the section and train of a token that is held so, holds of the k-th section of the hand
+pub ends_at : (P : ℕ → ℕ → Type 0) (t : ℕ) (h : Holding) (k s : ℕ) (token : Token) (o : Option Token) (a : Pages) → h.first + k ≡ s → o ≡ token_at h k → o ≡ Some token → IsHeldBy t h a
+    → ((s t : ℕ) (held : Held) → token ≡ token_of s held → is_held_as t (is_own a s) held ≡ true → P s t) → P s t
+ends_at P t h k s token o a there is some so ends =
+    let found = token_is h k token o is some in
+    subst (λ n. P n t) there (ends (h.first + k) t found.held found.is (so k found.held found.at))
+
 -- what gives back a token that is held so, gives back its section
 pub frees_at : (t : ℕ) (h : Holding) (k s : ℕ) (token : Token) (o : Option Token) (a b : Pages) → h.first + k ≡ s → o ≡ token_at h k → o ≡ Some token → IsHeldBy t h a
     → ((s t : ℕ) (held : Held) → token ≡ token_of s held → is_held_as t (is_own a s) held ≡ true → FreesRun t (one s) a b) → FreesRun t (one s) a b
-frees_at t h k s token o a b there is some so ends =
-    let found = token_is h k token o is some in
-    subst (λ n. FreesRun t (one n) a b) there (ends (h.first + k) t found.held found.is (so k found.held found.at))
+frees_at t h k s token o a b = ends_at (λ s t. FreesRun t (one s) a b) t h k s token o a
+
+-- and tells whether that was wished back
+pub told_at : (t : ℕ) (h : Holding) (k s : ℕ) (token : Token) (o : Option Token) (a : Pages) (b : Bool) → h.first + k ≡ s → o ≡ token_at h k → o ≡ Some token → IsHeldBy t h a
+    → ((s t : ℕ) (held : Held) → token ≡ token_of s held → is_held_as t (is_own a s) held ≡ true → b ≡ (is_taken_for t (entry_at a s) && wish_at a s)) → b ≡ (is_taken_for t (entry_at a s) && wish_at a s)
+told_at t h k s token o a b = ends_at (λ s t. b ≡ (is_taken_for t (entry_at a s) && wish_at a s)) t h k s token o a
 
 -- a claim that is held is for the train
 pub claim_held : (t s : ℕ) (is_home : Bool) (held : Held) (token : Token) (claim : Claim) → token ≡ code.Own claim → token ≡ token_of s held → is_held_as t is_home held ≡ true → token ≡ code.Own (claim_on s t)
@@ -144,10 +154,20 @@ frees_foreign t s book foreign = record {
       | inr e ↦ rw (within_one s k, e.0) refl
     ]
 
--- nor does a name that is held
-pub name_held : (t s : ℕ) (held : Held) (token : Token) (lent : Lent) (book : Pages) → token ≡ code.Name lent → token ≡ token_of s held → is_held_as t (is_own book s) held ≡ true → FreesRun t (one s) book book
-name_held t s (Own u) token lent book name is so = let no : ⊥ = cc in absurd no
-name_held t s (Name u home) token lent book name is so = frees_foreign t s book (elim (cases_Bool (is_own book s)) as (λ _. is_own book s ≡ false) [
+-- a name that is held is of a section of another home
+name_foreign : (t s : ℕ) (held : Held) (token : Token) (lent : Lent) (book : Pages) → token ≡ code.Name lent → token ≡ token_of s held → is_held_as t (is_own book s) held ≡ true → is_own book s ≡ false
+name_foreign t s (Own u) token lent book name is so = let no : ⊥ = cc in absurd no
+name_foreign t s (Name u home) token lent book name is so = elim (cases_Bool (is_own book s)) as (λ _. is_own book s ≡ false) [
   | inl own ↦ absurd (false≢true (sym (ap not own) ∙ so))
   | inr foreign ↦ foreign
-])
+]
+
+-- nor does a name that is held
+pub name_held : (t s : ℕ) (held : Held) (token : Token) (lent : Lent) (book : Pages) → token ≡ code.Name lent → token ≡ token_of s held → is_held_as t (is_own book s) held ≡ true → FreesRun t (one s) book book
+name_held t s held token lent book name is so = frees_foreign t s book (name_foreign t s held token lent book name is so)
+
+-- and its section was not wished back here
+pub name_untold : (t s : ℕ) (held : Held) (token : Token) (lent : Lent) (book : Pages) → token ≡ code.Name lent → token ≡ token_of s held → is_held_as t (is_own book s) held ≡ true
+    → false ≡ (is_taken_for t (entry_at book s) && wish_at book s)
+name_untold t s held token lent book name is so =
+    ap (λ e. is_taken_for t e && wish_at book s) (sym (foreign_is_shut book s (name_foreign t s held token lent book name is so)))

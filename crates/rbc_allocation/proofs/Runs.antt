@@ -224,6 +224,16 @@ freed_front_more t k first now next a b c so_far cut frees =
       book = frees_then t _ (one now.first) _ a b c (λ j. within_more first.first k j ∙ ap (λ x. within (record { first = first.first; count = k }) j || within (one x) j) (sym begins)) so_far.book frees;
     }
 
+-- the next one is in use and wished as before
+pub wished_as_before : (t k s : ℕ) (first now : Holding) (a b : Pages) → HasFreedFront t k first now a b → s ≡ now.first
+    → (is_taken_for t (entry_at b s) && wish_at b s) ≡ (is_taken_for t (entry_at a (first.first + k)) && wish_at a (first.first + k))
+wished_as_before t k s first now a b so_far is =
+    let there : s ≡ first.first + k = is ∙ ap (λ (h : Holding). h.first) so_far.hand in
+    let out = not_within first.first k s there in
+    let entry : entry_at b s ≡ entry_at a s = so_far.book.entry s ∙ ap (λ x. entry_then (is_taken_for t) x (entry_at a s) (wish_at a s)) out in
+    let wish : wish_at b s ≡ wish_at a s = so_far.book.wish s ∙ ap (λ x. wish_then (is_taken_for t) x (entry_at a s) (wish_at a s)) out in
+    (λ i. is_taken_for t (entry i) && wish i) ∙ ap (λ j. is_taken_for t (entry_at a j) && wish_at a j) there
+
 -- a hand that has not lost all its sections
 pub front_left : (k : ℕ) (first now : Holding) → now ≡ hand_rest k first → k < length first.holds → is_empty (run now) ≡ false
 front_left k first now is lt =

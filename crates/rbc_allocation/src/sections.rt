@@ -9,20 +9,21 @@ ghost use Rattle.rbc_allocation.specs.Marks.{marked};
 ghost use Rattle.rbc_allocation.specs.Sections.{TakesRun, FreesRun, front_of, rest_of, wished, hand_rest, hand_front, is_held_as, IsHeldBy};
 
 use crate::told::Told;
-use rbc_book::Book;
+use rbc_book::{Back, Book};
 use rbc_hand::{Hand, SectionRun, Token};
 
-// Ends a token: a claim goes back to the book.
-fn end_token(token: Token, book: &mut Book)
-    ensures { (s t : ℕ) (held : Held) → token ≡ token_of s held → is_held_as t (is_own book.old s) held ≡ true
+// Ends a token: a claim goes back to the book. Whether its section was wished back.
+fn end_token(token: Token, book: &mut Book) -> bool
+    ensures told { (s t : ℕ) (held : Held) → token ≡ token_of s held → is_held_as t (is_own book.old s) held ≡ true
+        → result ≡ (is_taken_for t (entry_at book.old s) && wish_at book.old s) }
+    ensures book { (s t : ℕ) (held : Held) → token ≡ token_of s held → is_held_as t (is_own book.old s) held ≡ true
         → FreesRun t (one s) book.old book.new }
 {
     match token {
-        Token::Own(claim) => {
-            book.give_back(claim);
-        }
+        Token::Own(claim) => matches!(book.give_back(claim), Back::Told),
         Token::Name(lent) => {
             lent.send();
+            false
         }
     }
 }
@@ -59,15 +60,18 @@ pub fn take_run(hand: &mut Hand, sections: SectionRun, nid_engine: u32, book: &m
     }
 }
 
-// The first section leaves the hand.
-fn free_first(hand: &mut Hand, nid_engine: u32, book: &mut Book)
+// The first section leaves the hand. Whether it was wished back.
+fn free_first(hand: &mut Hand, nid_engine: u32, book: &mut Book) -> bool
     requires held { IsHeldBy nid_engine hand.old book.old }
     requires some { is_empty (run hand.old) ≡ false }
+    ensures told { result
+        ≡ (is_taken_for nid_engine (entry_at book.old hand.old.first) && wish_at book.old hand.old.first) }
     ensures hand { hand.new ≡ hand_rest 1 hand.old }
     ensures book { FreesRun nid_engine (one hand.old.first) book.old book.new }
 {
-    if let Some(token) = hand.cut_front() {
-        end_token(token, book);
+    match hand.cut_front() {
+        Some(token) => end_token(token, book),
+        None => false,
     }
 }
 
@@ -83,16 +87,24 @@ fn free_last(hand: &mut Hand, nid_engine: u32, book: &mut Book)
     }
 }
 
-// So many of the first sections leave the hand.
-fn free_front(hand: &mut Hand, count: u16, nid_engine: u32, book: &mut Book)
+// So many of the first sections leave the hand. The marks of those that were wished back.
+fn free_front(hand: &mut Hand, count: u16, nid_engine: u32, book: &mut Book) -> u64
     requires held { IsHeldBy nid_engine hand.old book.old }
     requires some { count ≤ length hand.old.holds }
+    requires most { count ≤ 32 }
+    ensures told { marked hand.old.first count result
+        ≡ wished nid_engine (record { first = hand.old.first; count = count }) book.old }
+    ensures fits { result < 2 ^ count }
     ensures hand { hand.new ≡ hand_rest count hand.old }
     ensures book { FreesRun nid_engine (record { first = hand.old.first; count = count }) book.old book.new }
 {
+    let mut marks = 0;
     for _ in 0..count {
-        free_first(hand, nid_engine, book);
+        let is_told = free_first(hand, nid_engine, book);
+        let mark = if is_told { 1 } else { 0 };
+        marks = marks * 2 + mark;
     }
+    marks
 }
 
 // So many of the last sections leave the hand.
@@ -148,9 +160,8 @@ pub fn clear(hand: &mut Hand, count: u16, nid_engine: u32, book: &mut Book) -> T
     ensures book { FreesRun nid_engine (record { first = hand.old.first; count = count }) book.old book.new }
 {
     let first = hand.run().first;
-    let told = wished(SectionRun { first, count }, nid_engine, book);
-    free_front(hand, count, nid_engine, book);
-    told
+    let marks = free_front(hand, count, nid_engine, book);
+    Told::of(first, count, marks)
 }
 
 /// All but so many of the first sections leave the hand: those of the book's home are given back, and the names of the

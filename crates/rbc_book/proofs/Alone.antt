@@ -4,7 +4,7 @@ use Rattle.std.specs.List.{insert}
 use Rattle.std.proofs.lemmas.Bool.{and_left, and_right, le-ltb}
 use Rattle.rbc_spec.specs.SectionRuns.{within}
 use Rattle.law_base.proofs.Runs.{within_from, within_behind}
-use Rattle.rbc_book.specs.Runs.{At, AreInOrder, AreApart, GoesOn, GoesOnAt, sections_of}
+use Rattle.rbc_book.specs.Runs.{run_page, At, AreInOrder, AreApart, GoesOn, GoesOnAt, sections_of}
 use Rattle.rbc_book.specs.Edits.{with_page, changed_at, resized, IsWhole, IsFirst, IsLast, IsInner, IsJoined, IsWritten}
 use Rattle.rbc_book.specs.declared.page.Page.{Page}
 use Rattle.rbc_book.specs.declared.run.Run.{Run}
@@ -41,7 +41,7 @@ first-put i s [] r m at inside = absurd at
 first-put zero s (x ∷ xs) r m at inside = rw at (rw inside refl)
 first-put (suc i) s (x ∷ xs) r m at inside = ap (λ rs. x ∷ rs) (first-put i s xs r m at inside)
 
-first-off : (i s : ℕ) (runs : List Run) (r m : Run) → At (λ p. p ≡ r) i runs → is_inside (s + 1) r ≡ true → m.page ≢ r.page → GoesOnAt i (set (split_at i (s + 1) runs) i m) → ⊥
+first-off : (i s : ℕ) (runs : List Run) (r m : Run) → At (λ p. p ≡ r) i runs → is_inside (s + 1) r ≡ true → run_page m ≢ run_page r → GoesOnAt i (set (split_at i (s + 1) runs) i m) → ⊥
 first-off i s [] r m at inside other = absurd at
 first-off zero s (x ∷ xs) r m at inside other = rw at (rw inside (λ h. other h.2))
 first-off (suc i) s (x ∷ xs) r m at inside other = first-off i s xs r m at inside other
@@ -91,7 +91,7 @@ last-put i s [] r m at inside = absurd at
 last-put zero s (x ∷ xs) r m at inside = rw at (rw inside refl)
 last-put (suc i) s (x ∷ xs) r m at inside = ap (λ rs. x ∷ rs) (last-put i s xs r m at inside)
 
-last-off : (i s : ℕ) (runs : List Run) (r m : Run) → At (λ p. p ≡ r) i runs → is_inside s r ≡ true → r.page ≢ m.page → GoesOnAt i (set (split_at i s runs) (suc i) m) → ⊥
+last-off : (i s : ℕ) (runs : List Run) (r m : Run) → At (λ p. p ≡ r) i runs → is_inside s r ≡ true → run_page r ≢ run_page m → GoesOnAt i (set (split_at i s runs) (suc i) m) → ⊥
 last-off i s [] r m at inside other = absurd at
 last-off zero s (x ∷ xs) r m at inside other = rw at (rw inside (λ h. other h.2))
 last-off (suc i) s (x ∷ xs) r m at inside other = last-off i s xs r m at inside other
@@ -142,7 +142,7 @@ inner-put i s [] r m at inside more = absurd at
 inner-put zero s (x ∷ xs) r m at inside more = rw at (rw inside (rw more refl))
 inner-put (suc i) s (x ∷ xs) r m at inside more = ap (λ rs. x ∷ rs) (inner-put i s xs r m at inside more)
 
-inner-off : (i s : ℕ) (runs : List Run) (r m : Run) → At (λ p. p ≡ r) i runs → is_inside s r ≡ true → is_inside (s + 1) (from s r) ≡ true → r.page ≢ m.page
+inner-off : (i s : ℕ) (runs : List Run) (r m : Run) → At (λ p. p ≡ r) i runs → is_inside s r ≡ true → is_inside (s + 1) (from s r) ≡ true → run_page r ≢ run_page m
     → GoesOnAt i (set (split_at (suc i) (s + 1) (split_at i s runs)) (suc i) m) → ⊥
 inner-off i s [] r m at inside more other = absurd at
 inner-off zero s (x ∷ xs) r m at inside more other = rw at (rw inside (rw more (λ h. other h.2)))
@@ -159,13 +159,13 @@ module _ (i s : ℕ) (page : Page) (runs : List Run) (r : Run) (at : At (λ p. p
   n = with_page page (before (s + 1) (from s r))
 
   n_is : n ≡ last_of s page r
-  n_is = let one : s + 1 - s ≡ 1 = omega arith in λ j. record { first = s; count = one j; track = r.track; page = page }
+  n_is = let one : s + 1 - s ≡ 1 = omega arith in λ j. record { first = s; count = one j; track = r.track; is_wished = page.is_wished; entry = page.entry }
 
   abbrev rest : Run
-  rest = record { first = s + 1; count = r.count - (s - r.first) - 1; track = r.track; page = r.page }
+  rest = record { first = s + 1; count = r.count - (s - r.first) - 1; track = r.track; is_wished = r.is_wished; entry = r.entry }
 
   rest_is : from (s + 1) (from s r) ≡ rest
-  rest_is = let less : r.count - (s - r.first) - (s + 1 - s) ≡ r.count - (s - r.first) - 1 = omega arith in λ j. record { first = s + 1; count = less j; track = r.track; page = r.page }
+  rest_is = let less : r.count - (s - r.first) - (s + 1 - s) ≡ r.count - (s - r.first) - 1 = omega arith in λ j. record { first = s + 1; count = less j; track = r.track; is_wished = r.is_wished; entry = r.entry }
 
   inner_second : At (λ p. p ≡ from s r) (suc i) (split_at i s runs)
   inner_second = at_second i s runs r at inner_inside

@@ -17,7 +17,7 @@ use Rattle.rbc_book.proofs.Joins.{joined_spots, joined_order, joined_count, join
 
 -- a section as a run
 abbrev pub alone : ℕ → Spot → Run
-alone s spot = record { first = s; count = 1; track = spot.track; page = spot.page }
+alone s spot = record { first = s; count = 1; track = spot.track; is_wished = spot.page.is_wished; entry = spot.page.entry }
 
 has_alone : (s : ℕ) (spot : Spot) (k : ℕ) → within (sections_of (alone s spot)) k ≡ (k == s)
 has_alone s spot k = elim (eqb_tells k s) [

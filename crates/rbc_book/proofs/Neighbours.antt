@@ -5,7 +5,7 @@ use Rattle.std.proofs.lemmas.Bool.Decides.{eqb_tells}
 use Rattle.rbc_spec.specs.SectionRuns.{within}
 use Rattle.law_base.proofs.Runs.{within_from, within_behind}
 use Rattle.rbc_book.specs.Sheet.{page_in}
-use Rattle.rbc_book.specs.Runs.{At, AreInOrder, AreApart, GoesOn, GoesOnAt, sections_of}
+use Rattle.rbc_book.specs.Runs.{run_page, At, AreInOrder, AreApart, GoesOn, GoesOnAt, sections_of}
 use Rattle.rbc_book.specs.Edits.{joined, joined_at, with_page, changed_at, resized, IsFirst, IsLast, IsWritten}
 use Rattle.rbc_book.specs.declared.page.Page.{Page}
 use Rattle.rbc_book.specs.declared.run.Run.{Run}
@@ -18,7 +18,7 @@ use Rattle.rbc_book.proofs.Places.{changed_is, set_before}
 -- ## The page is the same
 
 pub same_written : (s i : ℕ) (page : Page) (runs : List Run) (r : Run) → AreInOrder 0 runs → AreApart runs → At (λ q. within (sections_of q) s ≡ true) i runs → At (λ q. q ≡ r) i runs
-    → r.page ≡ page → IsWritten s page runs runs
+    → run_page r ≡ page → IsWritten s page runs runs
 same_written s i page runs r order apart has at same =
     let said = spot_of_run 0 runs i s r order at (at_is (λ q. within (sections_of q) s ≡ true) runs i r has at) in
     record {
@@ -36,11 +36,11 @@ same_written s i page runs r order apart has at same =
 
 -- the first section of a run, as it is used from now on
 abbrev pub first_of : Page → Run → Run
-first_of page r = record { first = r.first; count = 1; track = r.track; page = page }
+first_of page r = record { first = r.first; count = 1; track = r.track; is_wished = page.is_wished; entry = page.entry }
 
 -- the run without it
 abbrev pub without_first : ℕ → Run → Run
-without_first s r = record { first = s + 1; count = r.count - 1; track = r.track; page = r.page }
+without_first s r = record { first = s + 1; count = r.count - 1; track = r.track; is_wished = r.is_wished; entry = r.entry }
 
 ahead-is : (a s : ℕ) (runs : List Run) (q r m : Run) → At (λ p. p ≡ q) a runs → At (λ p. p ≡ r) (suc a) runs → is_inside (s + 1) r ≡ true
     → set (set runs a (joined q m)) (suc a) (from (s + 1) r) ≡ joined_at a (set (split_at (suc a) (s + 1) runs) (suc a) m)
@@ -56,7 +56,7 @@ ahead-on zero s (x ∷ []) q r m at next inside on = absurd next
 ahead-on zero s (x ∷ y ∷ ys) q r m at next inside on = rw (at, next) (rw inside on)
 ahead-on (suc a) s (x ∷ xs) q r m at next inside on = ahead-on a s xs q r m at next inside on
 
-ahead-off : (a s : ℕ) (runs : List Run) (r m : Run) → At (λ p. p ≡ r) (suc a) runs → is_inside (s + 1) r ≡ true → m.page ≢ r.page
+ahead-off : (a s : ℕ) (runs : List Run) (r m : Run) → At (λ p. p ≡ r) (suc a) runs → is_inside (s + 1) r ≡ true → run_page m ≢ run_page r
     → GoesOnAt (suc a) (set (split_at (suc a) (s + 1) runs) (suc a) m) → ⊥
 ahead-off a s [] r m next inside other = absurd next
 ahead-off zero s (x ∷ []) r m next inside other = absurd next
@@ -64,15 +64,15 @@ ahead-off zero s (x ∷ y ∷ ys) r m next inside other = rw next (rw inside (λ
 ahead-off (suc a) s (x ∷ xs) r m next inside other = ahead-off a s xs r m next inside other
 
 pub first-is : (s : ℕ) (page : Page) (r : Run) → r.first ≡ s → with_page page (before (s + 1) r) ≡ first_of page r
-first-is s page r first = let one : s + 1 - r.first ≡ 1 = omega (arith, first) in λ i. record { first = r.first; count = one i; track = r.track; page = page }
+first-is s page r first = let one : s + 1 - r.first ≡ 1 = omega (arith, first) in λ i. record { first = r.first; count = one i; track = r.track; is_wished = page.is_wished; entry = page.entry }
 
 pub rest-is : (s : ℕ) (r : Run) → r.first ≡ s → from (s + 1) r ≡ without_first s r
-rest-is s r first = let rest : r.count - (s + 1 - r.first) ≡ r.count - 1 = omega (arith, first) in λ i. record { first = s + 1; count = rest i; track = r.track; page = r.page }
+rest-is s r first = let rest : r.count - (s + 1 - r.first) ≡ r.count - 1 = omega (arith, first) in λ i. record { first = s + 1; count = rest i; track = r.track; is_wished = r.is_wished; entry = r.entry }
 
 module _ (a s : ℕ) (page : Page) (runs : List Run) (q r : Run) (at : At (λ p. p ≡ q) a runs) (next : At (λ p. p ≡ r) (suc a) runs) (first : r.first ≡ s) (some : 1 < r.count)
     (on : GoesOn q (first_of page r)) (order : AreInOrder 0 runs) (apart : AreApart runs) where
   -- the page is another: else the two runs could be one
-  other : page ≢ r.page
+  other : page ≢ run_page r
   other same = apart a (goes_on_at a runs q r at next (on.0, on.1, on.2 ∙ same))
 
   inside : is_inside (s + 1) r ≡ true
@@ -120,7 +120,7 @@ first_joined i s page runs mid new q r at is some ahead on order apart one two =
 
 -- the last section of a run, as it is used from now on
 abbrev pub last_of : ℕ → Page → Run → Run
-last_of s page r = record { first = s; count = 1; track = r.track; page = page }
+last_of s page r = record { first = s; count = 1; track = r.track; is_wished = page.is_wished; entry = page.entry }
 
 behind-is : (i s : ℕ) (runs : List Run) (r n m : Run) → At (λ p. p ≡ r) i runs → At (λ p. p ≡ n) (suc i) runs → is_inside s r ≡ true
     → set (set runs i (before s r)) (suc i) (joined m n) ≡ joined_at (suc i) (set (split_at i s runs) (suc i) m)
@@ -136,7 +136,7 @@ behind-on zero s (x ∷ []) r n m at next inside on = absurd next
 behind-on zero s (x ∷ y ∷ ys) r n m at next inside on = rw (at, next) (rw inside on)
 behind-on (suc i) s (x ∷ xs) r n m at next inside on = behind-on i s xs r n m at next inside on
 
-behind-off : (i s : ℕ) (runs : List Run) (r n m : Run) → At (λ p. p ≡ r) i runs → At (λ p. p ≡ n) (suc i) runs → is_inside s r ≡ true → r.page ≢ m.page
+behind-off : (i s : ℕ) (runs : List Run) (r n m : Run) → At (λ p. p ≡ r) i runs → At (λ p. p ≡ n) (suc i) runs → is_inside s r ≡ true → run_page r ≢ run_page m
     → GoesOnAt i (joined_at (suc i) (set (split_at i s runs) (suc i) m)) → ⊥
 behind-off i s [] r n m at next inside other = absurd at
 behind-off zero s (x ∷ []) r n m at next inside other = absurd next
@@ -144,11 +144,11 @@ behind-off zero s (x ∷ y ∷ ys) r n m at next inside other = rw (at, next) (r
 behind-off (suc i) s (x ∷ xs) r n m at next inside other = behind-off i s xs r n m at next inside other
 
 pub last-is : (s : ℕ) (page : Page) (r : Run) → s + 1 ≡ r.first + r.count → 1 < r.count → with_page page (from s r) ≡ last_of s page r
-last-is s page r last some = let one : r.count - (s - r.first) ≡ 1 = omega (arith, last, some) in λ i. record { first = s; count = one i; track = r.track; page = page }
+last-is s page r last some = let one : r.count - (s - r.first) ≡ 1 = omega (arith, last, some) in λ i. record { first = s; count = one i; track = r.track; is_wished = page.is_wished; entry = page.entry }
 
 module _ (i s : ℕ) (page : Page) (runs : List Run) (r n : Run) (at : At (λ p. p ≡ r) i runs) (next : At (λ p. p ≡ n) (suc i) runs) (last : s + 1 ≡ r.first + r.count) (some : 1 < r.count)
     (on : GoesOn (last_of s page r) n) (order : AreInOrder 0 runs) (apart : AreApart runs) where
-  differs : r.page ≢ page
+  differs : run_page r ≢ page
   differs same = apart i (goes_on_at i runs r n at next (omega (arith, last, on.0), on.1, same ∙ on.2))
 
   has_last : is_inside s r ≡ true
@@ -190,7 +190,7 @@ last_joined i s page runs mid new r n at is behind on order apart one two =
     let mid_is : mid ≡ set runs i (before s r) = one ∙ changed_is (resized r.first (s - r.first)) i runs r at in
     let at_mid : At (λ p. p ≡ n) (i + 1) mid = subst (λ xs. At (λ p. p ≡ n) (i + 1) xs) (sym mid_is)
     (subst (λ k. At (λ p. p ≡ n) k (set runs i (before s r))) back (set_before (λ p. p ≡ n) i runs (before s r) next)) in
-    let run_is : resized s (1 + n.count) n ≡ joined (last_of s page r) n = (λ j. record { first = s; count = 1 + n.count; track = sym on.1 j; page = sym on.2 j }) in
+    let run_is : resized s (1 + n.count) n ≡ joined (last_of s page r) n = (λ j. record { first = s; count = 1 + n.count; track = sym on.1 j; is_wished = (sym on.2 j).is_wished; entry = (sym on.2 j).entry }) in
     let new_is : new ≡ set (set runs i (before s r)) (i + 1) (joined (last_of s page r) n) = two ∙ changed_is (resized s (1 + n.count)) (i + 1) mid n at_mid
     ∙ ap (λ x. set mid (i + 1) x) run_is ∙ ap (λ xs. set xs (i + 1) (joined (last_of s page r) n)) mid_is in
     subst (IsWritten s page runs) (sym new_is) (moved_behind i s page runs r n at next is.0 is.1 on order apart)

@@ -16,7 +16,7 @@ pub record HasOpened (sheet : Sheet) (first count : ℕ) : Type 0 where
   pub bound : first + count ≤ 65535
 
 -- a run has the next one, and is open
-pub opens_more : (sheet : Sheet) (first count more : ℕ) (r : Run) → IsRunOf sheet (first + count) r → is_open (entry_of r.page.entry) ≡ true → first + more ≡ r.first + r.count
+pub opens_more : (sheet : Sheet) (first count more : ℕ) (r : Run) → IsRunOf sheet (first + count) r → is_open (entry_of r.entry) ≡ true → first + more ≡ r.first + r.count
     → HasOpened sheet first count → HasOpened sheet first more
 opens_more sheet first count more r run opened end so_far = record {
   each = λ s low high. elim (cases_lt s (first + count)) [
@@ -54,7 +54,7 @@ all_open sheet first most count whole so_far =
 pub none_open : (sheet : Sheet) (s : ℕ) → spot_on sheet s ≡ None → is_open_on sheet s ≡ false
 none_open sheet s none = ap is_open_in none
 
-pub run_open : (sheet : Sheet) (s : ℕ) (r : Run) (b : Bool) → IsRunOf sheet s r → is_open (entry_of r.page.entry) ≡ b → is_open_on sheet s ≡ b
+pub run_open : (sheet : Sheet) (s : ℕ) (r : Run) (b : Bool) → IsRunOf sheet s r → is_open (entry_of r.entry) ≡ b → is_open_on sheet s ≡ b
 run_open sheet s r b run is = ap is_open_in (run.each s run.has) ∙ is
 
 pub behind_next : (sheet : Sheet) (s : ℕ) (r : Run) → IsRunOf sheet s r → s < r.first + r.count

@@ -11,10 +11,10 @@ use Rattle.rbc_book.proofs.Rows.{at_from, order_at}
 
 -- the part of a run before a section, and the part from it on
 abbrev pub before : ℕ → Run → Run
-before s r = record { first = r.first; count = s - r.first; track = r.track; page = r.page }
+before s r = record { first = r.first; count = s - r.first; track = r.track; is_wished = r.is_wished; entry = r.entry }
 
 abbrev pub from : ℕ → Run → Run
-from s r = record { first = s; count = r.count - (s - r.first); track = r.track; page = r.page }
+from s r = record { first = s; count = r.count - (s - r.first); track = r.track; is_wished = r.is_wished; entry = r.entry }
 
 -- the section is in the run, behind its first
 abbrev pub is_inside : ℕ → Run → Bool

@@ -17,7 +17,7 @@ use Rattle.rbc_book.proofs.Rows.{at_read, order_at, spot_of_run, sheet_says}
 
 -- none of the first runs is in use for the train
 abbrev pub AreUnused : ℕ → List Run → ℕ → Type 0
-AreUnused t runs n = (j : ℕ) (d : Run) → j < n → j < length runs → is_used_for t (entry_of (get_or runs j d).page.entry) ≡ false
+AreUnused t runs n = (j : ℕ) (d : Run) → j < n → j < length runs → is_used_for t (entry_of (get_or runs j d).entry) ≡ false
 
 pub none_used : (t : ℕ) (runs : List Run) → AreUnused t runs (length runs) → (s : ℕ) → is_used_in t (spot_at runs s) ≡ false
 none_used t [] unused s = refl
@@ -26,7 +26,7 @@ none_used t (r ∷ rs) unused s = elim (cases_Bool (within (sections_of r) s)) [
   | inr not ↦ rw not (none_used t rs (λ j d low lt. unused (suc j) d (omega arith) (omega arith)) s)
 ]
 
-pub first_used : (t i : ℕ) (runs : List Run) (d : Run) → AreInOrder 0 runs → i < length runs → is_used_for t (entry_of (get_or runs i d).page.entry) ≡ true
+pub first_used : (t i : ℕ) (runs : List Run) (d : Run) → AreInOrder 0 runs → i < length runs → is_used_for t (entry_of (get_or runs i d).entry) ≡ true
     → is_used_in t (spot_at runs (get_or runs i d).first) ≡ true
 first_used t i runs d order lt used =
     let r = get_or runs i d in

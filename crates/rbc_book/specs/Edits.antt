@@ -1,7 +1,7 @@
 -- Changes of a row of runs.
 use Rattle.std.specs.Prelude.{◌≡◌, ◌≢◌, ℕ, zero, suc, ◌+◌, ◌⊎◌, ◌<◌, ◌≤◌, ◌==◌, Some, List, [], ◌∷◌, if◌then◌else◌}
 use Rattle.std.specs.List.{All}
-use Rattle.rbc_book.specs.Runs.{GoesOnAt, AreInOrder, AreApart, sections_in, spot_at}
+use Rattle.rbc_book.specs.Runs.{run_page, GoesOnAt, AreInOrder, AreApart, sections_in, spot_at}
 use Rattle.rbc_spec.specs.Maps.{put}
 use Rattle.rbc_book.specs.Sheet.{Spot, page_in, track_in}
 use Rattle.rbc_book.specs.declared.page.Page.{Page}
@@ -9,7 +9,7 @@ use Rattle.rbc_book.specs.declared.run.Run.{Run}
 
 -- a run and the next as one
 abbrev pub joined : Run → Run → Run
-joined r next = record { first = r.first; count = r.count + next.count; track = r.track; page = r.page }
+joined r next = record { first = r.first; count = r.count + next.count; track = r.track; is_wished = r.is_wished; entry = r.entry }
 
 abbrev pub joined_with : Run → List Run → List Run
 joined_with r [] = r ∷ []
@@ -33,11 +33,11 @@ changed_at f (suc i) (r ∷ rs) = r ∷ changed_at f i rs
 
 -- the run with other ends
 abbrev pub resized : ℕ → ℕ → Run → Run
-resized first count r = record { first = first; count = count; track = r.track; page = r.page }
+resized first count r = record { first = first; count = count; track = r.track; is_wished = r.is_wished; entry = r.entry }
 
 -- the run with another page
 abbrev pub with_page : Page → Run → Run
-with_page page r = record { first = r.first; count = r.count; track = r.track; page = page }
+with_page page r = record { first = r.first; count = r.count; track = r.track; is_wished = page.is_wished; entry = page.entry }
 
 -- the section is the whole run
 abbrev pub IsWhole : ℕ → Run → Type 0
@@ -45,15 +45,15 @@ IsWhole s r = (r.first ≡ s) × (r.count ≡ 1)
 
 -- the section is the first of a run of more, which has another page
 abbrev pub IsFirst : ℕ → Page → Run → Type 0
-IsFirst s page r = (r.first ≡ s) × (1 < r.count) × (r.page ≢ page)
+IsFirst s page r = (r.first ≡ s) × (1 < r.count) × (run_page r ≢ page)
 
 -- the section is the last of a run of more, which has another page
 abbrev pub IsLast : ℕ → Page → Run → Type 0
-IsLast s page r = (s + 1 ≡ r.first + r.count) × (1 < r.count) × (r.page ≢ page)
+IsLast s page r = (s + 1 ≡ r.first + r.count) × (1 < r.count) × (run_page r ≢ page)
 
 -- the section is one of a run, and not at its ends, and the run has another page
 abbrev pub IsInner : ℕ → Page → Run → Type 0
-IsInner s page r = (r.first < s) × (s + 1 < r.first + r.count) × (r.page ≢ page)
+IsInner s page r = (r.first < s) × (s + 1 < r.first + r.count) × (run_page r ≢ page)
 
 -- all runs end in front of a section
 abbrev pub AreBefore : ℕ → List Run → Type 0

@@ -3,6 +3,7 @@ use Rattle.std.specs.Prelude.{◌≡◌, ℕ, zero, suc, ◌+◌, ◌≤◌, Lis
 use Rattle.std.specs.List.{range_with_len}
 use Rattle.rbc_spec.specs.SectionRuns.{SectionRun, within}
 use Rattle.rbc_book.specs.Sheet.{Spot, Sheet, spot_on}
+use Rattle.rbc_book.specs.declared.page.Page.{Page}
 use Rattle.rbc_book.specs.declared.run.Run.{Run}
 
 -- ## One run
@@ -11,13 +12,17 @@ use Rattle.rbc_book.specs.declared.run.Run.{Run}
 abbrev pub sections_of : Run → SectionRun
 sections_of r = record { first = r.first; count = r.count }
 
+-- its page: what it is used for, and whether it is wished back
+abbrev pub run_page : Run → Page
+run_page r = record { entry = r.entry; is_wished = r.is_wished }
+
 -- what it says of each of them
 abbrev pub spot_of : Run → Spot
-spot_of r = record { page = r.page; track = r.track }
+spot_of r = record { page = run_page r; track = r.track }
 
 -- the next goes on where it ends, on its track and used alike
 abbrev pub GoesOn : Run → Run → Type 0
-GoesOn r next = (r.first + r.count ≡ next.first) × (r.track ≡ next.track) × (r.page ≡ next.page)
+GoesOn r next = (r.first + r.count ≡ next.first) × (r.track ≡ next.track) × (run_page r ≡ run_page next)
 
 -- ## A row of runs
 

@@ -73,7 +73,7 @@ pub(crate) fn write_at(runs: &mut Vec<Run>, i: usize, s: u16, page: Page)
     ensures capacity { vec_capacity runs.old ≤ vec_capacity runs.new }
 {
     let run = runs[i];
-    if run.page == page {
+    if run.page() == page {
         return;
     }
     if run.count == 1 {
@@ -100,7 +100,8 @@ pub(crate) fn append(runs: &mut Vec<Run>, s: u16, track: u8, page: Page) -> Resu
         first: s,
         count: 1,
         track,
-        page,
+        is_wished: page.is_wished,
+        entry: page.entry,
     })?;
     if count > 0 {
         join(runs, count - 1);

@@ -40,7 +40,8 @@ fn turn(runs: &mut Vec<Run>, i: usize, page: Page)
     ensures capacity { vec_capacity runs.old ≤ vec_capacity runs.new }
 {
     let run = &mut runs[i];
-    run.page = page;
+    run.is_wished = page.is_wished;
+    run.entry = page.entry;
 }
 
 // Writes the page of a run of one section.
@@ -70,7 +71,8 @@ pub(crate) fn write_first(runs: &mut Vec<Run>, i: usize, s: u16, page: Page)
     let run = runs[i];
     let alone = Run {
         count: 1,
-        page,
+        is_wished: page.is_wished,
+        entry: page.entry,
         ..run
     };
     let first = s + 1;
@@ -97,7 +99,8 @@ pub(crate) fn write_last(runs: &mut Vec<Run>, i: usize, s: u16, page: Page)
     let alone = Run {
         first: s,
         count: 1,
-        page,
+        is_wished: page.is_wished,
+        entry: page.entry,
         ..run
     };
     let count = s - run.first;
@@ -124,7 +127,8 @@ pub(crate) fn write_inside(runs: &mut Vec<Run>, i: usize, s: u16, page: Page)
     let alone = Run {
         first: s,
         count: 1,
-        page,
+        is_wished: page.is_wished,
+        entry: page.entry,
         ..run
     };
     let rest = Run {

@@ -1,6 +1,6 @@
 ghost use Rattle.std.specs.Prelude.{◌≡◌, ◌+◌, MatchBool};
 
-use crate::page::Page;
+use crate::page::{Entry, Page};
 
 /// Consecutive sections of one track that are used alike.
 #[derive(Clone, Copy, Debug)]
@@ -11,13 +11,26 @@ pub(crate) struct Run {
     pub(crate) count: u16,
     /// The number of their track.
     pub(crate) track: u8,
-    /// What the book has of each of them.
-    pub(crate) page: Page,
+    /// The interlocking wishes them back.
+    pub(crate) is_wished: bool,
+    /// What they are used for.
+    pub(crate) entry: Entry,
 }
 
 impl Run {
     ghost use Rattle.rbc_spec.specs.SectionRuns.{within};
-    ghost use Rattle.rbc_book.specs.Runs.{sections_of, GoesOn};
+    ghost use Rattle.rbc_book.specs.Runs.{run_page, sections_of, GoesOn};
+
+    /// What the book has of each of them.
+    #[inline(always)]
+    pub(crate) fn page(self) -> Page
+        ensures { result ≡ run_page self }
+    {
+        Page {
+            entry: self.entry,
+            is_wished: self.is_wished,
+        }
+    }
 
     /// The number behind its last section.
     pub(crate) fn behind(self) -> u32
@@ -38,6 +51,8 @@ impl Run {
     pub(crate) fn goes_on(self, next: Run) -> bool
         ensures { MatchBool result (GoesOn self next) (¬ GoesOn self next) }
     {
-        self.behind() == u32::from(next.first) && self.track == next.track && self.page == next.page
+        self.behind() == u32::from(next.first)
+            && self.track == next.track
+            && self.page() == next.page()
     }
 }

@@ -62,7 +62,7 @@ impl Runs {
         ensures { result ≡ page_on self.now s }
     {
         let run = self.run_of(s)?;
-        Some(run.page)
+        Some(run.page())
     }
 
     /// How many sections from the first on are open, one after another, at most so many.
@@ -74,7 +74,7 @@ impl Runs {
             let Some(run) = self.run_of(first + count) else {
                 return count;
             };
-            if !run.page.entry.is_open() {
+            if !run.entry.is_open() {
                 return count;
             }
             count = (run.behind() - u32::from(first)) as u16;
@@ -100,7 +100,7 @@ impl Runs {
         ensures none { result ≡ None → self.new ≡ self.old }
     {
         let place = find(&self.runs, s)?;
-        let page = self.runs[place].page;
+        let page = self.runs[place].page();
         write_at(&mut self.runs, place, s, change.of(page));
         Some(page)
     }
@@ -145,7 +145,7 @@ fn first_in_use(runs: &[Run], nid_engine: u32) -> Option<u16>
 {
     for i in 0..runs.len() {
         let run = runs[i];
-        if run.page.entry.is_used_for(nid_engine) {
+        if run.entry.is_used_for(nid_engine) {
             return Some(run.first);
         }
     }

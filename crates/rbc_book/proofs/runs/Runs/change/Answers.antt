@@ -1,4 +1,4 @@
-use Rattle.std.proofs.Common.{rules, ◌≡◌, ◌<◌, length, true, None, refl, sym, ap, ◌∙◌}
+use Rattle.std.proofs.Common.{rules, ◌≡◌, ◌<◌, length, true, None, Some, refl, sym, ap, ◌∙◌}
 use Rattle.rbc_spec.specs.SectionRuns.{within}
 use Rattle.rbc_book.specs.Sheet.{page_in, page_on, spot_on}
 use Rattle.rbc_book.specs.Runs.{sections_of}
@@ -20,7 +20,7 @@ index-requires c =
 pub returns-clause-page : goal.returns-clause-page
 returns-clause-page c =
     let stands = run_stands c.self.inside.runs.items c.in_ok-place.place c.args.s c.index.result.now c.self.invariant.order (rw (← c.deref.ensures.value) c.in_ok-place.ensures.some) c.index.ensures in
-    sym (ap page_in (stands.each c.args.s stands.has)) ∙ ap (λ sheet. page_on sheet c.args.s) c.self.view_is
+    ap Some c.page-page.ensures ∙ sym (ap page_in (stands.each c.args.s stands.has)) ∙ ap (λ sheet. page_on sheet c.args.s) c.self.view_is
 
 pub returns-clause-pages : goal.returns-clause-pages
 returns-clause-pages c = (
