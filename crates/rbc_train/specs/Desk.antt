@@ -22,7 +22,7 @@ use Rattle.rbc_handover.specs.Expectations.{expected_from}
 use Rattle.rbc_session.specs.SessionStates.{session_phase}
 use Rattle.rbc_train.specs.Desks.{IsBookOf, HasBook}
 use Rattle.rbc_train.specs.Reasons.{reason_of}
-use Rattle.rbc_train.specs.Letters.{mail_to}
+use Rattle.rbc_train.specs.Letters.{mail_of, mail_to}
 use Rattle.rbc_train.specs.Sayings.{told_train}
 use Rattle.rbc_train.specs.declared.heard.Heard.{Heard}
 use Rattle.rbc_train.specs.declared.mail.Mail.{Mail}
@@ -132,6 +132,10 @@ posted frames reply = record reply { frames = frames }
 -- nothing is said to the train, and other centres and the interlocking are told this
 abbrev pub unsaid : Mail → List ℕ → Heard
 unsaid mail told = record { saying = None; order = None; mail = mail; told = told }
+
+-- nothing is said, sent or told
+abbrev pub nothing : Heard
+nothing = unsaid (mail_of None) []
 
 -- what a frame of train t came to at centre c, or a message that was answered, where it is left as k
 abbrev pub reply_left : Line → ℕ → ℕ → Centre → Heard → Reply
