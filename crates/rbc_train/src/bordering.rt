@@ -69,19 +69,12 @@ impl TrainState {
             return;
         };
         self.announce(line, count, next, out);
-        let letter = self.ask_route(line, next);
-        out.mail.letter = letter;
+        self.ask_route(line, next, &mut out.mail.letter);
     }
 
     // A handover to this centre is announced, where that is due.
     #[inline(never)]
-    fn announce(
-        &mut self,
-        line: &Line,
-        count: &mut HandoverCount,
-        to: u8,
-        out: &mut Heard,
-    )
+    fn announce(&mut self, line: &Line, count: &mut HandoverCount, to: u8, out: &mut Heard)
         requires out { (out.old.order ≡ None) × (out.old.mail.notice ≡ notice.Nothing) }
         requires may { MayAnnounce line.now self.old count.old }
         ensures exact { (e : ℕ → Option spec.Expectation) (k : spec.Centre) → HasSupervision k self.old.supervision
@@ -114,23 +107,26 @@ impl TrainState {
 
     // The next centre is asked for the sections behind the hand, where they are due.
     #[inline(never)]
-    fn ask_route(&mut self, line: &Line, next: u8) -> Option<Letter>
+    fn ask_route(&mut self, line: &Line, next: u8, letter: &mut Option<Letter>)
+        requires { letter.old ≡ None }
         ensures exact { (k : spec.Centre) → HasSupervision k self.old.supervision
             → rules.ask_route_if_due line.now self.old.supervision.engine next k
-            ≡ posted (letters result) (replied (with_supervision self.new.supervision k) [] []) }
+            ≡ posted (letters letter.new) (replied (with_supervision self.new.supervision k) [] []) }
         ensures left { self.new
             ≡ record self.old { supervision = record self.old.supervision { asked = self.new.supervision.asked } } }
     {
         let engine = self.nid_engine();
-        let question = self.supervision.ask(line, next)?;
-        Some(Letter {
+        let Some(question) = self.supervision.ask(line, next) else {
+            return;
+        };
+        *letter = Some(Letter {
             to: next,
             body: Body::RouteAsk {
                 engine,
                 first: question.first,
                 most: question.most,
             },
-        })
+        });
     }
 }
 

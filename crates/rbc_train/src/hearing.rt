@@ -78,10 +78,10 @@ impl TrainState {
         match message.body() {
             TrainBody::InitiationOfSession => {
                 self.initiation_of_session(book, sessions, t_train, out)
-            },
+            }
             TrainBody::TerminationOfSession => {
                 self.termination_of_session(book, sessions, t_train, out)
-            },
+            }
             TrainBody::SessionEstablished => self.session_established(sessions, t_train),
             TrainBody::StartOfMission { q_status, position } => {
                 self.start_of_mission(

@@ -121,12 +121,7 @@ impl TrainState {
     }
 
     /// ReturnRight: the right is at its registrar again, where it is not in a mission of the registrar's own.
-    pub(crate) fn right_returned(
-        &mut self,
-        line: &Line,
-        centre: u8,
-        registrar: &mut Registrar,
-    )
+    pub(crate) fn right_returned(&mut self, line: &Line, centre: u8, registrar: &mut Registrar)
         requires number { self.old.supervision.number < length registrar.old }
         ensures exact { (book : Pages) (k : spec.Centre) → HasParts line.now centre k self.old book registrar.old
             → links.right_returned line.now centre self.old.supervision.engine k

@@ -1,4 +1,4 @@
-use Rattle.std.proofs.Common.{◌≡◌, ◌∙◌, true, false, nat_lt, length, if◌then◌else◌, [], ap, sym, arith}
+use Rattle.std.proofs.Common.{◌≡◌, ◌∙◌, true, false, nat_lt, length, if◌then◌else◌, [], ap, arith}
 use Rattle.std.proofs.lemmas.Bool.Decides.{nat_tests}
 use Rattle.rbc_spec.specs.Centre.{Centre}
 use Rattle.rbc_spec.specs.Acts.{rest}

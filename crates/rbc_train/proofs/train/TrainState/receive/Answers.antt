@@ -20,7 +20,7 @@ returns-in-RefuseRight-clause-exact c = λ k has known.
 
 pub returns-in-ReturnRight-clause-exact : goal.returns-in-ReturnRight-clause-exact
 returns-in-ReturnRight-clause-exact c = λ k has known.
-    takes_back c.args.line.now c.args.centre c.args.from c.args.self.now.supervision.engine k c.args.body _ c.requires.engine known _ c.in-ReturnRight.is 
+    takes_back c.args.line.now c.args.centre c.args.from c.args.self.now.supervision.engine k c.args.body _ c.requires.engine known _ c.in-ReturnRight.is
     (c.right_returned.ensures.exact c.args.book.now k has ∙ ap (reply_left c.args.line.now c.args.centre c.args.self.now.supervision.engine (with_parts c.right_returned.new.self c.args.book.now c.right_returned.new.registrar k)) (sym c.nothing.ensures))
 
 pub route_told-requires-clause-few : goal.route_told-requires-clause-few
