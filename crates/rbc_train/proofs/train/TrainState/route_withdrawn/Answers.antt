@@ -52,10 +52,10 @@ returns-in-None-clause-exact c = λ n book rights k has.
     let m = mission_of (hand_of p.supervision) (pool_of p.supervision) (handing_in p.supervision) c.in-Some.mission in
     let there = sym c.mission.ensures.value ∙ ap (option_map (mission_of (hand_of p.supervision) (pool_of p.supervision) (handing_in p.supervision))) c.in-Some.is in
     let left = c.withdraw.new.self in
-    let asked = c.ask_back.ensures in
+    let asked = c.ask_back-out.ensures in
     ap (λ b. (if b then route_withdrawn line n t c.args.s else rest) k) (some_section line c.args.s (let past = c.if-s-section_count.false in let count = c.section_count.ensures.value in grind (arith, nat_tests)))
-    ∙ asks_back line n k p book rights has c.args.s left c.ask_back.new.self (sayings_of c.ask_back.result) (kept_pool line n k p book rights has c.args.s c.withdraw.result left c.in-None.is c.withdraw.ensures.run c.withdraw.ensures.state)
+    ∙ asks_back line n k p book rights has c.args.s left c.ask_back-out.new.self (sayings_of c.ask_back-out.result) (kept_pool line n k p book rights has c.args.s c.withdraw.result left c.in-None.is c.withdraw.ensures.run c.withdraw.ensures.state)
     (c.withdraw.ensures.exact line n k m (has_supervision line n k p book rights has) there
     ∙ ap (λ o. option_map_or (λ run. returned line n t m.place.track (run_of run)) o (propose_if_so line t c.args.s) (with_supervision left k)) c.in-None.is)
     asked.exact asked.engine asked.number asked.question asked.session_state asked.heard asked.waiting asked.expectations
-    ∙ ap (λ (x : Heard). reply_left line n t (with_parts c.ask_back.new.self book rights k) (record x { saying = c.ask_back.result })) (sym c.requires.out)
+    ∙ ap (λ (x : Heard). reply_left line n t (with_parts c.ask_back-out.new.self book rights k) (record x { saying = c.ask_back-out.result })) (sym c.requires.out)

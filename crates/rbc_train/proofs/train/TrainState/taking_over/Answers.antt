@@ -85,7 +85,7 @@ returns-clause-exact c = λ rights k has.
     (subst (λ (u : ℕ). (j : Centre) → j.phase u ≡ session_phase old.session_state → j.said u ≡ old.said → (if y.is_gone then end_order line n u else rest) j ≡ replied (counted_to u new.said j) (sayings_of order) [])
     (ap (λ (x : SupervisionState). x.engine) gone) c.order_if_gone-order.ensures.exact at has.has_phase has.has_said)
     ∙ ap (λ (x : Heard). reply_left line n t (with_parts new book' rights k) (record x { order = order; mail = mail_home y.mission.place.track y.pool notice.Nothing (Some c.yield_letter-letter.result) })) (sym c.requires.out)
-    ∙ ap (λ (m : Mail). reply_left line n t (with_parts new book' rights k) (record c.args.out.now { order = order; mail = m })) (sym c.home.ensures)
+    ∙ ap (λ (m : Mail). reply_left line n t (with_parts new book' rights k) (record c.args.out.now { order = order; mail = m })) (sym c.home-out.ensures)
 
 pub returns-clause-keeps : goal.returns-clause-keeps
 returns-clause-keeps c =

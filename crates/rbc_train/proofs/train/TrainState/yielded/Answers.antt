@@ -52,16 +52,16 @@ returns-in-Some-first_wished-clause-exact c = λ k has.
     let place = place_of c.in-Some.place in
     let taken = c.take_mission.ensures in
     let x = c.take_mission.new.self in
-    let asked = c.ask_back.ensures in
+    let asked = c.ask_back-out.ensures in
     ap (λ o. option_map_or (yielded line n y.from y.number t (run_of y.hand) y.heard y.has_data y.is_ended) o rest k) (sym c.arriving_place.ensures ∙ ap (option_map place_of) c.in-Some.is)
     ∙ rw (sym (c.may_take.ensures.exact k has) ∙ c.if-not-may_take.false)
     (wished_first line n k p c.args.book.now c.args.registrar.now has y place x.supervision.hand x.expectations c.take_mission.new.book taken.book taken.expected c.requires.hand taken.count
-    c.in-Some-first_wished.s c.ask_back.new.self (sayings_of c.ask_back.result) (sym c.first_wished.ensures ∙ c.in-Some-first_wished.is)
-    (asked_so line c.in-Some-first_wished.s x (taken_up y place x.supervision.hand x.expectations p) c.ask_back.new.self (sayings_of c.ask_back.result) taken.left asked.exact)
+    c.in-Some-first_wished.s c.ask_back-out.new.self (sayings_of c.ask_back-out.result) (sym c.first_wished.ensures ∙ c.in-Some-first_wished.is)
+    (asked_so line c.in-Some-first_wished.s x (taken_up y place x.supervision.hand x.expectations p) c.ask_back-out.new.self (sayings_of c.ask_back-out.result) taken.left asked.exact)
     (asked.engine ∙ ap (λ (q : TrainState). q.supervision.engine) taken.left) (asked.number ∙ ap (λ (q : TrainState). q.supervision.number) taken.left)
     (asked.question ∙ ap (λ (q : TrainState). q.supervision.asked) taken.left) (asked.session_state ∙ ap (λ (q : TrainState). q.session_state) taken.left)
     (asked.heard ∙ ap (λ (q : TrainState). q.heard) taken.left) (asked.waiting ∙ ap (λ (q : TrainState). q.waiting) taken.left) asked.expectations)
-    ∙ ap (λ (x : Heard). reply_left line n t (with_parts c.ask_back.new.self c.take_mission.new.book c.args.registrar.now k) (record x { saying = c.ask_back.result })) (sym c.requires.out)
+    ∙ ap (λ (x : Heard). reply_left line n t (with_parts c.ask_back-out.new.self c.take_mission.new.book c.args.registrar.now k) (record x { saying = c.ask_back-out.result })) (sym c.requires.out)
 
 pub returns-in-None-clause-exact : goal.returns-in-None-clause-exact
 returns-in-None-clause-exact c = λ k has.
@@ -86,8 +86,8 @@ returns-in-Some-first_wished-clause-keeps c =
     let p = c.args.self.now in
     let taken = c.take_mission.ensures in
     let x = c.take_mission.new.self in
-    let q = c.ask_back.new.self in
-    let asked = c.ask_back.ensures in
+    let q = c.ask_back-out.new.self in
+    let asked = c.ask_back-out.ensures in
     let engine = ap (λ (y : TrainState). y.supervision.engine) taken.left in
     let before = ap (λ (y : TrainState). y.said) taken.left in
     let once = asked.said in
