@@ -1,7 +1,7 @@
 -- How the session of one train changes among those of a centre.
 use Rattle.std.proofs.Common.{◌≡◌, ℕ, ◌==◌, cond, Some, None, refl, ap, sym, ◌∙◌, inl, inr}
 use Rattle.std.proofs.lemmas.Bool.Decides.{eqb_tells}
-use Rattle.rbc_spec.specs.Centre.{Phase, Closed, Opened, Up}
+use Rattle.rbc_spec.specs.Centre.{Phase, Closed, Opened}
 use Rattle.rbc_session.specs.Sessions.{Records, phase_at, train_at}
 use Rattle.rbc_session.specs.Session.{key_of}
 use Rattle.rbc_session.specs.SessionStates.{StandsFor, session_phase, stands_with, has_key}

@@ -31,7 +31,7 @@ use rbc_session::Sessions;
 impl TrainState {
     /// Takes a message of this train, at centre c with this book, these rights, these sessions and so many handovers
     /// announced: what it comes to is written over `out`, or it is said why it is left without an answer, which changes
-    /// nothing else. There is room for a session that it opens.
+    /// nothing. Then `out` has no meaning. There is room for a session that it opens.
     #[inline(always)]
     pub fn take(
         &mut self,
