@@ -1,12 +1,13 @@
 ghost use Rattle.std.specs.Prelude.{◌≡◌, [], ◌∷◌, None, map, option_map};
+ghost use Rattle.rbc_link.specs.Inbox.{answer_of};
 ghost use Rattle.rbc_train.specs.Reasons.{reason_of};
 ghost use Rattle.rbc_train.specs.Sayings.{saying_of, sayings_of, told_train};
 ghost use Rattle.rbc_centre.specs.Sent.{frames_to};
-ghost use Rattle.rbc_centre.specs.Views.{word_of, link_of};
+ghost use Rattle.rbc_centre.specs.Views.{word_of};
 
 use crate::frames::Frames;
-use crate::link_answer::LinkAnswer;
 use arrayvec::ArrayVec;
+use rbc_link::LinkAnswer;
 use rbc_mission::Told;
 use rbc_train::{Heard, Reason, Saying};
 
@@ -89,7 +90,7 @@ impl Outcome {
               sayings = [];
               frames = λ d. [];
               words = [];
-              link = option_map link_of link;
+              link = option_map answer_of link;
               silence = option_map reason_of silence;
             } }
     {
