@@ -109,7 +109,7 @@ impl Outcome {
         ensures { outcome_of self.new ≡ outcome_heard stamp link (frames_to self.old.frames) heard.now }
     {
         self.stamp = stamp;
-        write_in_order(&mut self.sayings, heard.saying, heard.order);
+        write_in_order(&mut self.sayings, &heard.saying, &heard.order);
         self.word = None;
         self.told = heard.told.copied();
         self.link = link;
@@ -162,7 +162,7 @@ impl Outcome {
             } }
     {
         self.stamp = stamp;
-        write_in_order(&mut self.sayings, saying, None);
+        write_in_order(&mut self.sayings, &saying, &None);
         self.word = Some(word);
         self.told = Told::nothing();
         self.link = None;
@@ -187,14 +187,18 @@ impl Outcome {
 
 // The answer and the order behind it, where they are, in place of what stood there.
 #[inline(always)]
-fn write_in_order(sayings: &mut ArrayVec<Saying, 2>, saying: Option<Saying>, order: Option<Saying>)
-    ensures { map saying_of sayings.new.items ≡ told_train saying order }
+fn write_in_order(
+    sayings: &mut ArrayVec<Saying, 2>,
+    saying: &Option<Saying>,
+    order: &Option<Saying>,
+)
+    ensures { map saying_of sayings.new.items ≡ told_train saying.now order.now }
 {
     sayings.clear();
     if let Some(saying) = saying {
-        sayings.push(saying);
+        sayings.push(*saying);
     }
     if let Some(order) = order {
-        sayings.push(order);
+        sayings.push(*order);
     }
 }
