@@ -17,6 +17,7 @@ mod keeping;
 mod outcome;
 mod posted;
 mod ranges;
+mod reach;
 mod returned;
 mod same;
 mod sent_frame;
