@@ -15,8 +15,9 @@ use Rattle.law_centre_sound.proofs.Ranges.{range_hand}
 use Rattle.rbc_book.specs.Book.{Pages}
 use Rattle.rbc_link.specs.declared.link.Link.{Link}
 use Rattle.rbc_link.specs.declared.sent.Sent.{Sent}
-use Rattle.rbc_link.specs.declared.inbox.Taken.{Taken as TakenCode}
-use Rattle.rbc_link.specs.Inbox.{link_answer_of, taken_after}
+use Rattle.rbc_link.specs.declared.link_answer.LinkAnswer.{LinkAnswer}
+use Rattle.rbc_link.specs.declared.link_answer.LinkAnswer.TheVariants as code
+use Rattle.rbc_link.specs.Inbox.{answer_of, taken_after}
 use Rattle.rbc_link.specs.Links.{has_link, sent_to, taken_from, room_to, KeepsLinks, HasRoom}
 use Rattle.rbc_link.specs.Outgoing.{frames_by}
 use Rattle.rbc_linkmsg.specs.Bodies.{body_of, engine_in}
@@ -32,9 +33,6 @@ use Rattle.rbc_centre.specs.Posts.{MayPost}
 use Rattle.rbc_centre.specs.State.{stands_for}
 use Rattle.rbc_centre.specs.States.{state_of}
 use Rattle.rbc_centre.specs.declared.centre.Centre.{Centre as CentreCode}
-use Rattle.rbc_centre.specs.declared.link_answer.LinkAnswer.{LinkAnswer}
-use Rattle.rbc_centre.specs.declared.link_answer.LinkAnswer.TheVariants as code
-use Rattle.rbc_centre.specs.Views.{link_of}
 use Rattle.rbc_centre.proofs.Kept.{sound_left, ranged_left}
 use Rattle.rbc_centre.proofs.Steps.{ticked_is, stands_kept, replied, effect_of, outcome_with}
 use Rattle.rbc_centre.proofs.Steps as Steps
@@ -70,7 +68,7 @@ abbrev pub is_next : Taken → Bool
 is_next Next = true
 is_next other = false
 
-pub not_next : (a : LinkAnswer) → (a ≡ code.Next → ⊥) → is_next (link_of a) ≡ false
+pub not_next : (a : LinkAnswer) → (a ≡ code.Next → ⊥) → is_next (answer_of a) ≡ false
 not_next code.Next apart = absurd (apart refl)
 not_next code.Old apart = refl
 not_next code.Early apart = refl
@@ -96,15 +94,15 @@ pub record IsOffered (k : CentreCode) (d : ℕ) (f : Frame) (mid : List (Link Bo
   pub room : (e : ℕ) → room_to mid e ≡ room_to k.links e
 
 -- by the contract of the links
-pub offered_as : (k : CentreCode) (d : ℕ) (f : Frame) (mid : List (Link BodyCode)) (a : LinkAnswer) (said : Option TakenCode) (n : ℕ) → link_of a ≡ link_answer_of said → n ≡ f.number
-    → link_answer_of said ≡ (if has_link k.links d then offered (taken_from k.links d) n else NoLink) → length mid ≡ length k.links → ((e : ℕ) → has_link mid e ≡ has_link k.links e)
-    → ((e : ℕ) → taken_from mid e ≡ put (taken_from k.links) d (taken_after (link_answer_of said) (taken_from k.links d) n) e) → ((e : ℕ) → sent_to mid e ≡ sent_to k.links e)
-    → ((e : ℕ) → room_to mid e ≡ room_to k.links e) → IsOffered k d f mid (link_of a)
-offered_as k d f mid a said n of number offer count linked taken sent room = record {
-  offer = of ∙ offer ∙ ap (λ m. if has_link k.links d then offered (taken_from k.links d) m else NoLink) number;
+pub offered_as : (k : CentreCode) (d : ℕ) (f : Frame) (mid : List (Link BodyCode)) (a : LinkAnswer) (n : ℕ) → n ≡ f.number
+    → answer_of a ≡ (if has_link k.links d then offered (taken_from k.links d) n else NoLink) → length mid ≡ length k.links → ((e : ℕ) → has_link mid e ≡ has_link k.links e)
+    → ((e : ℕ) → taken_from mid e ≡ put (taken_from k.links) d (taken_after (answer_of a) (taken_from k.links d) n) e) → ((e : ℕ) → sent_to mid e ≡ sent_to k.links e)
+    → ((e : ℕ) → room_to mid e ≡ room_to k.links e) → IsOffered k d f mid (answer_of a)
+offered_as k d f mid a n number offer count linked taken sent room = record {
+  offer = offer ∙ ap (λ m. if has_link k.links d then offered (taken_from k.links d) m else NoLink) number;
   count = count;
   linked = linked;
-  taken = λ e. taken e ∙ (λ i. put (taken_from k.links) d (taken_after (sym of i) (taken_from k.links d) (number i)) e);
+  taken = λ e. taken e ∙ ap (λ m. put (taken_from k.links) d (taken_after (answer_of a) (taken_from k.links d) m) e) number;
   sent = sent;
   room = room;
 }

@@ -29,9 +29,6 @@ ordered_line line rules = let one : IsProp (IsOrdered line) = hlevel props in �
 few_sections : (line : Line) → ∥ IsLine line ∥₁ → length line.sections ≤ 512
 few_sections line rules = ∥∥₁_elim rules le_prop (λ ok. ok.limits.sections)
 
-pub few_centres : (line : Line) → ∥ IsLine line ∥₁ → length line.centres ≤ 8
-few_centres line rules = ∥∥₁_elim rules le_prop (λ ok. ok.limits.centres.1)
-
 -- ## A mission
 
 module _ (line : Line) (c : ℕ) (k : centre.Centre) (rules : ∥ IsLine line ∥₁) (sound : IsCentreSound line c k)

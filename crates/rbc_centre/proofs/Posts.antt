@@ -221,11 +221,15 @@ module _ (stamp : ℕ) where
 abbrev pub below : (ℕ → List spec.Body) → ℕ → ℕ → List spec.Body
 below bodies n d = if nat_lt d n then bodies d else []
 
-none_before : (bodies : ℕ → List spec.Body) (d : ℕ) → [] ≡ below bodies 0 d
-none_before bodies d = let no : nat_lt d 0 ≡ false = grind (arith, nat_tests) in rw no refl
-
-pub none_below : (stamp : ℕ) (bodies : ℕ → List spec.Body) (links : List (Link Body)) (list : List SentFrame) → HasSent stamp (below bodies 0) links links list list
-none_below stamp bodies links list = sent_as stamp (λ d. []) (below bodies 0) links links list list (none_before bodies) (none_sent stamp links list)
+-- where those below it are sent nothing
+pub none_below : (stamp : ℕ) (bodies : ℕ → List spec.Body) (n : ℕ) (links : List (Link Body)) (list : List SentFrame) → ((d : ℕ) → d < n → bodies d ≡ []) → HasSent stamp (below bodies n) links links list list
+none_below stamp bodies n links list none = sent_as stamp (λ d. []) (below bodies n) links links list list before (none_sent stamp links list)
+  where
+    before : (d : ℕ) → [] ≡ below bodies n d
+    before d = ⊎_elim
+        (λ (low : d < n). let is : nat_lt d n ≡ true = grind (arith, nat_tests, low) in rw is (sym (none d low)))
+        (λ (high : n ≤ d). let not : nat_lt d n ≡ false = grind (arith, nat_tests, high) in rw not refl)
+        (cases_lt d n)
 
 module _ (bodies : ℕ → List spec.Body) (n d : ℕ) where
   earlier : d < n → (nat_lt d n ≡ true) × (nat_lt d (n + 1) ≡ true)
@@ -258,17 +262,21 @@ one_more stamp bodies n old mid new a b c first second =
           (λ high. let at = later bodies n d high in rw (at.0, at.1, e.0) refl)
     ]
 
--- no centre past the last is sent anything
-pub all_below : (line : Line) (c : ℕ) (bodies : ℕ → List spec.Body) (n : ℕ) (links : List (Link Body)) → length line.centres ≤ n → ((d : ℕ) → has_link links d ≡ is_linked line c d)
-    → ((d : ℕ) → MayPost links d (bodies d)) → (d : ℕ) → below bodies n d ≡ bodies d
-all_below line c bodies n links past linked may d = ⊎_elim
+-- where no centre from a number on is sent anything
+pub all_below : (bodies : ℕ → List spec.Body) (n : ℕ) → ((d : ℕ) → n ≤ d → bodies d ≡ []) → (d : ℕ) → below bodies n d ≡ bodies d
+all_below bodies n none d = ⊎_elim
     (λ (low : d < n). let is : nat_lt d n ≡ true = grind (arith, nat_tests, low) in rw is refl)
-    (λ (high : n ≤ d). let not : nat_lt d n ≡ false = grind (arith, nat_tests, high) in rw not (nothing (bodies d) high (may d).each))
+    (λ (high : n ≤ d). let not : nat_lt d n ≡ false = grind (arith, nat_tests, high) in rw not (sym (none d high)))
     (cases_lt d n)
+
+-- no centre past the last is sent anything
+pub none_past : (line : Line) (c : ℕ) (bodies : ℕ → List spec.Body) (links : List (Link Body)) → ((d : ℕ) → has_link links d ≡ is_linked line c d)
+    → ((d : ℕ) → MayPost links d (bodies d)) → (d : ℕ) → length line.centres ≤ d → bodies d ≡ []
+none_past line c bodies links linked may d past = nothing (bodies d) (may d).each
   where
-    nothing : (xs : List spec.Body) → n ≤ d → All (IsFit links d) xs → [] ≡ xs
-    nothing [] high all = refl
-    nothing (x ∷ xs) high all =
+    nothing : (xs : List spec.Body) → All (IsFit links d) xs → xs ≡ []
+    nothing [] all = refl
+    nothing (x ∷ xs) all =
         let fit = All-head (IsFit links d) x xs all in
         let low = linked_below line c d (sym (linked d) ∙ fit.linked) in
-        absurd (omega (arith, past, high, low))
+        absurd (omega (arith, past, low))

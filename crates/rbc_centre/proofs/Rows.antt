@@ -1,6 +1,6 @@
 -- Lists of frames, and those in them to each centre.
-use Rattle.std.proofs.Common.{◌≡◌, ℕ, ◌<◌, ◌≤◌, ◌==◌, if◌then◌else◌, Bool, true, false, List, [], ◌∷◌, ◌++◌, length, map, refl, sym, ap, ◌∙◌, All, arith, ⊎_elim, max, nat_cmp, rules, eq-eqb, zero, suc, take, Some, slice_get}
-use Rattle.std.specs.Ordering.{ord_max}
+use Rattle.std.proofs.Common.{◌≡◌, ℕ, ◌<◌, ◌≤◌, ◌==◌, if◌then◌else◌, Bool, true, false, List, [], ◌∷◌, ◌++◌, length, map, refl, sym, ap, ◌∙◌, All, arith, ⊎_elim, max, min, nat_cmp, rules, eq-eqb, zero, suc, take, Some, slice_get}
+use Rattle.std.specs.Ordering.{ord_max, ord_min}
 use Rattle.std.specs.List.{filter}
 use Rattle.std.proofs.lemmas.Bool.{cases_lt, eqb-true}
 use Rattle.std.proofs.lemmas.List.{map-append}
@@ -22,6 +22,9 @@ all_rest P (x ∷ xs) ys all = all_rest P xs ys (All-tail P x (xs ++ ys) all)
 -- the later of two numbers, by their order
 pub later_of : (a b : ℕ) → ord_max nat_cmp a b ≡ max a b
 later_of a b = search rules
+
+pub lesser_of : (a b : ℕ) → ord_min nat_cmp a b ≡ min a b
+lesser_of a b = search rules
 
 -- ## One frame more
 

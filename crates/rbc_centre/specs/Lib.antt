@@ -1,5 +1,7 @@
 pub mod Posts
+pub mod Dispatches
 pub mod Listed
+pub mod Reached
 pub mod Sent
 pub mod Rooms
 pub mod Views

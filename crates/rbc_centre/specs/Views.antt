@@ -5,6 +5,8 @@ use Rattle.rbc_spec.specs.Centre.{Mission, Handing}
 use Rattle.rbc_spec.specs.Outcome.{Outcome}
 use Rattle.rbc_spec.specs.Outcome as spec
 use Rattle.rbc_spec.specs.Step as step
+use Rattle.rbc_link.specs.Inbox.{answer_of}
+use Rattle.rbc_link.specs.declared.link_answer.LinkAnswer.{LinkAnswer}
 use Rattle.rbc_msgs.specs.StepMessage.{step_message}
 use Rattle.rbc_train.specs.Reasons.{reason_of}
 use Rattle.rbc_train.specs.Sayings.{saying_of, told_train}
@@ -13,8 +15,6 @@ use Rattle.rbc_centre.specs.declared.event.Event.{Event}
 use Rattle.rbc_centre.specs.declared.event.Event.TheVariants.{Train, Set, Unset, Deliver}
 use Rattle.rbc_centre.specs.declared.fault.StepFault.{StepFault}
 use Rattle.rbc_centre.specs.declared.fault.StepFault.TheVariants as fault
-use Rattle.rbc_centre.specs.declared.link_answer.LinkAnswer.{LinkAnswer}
-use Rattle.rbc_centre.specs.declared.link_answer.LinkAnswer.TheVariants as link
 use Rattle.rbc_centre.specs.Sent.{frames_to}
 use Rattle.rbc_centre.specs.declared.outcome.Word.{Word}
 use Rattle.rbc_centre.specs.declared.outcome.Word.TheVariants as word
@@ -42,20 +42,13 @@ words_of None = []
 abbrev pub frame_number : List Frame → ℕ → Option Frame
 frame_number frames number = if number == 0 then None else slice_get frames (number - 1)
 
--- what a link said to a frame
-abbrev pub link_of : LinkAnswer → spec.Taken
-link_of link.Next = spec.Next
-link_of link.Old = spec.Old
-link_of link.Early = spec.Early
-link_of link.NoLink = spec.NoLink
-
 abbrev pub outcome_of : OutcomeCode → Outcome
 outcome_of o = record {
   stamp = o.stamp;
   sayings = map saying_of o.sayings.items;
   frames = frames_to o.frames;
   words = words_of o.word ++ map (λ s. spec.Told s) o.told;
-  link = option_map link_of o.link;
+  link = option_map answer_of o.link;
   silence = option_map reason_of o.silence;
 }
 
@@ -66,7 +59,7 @@ outcome_heard stamp answer frames h = record {
   sayings = told_train h.saying h.order;
   frames = frames;
   words = map (λ s. spec.Told s) h.told;
-  link = option_map link_of answer;
+  link = option_map answer_of answer;
   silence = None;
 }
 

@@ -11,9 +11,9 @@ ghost use Rattle.rbc_centre.specs.States.{line_of, number_of, state_of, IsSame};
 ghost use Rattle.rbc_centre.specs.Views.{outcome_of};
 
 use crate::centre::Centre;
-use crate::link_answer::LinkAnswer;
 use crate::outcome::Outcome;
 use crate::posted::post;
+use rbc_link::LinkAnswer;
 use rbc_linkmsg::Frame;
 use std::alloc::AllocError;
 use std::cmp::max;
@@ -71,7 +71,7 @@ impl Centre {
     {
         let body = frame.body();
         self.clock = max(self.clock, frame.stamp()) + 1;
-        let answer = LinkAnswer::of(self.links.offer(from, frame.number()));
+        let answer = self.links.offer(from, frame.number());
         let LinkAnswer::Next = answer else {
             out.write_nothing(self.clock, Some(answer), None);
             return;

@@ -1,12 +1,13 @@
 ghost use Rattle.std.specs.Prelude.{◌≡◌, [], ◌∷◌, None, map, option_map};
+ghost use Rattle.rbc_link.specs.Inbox.{answer_of};
 ghost use Rattle.rbc_train.specs.Reasons.{reason_of};
 ghost use Rattle.rbc_train.specs.Sayings.{saying_of, sayings_of, told_train};
 ghost use Rattle.rbc_centre.specs.Sent.{frames_to};
-ghost use Rattle.rbc_centre.specs.Views.{word_of, link_of};
+ghost use Rattle.rbc_centre.specs.Views.{word_of};
 
 use crate::frames::Frames;
-use crate::link_answer::LinkAnswer;
 use arrayvec::ArrayVec;
+use rbc_link::LinkAnswer;
 use rbc_mission::Told;
 use rbc_train::{Heard, Reason, Saying};
 
@@ -89,7 +90,7 @@ impl Outcome {
               sayings = [];
               frames = λ d. [];
               words = [];
-              link = option_map link_of link;
+              link = option_map answer_of link;
               silence = option_map reason_of silence;
             } }
     {
@@ -108,7 +109,7 @@ impl Outcome {
         ensures { outcome_of self.new ≡ outcome_heard stamp link (frames_to self.old.frames) heard.now }
     {
         self.stamp = stamp;
-        write_in_order(&mut self.sayings, heard.saying, heard.order);
+        write_in_order(&mut self.sayings, &heard.saying, &heard.order);
         self.word = None;
         self.told = heard.told.copied();
         self.link = link;
@@ -161,7 +162,7 @@ impl Outcome {
             } }
     {
         self.stamp = stamp;
-        write_in_order(&mut self.sayings, saying, None);
+        write_in_order(&mut self.sayings, &saying, &None);
         self.word = Some(word);
         self.told = Told::nothing();
         self.link = None;
@@ -186,14 +187,18 @@ impl Outcome {
 
 // The answer and the order behind it, where they are, in place of what stood there.
 #[inline(always)]
-fn write_in_order(sayings: &mut ArrayVec<Saying, 2>, saying: Option<Saying>, order: Option<Saying>)
-    ensures { map saying_of sayings.new.items ≡ told_train saying order }
+fn write_in_order(
+    sayings: &mut ArrayVec<Saying, 2>,
+    saying: &Option<Saying>,
+    order: &Option<Saying>,
+)
+    ensures { map saying_of sayings.new.items ≡ told_train saying.now order.now }
 {
     sayings.clear();
     if let Some(saying) = saying {
-        sayings.push(saying);
+        sayings.push(*saying);
     }
     if let Some(order) = order {
-        sayings.push(order);
+        sayings.push(*order);
     }
 }

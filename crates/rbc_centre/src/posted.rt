@@ -2,7 +2,7 @@
 
 ghost use Rattle.std.specs.Prelude.{◌≡◌, ◌⊎◌, ◌+◌, ◌≤◌, ◌<◌, ℕ, IsTrue, [], Option, Some, length};
 ghost use Rattle.std.specs.Vec.{vec_capacity};
-ghost use Rattle.rbc_spec.specs.Line.{Line, is_linked};
+ghost use Rattle.rbc_spec.specs.Line.{is_linked};
 ghost use Rattle.rbc_spec.specs.Step.{numbered};
 ghost use Rattle.rbc_link.specs.Links.{has_link, sent_to};
 ghost use Rattle.rbc_link.specs.Posted.{HasPosted};
@@ -10,20 +10,22 @@ ghost use Rattle.rbc_linkmsg.specs.Bodies.{body_of};
 ghost use Rattle.rbc_handover.specs.Expectations.{expected_from};
 ghost use Rattle.rbc_spec.specs.Centre.{Expectation};
 ghost use Rattle.rbc_linkmsg.specs.declared.body.Body.{Body as BodyCode};
-ghost use Rattle.rbc_train.specs.Letters.{bodies_in, notices, mail_to};
+ghost use Rattle.rbc_train.specs.Letters.{bodies_in, mail_to};
 ghost use Rattle.rbc_centre.specs.Posts.{MayPost, HasSent, only, to_others};
 ghost use Rattle.rbc_centre.specs.Rooms.{HasFrameRoom};
 ghost use Rattle.rbc_centre.specs.Sent.{frames_to};
 
 use crate::frame_room::FrameRoom;
 use crate::frames::Frames;
-use crate::returned::{has_no_letter, home, letter_to, part_to, stays};
+use crate::reach::Reach;
+use crate::returned::{home, letter_to, part_to, stays};
 use crate::sent_frame::SentFrame;
 use rbc_handover::Expectations;
 use rbc_line::Line;
 use rbc_link::Links;
 use rbc_linkmsg::{Body, Frame};
 use rbc_train::{Mail, Notice};
+use std::cmp::min;
 
 /// Sends the mail of a step with this stamp, which is of this train: to each centre first the sections that go to its
 /// home, then what it is told of a handover, and then its letter. The frames are written in place of those before.
@@ -110,117 +112,62 @@ fn post_all(
         ≡ numbered stamp (length (sent_to links.old d))
         (mail_to line.now centre nid_engine (expected_from expectations.now) mail.now d) }
 {
-    let mut list = room.swap(frames.list.take());
-    for to in 0..line.centre_count() {
-        post_part(
-            links,
-            &mut list,
-            line,
-            centre,
-            nid_engine,
-            stamp,
-            expectations,
-            mail,
-            to,
-        );
-    }
-    frames.list = Some(list);
-}
-
-// Sends one centre its part of the mail, where it has any.
-#[inline(always)]
-fn post_part(
-    links: &mut Links<Body>,
-    list: &mut Vec<SentFrame>,
-    line: &Line,
-    centre: u8,
-    nid_engine: u32,
-    stamp: u32,
-    expectations: &Expectations,
-    mail: &Mail,
-    to: u8,
-)
-    requires stamp { (1 ≤ stamp) × (stamp ≤ 1073741823) }
-    requires may { MayPost links.old to
-        (mail_to line.now centre nid_engine (expected_from expectations.now) mail.now to) }
-    requires room { (mail_to line.now centre nid_engine (expected_from expectations.now) mail.now to ≡ []) ⊎
-        (length list.old.items + 4 ≤ vec_capacity list.old) }
-    ensures sent { HasSent stamp
-        (only to (mail_to line.now centre nid_engine
-        (expected_from expectations.now) mail.now to)) links.old links.new list.old.items list.new.items }
-    ensures count { length list.new.items ≤ length list.old.items + 4 }
-    ensures capacity { vec_capacity list.new ≡ vec_capacity list.old }
-{
-    if is_nothing_to(mail, to) {
-        return;
-    }
-    post_to(
-        links,
-        list,
+    let dispatch = Dispatch {
         line,
         centre,
         nid_engine,
         stamp,
         expectations,
         mail,
-        to,
-    );
+    };
+    let reach = Reach::of(line, centre, mail);
+    let mut list = room.swap(frames.list.take());
+    let end = min(reach.last.saturating_add(1), line.centre_count());
+    for to in reach.first..end {
+        dispatch.post_to(links, &mut list, to);
+    }
+    frames.list = Some(list);
 }
 
-// Sends one centre its part of the mail.
-#[inline(never)]
-fn post_to(
-    links: &mut Links<Body>,
-    list: &mut Vec<SentFrame>,
-    line: &Line,
-    centre: u8,
-    nid_engine: u32,
-    stamp: u32,
-    expectations: &Expectations,
-    mail: &Mail,
-    to: u8,
-)
-    requires stamp { (1 ≤ stamp) × (stamp ≤ 1073741823) }
-    requires may { MayPost links.old to
-        (mail_to line.now centre nid_engine (expected_from expectations.now) mail.now to) }
-    requires room { (mail_to line.now centre nid_engine (expected_from expectations.now) mail.now to ≡ []) ⊎
-        (length list.old.items + 4 ≤ vec_capacity list.old) }
-    ensures sent { HasSent stamp
-        (only to (mail_to line.now centre nid_engine
-        (expected_from expectations.now) mail.now to)) links.old links.new list.old.items list.new.items }
-    ensures count { length list.new.items ≤ length list.old.items + 4 }
-    ensures capacity { vec_capacity list.new ≡ vec_capacity list.old }
-{
-    let first = part_to(line, centre, to, mail.track, mail.first);
-    let second = part_to(line, centre, to, mail.track, mail.second);
-    let notice = mail.notice.to_centre(nid_engine, expectations, to);
-    let letter = letter_to(mail.letter, to);
-    post_one(links, list, stamp, to, home(nid_engine, first));
-    post_one(links, list, stamp, to, home(nid_engine, second));
-    post_one(links, list, stamp, to, notice);
-    post_one(links, list, stamp, to, letter);
+/// The mail of a step, and what goes with it.
+#[derive(Drop)]
+pub(crate) struct Dispatch<'a> {
+    pub(crate) line: &'a Line,
+    /// The number of the centre that takes the step.
+    pub(crate) centre: u8,
+    /// The train that the mail is of.
+    pub(crate) nid_engine: u32,
+    /// The stamp of the step.
+    pub(crate) stamp: u32,
+    /// What the centre expects of the train.
+    pub(crate) expectations: &'a Expectations,
+    pub(crate) mail: &'a Mail,
 }
 
-// Whether the mail has no sections, and tells this centre nothing.
-#[inline(always)]
-fn is_nothing_to(mail: &Mail, to: u8) -> bool
-    ensures { IsTrue result → (l : Line) → (c t : ℕ) → (e : ℕ → Option Expectation) → mail_to l c t e mail.now to ≡ [] }
-{
-    mail.first.is_empty()
-        && mail.second.is_empty()
-        && is_told_nothing(mail.notice, to)
-        && has_no_letter(mail.letter, to)
-}
+impl Dispatch<'_> {
+    ghost use Rattle.rbc_centre.specs.Dispatches.{bodies_to};
 
-// Whether a notice tells this centre nothing.
-#[inline(always)]
-fn is_told_nothing(notice: Notice, to: u8) -> bool
-    ensures { IsTrue result → (t : ℕ) → (e : ℕ → Option Expectation) → notices t e notice to ≡ [] }
-{
-    match notice {
-        Notice::Nothing => true,
-        Notice::Announce { name, .. } | Notice::Cancel(name) => name.to != to,
-        Notice::TakingOver(told) => !told.has(to),
+    // Sends one centre its part of the mail.
+    #[inline(always)]
+    fn post_to(&self, links: &mut Links<Body>, list: &mut Vec<SentFrame>, to: u8)
+        requires stamp { (1 ≤ self.now.stamp) × (self.now.stamp ≤ 1073741823) }
+        requires may { MayPost links.old to (bodies_to self.now to) }
+        requires room { (bodies_to self.now to ≡ []) ⊎ (length list.old.items + 4 ≤ vec_capacity list.old) }
+        ensures sent { HasSent self.now.stamp (only to (bodies_to self.now to))
+            links.old links.new list.old.items list.new.items }
+        ensures count { length list.new.items ≤ length list.old.items + 4 }
+        ensures capacity { vec_capacity list.new ≡ vec_capacity list.old }
+    {
+        let mail = self.mail;
+        let first = part_to(self.line, self.centre, to, mail.track, mail.first);
+        post_one(links, list, self.stamp, to, home(self.nid_engine, first));
+        let second = part_to(self.line, self.centre, to, mail.track, mail.second);
+        post_one(links, list, self.stamp, to, home(self.nid_engine, second));
+        let notice = mail
+            .notice
+            .to_centre(self.nid_engine, self.expectations, to);
+        post_one(links, list, self.stamp, to, notice);
+        post_one(links, list, self.stamp, to, letter_to(mail.letter, to));
     }
 }
 

@@ -72,14 +72,3 @@ pub(crate) fn letter_to(letter: Option<Letter>, to: u8) -> Option<Body>
 {
     letter?.to_centre(to)
 }
-
-/// Whether there is no letter to this centre.
-#[inline(always)]
-pub(crate) fn has_no_letter(letter: Option<Letter>, to: u8) -> bool
-    ensures { IsTrue result → letters letter to ≡ [] }
-{
-    match letter {
-        Some(letter) => letter.to != to,
-        None => true,
-    }
-}

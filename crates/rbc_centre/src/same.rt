@@ -1,14 +1,15 @@
 ghost use Rattle.std.specs.Prelude.{◌≡◌, ◌↔◌, map, option_map, IsTrue, IfOk};
+ghost use Rattle.rbc_link.specs.Inbox.{answer_of};
 ghost use Rattle.rbc_train.specs.Reasons.{reason_of};
 ghost use Rattle.rbc_train.specs.Sayings.{saying_of};
 ghost use Rattle.rbc_centre.specs.Rooms.{HasFrameRoom};
-ghost use Rattle.rbc_centre.specs.Views.{word_of, link_of, outcome_of};
+ghost use Rattle.rbc_centre.specs.Views.{word_of, outcome_of};
 
 use crate::event::Event;
 use crate::frame_room::FrameRoom;
-use crate::link_answer::LinkAnswer;
 use crate::outcome::{Outcome, Word};
 use arrayvec::ArrayVec;
+use rbc_link::LinkAnswer;
 use rbc_train::{Reason, Saying};
 use std::alloc::{AllocError, Global};
 
@@ -73,7 +74,7 @@ fn same_words(words: &[Word], others: &[Word]) -> bool
 
 // Whether the link has said the same.
 fn same_link(link: Option<LinkAnswer>, other: Option<LinkAnswer>) -> bool
-    ensures { IsTrue result ↔ (option_map link_of link ≡ option_map link_of other) }
+    ensures { IsTrue result ↔ (option_map answer_of link ≡ option_map answer_of other) }
 {
     link == other
 }

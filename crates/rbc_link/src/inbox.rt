@@ -1,18 +1,8 @@
 ghost use Rattle.std.specs.Prelude.{◌≡◌, ◌≤◌};
 ghost use Rattle.rbc_spec.specs.Step.{offered};
 
+use crate::link_answer::LinkAnswer;
 use std::marker::Model;
-
-/// What an inbox says to a frame.
-#[derive(Clone, Copy, Debug, PartialEq, Eq)]
-pub enum Taken {
-    /// It is the one after the last that was taken, and is taken.
-    Next,
-    /// One with its number was taken before.
-    Old,
-    /// One before it has not come yet.
-    Early,
-}
 
 /// What has come on a link from another centre: how many of its frames were taken, which are those numbered from 1 on.
 /// A link carries at most 65 536 frames, so no more are ever taken.
@@ -51,7 +41,7 @@ impl Inbox {
 
     /// Offers it a frame by its number, which is at most 65 536. Only the next is taken; one that is old or early
     /// changes nothing.
-    pub fn offer(&mut self, number: u32) -> Taken
+    pub fn offer(&mut self, number: u32) -> LinkAnswer
         requires { number ≤ 65536 }
         ensures answer { answer_of result ≡ offered self.old number }
         ensures taken { self.new ≡ taken_after (offered self.old number) self.old number }
@@ -59,12 +49,12 @@ impl Inbox {
     {
         if number == self.taken + 1 {
             self.taken = number;
-            return Taken::Next;
+            return LinkAnswer::Next;
         }
         if number <= self.taken {
-            Taken::Old
+            LinkAnswer::Old
         } else {
-            Taken::Early
+            LinkAnswer::Early
         }
     }
 }

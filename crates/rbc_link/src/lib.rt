@@ -6,12 +6,14 @@
 
 mod inbox;
 mod link;
+mod link_answer;
 mod links;
 mod outbox;
 mod sent;
 
-pub use inbox::{Inbox, Taken};
+pub use inbox::Inbox;
 pub use link::Link;
+pub use link_answer::LinkAnswer;
 pub use links::Links;
 pub use outbox::{MOST_FRAMES, Outbox};
 pub use sent::Sent;

@@ -4,7 +4,8 @@ ghost use Rattle.rbc_spec.specs.Step.{offered, numbered};
 ghost use Rattle.rbc_link.specs.Inbox.{answer_of, taken_after};
 ghost use Rattle.rbc_link.specs.Outgoing.{frames_by, sent_as};
 
-use crate::inbox::{Inbox, Taken};
+use crate::inbox::Inbox;
+use crate::link_answer::LinkAnswer;
 use crate::outbox::Outbox;
 use std::alloc::{AllocError, Global};
 
@@ -32,7 +33,7 @@ impl<B> Link<B> {
     }
 
     // Offers the inbox a frame by its number.
-    pub(crate) fn offer(&mut self, number: u32) -> Taken
+    pub(crate) fn offer(&mut self, number: u32) -> LinkAnswer
         requires { number ≤ 65536 }
         ensures answer { answer_of result ≡ offered self.old.inbox number }
         ensures link { self.new

@@ -5,12 +5,12 @@ ghost use Rattle.rbc_spec.specs.Line.{is_linked};
 ghost use Rattle.rbc_spec.specs.Maps.{put};
 ghost use Rattle.rbc_spec.specs.Step.{offered, numbered};
 ghost use Rattle.rbc_spec.specs.Outcome.{NoLink};
-ghost use Rattle.rbc_link.specs.Inbox.{link_answer_of, taken_after};
+ghost use Rattle.rbc_link.specs.Inbox.{answer_of, taken_after};
 ghost use Rattle.rbc_link.specs.Outgoing.{frame_number, frames_by};
 ghost use Rattle.rbc_link.specs.Links as listed;
 
-use crate::inbox::Taken;
 use crate::link::Link;
+use crate::link_answer::LinkAnswer;
 use crate::sent::Sent;
 use rbc_line::Line;
 use std::alloc::{AllocError, Global};
@@ -104,23 +104,23 @@ impl<B> Links<B> {
         }
     }
 
-    /// Offers the link from a centre a frame by its number, which is at most 65 536. None where there is no such link.
-    /// Only the next frame is taken; nothing changes else.
-    pub fn offer(&mut self, from: u8, number: u32) -> Option<Taken>
+    /// Offers the link from a centre a frame by its number, which is at most 65 536. Only the next frame is taken;
+    /// nothing changes else.
+    pub fn offer(&mut self, from: u8, number: u32) -> LinkAnswer
         requires { number ≤ 65536 }
-        ensures answer { link_answer_of result
+        ensures answer { answer_of result
             ≡ (if has_link self.old from then offered (taken_from self.old from) number else NoLink) }
         ensures count { length self.new ≡ length self.old }
         ensures linked { (d : ℕ) → has_link self.new d ≡ has_link self.old d }
         ensures taken { (d : ℕ) → taken_from self.new d ≡ put (taken_from self.old) from
-            (taken_after (link_answer_of result) (taken_from self.old from) number) d }
+            (taken_after (answer_of result) (taken_from self.old from) number) d }
         ensures sent { (d : ℕ) → sent_to self.new d ≡ sent_to self.old d }
         ensures room { (d : ℕ) → room_to self.new d ≡ room_to self.old d }
     {
         if !self.has(from) {
-            return None;
+            return LinkAnswer::NoLink;
         }
-        Some(self.links[from as usize].offer(number))
+        self.links[from as usize].offer(number)
     }
 
     /// Whether some link has fewer than four numbers left. Then no step is taken.

@@ -117,7 +117,8 @@ impl CentreLog {
         self.core.may_step(&event)?;
         self.entries.reserve(1)?;
         self.room.reserve()?;
-        let outcome = self.core.step(&event)?;
+        let mut outcome = Outcome::nothing();
+        self.core.step_to(&event, &mut outcome)?;
         let entry = Entry {
             centre: self.core.number(),
             event,

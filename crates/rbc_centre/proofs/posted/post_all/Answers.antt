@@ -1,4 +1,5 @@
-use Rattle.std.proofs.Common.{◌≡◌, ◌∙◌, nat_lt, length, false, [], ap, refl, arith, inl, inr, ⊎_elim}
+use Rattle.std.proofs.Common.{◌≡◌, ◌∙◌, ◌≤◌, ◌<◌, ℕ, min, nat_lt, length, false, [], ap, refl, arith, inl, inr, ⊎_elim}
+use Rattle.std.proofs.lemmas.Bool.{cases_lt}
 use Rattle.std.proofs.lemmas.Bool.Decides.{nat_tests}
 use Rattle.rbc_spec.specs.Step.{numbered}
 use Rattle.rbc_link.specs.Links.{sent_to}
@@ -6,76 +7,110 @@ use Rattle.rbc_link.proofs.Posted.{length_numbered}
 use Rattle.rbc_handover.specs.Expectations.{expected_from}
 use Rattle.rbc_train.specs.Letters.{mail_to}
 use Rattle.rbc_centre.specs.Sent.{frames_to}
-use Rattle.rbc_centre.proofs.Posts.{below, may_after, one_more, none_below, all_below, mail_few, sent_as}
+use Rattle.rbc_centre.proofs.Posts.{below, may_after, one_more, none_below, all_below, none_past, mail_few, sent_as}
+use Rattle.rbc_centre.proofs.Rows.{lesser_of}
+use Rattle.rbc_centre.proofs.posted.post_all.Goals.{After-min-end}
 use Rattle.rbc_centre.proofs.posted.post_all.Goals as goal
+
+-- ## Those that are not reached
+
+-- a centre below the first that is reached is sent nothing
+none_first : (c : After-min-end) (d : ℕ) → d < c.of-reach.result.first → mail_to c.args.line.now c.args.centre c.args.nid_engine (expected_from c.args.expectations.now) c.args.mail.now d ≡ []
+none_first c d low =
+    let mail = mail_to c.args.line.now c.args.centre c.args.nid_engine (expected_from c.args.expectations.now) c.args.mail.now in
+    ⊎_elim
+    (λ (of_line : d < length c.args.line.now.centres). let few = c.centre_count.ensures.line.limits.centres.1 in c.of-reach.ensures d (omega (arith, of_line, few)) (inl low) c.args.nid_engine (expected_from c.args.expectations.now))
+    (λ (past : length c.args.line.now.centres ≤ d). none_past c.args.line.now c.args.centre mail c.args.links.now c.requires.linked c.requires.may d past)
+    (cases_lt d (length c.args.line.now.centres))
+
+end_of : (c : After-min-end) → c.min-end.result ≡ min c.saturating_add.result c.centre_count.result
+end_of c = c.min-end.ensures ∙ lesser_of c.saturating_add.result c.centre_count.result
+
+-- nor is one from the end on
+none_last : (c : After-min-end) (d : ℕ) → c.min-end.result ≤ d → mail_to c.args.line.now c.args.centre c.args.nid_engine (expected_from c.args.expectations.now) c.args.mail.now d ≡ []
+none_last c d high =
+    let mail = mail_to c.args.line.now c.args.centre c.args.nid_engine (expected_from c.args.expectations.now) c.args.mail.now in
+    ⊎_elim
+    (λ (of_line : d < length c.args.line.now.centres). let few = c.centre_count.ensures.line.limits.centres.1 in let centres = c.centre_count.ensures.value in
+    c.of-reach.ensures d (omega (arith, of_line, few)) (inr (omega (arith, high, of_line, few, centres, end_of c, c.saturating_add.ensures))) c.args.nid_engine (expected_from c.args.expectations.now))
+    (λ (past : length c.args.line.now.centres ≤ d). none_past c.args.line.now c.args.centre mail c.args.links.now c.requires.linked c.requires.may d past)
+    (cases_lt d (length c.args.line.now.centres))
 
 -- ## One centre after another
 
 pub loop-to-init : goal.loop-to-init
-loop-to-init c = record {
-  sent = rw c.swap-list.ensures.items (none_below c.args.stamp (mail_to c.args.line.now c.args.centre c.args.nid_engine (expected_from c.args.expectations.now) c.args.mail.now) c.args.links.now []);
-  count = let none = ap length c.swap-list.ensures.items in omega (arith, none);
-  room = λ has. c.swap-list.ensures.room has;
-}
+loop-to-init c =
+    let w = (goal.at.loop-to-init c).After-min-end in
+    record {
+      sent = rw c.swap-list.ensures.items (none_below c.args.stamp (mail_to c.args.line.now c.args.centre c.args.nid_engine (expected_from c.args.expectations.now) c.args.mail.now) c.of-reach.result.first c.args.links.now [] (none_first w));
+      count = let none = ap length c.swap-list.ensures.items in omega (arith, none);
+      most = let none = ap length c.swap-list.ensures.items in omega (arith, none);
+      room = λ has. c.swap-list.ensures.room has;
+    }
 
-pub post_part-requires-clause-may : goal.post_part-requires-clause-may
-post_part-requires-clause-may c =
+pub post_to-requires-clause-may : goal.post_to-requires-clause-may
+post_to-requires-clause-may c =
     let mail = mail_to c.args.line.now c.args.centre c.args.nid_engine (expected_from c.args.expectations.now) c.args.mail.now in
     let to = c.loop-to.to in
     let none : nat_lt to to ≡ false = grind (arith, nat_tests) in
     may_after c.args.stamp (below mail to) c.args.links.now c.loop-to.links to [] (mail to) c.loop-to.invariant.sent.posted (rw none refl) (c.requires.may to)
 
-pub post_part-requires-clause-room : goal.post_part-requires-clause-room
-post_part-requires-clause-room c =
+pub post_to-requires-clause-room : goal.post_to-requires-clause-room
+post_to-requires-clause-room c =
+    let end = end_of (goal.at.post_to-requires-clause-room c).After-min-end in
+    let few = c.centre_count.ensures.line.limits.centres.1 in
+    let centres = c.centre_count.ensures.value in
     ⊎_elim (λ none. inl none)
-    (λ has. let most = c.loop-to.invariant.room has in let count = c.loop-to.invariant.count in inr (omega (arith, most, count)))
+    (λ has. let most = c.loop-to.invariant.room has in let count = c.loop-to.invariant.count in inr (omega (arith, most, count, few, centres, c.loop-to-test.true, end)))
     (c.requires.room c.loop-to.to)
 
 pub loop-to-preserved : goal.loop-to-preserved
 loop-to-preserved c =
     let mail = mail_to c.args.line.now c.args.centre c.args.nid_engine (expected_from c.args.expectations.now) c.args.mail.now in
     let to = c.loop-to.to in
+    let end = end_of (goal.at.loop-to-preserved c).After-min-end in
+    let few = c.centre_count.ensures.line.limits.centres.1 in
+    let centres = c.centre_count.ensures.value in
     record {
-      sent = one_more c.args.stamp mail to c.args.links.now c.loop-to.links c.post_part.new.links _ _ _ c.loop-to.invariant.sent c.post_part.ensures.sent;
-      count = let was = c.loop-to.invariant.count in omega (arith, was, c.post_part.ensures.count);
-      room = λ has. let was = c.loop-to.invariant.room has in omega (arith, was, c.post_part.ensures.capacity);
+      sent = one_more c.args.stamp mail to c.args.links.now c.loop-to.links c.post_to.new.links _ _ _ c.loop-to.invariant.sent c.post_to.ensures.sent;
+      count = let was = c.loop-to.invariant.count in omega (arith, was, c.post_to.ensures.count);
+      most = let was = c.loop-to.invariant.count in omega (arith, was, c.post_to.ensures.count, few, centres, c.loop-to-test.true, end);
+      room = λ has. let was = c.loop-to.invariant.room has in omega (arith, was, c.post_to.ensures.capacity);
     }
 
 -- ## All centres
 
 pub invariant_of-frames-2 : goal.invariant_of-frames-2
 invariant_of-frames-2 c =
+    let w = (goal.at.invariant_of-frames-2 c).After-min-end in
     let mail = mail_to c.args.line.now c.args.centre c.args.nid_engine (expected_from c.args.expectations.now) c.args.mail.now in
     let past = c.loop-to-test.false in
-    let centres = c.centre_count-to-end.ensures.value in
-    let all = all_below c.args.line.now c.args.centre mail c.loop-to.to c.args.links.now (omega (arith, past, centres)) c.requires.linked c.requires.may in
+    let few = c.centre_count.ensures.line.limits.centres.1 in
+    let all = all_below mail c.loop-to.to (λ d high. none_last w d (omega (arith, past, high))) in
     record {
-      count = let was = c.loop-to.invariant.count in omega (arith, was);
+      count = c.loop-to.invariant.most;
       few = λ d.
           let frames = ap length (c.loop-to.invariant.sent.frames d) in
           let numbers = length_numbered c.args.stamp (length (sent_to c.args.links.now d)) (below mail c.loop-to.to d) in
           let bodies = ap length (all d) in
           let most = mail_few c.args.line.now c.args.centre c.args.nid_engine (expected_from c.args.expectations.now) c.args.mail.now d in
           omega (arith, frames, numbers, bodies, most);
-      near = λ d far.
-          let end = c.loop-to.auto in
-          let none : nat_lt d c.loop-to.to ≡ false = grind (arith, nat_tests, far, end) in
-          c.loop-to.invariant.sent.frames d ∙ rw none refl;
+      near = λ d far. c.loop-to.invariant.sent.frames d ∙ ap (numbered c.args.stamp (length (sent_to c.args.links.now d))) (all d ∙ none_past c.args.line.now c.args.centre mail c.args.links.now c.requires.linked c.requires.may d (omega (arith, far, few)));
     }
 
 pub returns-clause-posted : goal.returns-clause-posted
 returns-clause-posted c =
+    let w = (goal.at.returns-clause-posted c).After-min-end in
     let mail = mail_to c.args.line.now c.args.centre c.args.nid_engine (expected_from c.args.expectations.now) c.args.mail.now in
     let past = c.loop-to-test.false in
-    let centres = c.centre_count-to-end.ensures.value in
-    (sent_as c.args.stamp (below mail c.loop-to.to) mail c.args.links.now c.loop-to.links _ _
-    (all_below c.args.line.now c.args.centre mail c.loop-to.to c.args.links.now (omega (arith, past, centres)) c.requires.linked c.requires.may) c.loop-to.invariant.sent).posted
+    let all = all_below mail c.loop-to.to (λ d high. none_last w d (omega (arith, past, high))) in
+    (sent_as c.args.stamp (below mail c.loop-to.to) mail c.args.links.now c.loop-to.links _ _ all c.loop-to.invariant.sent).posted
 
 pub returns-clause-frames : goal.returns-clause-frames
 unfolding frames_to
 returns-clause-frames c = λ d.
+    let w = (goal.at.returns-clause-frames c).After-min-end in
     let mail = mail_to c.args.line.now c.args.centre c.args.nid_engine (expected_from c.args.expectations.now) c.args.mail.now in
     let past = c.loop-to-test.false in
-    let centres = c.centre_count-to-end.ensures.value in
-    c.loop-to.invariant.sent.frames d
-    ∙ ap (numbered c.args.stamp (length (sent_to c.args.links.now d))) (all_below c.args.line.now c.args.centre mail c.loop-to.to c.args.links.now (omega (arith, past, centres)) c.requires.linked c.requires.may d)
+    let all = all_below mail c.loop-to.to (λ d high. none_last w d (omega (arith, past, high))) in
+    c.loop-to.invariant.sent.frames d ∙ ap (numbered c.args.stamp (length (sent_to c.args.links.now d))) (all d)

@@ -10,5 +10,6 @@ abbrev pub invariant-loop-to : goal.invariant-loop-to
 invariant-loop-to l = record {
   sent : HasSent l.stamp (below (mail_to l.line l.centre l.nid_engine (expected_from l.expectations) l.mail) l.to) l.fn.links l.links [] l.list.items;
   count : length l.list.items ≤ 4 * l.to;
+  most : length l.list.items ≤ 32;
   room : HasFrameRoom l.fn.room → 32 ≤ vec_capacity l.list;
 }

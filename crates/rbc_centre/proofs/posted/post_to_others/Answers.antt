@@ -8,7 +8,7 @@ use Rattle.rbc_spec.specs.Line.{is_linked}
 use Rattle.rbc_spec.specs.Frame.{Body}
 use Rattle.rbc_centre.specs.Posts.{MayPost, HasSent, only, to_others}
 use Rattle.rbc_centre.specs.Sent.{frames_to}
-use Rattle.rbc_centre.proofs.Posts.{below, may_after, one_more, none_below, all_below, sent_as}
+use Rattle.rbc_centre.proofs.Posts.{below, may_after, one_more, none_below, all_below, none_past, sent_as}
 use Rattle.rbc_centre.proofs.Withdrawn.{told_once}
 use Rattle.rbc_centre.proofs.posted.post_to_others.Goals as goal
 
@@ -16,7 +16,7 @@ use Rattle.rbc_centre.proofs.posted.post_to_others.Goals as goal
 
 pub loop-to-init : goal.loop-to-init
 loop-to-init c = record {
-  sent = rw c.swap-list.ensures.items (none_below c.args.stamp (to_others c.args.line.now c.args.centre (body_of c.args.body)) c.args.links.now []);
+  sent = rw c.swap-list.ensures.items (none_below c.args.stamp (to_others c.args.line.now c.args.centre (body_of c.args.body)) 0 c.args.links.now [] (λ d low. absurd (omega (arith, low))));
   count = let none = ap length c.swap-list.ensures.items in omega (arith, none);
   room = c.swap-list.ensures.room c.requires.room;
 }
@@ -50,7 +50,7 @@ invariant_of-frames-2 c =
     let mail = to_others c.args.line.now c.args.centre (body_of c.args.body) in
     let past = c.loop-to-test.false in
     let centres = c.centre_count-to-end.ensures.value in
-    let all = all_below c.args.line.now c.args.centre mail c.loop-to.to c.args.links.now (omega (arith, past, centres)) c.requires.linked c.requires.may in
+    let all = all_below mail c.loop-to.to (λ d high. none_past c.args.line.now c.args.centre mail c.args.links.now c.requires.linked c.requires.may d (omega (arith, past, centres, high))) in
     record {
       count = let was = c.loop-to.invariant.count in omega (arith, was);
       few = λ d.
@@ -70,8 +70,8 @@ returns-clause-posted c =
     let mail = to_others c.args.line.now c.args.centre (body_of c.args.body) in
     let past = c.loop-to-test.false in
     let centres = c.centre_count-to-end.ensures.value in
-    (sent_as c.args.stamp (below mail c.loop-to.to) mail c.args.links.now c.loop-to.links _ _
-    (all_below c.args.line.now c.args.centre mail c.loop-to.to c.args.links.now (omega (arith, past, centres)) c.requires.linked c.requires.may) c.loop-to.invariant.sent).posted
+    let all = all_below mail c.loop-to.to (λ d high. none_past c.args.line.now c.args.centre mail c.args.links.now c.requires.linked c.requires.may d (omega (arith, past, centres, high))) in
+    (sent_as c.args.stamp (below mail c.loop-to.to) mail c.args.links.now c.loop-to.links _ _ all c.loop-to.invariant.sent).posted
 
 pub returns-clause-frames : goal.returns-clause-frames
 unfolding frames_to
@@ -79,5 +79,5 @@ returns-clause-frames c = λ d.
     let mail = to_others c.args.line.now c.args.centre (body_of c.args.body) in
     let past = c.loop-to-test.false in
     let centres = c.centre_count-to-end.ensures.value in
-    c.loop-to.invariant.sent.frames d
-    ∙ ap (numbered c.args.stamp (length (sent_to c.args.links.now d))) (all_below c.args.line.now c.args.centre mail c.loop-to.to c.args.links.now (omega (arith, past, centres)) c.requires.linked c.requires.may d)
+    let all = all_below mail c.loop-to.to (λ d high. none_past c.args.line.now c.args.centre mail c.args.links.now c.requires.linked c.requires.may d (omega (arith, past, centres, high))) in
+    c.loop-to.invariant.sent.frames d ∙ ap (numbered c.args.stamp (length (sent_to c.args.links.now d))) (all d)

@@ -8,6 +8,7 @@ use Rattle.rbc_spec.specs.Outcome.{Outcome, Told}
 use Rattle.rbc_spec.specs.Step.{Deliver}
 use Rattle.rbc_spec.specs.Links.{received}
 use Rattle.law_centre_sound.proofs.Ranges.{range_hand}
+use Rattle.rbc_link.specs.Inbox.{answer_of}
 use Rattle.rbc_linkmsg.specs.Bodies.{engine_in}
 use Rattle.rbc_session.specs.declared.session.SessionState.{SessionState}
 use Rattle.rbc_train.specs.Letters.{mail_to}
@@ -17,7 +18,6 @@ use Rattle.rbc_train.specs.SessionStates.{Stands}
 use Rattle.rbc_centre.specs.State.{stands_for}
 use Rattle.rbc_centre.specs.Posts.{MayPost}
 use Rattle.rbc_centre.specs.Sent.{frames_to}
-use Rattle.rbc_centre.specs.Views.{link_of}
 use Rattle.rbc_centre.proofs.Deliveries.{not_next, deliver_stamp, delivered_allowed, received_may, offered_as, untaken, ignored, train_takes, silent, stays_silent, next_from, next_number}
 use Rattle.rbc_centre.proofs.States.{number_within, counted_later, each_of_train_still}
 use Rattle.rbc_centre.proofs.Rows.{later_of}
@@ -33,10 +33,10 @@ invariant_of-self c =
     let latest : max k.clock f.stamp ≡ c.max.result = ap (λ n. max k.clock n) (sym c.stamp.ensures.value) ∙ sym (later_of k.clock c.stamp.result) ∙ sym c.max.ensures in
     let low = le-max_left k.clock f.stamp in
     let early = c.requires.time in
-    let is = offered_as k d f c.offer.new.self c.of-answer.result c.offer.result c.number.result c.of-answer.ensures c.number.ensures.value
-    c.offer.ensures.answer c.offer.ensures.count c.offer.ensures.linked c.offer.ensures.taken c.offer.ensures.sent c.offer.ensures.room in
-    let s = stays_silent k clock d f c.offer.new.self (link_of c.of-answer.result) is (deliver_stamp k d f ∙ ap (λ n. n + 1) latest) (subst HasBodyRange c.body-body.ensures.value c.body-body.ensures.range)
-    (untaken k clock d f c.offer.new.self (link_of c.of-answer.result) is (not_next c.of-answer.result c.in_default.not-Next)) (delivered_allowed k d f c.requires.time c.requires.numbers) in
+    let is = offered_as k d f c.offer-answer.new.self c.offer-answer.result c.number.result c.number.ensures.value
+    c.offer-answer.ensures.answer c.offer-answer.ensures.count c.offer-answer.ensures.linked c.offer-answer.ensures.taken c.offer-answer.ensures.sent c.offer-answer.ensures.room in
+    let s = stays_silent k clock d f c.offer-answer.new.self (answer_of c.offer-answer.result) is (deliver_stamp k d f ∙ ap (λ n. n + 1) latest) (subst HasBodyRange c.body-body.ensures.value c.body-body.ensures.range)
+    (untaken k clock d f c.offer-answer.new.self (answer_of c.offer-answer.result) is (not_next c.offer-answer.result c.in_default.not-Next)) (delivered_allowed k d f c.requires.time c.requires.numbers) in
     record {
       line_rules = k.line_rules;
       of_line = k.of_line;
@@ -61,12 +61,12 @@ returns-in_default-clause-exact c =
     let f = c.args.frame.now in
     let clock = c.max.result + 1 in
     let latest : max k.clock f.stamp ≡ c.max.result = ap (λ n. max k.clock n) (sym c.stamp.ensures.value) ∙ sym (later_of k.clock c.stamp.result) ∙ sym c.max.ensures in
-    let is = offered_as k d f c.offer.new.self c.of-answer.result c.offer.result c.number.result c.of-answer.ensures c.number.ensures.value
-    c.offer.ensures.answer c.offer.ensures.count c.offer.ensures.linked c.offer.ensures.taken c.offer.ensures.sent c.offer.ensures.room in
-    let left = stands_for k.line k.number clock k.book k.desk c.offer.new.self k.trains.items in
+    let is = offered_as k d f c.offer-answer.new.self c.offer-answer.result c.number.result c.number.ensures.value
+    c.offer-answer.ensures.answer c.offer-answer.ensures.count c.offer-answer.ensures.linked c.offer-answer.ensures.taken c.offer-answer.ensures.sent c.offer-answer.ensures.room in
+    let left = stands_for k.line k.number clock k.book k.desk c.offer-answer.new.self k.trains.items in
     ap (λ (o : Outcome). (o, left)) c.write_nothing.ensures
-    ∙ silent k clock d f c.offer.new.self (link_of c.of-answer.result) is (deliver_stamp k d f ∙ ap (λ n. n + 1) latest) (subst HasBodyRange c.body-body.ensures.value c.body-body.ensures.range)
-    (untaken k clock d f c.offer.new.self (link_of c.of-answer.result) is (not_next c.of-answer.result c.in_default.not-Next))
+    ∙ silent k clock d f c.offer-answer.new.self (answer_of c.offer-answer.result) is (deliver_stamp k d f ∙ ap (λ n. n + 1) latest) (subst HasBodyRange c.body-body.ensures.value c.body-body.ensures.range)
+    (untaken k clock d f c.offer-answer.new.self (answer_of c.offer-answer.result) is (not_next c.offer-answer.result c.in_default.not-Next))
 
 -- ## The next frame, of no train of the line
 
@@ -79,13 +79,13 @@ invariant_of-self-in_default-train_number c =
     let latest : max k.clock f.stamp ≡ c.max.result = ap (λ n. max k.clock n) (sym c.stamp.ensures.value) ∙ sym (later_of k.clock c.stamp.result) ∙ sym c.max.ensures in
     let low = le-max_left k.clock f.stamp in
     let early = c.requires.time in
-    let is = offered_as k d f c.offer.new.self c.of-answer.result c.offer.result c.number.result c.of-answer.ensures c.number.ensures.value
-    c.offer.ensures.answer c.offer.ensures.count c.offer.ensures.linked c.offer.ensures.taken c.offer.ensures.sent c.offer.ensures.room in
+    let is = offered_as k d f c.offer-answer.new.self c.offer-answer.result c.number.result c.number.ensures.value
+    c.offer-answer.ensures.answer c.offer-answer.ensures.count c.offer-answer.ensures.linked c.offer-answer.ensures.taken c.offer-answer.ensures.sent c.offer-answer.ensures.room in
     let foreign : is_some (train_number k.line (engine_in f.body)) ≡ false =
     ap (λ (b : Body). is_some (train_number k.line (engine_in b))) (sym c.body-body.ensures.value) ∙ ap (λ n. is_some (train_number k.line n)) (sym c.engine.ensures)
     ∙ ap is_some (sym c.train_number.ensures.value ∙ c.in_default-train_number.is) in
-    let effect = ignored k clock d f c.offer.new.self (link_of c.of-answer.result) is (ap link_of c.in-Next.is) foreign in
-    let s = stays_silent k clock d f c.offer.new.self (link_of c.of-answer.result) is (deliver_stamp k d f ∙ ap (λ n. n + 1) latest) (subst HasBodyRange c.body-body.ensures.value c.body-body.ensures.range) effect (delivered_allowed k d f c.requires.time c.requires.numbers) in
+    let effect = ignored k clock d f c.offer-answer.new.self (answer_of c.offer-answer.result) is (ap answer_of c.in-Next.is) foreign in
+    let s = stays_silent k clock d f c.offer-answer.new.self (answer_of c.offer-answer.result) is (deliver_stamp k d f ∙ ap (λ n. n + 1) latest) (subst HasBodyRange c.body-body.ensures.value c.body-body.ensures.range) effect (delivered_allowed k d f c.requires.time c.requires.numbers) in
     record {
       line_rules = k.line_rules;
       of_line = k.of_line;
@@ -110,15 +110,15 @@ returns-in_default-train_number-clause-exact c =
     let f = c.args.frame.now in
     let clock = c.max.result + 1 in
     let latest : max k.clock f.stamp ≡ c.max.result = ap (λ n. max k.clock n) (sym c.stamp.ensures.value) ∙ sym (later_of k.clock c.stamp.result) ∙ sym c.max.ensures in
-    let is = offered_as k d f c.offer.new.self c.of-answer.result c.offer.result c.number.result c.of-answer.ensures c.number.ensures.value
-    c.offer.ensures.answer c.offer.ensures.count c.offer.ensures.linked c.offer.ensures.taken c.offer.ensures.sent c.offer.ensures.room in
+    let is = offered_as k d f c.offer-answer.new.self c.offer-answer.result c.number.result c.number.ensures.value
+    c.offer-answer.ensures.answer c.offer-answer.ensures.count c.offer-answer.ensures.linked c.offer-answer.ensures.taken c.offer-answer.ensures.sent c.offer-answer.ensures.room in
     let foreign : is_some (train_number k.line (engine_in f.body)) ≡ false =
     ap (λ (b : Body). is_some (train_number k.line (engine_in b))) (sym c.body-body.ensures.value) ∙ ap (λ n. is_some (train_number k.line n)) (sym c.engine.ensures)
     ∙ ap is_some (sym c.train_number.ensures.value ∙ c.in_default-train_number.is) in
-    let effect = ignored k clock d f c.offer.new.self (link_of c.of-answer.result) is (ap link_of c.in-Next.is) foreign in
-    let left = stands_for k.line k.number clock k.book k.desk c.offer.new.self k.trains.items in
+    let effect = ignored k clock d f c.offer-answer.new.self (answer_of c.offer-answer.result) is (ap answer_of c.in-Next.is) foreign in
+    let left = stands_for k.line k.number clock k.book k.desk c.offer-answer.new.self k.trains.items in
     ap (λ (o : Outcome). (o, left)) c.write_nothing-in_default-train_number.ensures
-    ∙ silent k clock d f c.offer.new.self (link_of c.of-answer.result) is (deliver_stamp k d f ∙ ap (λ n. n + 1) latest) (subst HasBodyRange c.body-body.ensures.value c.body-body.ensures.range) effect
+    ∙ silent k clock d f c.offer-answer.new.self (answer_of c.offer-answer.result) is (deliver_stamp k d f ∙ ap (λ n. n + 1) latest) (subst HasBodyRange c.body-body.ensures.value c.body-body.ensures.range) effect
 
 -- ## Its train
 
@@ -170,9 +170,9 @@ receive-heard-requires-clause-from c =
     let k = c.args.self.now in
     let d = c.args.from in
     let f = c.args.frame.now in
-    let is = offered_as k d f c.offer.new.self c.of-answer.result c.offer.result c.number.result c.of-answer.ensures c.number.ensures.value
-    c.offer.ensures.answer c.offer.ensures.count c.offer.ensures.linked c.offer.ensures.taken c.offer.ensures.sent c.offer.ensures.room in
-    next_from k d f c.offer.new.self (link_of c.of-answer.result) is (ap link_of c.in-Next.is)
+    let is = offered_as k d f c.offer-answer.new.self c.offer-answer.result c.number.result c.number.ensures.value
+    c.offer-answer.ensures.answer c.offer-answer.ensures.count c.offer-answer.ensures.linked c.offer-answer.ensures.taken c.offer-answer.ensures.sent c.offer-answer.ensures.room in
+    next_from k d f c.offer-answer.new.self (answer_of c.offer-answer.result) is (ap answer_of c.in-Next.is)
 
 pub receive-heard-requires-clause-number : goal.receive-heard-requires-clause-number
 receive-heard-requires-clause-number c =
@@ -201,7 +201,7 @@ receive-heard-requires-clause-count c =
     omega (arith, few)
 
 pub post-requires-clause-linked : goal.post-requires-clause-linked
-post-requires-clause-linked c = λ e. c.offer.ensures.linked e ∙ c.args.self.now.each_link e
+post-requires-clause-linked c = λ e. c.offer-answer.ensures.linked e ∙ c.args.self.now.each_link e
 
 pub post-requires-clause-room : goal.post-requires-clause-room
 unfolding stands_for
@@ -209,9 +209,9 @@ post-requires-clause-room c e =
     let k = c.args.self.now in
     let d = c.args.from in
     let f = c.args.frame.now in
-    let is = offered_as k d f c.offer.new.self c.of-answer.result c.offer.result c.number.result c.of-answer.ensures c.number.ensures.value
-    c.offer.ensures.answer c.offer.ensures.count c.offer.ensures.linked c.offer.ensures.taken c.offer.ensures.sent c.offer.ensures.room in
-    inr (c.requires.room (next_number k d f c.offer.new.self (link_of c.of-answer.result) is (ap link_of c.in-Next.is)))
+    let is = offered_as k d f c.offer-answer.new.self c.offer-answer.result c.number.result c.number.ensures.value
+    c.offer-answer.ensures.answer c.offer-answer.ensures.count c.offer-answer.ensures.linked c.offer-answer.ensures.taken c.offer-answer.ensures.sent c.offer-answer.ensures.room in
+    inr (c.requires.room (next_number k d f c.offer-answer.new.self (answer_of c.offer-answer.result) is (ap answer_of c.in-Next.is)))
 
 pub post-requires-clause-may : goal.post-requires-clause-may
 post-requires-clause-may c =
@@ -220,21 +220,21 @@ post-requires-clause-may c =
     let f = c.args.frame.now in
     let clock = c.max.result + 1 in
     let latest : max k.clock f.stamp ≡ c.max.result = ap (λ n. max k.clock n) (sym c.stamp.ensures.value) ∙ sym (later_of k.clock c.stamp.result) ∙ sym c.max.ensures in
-    let is = offered_as k d f c.offer.new.self c.of-answer.result c.offer.result c.number.result c.of-answer.ensures c.number.ensures.value
-    c.offer.ensures.answer c.offer.ensures.count c.offer.ensures.linked c.offer.ensures.taken c.offer.ensures.sent c.offer.ensures.room in
+    let is = offered_as k d f c.offer-answer.new.self c.offer-answer.result c.number.result c.number.ensures.value
+    c.offer-answer.ensures.answer c.offer-answer.ensures.count c.offer-answer.ensures.linked c.offer-answer.ensures.taken c.offer-answer.ensures.sent c.offer-answer.ensures.room in
     let t = c.engine.result in
     let i = c.in-Some.i in
     let number : train_number k.line t ≡ Some i = sym c.train_number.ensures.value ∙ c.in-Some.is in
     let old = c.index_mut-train.result.now in
     let at = slice_get_read _ _ _ _ refl (number_within k.line k.trains.items t i number k.train_count) c.index_mut-train.ensures.value in
     let heard = c.receive-heard.result in
-    let effect = train_takes k clock d f c.offer.new.self (link_of c.of-answer.result) is (ap link_of c.in-Next.is) t i old number at c.receive-heard.new.self c.receive-heard.new.book c.receive-heard.new.registrar
+    let effect = train_takes k clock d f c.offer-answer.new.self (answer_of c.offer-answer.result) is (ap answer_of c.in-Next.is) t i old number at c.receive-heard.new.self c.receive-heard.new.book c.receive-heard.new.registrar
     c.receive-heard.ensures.kept c.receive-heard.ensures.desk heard
     (λ x has known. ap (λ (b : Body). received k.line k.number d b x) (sym c.body-body.ensures.value) ∙ c.receive-heard.ensures.exact x has known) in
-    subst (λ (u : ℕ). (e : ℕ) → MayPost c.offer.new.self e (mail_to k.line k.number u (expected_from c.receive-heard.new.self.expectations) heard.mail e)) ((of_train k t i old number at).engine ∙ c.engine.ensures ∙ sym c.engine-2.ensures)
-    (received_may k d f clock c.offer.new.self _ old (expected_from c.receive-heard.new.self.expectations) heard (link_of c.of-answer.result) (deliver_stamp k d f ∙ ap (λ n. n + 1) latest) c.offer.ensures.sent effect (delivered_allowed k d f c.requires.time c.requires.numbers)
-    (subst HasBodyRange c.body-body.ensures.value c.body-body.ensures.range) c.offer.ensures.linked c.offer.ensures.room
-    (c.requires.frames (next_number k d f c.offer.new.self (link_of c.of-answer.result) is (ap link_of c.in-Next.is))))
+    subst (λ (u : ℕ). (e : ℕ) → MayPost c.offer-answer.new.self e (mail_to k.line k.number u (expected_from c.receive-heard.new.self.expectations) heard.mail e)) ((of_train k t i old number at).engine ∙ c.engine.ensures ∙ sym c.engine-2.ensures)
+    (received_may k d f clock c.offer-answer.new.self _ old (expected_from c.receive-heard.new.self.expectations) heard (answer_of c.offer-answer.result) (deliver_stamp k d f ∙ ap (λ n. n + 1) latest) c.offer-answer.ensures.sent effect (delivered_allowed k d f c.requires.time c.requires.numbers)
+    (subst HasBodyRange c.body-body.ensures.value c.body-body.ensures.range) c.offer-answer.ensures.linked c.offer-answer.ensures.room
+    (c.requires.frames (next_number k d f c.offer-answer.new.self (answer_of c.offer-answer.result) is (ap answer_of c.in-Next.is))))
 
 -- ## The centre that is left, and the answer
 
@@ -247,8 +247,8 @@ invariant_of-self-2 c =
     let latest : max k.clock f.stamp ≡ c.max.result = ap (λ n. max k.clock n) (sym c.stamp.ensures.value) ∙ sym (later_of k.clock c.stamp.result) ∙ sym c.max.ensures in
     let low = le-max_left k.clock f.stamp in
     let early = c.requires.time in
-    let is = offered_as k d f c.offer.new.self c.of-answer.result c.offer.result c.number.result c.of-answer.ensures c.number.ensures.value
-    c.offer.ensures.answer c.offer.ensures.count c.offer.ensures.linked c.offer.ensures.taken c.offer.ensures.sent c.offer.ensures.room in
+    let is = offered_as k d f c.offer-answer.new.self c.offer-answer.result c.number.result c.number.ensures.value
+    c.offer-answer.ensures.answer c.offer-answer.ensures.count c.offer-answer.ensures.linked c.offer-answer.ensures.taken c.offer-answer.ensures.sent c.offer-answer.ensures.room in
     let t = c.engine.result in
     let i = c.in-Some.i in
     let number : train_number k.line t ≡ Some i = sym c.train_number.ensures.value ∙ c.in-Some.is in
@@ -258,20 +258,20 @@ invariant_of-self-2 c =
     let heard = c.receive-heard.result in
     let kept = c.receive-heard.ensures.kept in
     let desk = c.receive-heard.ensures.desk in
-    let answer = link_of c.of-answer.result in
-    let next = ap link_of c.in-Next.is in
-    let effect = train_takes k clock d f c.offer.new.self answer is next t i old number at new c.receive-heard.new.book c.receive-heard.new.registrar kept desk heard
+    let answer = answer_of c.offer-answer.result in
+    let next = ap answer_of c.in-Next.is in
+    let effect = train_takes k clock d f c.offer-answer.new.self answer is next t i old number at new c.receive-heard.new.book c.receive-heard.new.registrar kept desk heard
     (λ x has known. ap (λ (b : Body). received k.line k.number d b x) (sym c.body-body.ensures.value) ∙ c.receive-heard.ensures.exact x has known) in
     let train = of_train k t i old number at in
     let stamp = deliver_stamp k d f ∙ ap (λ n. n + 1) latest in
     let range = subst HasBodyRange c.body-body.ensures.value c.body-body.ensures.range in
     let allowed = delivered_allowed k d f c.requires.time c.requires.numbers in
-    let sent = sent_by k.line k.number c.engine-2.result old.supervision.engine clock (expected_from new.expectations) heard.mail c.offer.new.self c.post.new.links (frames_to c.post.new.frames) (c.engine-2.ensures ∙ sym c.engine.ensures ∙ sym train.engine) c.post.ensures.posted c.post.ensures.frames in
-    let s = stays k (Deliver d f) clock c.offer.new.self c.post.new.links c.receive-heard.new.book (record { registrar = c.receive-heard.new.registrar; handovers = k.desk.handovers }) (set k.trains.items i new) (mail_to k.line k.number old.supervision.engine (expected_from new.expectations) heard.mail) (told_train heard.saying heard.order) (map (λ s. Told s) heard.told) (Some answer) None
-    stamp c.offer.ensures.sent sent.links effect (frames_to c.post.new.frames) sent.each
+    let sent = sent_by k.line k.number c.engine-2.result old.supervision.engine clock (expected_from new.expectations) heard.mail c.offer-answer.new.self c.post.new.links (frames_to c.post.new.frames) (c.engine-2.ensures ∙ sym c.engine.ensures ∙ sym train.engine) c.post.ensures.posted c.post.ensures.frames in
+    let s = stays k (Deliver d f) clock c.offer-answer.new.self c.post.new.links c.receive-heard.new.book (record { registrar = c.receive-heard.new.registrar; handovers = k.desk.handovers }) (set k.trains.items i new) (mail_to k.line k.number old.supervision.engine (expected_from new.expectations) heard.mail) (told_train heard.saying heard.order) (map (λ s. Told s) heard.told) (Some answer) None
+    stamp c.offer-answer.ensures.sent sent.links effect (frames_to c.post.new.frames) sent.each
     (omega arith) (omega (arith, early, latest)) (range_hand f.body range) allowed range
-    (received_may k d f clock c.offer.new.self _ old (expected_from new.expectations) heard answer stamp c.offer.ensures.sent effect allowed range c.offer.ensures.linked c.offer.ensures.room
-    (c.requires.frames (next_number k d f c.offer.new.self (link_of c.of-answer.result) is (ap link_of c.in-Next.is)))) desk.homes desk.rights.count (length-set k.trains.items i new) c.offer.ensures.count c.offer.ensures.linked in
+    (received_may k d f clock c.offer-answer.new.self _ old (expected_from new.expectations) heard answer stamp c.offer-answer.ensures.sent effect allowed range c.offer-answer.ensures.linked c.offer-answer.ensures.room
+    (c.requires.frames (next_number k d f c.offer-answer.new.self (answer_of c.offer-answer.result) is (ap answer_of c.in-Next.is)))) desk.homes desk.rights.count (length-set k.trains.items i new) c.offer-answer.ensures.count c.offer-answer.ensures.linked in
     record {
       line_rules = k.line_rules;
       of_line = k.of_line;
@@ -292,7 +292,7 @@ invariant_of-self-2 c =
             expected = c.receive-heard.ensures.expected ∙ train.expected;
             session = subst (λ (x : SessionState). Stands k.sessions x t) (sym c.receive-heard.ensures.session) train.session;
           }) k.each_train;
-      counted = each_counted k t i old number at clock c.offer.new.self new c.receive-heard.new.book c.receive-heard.new.registrar k.desk.handovers kept desk (omega (arith, low, latest));
+      counted = each_counted k t i old number at clock c.offer-answer.new.self new c.receive-heard.new.book c.receive-heard.new.registrar k.desk.handovers kept desk (omega (arith, low, latest));
       announced = let few = k.announced in omega (arith, few, low, latest);
       sound = s.sound;
       ranged = s.ranged;
@@ -305,8 +305,8 @@ returns-clause-exact c =
     let f = c.args.frame.now in
     let clock = c.max.result + 1 in
     let latest : max k.clock f.stamp ≡ c.max.result = ap (λ n. max k.clock n) (sym c.stamp.ensures.value) ∙ sym (later_of k.clock c.stamp.result) ∙ sym c.max.ensures in
-    let is = offered_as k d f c.offer.new.self c.of-answer.result c.offer.result c.number.result c.of-answer.ensures c.number.ensures.value
-    c.offer.ensures.answer c.offer.ensures.count c.offer.ensures.linked c.offer.ensures.taken c.offer.ensures.sent c.offer.ensures.room in
+    let is = offered_as k d f c.offer-answer.new.self c.offer-answer.result c.number.result c.number.ensures.value
+    c.offer-answer.ensures.answer c.offer-answer.ensures.count c.offer-answer.ensures.linked c.offer-answer.ensures.taken c.offer-answer.ensures.sent c.offer-answer.ensures.room in
     let t = c.engine.result in
     let i = c.in-Some.i in
     let number : train_number k.line t ≡ Some i = sym c.train_number.ensures.value ∙ c.in-Some.is in
@@ -316,13 +316,13 @@ returns-clause-exact c =
     let heard = c.receive-heard.result in
     let kept = c.receive-heard.ensures.kept in
     let desk = c.receive-heard.ensures.desk in
-    let answer = link_of c.of-answer.result in
-    let next = ap link_of c.in-Next.is in
-    let effect = train_takes k clock d f c.offer.new.self answer is next t i old number at new c.receive-heard.new.book c.receive-heard.new.registrar kept desk heard
+    let answer = answer_of c.offer-answer.result in
+    let next = ap answer_of c.in-Next.is in
+    let effect = train_takes k clock d f c.offer-answer.new.self answer is next t i old number at new c.receive-heard.new.book c.receive-heard.new.registrar kept desk heard
     (λ x has known. ap (λ (b : Body). received k.line k.number d b x) (sym c.body-body.ensures.value) ∙ c.receive-heard.ensures.exact x has known) in
     let left = stands_for k.line k.number clock c.receive-heard.new.book (record { registrar = c.receive-heard.new.registrar; handovers = k.desk.handovers }) c.post.new.links (set k.trains.items i new) in
-    let sent = sent_by k.line k.number c.engine-2.result old.supervision.engine clock (expected_from new.expectations) heard.mail c.offer.new.self c.post.new.links (frames_to c.post.new.frames)
+    let sent = sent_by k.line k.number c.engine-2.result old.supervision.engine clock (expected_from new.expectations) heard.mail c.offer-answer.new.self c.post.new.links (frames_to c.post.new.frames)
     (c.engine-2.ensures ∙ sym c.engine.ensures ∙ sym (of_train k t i old number at).engine) c.post.ensures.posted c.post.ensures.frames in
     ap (λ (o : Outcome). (o, left)) c.write_heard.ensures
-    ∙ turns k (Deliver d f) clock c.offer.new.self c.post.new.links c.receive-heard.new.book (record { registrar = c.receive-heard.new.registrar; handovers = k.desk.handovers }) (set k.trains.items i new) (mail_to k.line k.number old.supervision.engine (expected_from new.expectations) heard.mail) (told_train heard.saying heard.order) (map (λ s. Told s) heard.told) (Some answer) None
-    (deliver_stamp k d f ∙ ap (λ n. n + 1) latest) c.offer.ensures.sent sent.links effect (frames_to c.post.new.frames) sent.each
+    ∙ turns k (Deliver d f) clock c.offer-answer.new.self c.post.new.links c.receive-heard.new.book (record { registrar = c.receive-heard.new.registrar; handovers = k.desk.handovers }) (set k.trains.items i new) (mail_to k.line k.number old.supervision.engine (expected_from new.expectations) heard.mail) (told_train heard.saying heard.order) (map (λ s. Told s) heard.told) (Some answer) None
+    (deliver_stamp k d f ∙ ap (λ n. n + 1) latest) c.offer-answer.ensures.sent sent.links effect (frames_to c.post.new.frames) sent.each

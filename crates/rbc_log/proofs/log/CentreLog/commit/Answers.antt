@@ -15,25 +15,25 @@ pub invariant_of-self-2 : goal.invariant_of-self-2
 invariant_of-self-2 c =
     let old = c.self.inside.core in
     let front : List LogEntry = map entry_of c.self.inside.entries.items in
-    let grows : map entry_of c.push_reserved.new.self.items ≡ front ++ record { centre = number_of old; event = event_of c.args.event; outcome = outcome_of c.in_ok-outcome.outcome } ∷ [] =
+    let grows : map entry_of c.push_reserved.new.self.items ≡ front ++ record { centre = number_of old; event = event_of c.args.event; outcome = outcome_of c.step_to.new.out } ∷ [] =
     ap (map entry_of) c.push_reserved.ensures.items ∙ map_push entry_of c.reserve.new.self.items _
-    ∙ (λ i. map entry_of (c.in_ok-reserve.ensures.items i) ++ record { centre = (c.number.ensures ∙ c.in_ok-outcome.ensures.number) i; event = event_of c.args.event; outcome = c.copied.ensures i } ∷ [])
+    ∙ (λ i. map entry_of (c.in_ok-reserve.ensures.items i) ++ record { centre = (c.number.ensures ∙ c.in_ok-step_to.ensures.number) i; event = event_of c.args.event; outcome = c.copied.ensures i } ∷ [])
     in (
-      grown (line_of old) (line_of c.step.new.self) (number_of old) (number_of c.step.new.self) (state_of old) (state_of c.step.new.self) front (map entry_of c.push_reserved.new.self.items)
-          (event_of c.args.event) (outcome_of c.in_ok-outcome.outcome) c.self.invariant.0 c.in_ok-outcome.ensures.exact grows c.in_ok-outcome.ensures.line c.in_ok-outcome.ensures.number,
-      c.self.invariant.1 ∙ sym c.in_ok-outcome.ensures.line,
+      grown (line_of old) (line_of c.step_to.new.self) (number_of old) (number_of c.step_to.new.self) (state_of old) (state_of c.step_to.new.self) front (map entry_of c.push_reserved.new.self.items)
+          (event_of c.args.event) (outcome_of c.step_to.new.out) c.self.invariant.0 c.in_ok-step_to.ensures.exact grows c.in_ok-step_to.ensures.line c.in_ok-step_to.ensures.number,
+      c.self.invariant.1 ∙ sym c.in_ok-step_to.ensures.line,
     )
 
 pub returns-clause-replays : goal.returns-clause-replays
 returns-clause-replays c =
     let old = c.self.inside.core in
     let front : List LogEntry = map entry_of c.self.inside.entries.items in
-    let grows : map entry_of c.push_reserved.new.self.items ≡ front ++ record { centre = number_of old; event = event_of c.args.event; outcome = outcome_of c.in_ok-outcome.outcome } ∷ [] =
+    let grows : map entry_of c.push_reserved.new.self.items ≡ front ++ record { centre = number_of old; event = event_of c.args.event; outcome = outcome_of c.step_to.new.out } ∷ [] =
     ap (map entry_of) c.push_reserved.ensures.items ∙ map_push entry_of c.reserve.new.self.items _
-    ∙ (λ i. map entry_of (c.in_ok-reserve.ensures.items i) ++ record { centre = (c.number.ensures ∙ c.in_ok-outcome.ensures.number) i; event = event_of c.args.event; outcome = c.copied.ensures i } ∷ [])
+    ∙ (λ i. map entry_of (c.in_ok-reserve.ensures.items i) ++ record { centre = (c.number.ensures ∙ c.in_ok-step_to.ensures.number) i; event = event_of c.args.event; outcome = c.copied.ensures i } ∷ [])
     in
-    grown (line_of old) (line_of c.step.new.self) (number_of old) (number_of c.step.new.self) (state_of old) (state_of c.step.new.self) front (map entry_of c.push_reserved.new.self.items)
-    (event_of c.args.event) (outcome_of c.in_ok-outcome.outcome) c.self.invariant.0 c.in_ok-outcome.ensures.exact grows c.in_ok-outcome.ensures.line c.in_ok-outcome.ensures.number
+    grown (line_of old) (line_of c.step_to.new.self) (number_of old) (number_of c.step_to.new.self) (state_of old) (state_of c.step_to.new.self) front (map entry_of c.push_reserved.new.self.items)
+    (event_of c.args.event) (outcome_of c.step_to.new.out) c.self.invariant.0 c.in_ok-step_to.ensures.exact grows c.in_ok-step_to.ensures.line c.in_ok-step_to.ensures.number
 
 pub returns-in_err-may_step-clause-refused : goal.returns-in_err-may_step-clause-refused
 returns-in_err-may_step-clause-refused c =
