@@ -7,7 +7,6 @@ use Rattle.rbc_session.specs.Session.{key_of}
 use Rattle.rbc_session.specs.SessionStates.{StandsFor, session_phase, stands_with, has_key}
 use Rattle.rbc_session.specs.declared.session.Session.{Session}
 use Rattle.rbc_session.specs.declared.session.Opened.{Opened as OpenedType}
-use Rattle.rbc_session.specs.declared.session.Up.{Up as UpType}
 use Rattle.rbc_session.specs.declared.session.SessionState.{SessionState}
 use Rattle.rbc_session.specs.declared.session.SessionState.TheVariants as session_state
 use Rattle.rbc_session.proofs.SessionStates.{phase_at-session_state, opened_stands, stands_beside_opened, ended_phases, stands_beside_ended}
