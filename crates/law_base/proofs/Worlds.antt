@@ -25,7 +25,7 @@ pub data IsIdle : Answer → Type 0 where
   not_sent : IsIdle NotSent
   faulty : (number : ℕ) → IsIdle (Fault number)
 
-same_ok : (x y : Answer × World) → ◌≡◌ {A = Result (Answer × World) Refusal} (Ok x) (Ok y) → x ≡ y
+pub same_ok : {X : Type 0} (x y : X) → ◌≡◌ {A = Result X Refusal} (Ok x) (Ok y) → x ≡ y
 same_ok x y is = cc
 
 -- P holds of each event at a world, its answer and the world behind it, where it holds of each answer that changes nothing, and of each step
@@ -85,21 +85,18 @@ pub bind_ok : {A B : Type 0} (r : Result A Refusal) (next : A → Result B Refus
 bind_ok (Ok x) next y is = (x, refl, is)
 bind_ok (Err why) next y is = cc
 
-same_run : (x y : List Answer × World) → ◌≡◌ {A = Result (List Answer × World) Refusal} (Ok x) (Ok y) → x ≡ y
-same_run x y is = cc
-
 -- a run of events that fit keeps what each event keeps, and what holds of each answer holds of all
 module _ (line : Line) (Fits : Event → Type 0) (Q : World → Type 0) (S : Answer → Type 0)
     (steps : (w : World) → Q w → (event : Event) → Fits event → (answer : Answer) (new : World) → world_step line w event ≡ Ok (answer, new) → Q new × S answer) where
   pub of_run : (events : List Event) → All Fits events → (w : World) → Q w → (answers : List Answer) (last : World) → world_run line w events ≡ Ok (answers, last) → Q last × All S answers
   unfolding world_run
-  of_run [] fit w old answers last is = subst (λ (x : List Answer × World). Q x.1 × All S x.0) (same_run ([], w) (answers, last) is) (old, All-nil S)
+  of_run [] fit w old answers last is = subst (λ (x : List Answer × World). Q x.1 × All S x.0) (same_ok ([], w) (answers, last) is) (old, All-nil S)
   of_run (event ∷ events) fit w old answers last is =
       let first = bind_ok (world_step line w event) _ (answers, last) is in
       let others = bind_ok (world_run line first.0.1 events) _ (answers, last) first.2 in
       let now = steps w old event (All-head Fits event events fit) first.0.0 first.0.1 first.1 in
       let later = of_run events (All-tail Fits event events fit) first.0.1 now.0 others.0.0 others.0.1 others.1 in
-      subst (λ (x : List Answer × World). Q x.1 × All S x.0) (same_run (first.0.0 ∷ others.0.0, others.0.1) (answers, last) others.2) (later.0, All-cons S first.0.0 others.0.0 now.1 later.1)
+      subst (λ (x : List Answer × World). Q x.1 × All S x.0) (same_ok (first.0.0 ∷ others.0.0, others.0.1) (answers, last) others.2) (later.0, All-cons S first.0.0 others.0.0 now.1 later.1)
 
 -- of any events, and with nothing asked of the answers
 module _ (line : Line) (Q : World → Type 0) (steps : (w : World) → Q w → (event : Event) (answer : Answer) (new : World) → world_step line w event ≡ Ok (answer, new) → Q new) where

@@ -5,7 +5,6 @@ use Rattle.std.proofs.lemmas.Bool.{cases_eq, ne_eqb}
 use Rattle.law_counting.proofs.Sums.{put_same, put_other}
 use Rattle.rbc_spec.specs.Maps.{put}
 use Rattle.rbc_spec.specs.SectionRuns.{SectionRun}
-use Rattle.rbc_spec.specs.Message as message
 use Rattle.rbc_spec.specs.Frame.{Body, YieldedPlace, Announce, Cancel, Yield}
 use Rattle.rbc_spec.specs.Centre.{Centre, Mission, Handing}
 use Rattle.law_base.proofs.Puts.{itself}

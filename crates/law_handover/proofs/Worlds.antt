@@ -11,7 +11,7 @@ use Rattle.rbc_spec.specs.Outcome as outcome
 use Rattle.rbc_spec.specs.Centre.{Centre, beginning}
 use Rattle.rbc_spec.specs.Step as centre
 use Rattle.rbc_spec.specs.Step.{Effect, taken, taken_by, offered, link_answer, stamp_of, ticked, state_after}
-use Rattle.rbc_spec.specs.World.{World, Event, Set, Unset, Answer, new_world, frame_sent, world_step, world_run}
+use Rattle.rbc_spec.specs.World.{World, Event, Answer, new_world, frame_sent, world_step, world_run}
 use Rattle.law_base.proofs.Worlds.{Brings, says, sets, unsets, delivers, of_event, keeps_run}
 use Rattle.law_network.specs.Flow.{Flow, flow_of, in_world, centre_count}
 use Rattle.law_network.specs.Counts.{rights, tokens}

@@ -1,5 +1,5 @@
 -- No step of a world loses a right or a token, so none is ever lost.
-use Rattle.std.proofs.Common.{◌≡◌, ◌≢◌, ℕ, true, Some, None, List, [], Ok, refl, ap, subst, ltb-true}
+use Rattle.std.proofs.Common.{◌≡◌, ◌≢◌, ℕ, true, Some, None, List, Ok, refl, ap, subst, ltb-true}
 use Rattle.law_counting.specs.Network.{took, acted, TakesHead, IsCounted}
 use Rattle.law_counting.specs.Resource.{Resource, IsExact}
 use Rattle.law_counting.proofs.Network.{each_head}

@@ -1,5 +1,5 @@
 -- No question is lost in a world, and no frame of it is stray.
-use Rattle.std.proofs.Common.{◌≡◌, ◌≢◌, ℕ, ◌==◌, ◌&&◌, Bool, true, false, Some, List, [], Ok, refl, sym, subst, arith, ⊎_elim, ltb-true}
+use Rattle.std.proofs.Common.{◌≡◌, ◌≢◌, ℕ, ◌==◌, ◌&&◌, Bool, true, false, Some, List, Ok, refl, sym, subst, arith, ⊎_elim, ltb-true}
 use Rattle.std.proofs.lemmas.Bool.{cases_eq}
 use Rattle.law_counting.specs.Sums.{one_if}
 use Rattle.law_counting.specs.Network.{took, acted, TakesHead, IsCounted}

@@ -8,7 +8,7 @@ use Rattle.rbc_spec.specs.Outcome.{Next, Old, Early, NoLink}
 use Rattle.rbc_spec.specs.Outcome as outcome
 use Rattle.rbc_spec.specs.Step as centre
 use Rattle.rbc_spec.specs.Step.{taken, link_answer, stamp_of, ticked}
-use Rattle.rbc_spec.specs.World.{World, Event, Set, Unset, Answer, frame_sent, world_step}
+use Rattle.rbc_spec.specs.World.{World, Event, Answer, frame_sent, world_step}
 use Rattle.law_base.proofs.Worlds.{Brings, says, sets, unsets, delivers, of_event}
 use Rattle.law_network.specs.Flow.{Flow, flow_of, in_world}
 use Rattle.law_network.specs.Numbers.{IsNumbered, taken_after}

@@ -1,5 +1,5 @@
 -- Each step of a world keeps what is asked for.
-use Rattle.std.proofs.Common.{◌≡◌, [], Ok, arith}
+use Rattle.std.proofs.Common.{◌≡◌, Ok, arith}
 use Rattle.law_counting.proofs.Network.{each_start, each_head}
 use Rattle.law_counting.proofs.Resource.{within_start}
 use Rattle.rbc_spec.specs.Line.{Line, IsLine}

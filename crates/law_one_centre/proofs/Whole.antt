@@ -1,14 +1,13 @@
 -- Whole lists of events at the centres of a one-centre line are met without free choice.
-use Rattle.std.proofs.Common.{◌≡◌, ℕ, refl, List, [], ◌∷◌, Result, Ok, subst}
+use Rattle.std.proofs.Common.{◌≡◌, ℕ, refl, List, [], ◌∷◌, Ok, subst}
 use Rattle.rbc_spec.specs.Line.{Line, IsLine}
-use Rattle.rbc_spec.specs.Step.{Refusal}
 use Rattle.rbc_spec.specs.LineCentre.{LineState, line_beginning}
 use Rattle.rbc_spec.specs.World.{World, Event, Answer, new_world, world_step, world_run}
 use Rattle.rbc_spec.specs.ReadOff.{read_off}
 use Rattle.rbc_spec.specs.Theorems.{IsOneCentreLine, GoesForced, ForcedRun, IsOneCentreRun}
 use Rattle.law_local.specs.Local.{IsLocal}
 use Rattle.law_local.proofs.Ordered.{is_ordered}
-use Rattle.law_base.proofs.Worlds.{bind_ok}
+use Rattle.law_base.proofs.Worlds.{bind_ok, same_ok}
 use Rattle.law_local.proofs.Worlds.{new_local, world_step_local}
 use Rattle.law_refinement.specs.Meets.{Meets}
 use Rattle.law_refinement.proofs.Lines.{line_begins, is_read, stands_read}
@@ -28,9 +27,6 @@ module _ (line : Line) (ok : IsLine line) (d : ℕ) (one : IsOneCentreLine line 
   unfolding world_run
   run_goes [] w v meets local answers last is =
       subst (λ (q : List Answer × World). (u : LineState) × ForcedRun line v [] q.0 u × Meets line q.1 u) (same_ok ([], w) (answers, last) is) (v, refl, meets)
-    where
-      same_ok : (p q : List Answer × World) → ◌≡◌ {A = Result (List Answer × World) Refusal} (Ok p) (Ok q) → p ≡ q
-      same_ok p q e = cc
   run_goes (event ∷ events) w v meets local answers last is =
       let first = bind_ok (world_step line w event) _ (answers, last) is in
       let others = bind_ok (world_run line first.0.1 events) _ (answers, last) first.2 in
@@ -38,9 +34,6 @@ module _ (line : Line) (ok : IsLine line) (d : ℕ) (one : IsOneCentreLine line 
       let rest = run_goes events first.0.1 next.0 next.2 (world_step_local line w local (is_ordered line ok) d one event first.0.0 first.0.1 first.1) others.0.0 others.0.1 others.1 in
       subst (λ (q : List Answer × World). (u : LineState) × ForcedRun line v (event ∷ events) q.0 u × Meets line q.1 u) (same_ok (first.0.0 ∷ others.0.0, others.0.1) (answers, last) others.2)
       (rest.0, (next.0, next.1, rest.1), rest.2)
-    where
-      same_ok : (p q : List Answer × World) → ◌≡◌ {A = Result (List Answer × World) Refusal} (Ok p) (Ok q) → p ≡ q
-      same_ok p q e = cc
 
   -- from the beginning on, to what is read off
   module _ (events : List Event) (answers : List Answer) (w : World) (is : world_run line (new_world line) events ≡ Ok (answers, w)) where

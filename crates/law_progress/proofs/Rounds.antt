@@ -14,7 +14,7 @@ use Rattle.rbc_spec.specs.Centre.{Mission, Expectation, Phase, Closed, Opened, U
 use Rattle.rbc_spec.specs.Step.{Refusal}
 use Rattle.rbc_spec.specs.World.{World, Event, Bytes, Set, Unset, Delivery, Answer, world_step, world_run}
 use Rattle.law_base.proofs.Lists.{any-range_none}
-use Rattle.law_base.proofs.Worlds.{bind_ok}
+use Rattle.law_base.proofs.Worlds.{bind_ok, same_ok}
 use Rattle.law_network.specs.Flow.{flow_of, centre_count}
 use Rattle.law_network.specs.Pairs.{follows, handing_to}
 use Rattle.law_network.proofs.Frames.{way_is}
@@ -134,19 +134,16 @@ module _ (line : Line) (ok : IsLine line) where
       by_result (Ok (answer, new)) is = goes_first w event on answer new is
           (later answer new is (mid_step w mid event on answer new is) (none_new line ok w mid.reached.sound event on answer new is))
 
-  same_end : (p q : List Answer × World) → ◌≡◌ {A = Result (List Answer × World) Refusal} (Ok p) (Ok q) → p ≡ q
-  same_end p q e = cc
-
   delivers_all : (events : List Event) → All IsDelivery events → (w : World) → IsMid w → (answers : List Answer) (last : World) → world_run line w events ≡ Ok (answers, last)
       → (IsMid last → HasNoNew w last → GoesOn line last) → GoesOn line w
   unfolding world_run
   delivers_all [] all w mid answers last is later =
-      subst (λ (x : World). (IsMid x → HasNoNew w x → GoesOn line x) → GoesOn line w) (ap (λ (q : List Answer × World). q.1) (same_end ([], w) (answers, last) is))
+      subst (λ (x : World). (IsMid x → HasNoNew w x → GoesOn line x) → GoesOn line w) (ap (λ (q : List Answer × World). q.1) (same_ok ([], w) (answers, last) is))
       (λ goes. goes mid (λ c t none. none)) later
   delivers_all (event ∷ events) all w mid answers last is later =
       let first = bind_ok (world_step line w event) _ (answers, last) is in
       let others = bind_ok (world_run line first.0.1 events) _ (answers, last) first.2 in
-      let same : others.0.1 ≡ last = ap (λ (q : List Answer × World). q.1) (same_end (first.0.0 ∷ others.0.0, others.0.1) (answers, last) others.2) in
+      let same : others.0.1 ≡ last = ap (λ (q : List Answer × World). q.1) (same_ok (first.0.0 ∷ others.0.0, others.0.1) (answers, last) others.2) in
       let on = delivery_on event (All-head IsDelivery event events all) in
       goes_first w event on first.0.0 first.0.1 first.1
       (delivers_all events (All-tail IsDelivery event events all) first.0.1 (mid_step w mid event on first.0.0 first.0.1 first.1) others.0.0 others.0.1 others.1

@@ -1,9 +1,8 @@
 -- What is promised of one event is promised of whole lists of them.
-use Rattle.std.proofs.Common.{◌==◌, ◌≡◌, ℕ, Bool, true, false, List, [], ◌∷◌, ◌++◌, Option, Some, None, Result, Ok, refl, sym, ap, ◌∙◌, subst, eqb-true}
+use Rattle.std.proofs.Common.{◌==◌, ◌≡◌, ℕ, Bool, true, false, List, [], ◌∷◌, ◌++◌, Option, Some, None, Ok, refl, sym, ap, ◌∙◌, subst, eqb-true}
 use Rattle.std.specs.Prelude.{Contains}
 use Rattle.rbc_spec.specs.Maps.{has}
 use Rattle.rbc_spec.specs.Line.{Line, IsLine, Section, section, is_home, is_centre}
-use Rattle.rbc_spec.specs.Step.{Refusal}
 use Rattle.rbc_spec.specs.Outcome.{Outcome, Told, Done}
 use Rattle.rbc_spec.specs.Centre as centre
 use Rattle.rbc_spec.specs.LineCentre.{Shut, Given, is_given_to}
@@ -11,7 +10,7 @@ use Rattle.rbc_spec.specs.World.{World, Event, Unset, Answer, Answered, new_worl
 use Rattle.rbc_spec.specs.ReadOff.{holder, mark_of, read_off}
 use Rattle.rbc_spec.proofs.Safe.{given_mark}
 use Rattle.rbc_spec.specs.Promises.{is_given, MayFree, KeepsPromises, IsSound, user}
-use Rattle.law_base.proofs.Worlds.{bind_ok}
+use Rattle.law_base.proofs.Worlds.{bind_ok, same_ok}
 use Rattle.law_network.proofs.Neighbours.{home_below}
 use Rattle.law_handover.proofs.Worlds.{world_begins, world_run_sound, world_step_sound}
 use Rattle.law_runs.proofs.Runs.{run_of_none, whole_run}
@@ -69,9 +68,6 @@ module _ (line : Line) (ok : IsLine line) (w new : World) (events : List Event) 
   done_back unsets tells = taken_back (kept.done o s c refl unsets tells)
 
 -- ## A run
-
-same_ok : (p q : List Answer × World) → ◌≡◌ {A = Result (List Answer × World) Refusal} (Ok p) (Ok q) → p ≡ q
-same_ok p q e = cc
 
 module _ (line : Line) (ok : IsLine line) (t s : ℕ) where
   abbrev pub given_in : World → Bool

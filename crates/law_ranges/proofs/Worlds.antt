@@ -53,10 +53,11 @@ module _ (line : Line) (ok : IsLine line) (w : World) (old : IsWorldInRange line
       → IsWorldInRange line (record { at = put w.at c (taken line c own (w.at c)).1; trains = trains }) × IsFewAnswer (Answered (taken line c own (w.at c)).0)
   steps_in_range event c own trains brings none read =
       let k : Centre = w.at c in
-      let range = brings_in_range event c own trains brings read in
-      (put_in_range c (taken line c own k).1 trains (stays_in_range line ok c k own range (old.centres c) none).centre
-      (λ b. All-append (IsFrameInRange line c b) (k.sent b) ((taken line c own k).0.frames b) (old.sent c b) (sends_in_range line ok c k own range (old.centres c) none b)),
-      says_few line c k own range (old.centres c))
+      let range = brings_in_range event c own trains brings read in (
+        put_in_range c (taken line c own k).1 trains (stays_in_range line ok c k own range (old.centres c) none).centre
+            (λ b. All-append (IsFrameInRange line c b) (k.sent b) ((taken line c own k).0.frames b) (old.sent c b) (sends_in_range line ok c k own range (old.centres c) none b)),
+        says_few line c k own range (old.centres c),
+      )
 
   step_fits : (event : Event) → IsReadInRange event → (answer : Answer) (new : World) → world_step line w event ≡ Ok (answer, new) → IsWorldInRange line new × IsFewAnswer answer
   step_fits event range answer new is = of_event line w (λ e a x. IsReadInRange e → IsWorldInRange line x × IsFewAnswer a) (λ e a idle read. (old, idle_few a idle)) steps_in_range event answer new is range

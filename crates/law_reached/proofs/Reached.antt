@@ -1,5 +1,5 @@
 -- What was reached stands for its read-off, and is sound.
-use Rattle.std.proofs.Common.{◌≡◌, List, [], Ok}
+use Rattle.std.proofs.Common.{◌≡◌, List, Ok}
 use Rattle.rbc_spec.specs.Line.{Line, IsLine}
 use Rattle.rbc_spec.specs.World.{World, Event, Answer, new_world, world_run}
 use Rattle.rbc_spec.specs.ReadOff.{StandsFor, read_off}

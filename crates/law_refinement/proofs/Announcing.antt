@@ -4,7 +4,6 @@ use Rattle.law_base.proofs.Puts.{put_holds}
 use Rattle.law_base.proofs.Worlds.{of_event}
 use Rattle.rbc_spec.specs.Line.{Line, IsLine, is_centre}
 use Rattle.rbc_spec.specs.Centre.{Centre, beginning}
-use Rattle.rbc_spec.specs.Step as step
 use Rattle.rbc_spec.specs.Step.{taken}
 use Rattle.rbc_spec.specs.World.{World, Event, Answer, new_world, world_step}
 use Rattle.law_handover.specs.Worlds.{IsWorldSound}

@@ -23,6 +23,7 @@ use Rattle.law_refinement.specs.Announced.{IsAnnounced}
 use Rattle.law_refinement.proofs.Silence.{silent_by_clock}
 use Rattle.law_refinement.proofs.Still.{silent_met, stray_met}
 use Rattle.law_refinement.proofs.Pieces.{message_met, set_met, unset_met, frame_met}
+use Rattle.law_base.proofs.Worlds.{same_ok}
 
 module _ (line : Line) (w : World) (v : LineState) (meets : Meets line w v) (G : Event → Answer → LineState → Type 0) where
   -- what holds of an answer holds where nothing is done: of bytes that spell no message, at a centre that is not of the line, of a frame never sent
@@ -39,9 +40,6 @@ module _ (line : Line) (w : World) (v : LineState) (meets : Meets line w v) (G :
 
   abbrev pub Leaves : Event → Result (Answer × World) Refusal → Type 0
   Leaves event r = (answer : Answer) (new : World) → r ≡ Ok (answer, new) → GoesOn event (answer, new)
-
-  same_ok : (x y : Answer × World) → ◌≡◌ {A = Result (Answer × World) Refusal} (Ok x) (Ok y) → x ≡ y
-  same_ok x y is = cc
 
   stands_still : (event : Event) (answer : Answer) → G event answer v → Leaves event (Ok (answer, w))
   stands_still event answer goes other new is = subst (GoesOn event) (same_ok (answer, w) (other, new) is) (v, goes, meets.shows)

@@ -1,12 +1,11 @@
 -- Whole lists of events are runs of the one line centre.
-use Rattle.std.proofs.Common.{◌≡◌, List, [], ◌∷◌, Result, Ok, refl, subst}
+use Rattle.std.proofs.Common.{◌≡◌, List, [], ◌∷◌, Ok, refl, subst}
 use Rattle.rbc_spec.specs.Line.{Line, IsLine}
-use Rattle.rbc_spec.specs.Step.{Refusal}
 use Rattle.rbc_spec.specs.LineCentre.{LineState, line_beginning}
 use Rattle.rbc_spec.specs.World.{World, Event, Answer, new_world, world_step, world_run}
 use Rattle.rbc_spec.specs.Run.{Run}
 use Rattle.rbc_spec.specs.ReadOff.{StandsFor, IsLineRun, read_off}
-use Rattle.law_base.proofs.Worlds.{bind_ok}
+use Rattle.law_base.proofs.Worlds.{bind_ok, same_ok}
 use Rattle.law_network.proofs.Begins.{line_shows}
 use Rattle.law_network.proofs.Stands.{stands}
 use Rattle.law_handover.proofs.Worlds.{world_begins}
@@ -34,9 +33,6 @@ module _ (line : Line) (ok : IsLine line) where
   unfolding world_run
   run_goes [] w v meets announced answers last is =
       subst (λ (q : List Answer × World). (u : LineState) × Run line v [] q.0 u × Meets line q.1 u × IsAnnounced line q.1) (same_ok ([], w) (answers, last) is) (v, refl, meets, announced)
-    where
-      same_ok : (p q : List Answer × World) → ◌≡◌ {A = Result (List Answer × World) Refusal} (Ok p) (Ok q) → p ≡ q
-      same_ok p q e = cc
   run_goes (event ∷ events) w v meets announced answers last is =
       let first = bind_ok (world_step line w event) _ (answers, last) is in
       let others = bind_ok (world_run line first.0.1 events) _ (answers, last) first.2 in
@@ -44,9 +40,6 @@ module _ (line : Line) (ok : IsLine line) where
       let rest = run_goes events first.0.1 one.0 one.2 (announced_stays line ok w meets.sound announced event first.0.0 first.0.1 first.1) others.0.0 others.0.1 others.1 in
       subst (λ (q : List Answer × World). (u : LineState) × Run line v (event ∷ events) q.0 u × Meets line q.1 u × IsAnnounced line q.1)
       (same_ok (first.0.0 ∷ others.0.0, others.0.1) (answers, last) others.2) (rest.0, (one.0, one.1, rest.1), rest.2, rest.3)
-    where
-      same_ok : (p q : List Answer × World) → ◌≡◌ {A = Result (List Answer × World) Refusal} (Ok p) (Ok q) → p ≡ q
-      same_ok p q e = cc
 
   -- from the beginning on, to what is read off
   pub run_read : (events : List Event) (answers : List Answer) (w : World) → world_run line (new_world line) events ≡ Ok (answers, w)

@@ -1,7 +1,6 @@
 -- Each event behind any others is met, keeps its promises and leaves a sound world.
-use Rattle.std.proofs.Common.{◌≡◌, List, [], ◌∷◌, ◌++◌, Result, Ok, sym, ap, ◌∙◌, subst}
+use Rattle.std.proofs.Common.{◌≡◌, List, [], ◌∷◌, ◌++◌, Ok, sym, ap, ◌∙◌, subst}
 use Rattle.rbc_spec.specs.Line.{Line, IsLine}
-use Rattle.rbc_spec.specs.Step.{Refusal}
 use Rattle.rbc_spec.specs.LineCentre.{LineState}
 use Rattle.rbc_spec.specs.World.{World, Event, Answer, new_world, world_step, world_run}
 use Rattle.rbc_spec.specs.Run.{Goes}
@@ -9,7 +8,7 @@ use Rattle.rbc_spec.specs.ReadOff.{StandsFor, read_off}
 use Rattle.rbc_spec.specs.Promises.{KeepsPromises, IsSound}
 use Rattle.rbc_spec.specs.Theorems.{WholeLineTheorem, EachEventTheorem}
 use Rattle.rbc_spec.proofs.Safe.{safe}
-use Rattle.law_base.proofs.Worlds.{bind_ok, keeps_run}
+use Rattle.law_base.proofs.Worlds.{bind_ok, keeps_run, same_ok}
 use Rattle.law_network.proofs.OnePlace.{has_one_place}
 use Rattle.law_handover.specs.Worlds.{IsWorldSound}
 use Rattle.law_handover.proofs.Worlds.{world_begins, world_step_sound}
@@ -21,9 +20,6 @@ use Rattle.law_refinement.proofs.Events.{each_event_goes}
 use Rattle.law_refinement.proofs.Lines.{is_read, stands_read, run_read, the_run}
 use Rattle.law_refinement.proofs.Silence.{heard_alike}
 use Rattle.law_refinement.proofs.Waits.{WaitsAtCentres, begins_so, event_so, waits_keep}
-
-same_ok : (p q : List Answer × World) → ◌≡◌ {A = Result (List Answer × World) Refusal} (Ok p) (Ok q) → p ≡ q
-same_ok p q e = cc
 
 -- nothing waits elsewhere than at centres, whatever happened
 pub run_so : (line : Line) → IsLine line → (events : List Event) (w : World) → IsWorldSound line w → WaitsAtCentres line w → (answers : List Answer) (last : World)

@@ -44,6 +44,7 @@ speaking t = record { announces = false; speaks = true; expects = false; train =
 abbrev pub setting : May
 setting = record { announces = false; speaks = true; expects = false; train = None; yields = None; cause = Wish }
 
+-- the position of a report, where the message has one
 abbrev pub position_of : TrainBody → Option Position
 position_of (TrainData position) = Some position
 position_of (Request position) = Some position
