@@ -15,6 +15,7 @@ use crate::outcome::Outcome;
 use crate::posted::post;
 use rbc_link::LinkAnswer;
 use rbc_linkmsg::Frame;
+use rbc_train::Heard;
 use std::alloc::AllocError;
 use std::cmp::max;
 
@@ -81,13 +82,15 @@ impl Centre {
             return;
         };
         let train = &mut self.trains[i as usize];
-        let heard = train.receive(
+        let mut heard = Heard::nothing();
+        train.receive(
             &self.line,
             self.number,
             &mut self.book,
             &mut self.desk.registrar,
             from,
             body,
+            &mut heard,
         );
         post(
             &mut self.links,

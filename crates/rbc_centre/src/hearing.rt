@@ -22,7 +22,7 @@ use crate::outcome::Outcome;
 use crate::posted::post;
 use crate::ranges::look_at_ranges;
 use rbc_msgs::{TrainBody, TrainMsg};
-use rbc_train::{Reason, tells_others};
+use rbc_train::{Heard, Reason, tells_others};
 use std::alloc::AllocError;
 
 impl Centre {
@@ -137,7 +137,8 @@ impl Centre {
     {
         self.clock += 1;
         let train = &mut self.trains[i];
-        let heard = train.take(
+        let mut heard = Heard::nothing();
+        let taken = train.take(
             &self.line,
             self.number,
             &mut self.book,
@@ -145,9 +146,10 @@ impl Centre {
             &mut self.desk.handovers,
             &mut self.sessions,
             message,
+            &mut heard,
         );
-        match heard {
-            Ok(heard) => {
+        match taken {
+            Ok(()) => {
                 post(
                     &mut self.links,
                     &mut self.room,

@@ -25,63 +25,63 @@ use Rattle.rbc_centre.proofs.centre.Centre.hear_train.Goals as goal
 
 -- ## The train that the message is from, in the list of trains
 
-pub take-heard-requires-clause-engine : goal.take-heard-requires-clause-engine
-take-heard-requires-clause-engine c =
+pub take-taken-requires-clause-engine : goal.take-taken-requires-clause-engine
+take-taken-requires-clause-engine c =
     let k = c.args.self.now in
     let at = slice_get_read _ _ _ _ refl (number_within k.line k.trains.items _ c.args.i c.requires.number k.train_count) c.index_mut-train.ensures.value in
     sym (of_train k _ c.args.i c.index_mut-train.result.now c.requires.number at).engine
 
-pub take-heard-requires-clause-number : goal.take-heard-requires-clause-number
-take-heard-requires-clause-number c =
+pub take-taken-requires-clause-number : goal.take-taken-requires-clause-number
+take-taken-requires-clause-number c =
     let k = c.args.self.now in
     let at = slice_get_read _ _ _ _ refl (number_within k.line k.trains.items _ c.args.i c.requires.number k.train_count) c.index_mut-train.ensures.value in
     has_number k _ c.args.i c.index_mut-train.result.now c.requires.number at
 
-pub take-heard-requires-clause-stands : goal.take-heard-requires-clause-stands
-take-heard-requires-clause-stands c =
+pub take-taken-requires-clause-stands : goal.take-taken-requires-clause-stands
+take-taken-requires-clause-stands c =
     let k = c.args.self.now in
     let old = c.index_mut-train.result.now in
     let at = slice_get_read _ _ _ _ refl (number_within k.line k.trains.items _ c.args.i c.requires.number k.train_count) c.index_mut-train.ensures.value in
     let is = of_train k _ c.args.i old c.requires.number at in
     subst (λ (n : ℕ). StandsFor k.sessions old.session_state n) (sym is.engine) (stands_for_train k.sessions old.session_state _ is.session)
 
-pub take-heard-requires-clause-room : goal.take-heard-requires-clause-room
-take-heard-requires-clause-room c = λ opens timely.
+pub take-taken-requires-clause-room : goal.take-taken-requires-clause-room
+take-taken-requires-clause-room c = λ opens timely.
     let k = c.args.self.now in
     let m = step_message c.args.message.now in
     let at = slice_get_read _ _ _ _ refl (number_within k.line k.trains.items _ c.args.i c.requires.number k.train_count) c.index_mut-train.ensures.value in
     c.requires.session opens (ap (is_stale m.t_train) (heard_of k.line k.number k.clock m.nid_engine c.args.i k.book k.desk k.links k.trains.items c.index_mut-train.result.now c.requires.number at) ∙ timely)
 
-pub take-heard-requires-clause-count : goal.take-heard-requires-clause-count
-take-heard-requires-clause-count c =
+pub take-taken-requires-clause-count : goal.take-taken-requires-clause-count
+take-taken-requires-clause-count c =
     let k = c.args.self.now in
     let at = slice_get_read _ _ _ _ refl (number_within k.line k.trains.items _ c.args.i c.requires.number k.train_count) c.index_mut-train.ensures.value in
     has_count k _ c.args.i c.index_mut-train.result.now c.requires.number at c.requires.time
 
-pub take-heard-requires-clause-kept : goal.take-heard-requires-clause-kept
-take-heard-requires-clause-kept c =
+pub take-taken-requires-clause-kept : goal.take-taken-requires-clause-kept
+take-taken-requires-clause-kept c =
     let k = c.args.self.now in
     let at = slice_get_read _ _ _ _ refl (number_within k.line k.trains.items _ c.args.i c.requires.number k.train_count) c.index_mut-train.ensures.value in
     kept_train k _ c.args.i c.index_mut-train.result.now c.requires.number at
 
-pub take-heard-requires-clause-held : goal.take-heard-requires-clause-held
-take-heard-requires-clause-held c =
+pub take-taken-requires-clause-held : goal.take-taken-requires-clause-held
+take-taken-requires-clause-held c =
     let k = c.args.self.now in
     let at = slice_get_read _ _ _ _ refl (number_within k.line k.trains.items _ c.args.i c.requires.number k.train_count) c.index_mut-train.ensures.value in
     (of_train k _ c.args.i c.index_mut-train.result.now c.requires.number at).held
 
-pub take-heard-requires-clause-book : goal.take-heard-requires-clause-book
-take-heard-requires-clause-book c = c.args.self.now.own_sections
+pub take-taken-requires-clause-book : goal.take-taken-requires-clause-book
+take-taken-requires-clause-book c = c.args.self.now.own_sections
 
-pub take-heard-requires-clause-on : goal.take-heard-requires-clause-on
-take-heard-requires-clause-on c m stands s inside =
+pub take-taken-requires-clause-on : goal.take-taken-requires-clause-on
+take-taken-requires-clause-on c m stands s inside =
     let k = c.args.self.now in
     let old = c.index_mut-train.result.now in
     let at = slice_get_read _ _ _ _ refl (number_within k.line k.trains.items _ c.args.i c.requires.number k.train_count) c.index_mut-train.ensures.value in
     on_track k _ c.args.i old c.requires.number at m stands s inside
 
-pub take-heard-requires-clause-announced : goal.take-heard-requires-clause-announced
-take-heard-requires-clause-announced c = let few = c.args.self.now.announced in omega (arith, few, c.requires.time)
+pub take-taken-requires-clause-announced : goal.take-taken-requires-clause-announced
+take-taken-requires-clause-announced c = let few = c.args.self.now.announced in omega (arith, few, c.requires.time)
 
 -- ## What goes to other centres
 
@@ -96,10 +96,10 @@ post-requires-clause-may c =
     let number = c.requires.number in
     let old = c.index_mut-train.result.now in
     let at = slice_get_read _ _ _ _ refl (number_within k.line k.trains.items _ i number k.train_count) c.index_mut-train.ensures.value in
-    let heard = c.in-Ok.heard in
+    let heard = c.take-taken.new.out in
     let engine = c.nid_engine.ensures.value ∙ sym (of_train k _ i old number at).engine in
-    subst (λ (t : ℕ). (d : ℕ) → MayPost k.links d (mail_to k.line k.number t (expected_from c.take-heard.new.self.expectations) heard.mail d)) (sym engine)
-    (heard_may k m _ i old number at c.take-heard.new.self c.take-heard.new.book c.take-heard.new.registrar c.take-heard.new.count c.take-heard.ensures.kept c.take-heard.ensures.desk heard c.in-Ok.ensures.exact
+    subst (λ (t : ℕ). (d : ℕ) → MayPost k.links d (mail_to k.line k.number t (expected_from c.take-taken.new.self.expectations) heard.mail d)) (sym engine)
+    (heard_may k m _ i old number at c.take-taken.new.self c.take-taken.new.book c.take-taken.new.registrar c.take-taken.new.count c.take-taken.ensures.kept c.take-taken.ensures.desk heard c.in-Ok.ensures.exact
     c.requires.time c.requires.numbers c.requires.ranges c.requires.frames)
 
 pub post-requires-clause-room : goal.post-requires-clause-room
@@ -110,10 +110,10 @@ post-requires-clause-room c =
     let number = c.requires.number in
     let old = c.index_mut-train.result.now in
     let at = slice_get_read _ _ _ _ refl (number_within k.line k.trains.items _ i number k.train_count) c.index_mut-train.ensures.value in
-    let heard = c.in-Ok.heard in
+    let heard = c.take-taken.new.out in
     let engine = c.nid_engine.ensures.value ∙ sym (of_train k _ i old number at).engine in
-    subst (λ (t : ℕ). (d : ℕ) → (mail_to k.line k.number t (expected_from c.take-heard.new.self.expectations) heard.mail d ≡ []) ⊎ HasFrameRoom k.room) (sym engine)
-    (heard_frames k m _ i old number at c.take-heard.new.self c.take-heard.new.book c.take-heard.new.registrar c.take-heard.new.count c.take-heard.ensures.kept c.take-heard.ensures.desk heard c.in-Ok.ensures.exact c.requires.room)
+    subst (λ (t : ℕ). (d : ℕ) → (mail_to k.line k.number t (expected_from c.take-taken.new.self.expectations) heard.mail d ≡ []) ⊎ HasFrameRoom k.room) (sym engine)
+    (heard_frames k m _ i old number at c.take-taken.new.self c.take-taken.new.book c.take-taken.new.registrar c.take-taken.new.count c.take-taken.ensures.kept c.take-taken.ensures.desk heard c.in-Ok.ensures.exact c.requires.room)
 
 -- ## The centre that is left
 
@@ -127,19 +127,19 @@ invariant_of-self c =
     let old = c.index_mut-train.result.now in
     let at = slice_get_read _ _ _ _ refl (number_within k.line k.trains.items t i number k.train_count) c.index_mut-train.ensures.value in
     let now = k.clock + 1 in
-    let new = c.take-heard.new.self in
-    let heard = c.in-Ok.heard in
-    let kept = c.take-heard.ensures.kept in
-    let desk = c.take-heard.ensures.desk in
+    let new = c.take-taken.new.self in
+    let heard = c.take-taken.new.out in
+    let kept = c.take-taken.ensures.kept in
+    let desk = c.take-taken.ensures.desk in
     let is = of_train k t i old number at in
-    let effect = hears k (Train m) t i old number at now new c.take-heard.new.book c.take-heard.new.registrar c.take-heard.new.count kept desk heard c.in-Ok.ensures.exact in
+    let effect = hears k (Train m) t i old number at now new c.take-taken.new.book c.take-taken.new.registrar c.take-taken.new.count kept desk heard c.in-Ok.ensures.exact in
     let sent = sent_by k.line k.number c.nid_engine.result old.supervision.engine now (expected_from new.expectations) heard.mail k.links c.post.new.links (frames_to c.post.new.frames) (c.nid_engine.ensures.value ∙ sym is.engine) c.post.ensures.posted c.post.ensures.frames in
-    let s = stays k (Train m) now k.links c.post.new.links c.take-heard.new.book (record { registrar = c.take-heard.new.registrar; handovers = c.take-heard.new.count }) (set k.trains.items i new) (mail_to k.line k.number old.supervision.engine (expected_from new.expectations) heard.mail) (told_train heard.saying heard.order) (map (λ s. Told s) heard.told) None None
+    let s = stays k (Train m) now k.links c.post.new.links c.take-taken.new.book (record { registrar = c.take-taken.new.registrar; handovers = c.take-taken.new.count }) (set k.trains.items i new) (mail_to k.line k.number old.supervision.engine (expected_from new.expectations) heard.mail) (told_train heard.saying heard.order) (map (λ s. Told s) heard.told) None None
     (heard_stamp k m) (λ d. refl) sent.links effect (frames_to c.post.new.frames) sent.each
     (omega arith) (omega (arith, c.requires.time)) tt (heard_allowed k c.requires.time c.requires.numbers m) (k.of_line, c.requires.ranges)
-    (heard_may k m t i old number at new c.take-heard.new.book c.take-heard.new.registrar c.take-heard.new.count kept desk heard c.in-Ok.ensures.exact c.requires.time c.requires.numbers c.requires.ranges c.requires.frames) desk.homes desk.rights.count (length-set k.trains.items i new) refl (λ d. refl) in
-    let enters : Enters k.sessions c.take-heard.new.sessions new.session_state t (session_phase new.session_state) =
-    subst (λ (n : ℕ). Enters k.sessions c.take-heard.new.sessions new.session_state n (session_phase new.session_state)) is.engine c.take-heard.ensures.stands in
+    (heard_may k m t i old number at new c.take-taken.new.book c.take-taken.new.registrar c.take-taken.new.count kept desk heard c.in-Ok.ensures.exact c.requires.time c.requires.numbers c.requires.ranges c.requires.frames) desk.homes desk.rights.count (length-set k.trains.items i new) refl (λ d. refl) in
+    let enters : Enters k.sessions c.take-taken.new.sessions new.session_state t (session_phase new.session_state) =
+    subst (λ (n : ℕ). Enters k.sessions c.take-taken.new.sessions new.session_state n (session_phase new.session_state)) is.engine c.take-taken.ensures.stands in
     record {
       line_rules = k.line_rules;
       of_line = k.of_line;
@@ -150,10 +150,10 @@ invariant_of-self c =
       each_link = s.each_link;
       each_frame = ∣ s.each_frame ∣₁;
       train_count = s.train_count;
-      each_train = each_of_train_after k.line k.number k.sessions c.take-heard.new.sessions k.trains.items t i new (session_phase new.session_state) (within k t i old number at) number enters
-          (kept.number ∙ is.number) (kept.engine ∙ is.engine) (kept.waiting ∙ is.waiting) (c.take-heard.ensures.covers is.covers) c.take-heard.ensures.held (c.take-heard.ensures.expected ∙ is.expected) k.each_train;
-      counted = each_counted k t i old number at now k.links new c.take-heard.new.book c.take-heard.new.registrar c.take-heard.new.count kept desk (omega arith);
-      announced = let few = k.announced in let more = c.take-heard.ensures.announced in omega (arith, few, more);
+      each_train = each_of_train_after k.line k.number k.sessions c.take-taken.new.sessions k.trains.items t i new (session_phase new.session_state) (within k t i old number at) number enters
+          (kept.number ∙ is.number) (kept.engine ∙ is.engine) (kept.waiting ∙ is.waiting) (c.take-taken.ensures.covers is.covers) c.take-taken.ensures.held (c.take-taken.ensures.expected ∙ is.expected) k.each_train;
+      counted = each_counted k t i old number at now k.links new c.take-taken.new.book c.take-taken.new.registrar c.take-taken.new.count kept desk (omega arith);
+      announced = let few = k.announced in let more = c.take-taken.ensures.announced in omega (arith, few, more);
       sound = s.sound;
       ranged = s.ranged;
     }
@@ -168,18 +168,18 @@ invariant_of-self-in-Err-1 c =
     let old = c.index_mut-train.result.now in
     let at = slice_get_read _ _ _ _ refl (number_within k.line k.trains.items t i number k.train_count) c.index_mut-train.ensures.value in
     let now = k.clock + 1 in
-    let new = c.take-heard.new.self in
-    let kept = c.take-heard.ensures.kept in
-    let desk = c.take-heard.ensures.desk in
+    let new = c.take-taken.new.self in
+    let kept = c.take-taken.ensures.kept in
+    let desk = c.take-taken.ensures.desk in
     let is = of_train k t i old number at in
-    let effect = takes k (Train m) t i old number at now new c.take-heard.new.book c.take-heard.new.registrar c.take-heard.new.count kept desk (Err c.in-Err.why) c.in-Err.ensures.exact in
-    let s = stays k (Train m) now k.links k.links c.take-heard.new.book (record { registrar = c.take-heard.new.registrar; handovers = c.take-heard.new.count }) (set k.trains.items i new) (λ d. []) [] [] None (Some (reason_of c.in-Err.why))
+    let effect = takes k (Train m) t i old number at now new c.take-taken.new.book c.take-taken.new.registrar c.take-taken.new.count kept desk (Err c.in-Err.why) c.in-Err.ensures.exact in
+    let s = stays k (Train m) now k.links k.links c.take-taken.new.book (record { registrar = c.take-taken.new.registrar; handovers = c.take-taken.new.count }) (set k.trains.items i new) (λ d. []) [] [] None (Some (reason_of c.in-Err.why))
     (heard_stamp k m) (λ d. refl) (posted_none body_of now k.links) effect (λ d. []) (λ d. refl)
     (omega arith) (omega (arith, c.requires.time)) tt (heard_allowed k c.requires.time c.requires.numbers m) (k.of_line, c.requires.ranges)
     (may_be_sent k (Train m) now k.links _ (λ d. []) [] [] None (Some (reason_of c.in-Err.why)) (heard_stamp k m) (λ d. refl) effect (heard_allowed k c.requires.time c.requires.numbers m) (k.of_line, c.requires.ranges)
     k.each_link (λ d. omega arith) (λ d has. omega arith)) desk.homes desk.rights.count (length-set k.trains.items i new) refl (λ d. refl) in
-    let enters : Enters k.sessions c.take-heard.new.sessions new.session_state t (session_phase new.session_state) =
-    subst (λ (n : ℕ). Enters k.sessions c.take-heard.new.sessions new.session_state n (session_phase new.session_state)) is.engine c.take-heard.ensures.stands in
+    let enters : Enters k.sessions c.take-taken.new.sessions new.session_state t (session_phase new.session_state) =
+    subst (λ (n : ℕ). Enters k.sessions c.take-taken.new.sessions new.session_state n (session_phase new.session_state)) is.engine c.take-taken.ensures.stands in
     record {
       line_rules = k.line_rules;
       of_line = k.of_line;
@@ -190,10 +190,10 @@ invariant_of-self-in-Err-1 c =
       each_link = s.each_link;
       each_frame = ∣ s.each_frame ∣₁;
       train_count = s.train_count;
-      each_train = each_of_train_after k.line k.number k.sessions c.take-heard.new.sessions k.trains.items t i new (session_phase new.session_state) (within k t i old number at) number enters
-          (kept.number ∙ is.number) (kept.engine ∙ is.engine) (kept.waiting ∙ is.waiting) (c.take-heard.ensures.covers is.covers) c.take-heard.ensures.held (c.take-heard.ensures.expected ∙ is.expected) k.each_train;
-      counted = each_counted k t i old number at now k.links new c.take-heard.new.book c.take-heard.new.registrar c.take-heard.new.count kept desk (omega arith);
-      announced = let few = k.announced in let more = c.take-heard.ensures.announced in omega (arith, few, more);
+      each_train = each_of_train_after k.line k.number k.sessions c.take-taken.new.sessions k.trains.items t i new (session_phase new.session_state) (within k t i old number at) number enters
+          (kept.number ∙ is.number) (kept.engine ∙ is.engine) (kept.waiting ∙ is.waiting) (c.take-taken.ensures.covers is.covers) c.take-taken.ensures.held (c.take-taken.ensures.expected ∙ is.expected) k.each_train;
+      counted = each_counted k t i old number at now k.links new c.take-taken.new.book c.take-taken.new.registrar c.take-taken.new.count kept desk (omega arith);
+      announced = let few = k.announced in let more = c.take-taken.ensures.announced in omega (arith, few, more);
       sound = s.sound;
       ranged = s.ranged;
     }
@@ -210,14 +210,14 @@ returns-in-Ok-clause-exact c =
     let old = c.index_mut-train.result.now in
     let at = slice_get_read _ _ _ _ refl (number_within k.line k.trains.items t i number k.train_count) c.index_mut-train.ensures.value in
     let now = k.clock + 1 in
-    let new = c.take-heard.new.self in
-    let heard = c.in-Ok.heard in
-    let effect = hears k (Train m) t i old number at now new c.take-heard.new.book c.take-heard.new.registrar c.take-heard.new.count c.take-heard.ensures.kept c.take-heard.ensures.desk heard c.in-Ok.ensures.exact in
-    let left = stands_for k.line k.number now c.take-heard.new.book (record { registrar = c.take-heard.new.registrar; handovers = c.take-heard.new.count }) c.post.new.links (set k.trains.items i new) in
+    let new = c.take-taken.new.self in
+    let heard = c.take-taken.new.out in
+    let effect = hears k (Train m) t i old number at now new c.take-taken.new.book c.take-taken.new.registrar c.take-taken.new.count c.take-taken.ensures.kept c.take-taken.ensures.desk heard c.in-Ok.ensures.exact in
+    let left = stands_for k.line k.number now c.take-taken.new.book (record { registrar = c.take-taken.new.registrar; handovers = c.take-taken.new.count }) c.post.new.links (set k.trains.items i new) in
     let sent = sent_by k.line k.number c.nid_engine.result old.supervision.engine now (expected_from new.expectations) heard.mail k.links c.post.new.links (frames_to c.post.new.frames)
     (c.nid_engine.ensures.value ∙ sym (of_train k t i old number at).engine) c.post.ensures.posted c.post.ensures.frames in
     ap (λ (o : Outcome). (o, left)) c.write_heard.ensures
-    ∙ turns k (Train m) now k.links c.post.new.links c.take-heard.new.book (record { registrar = c.take-heard.new.registrar; handovers = c.take-heard.new.count }) (set k.trains.items i new) (mail_to k.line k.number old.supervision.engine (expected_from new.expectations) heard.mail) (told_train heard.saying heard.order) (map (λ s. Told s) heard.told) None None
+    ∙ turns k (Train m) now k.links c.post.new.links c.take-taken.new.book (record { registrar = c.take-taken.new.registrar; handovers = c.take-taken.new.count }) (set k.trains.items i new) (mail_to k.line k.number old.supervision.engine (expected_from new.expectations) heard.mail) (told_train heard.saying heard.order) (map (λ s. Told s) heard.told) None None
     (heard_stamp k m) (λ d. refl) sent.links effect (frames_to c.post.new.frames) sent.each
 
 pub returns-in-Err-clause-exact : goal.returns-in-Err-clause-exact
@@ -230,9 +230,9 @@ returns-in-Err-clause-exact c =
     let old = c.index_mut-train.result.now in
     let at = slice_get_read _ _ _ _ refl (number_within k.line k.trains.items t i number k.train_count) c.index_mut-train.ensures.value in
     let now = k.clock + 1 in
-    let new = c.take-heard.new.self in
-    let effect = takes k (Train m) t i old number at now new c.take-heard.new.book c.take-heard.new.registrar c.take-heard.new.count c.take-heard.ensures.kept c.take-heard.ensures.desk (Err c.in-Err.why) c.in-Err.ensures.exact in
-    let left = stands_for k.line k.number now c.take-heard.new.book (record { registrar = c.take-heard.new.registrar; handovers = c.take-heard.new.count }) k.links (set k.trains.items i new) in
+    let new = c.take-taken.new.self in
+    let effect = takes k (Train m) t i old number at now new c.take-taken.new.book c.take-taken.new.registrar c.take-taken.new.count c.take-taken.ensures.kept c.take-taken.ensures.desk (Err c.in-Err.why) c.in-Err.ensures.exact in
+    let left = stands_for k.line k.number now c.take-taken.new.book (record { registrar = c.take-taken.new.registrar; handovers = c.take-taken.new.count }) k.links (set k.trains.items i new) in
     ap (λ (o : Outcome). (o, left)) c.write_nothing.ensures
-    ∙ turns k (Train m) now k.links k.links c.take-heard.new.book (record { registrar = c.take-heard.new.registrar; handovers = c.take-heard.new.count }) (set k.trains.items i new) (λ d. []) [] [] None (Some (reason_of c.in-Err.why))
+    ∙ turns k (Train m) now k.links k.links c.take-taken.new.book (record { registrar = c.take-taken.new.registrar; handovers = c.take-taken.new.count }) (set k.trains.items i new) (λ d. []) [] [] None (Some (reason_of c.in-Err.why))
     (heard_stamp k m) (λ d. refl) (posted_none body_of now k.links) effect (λ d. []) (λ d. refl)

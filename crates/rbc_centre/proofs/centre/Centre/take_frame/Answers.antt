@@ -122,8 +122,8 @@ returns-in_default-train_number-clause-exact c =
 
 -- ## Its train
 
-pub receive-heard-requires-clause-engine : goal.receive-heard-requires-clause-engine
-receive-heard-requires-clause-engine c =
+pub receive-requires-clause-engine : goal.receive-requires-clause-engine
+receive-requires-clause-engine c =
     let k = c.args.self.now in
     let t = c.engine.result in
     let i = c.in-Some.i in
@@ -132,8 +132,8 @@ receive-heard-requires-clause-engine c =
     let at = slice_get_read _ _ _ _ refl (number_within k.line k.trains.items t i number k.train_count) c.index_mut-train.ensures.value in
     sym c.engine.ensures ∙ sym (of_train k t i old number at).engine
 
-pub receive-heard-requires-clause-train : goal.receive-heard-requires-clause-train
-receive-heard-requires-clause-train c =
+pub receive-requires-clause-train : goal.receive-requires-clause-train
+receive-requires-clause-train c =
     let k = c.args.self.now in
     let t = c.engine.result in
     let i = c.in-Some.i in
@@ -142,11 +142,11 @@ receive-heard-requires-clause-train c =
     let at = slice_get_read _ _ _ _ refl (number_within k.line k.trains.items t i number k.train_count) c.index_mut-train.ensures.value in
     (of_train k t i old number at).waiting ∙ sym (of_train k t i old number at).engine
 
-pub receive-heard-requires-clause-book : goal.receive-heard-requires-clause-book
-receive-heard-requires-clause-book c = c.args.self.now.own_sections
+pub receive-requires-clause-book : goal.receive-requires-clause-book
+receive-requires-clause-book c = c.args.self.now.own_sections
 
-pub receive-heard-requires-clause-held : goal.receive-heard-requires-clause-held
-receive-heard-requires-clause-held c =
+pub receive-requires-clause-held : goal.receive-requires-clause-held
+receive-requires-clause-held c =
     let k = c.args.self.now in
     let t = c.engine.result in
     let i = c.in-Some.i in
@@ -155,8 +155,8 @@ receive-heard-requires-clause-held c =
     let at = slice_get_read _ _ _ _ refl (number_within k.line k.trains.items t i number k.train_count) c.index_mut-train.ensures.value in
     (of_train k t i old number at).held
 
-pub receive-heard-requires-clause-expected : goal.receive-heard-requires-clause-expected
-receive-heard-requires-clause-expected c =
+pub receive-requires-clause-expected : goal.receive-requires-clause-expected
+receive-requires-clause-expected c =
     let k = c.args.self.now in
     let t = c.engine.result in
     let i = c.in-Some.i in
@@ -165,8 +165,8 @@ receive-heard-requires-clause-expected c =
     let at = slice_get_read _ _ _ _ refl (number_within k.line k.trains.items t i number k.train_count) c.index_mut-train.ensures.value in
     (of_train k t i old number at).expected
 
-pub receive-heard-requires-clause-from : goal.receive-heard-requires-clause-from
-receive-heard-requires-clause-from c =
+pub receive-requires-clause-from : goal.receive-requires-clause-from
+receive-requires-clause-from c =
     let k = c.args.self.now in
     let d = c.args.from in
     let f = c.args.frame.now in
@@ -174,8 +174,8 @@ receive-heard-requires-clause-from c =
     c.offer-answer.ensures.answer c.offer-answer.ensures.count c.offer-answer.ensures.linked c.offer-answer.ensures.taken c.offer-answer.ensures.sent c.offer-answer.ensures.room in
     next_from k d f c.offer-answer.new.self (answer_of c.offer-answer.result) is (ap answer_of c.in-Next.is)
 
-pub receive-heard-requires-clause-number : goal.receive-heard-requires-clause-number
-receive-heard-requires-clause-number c =
+pub receive-requires-clause-number : goal.receive-requires-clause-number
+receive-requires-clause-number c =
     let k = c.args.self.now in
     let t = c.engine.result in
     let i = c.in-Some.i in
@@ -184,11 +184,11 @@ receive-heard-requires-clause-number c =
     let at = slice_get_read _ _ _ _ refl (number_within k.line k.trains.items t i number k.train_count) c.index_mut-train.ensures.value in
     has_number k t i old number at
 
-pub receive-heard-requires-clause-range : goal.receive-heard-requires-clause-range
-receive-heard-requires-clause-range c = c.body-body.ensures.range
+pub receive-requires-clause-range : goal.receive-requires-clause-range
+receive-requires-clause-range c = c.body-body.ensures.range
 
-pub receive-heard-requires-clause-count : goal.receive-heard-requires-clause-count
-receive-heard-requires-clause-count c =
+pub receive-requires-clause-count : goal.receive-requires-clause-count
+receive-requires-clause-count c =
     let k = c.args.self.now in
     let t = c.engine.result in
     let i = c.in-Some.i in
@@ -227,12 +227,12 @@ post-requires-clause-may c =
     let number : train_number k.line t ≡ Some i = sym c.train_number.ensures.value ∙ c.in-Some.is in
     let old = c.index_mut-train.result.now in
     let at = slice_get_read _ _ _ _ refl (number_within k.line k.trains.items t i number k.train_count) c.index_mut-train.ensures.value in
-    let heard = c.receive-heard.result in
-    let effect = train_takes k clock d f c.offer-answer.new.self (answer_of c.offer-answer.result) is (ap answer_of c.in-Next.is) t i old number at c.receive-heard.new.self c.receive-heard.new.book c.receive-heard.new.registrar
-    c.receive-heard.ensures.kept c.receive-heard.ensures.desk heard
-    (λ x has known. ap (λ (b : Body). received k.line k.number d b x) (sym c.body-body.ensures.value) ∙ c.receive-heard.ensures.exact x has known) in
-    subst (λ (u : ℕ). (e : ℕ) → MayPost c.offer-answer.new.self e (mail_to k.line k.number u (expected_from c.receive-heard.new.self.expectations) heard.mail e)) ((of_train k t i old number at).engine ∙ c.engine.ensures ∙ sym c.engine-2.ensures)
-    (received_may k d f clock c.offer-answer.new.self _ old (expected_from c.receive-heard.new.self.expectations) heard (answer_of c.offer-answer.result) (deliver_stamp k d f ∙ ap (λ n. n + 1) latest) c.offer-answer.ensures.sent effect (delivered_allowed k d f c.requires.time c.requires.numbers)
+    let heard = c.receive.new.out in
+    let effect = train_takes k clock d f c.offer-answer.new.self (answer_of c.offer-answer.result) is (ap answer_of c.in-Next.is) t i old number at c.receive.new.self c.receive.new.book c.receive.new.registrar
+    c.receive.ensures.kept c.receive.ensures.desk heard
+    (λ x has known. ap (λ (b : Body). received k.line k.number d b x) (sym c.body-body.ensures.value) ∙ c.receive.ensures.exact x has known) in
+    subst (λ (u : ℕ). (e : ℕ) → MayPost c.offer-answer.new.self e (mail_to k.line k.number u (expected_from c.receive.new.self.expectations) heard.mail e)) ((of_train k t i old number at).engine ∙ c.engine.ensures ∙ sym c.engine-2.ensures)
+    (received_may k d f clock c.offer-answer.new.self _ old (expected_from c.receive.new.self.expectations) heard (answer_of c.offer-answer.result) (deliver_stamp k d f ∙ ap (λ n. n + 1) latest) c.offer-answer.ensures.sent effect (delivered_allowed k d f c.requires.time c.requires.numbers)
     (subst HasBodyRange c.body-body.ensures.value c.body-body.ensures.range) c.offer-answer.ensures.linked c.offer-answer.ensures.room
     (c.requires.frames (next_number k d f c.offer-answer.new.self (answer_of c.offer-answer.result) is (ap answer_of c.in-Next.is))))
 
@@ -254,20 +254,20 @@ invariant_of-self-2 c =
     let number : train_number k.line t ≡ Some i = sym c.train_number.ensures.value ∙ c.in-Some.is in
     let old = c.index_mut-train.result.now in
     let at = slice_get_read _ _ _ _ refl (number_within k.line k.trains.items t i number k.train_count) c.index_mut-train.ensures.value in
-    let new = c.receive-heard.new.self in
-    let heard = c.receive-heard.result in
-    let kept = c.receive-heard.ensures.kept in
-    let desk = c.receive-heard.ensures.desk in
+    let new = c.receive.new.self in
+    let heard = c.receive.new.out in
+    let kept = c.receive.ensures.kept in
+    let desk = c.receive.ensures.desk in
     let answer = answer_of c.offer-answer.result in
     let next = ap answer_of c.in-Next.is in
-    let effect = train_takes k clock d f c.offer-answer.new.self answer is next t i old number at new c.receive-heard.new.book c.receive-heard.new.registrar kept desk heard
-    (λ x has known. ap (λ (b : Body). received k.line k.number d b x) (sym c.body-body.ensures.value) ∙ c.receive-heard.ensures.exact x has known) in
+    let effect = train_takes k clock d f c.offer-answer.new.self answer is next t i old number at new c.receive.new.book c.receive.new.registrar kept desk heard
+    (λ x has known. ap (λ (b : Body). received k.line k.number d b x) (sym c.body-body.ensures.value) ∙ c.receive.ensures.exact x has known) in
     let train = of_train k t i old number at in
     let stamp = deliver_stamp k d f ∙ ap (λ n. n + 1) latest in
     let range = subst HasBodyRange c.body-body.ensures.value c.body-body.ensures.range in
     let allowed = delivered_allowed k d f c.requires.time c.requires.numbers in
     let sent = sent_by k.line k.number c.engine-2.result old.supervision.engine clock (expected_from new.expectations) heard.mail c.offer-answer.new.self c.post.new.links (frames_to c.post.new.frames) (c.engine-2.ensures ∙ sym c.engine.ensures ∙ sym train.engine) c.post.ensures.posted c.post.ensures.frames in
-    let s = stays k (Deliver d f) clock c.offer-answer.new.self c.post.new.links c.receive-heard.new.book (record { registrar = c.receive-heard.new.registrar; handovers = k.desk.handovers }) (set k.trains.items i new) (mail_to k.line k.number old.supervision.engine (expected_from new.expectations) heard.mail) (told_train heard.saying heard.order) (map (λ s. Told s) heard.told) (Some answer) None
+    let s = stays k (Deliver d f) clock c.offer-answer.new.self c.post.new.links c.receive.new.book (record { registrar = c.receive.new.registrar; handovers = k.desk.handovers }) (set k.trains.items i new) (mail_to k.line k.number old.supervision.engine (expected_from new.expectations) heard.mail) (told_train heard.saying heard.order) (map (λ s. Told s) heard.told) (Some answer) None
     stamp c.offer-answer.ensures.sent sent.links effect (frames_to c.post.new.frames) sent.each
     (omega arith) (omega (arith, early, latest)) (range_hand f.body range) allowed range
     (received_may k d f clock c.offer-answer.new.self _ old (expected_from new.expectations) heard answer stamp c.offer-answer.ensures.sent effect allowed range c.offer-answer.ensures.linked c.offer-answer.ensures.room
@@ -287,12 +287,12 @@ invariant_of-self-2 c =
             number = kept.number ∙ train.number;
             engine = kept.engine ∙ train.engine;
             waiting = kept.waiting ∙ train.waiting;
-            covers = c.receive-heard.ensures.covers train.covers;
-            held = c.receive-heard.ensures.held;
-            expected = c.receive-heard.ensures.expected ∙ train.expected;
-            session = subst (λ (x : SessionState). Stands k.sessions x t) (sym c.receive-heard.ensures.session) train.session;
+            covers = c.receive.ensures.covers train.covers;
+            held = c.receive.ensures.held;
+            expected = c.receive.ensures.expected ∙ train.expected;
+            session = subst (λ (x : SessionState). Stands k.sessions x t) (sym c.receive.ensures.session) train.session;
           }) k.each_train;
-      counted = each_counted k t i old number at clock c.offer-answer.new.self new c.receive-heard.new.book c.receive-heard.new.registrar k.desk.handovers kept desk (omega (arith, low, latest));
+      counted = each_counted k t i old number at clock c.offer-answer.new.self new c.receive.new.book c.receive.new.registrar k.desk.handovers kept desk (omega (arith, low, latest));
       announced = let few = k.announced in omega (arith, few, low, latest);
       sound = s.sound;
       ranged = s.ranged;
@@ -312,17 +312,17 @@ returns-clause-exact c =
     let number : train_number k.line t ≡ Some i = sym c.train_number.ensures.value ∙ c.in-Some.is in
     let old = c.index_mut-train.result.now in
     let at = slice_get_read _ _ _ _ refl (number_within k.line k.trains.items t i number k.train_count) c.index_mut-train.ensures.value in
-    let new = c.receive-heard.new.self in
-    let heard = c.receive-heard.result in
-    let kept = c.receive-heard.ensures.kept in
-    let desk = c.receive-heard.ensures.desk in
+    let new = c.receive.new.self in
+    let heard = c.receive.new.out in
+    let kept = c.receive.ensures.kept in
+    let desk = c.receive.ensures.desk in
     let answer = answer_of c.offer-answer.result in
     let next = ap answer_of c.in-Next.is in
-    let effect = train_takes k clock d f c.offer-answer.new.self answer is next t i old number at new c.receive-heard.new.book c.receive-heard.new.registrar kept desk heard
-    (λ x has known. ap (λ (b : Body). received k.line k.number d b x) (sym c.body-body.ensures.value) ∙ c.receive-heard.ensures.exact x has known) in
-    let left = stands_for k.line k.number clock c.receive-heard.new.book (record { registrar = c.receive-heard.new.registrar; handovers = k.desk.handovers }) c.post.new.links (set k.trains.items i new) in
+    let effect = train_takes k clock d f c.offer-answer.new.self answer is next t i old number at new c.receive.new.book c.receive.new.registrar kept desk heard
+    (λ x has known. ap (λ (b : Body). received k.line k.number d b x) (sym c.body-body.ensures.value) ∙ c.receive.ensures.exact x has known) in
+    let left = stands_for k.line k.number clock c.receive.new.book (record { registrar = c.receive.new.registrar; handovers = k.desk.handovers }) c.post.new.links (set k.trains.items i new) in
     let sent = sent_by k.line k.number c.engine-2.result old.supervision.engine clock (expected_from new.expectations) heard.mail c.offer-answer.new.self c.post.new.links (frames_to c.post.new.frames)
     (c.engine-2.ensures ∙ sym c.engine.ensures ∙ sym (of_train k t i old number at).engine) c.post.ensures.posted c.post.ensures.frames in
     ap (λ (o : Outcome). (o, left)) c.write_heard.ensures
-    ∙ turns k (Deliver d f) clock c.offer-answer.new.self c.post.new.links c.receive-heard.new.book (record { registrar = c.receive-heard.new.registrar; handovers = k.desk.handovers }) (set k.trains.items i new) (mail_to k.line k.number old.supervision.engine (expected_from new.expectations) heard.mail) (told_train heard.saying heard.order) (map (λ s. Told s) heard.told) (Some answer) None
+    ∙ turns k (Deliver d f) clock c.offer-answer.new.self c.post.new.links c.receive.new.book (record { registrar = c.receive.new.registrar; handovers = k.desk.handovers }) (set k.trains.items i new) (mail_to k.line k.number old.supervision.engine (expected_from new.expectations) heard.mail) (told_train heard.saying heard.order) (map (λ s. Told s) heard.told) (Some answer) None
     (deliver_stamp k d f ∙ ap (λ n. n + 1) latest) c.offer-answer.ensures.sent sent.links effect (frames_to c.post.new.frames) sent.each
