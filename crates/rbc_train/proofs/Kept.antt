@@ -129,13 +129,7 @@ pub still_held : (line : Line) (c : ℕ) (p q : TrainState) → q.supervision.en
 still_held line c p q engine hand held =
     subst (λ (h : Holding). IsHeldAt q.supervision.engine (is_home line c) h) (sym hand) (subst (λ (t : ℕ). IsHeldAt t (is_home line c) p.supervision.hand) (sym engine) held)
 
--- by the book of its home, as the same train
-pub held_hand : (line : Line) (c : ℕ) (p : TrainState) (left : SupervisionState) (book : Pages) → left.engine ≡ p.supervision.engine → left.hand ≡ p.supervision.hand → ((s : ℕ) → is_own book s ≡ is_home line c s)
-    → IsHeld line c p → IsHeldBy left.engine left.hand book
-held_hand line c p left book engine hand homes held =
-    subst (λ (h : Holding). IsHeldAt left.engine (is_own book) h) (sym hand) (held_as p.supervision.engine left.engine (is_home line c) (is_own book) p.supervision.hand (sym engine) homes held)
-
--- and back
+-- by the book of its home, and of the same train
 pub held_again : (line : Line) (c t : ℕ) (q : TrainState) (book : Pages) → t ≡ q.supervision.engine → ((s : ℕ) → is_own book s ≡ is_home line c s) → IsHeldBy t q.supervision.hand book → IsHeld line c q
 held_again line c t q book engine homes held = held_as t q.supervision.engine (is_own book) (is_home line c) q.supervision.hand engine (λ s. sym (homes s)) held
 

@@ -1,13 +1,12 @@
 -- How the session of one train changes among those of a centre.
 use Rattle.std.proofs.Common.{◌≡◌, ℕ, ◌==◌, cond, Some, None, refl, ap, sym, ◌∙◌, inl, inr}
 use Rattle.std.proofs.lemmas.Bool.Decides.{eqb_tells}
-use Rattle.rbc_spec.specs.Centre.{Phase, Closed, Opened, Up}
+use Rattle.rbc_spec.specs.Centre.{Phase, Closed, Opened}
 use Rattle.rbc_session.specs.Sessions.{Records, phase_at, train_at}
 use Rattle.rbc_session.specs.Session.{key_of}
 use Rattle.rbc_session.specs.SessionStates.{StandsFor, session_phase, stands_with, has_key}
 use Rattle.rbc_session.specs.declared.session.Session.{Session}
 use Rattle.rbc_session.specs.declared.session.Opened.{Opened as OpenedType}
-use Rattle.rbc_session.specs.declared.session.Up.{Up as UpType}
 use Rattle.rbc_session.specs.declared.session.SessionState.{SessionState}
 use Rattle.rbc_session.specs.declared.session.SessionState.TheVariants as session_state
 use Rattle.rbc_session.proofs.SessionStates.{phase_at-session_state, opened_stands, stands_beside_opened, ended_phases, stands_beside_ended}

@@ -1,10 +1,10 @@
 -- What leaves the hand of a train that ends its mission at standstill, behind what it has cleared.
-use Rattle.std.proofs.Common.{◌≡◌, ℕ, zero, suc, ◌+◌, ◌-◌, ◌<◌, ◌≤◌, ◌==◌, ◌&&◌, ◌||◌, not, if◌then◌else◌, Bool, true, false, List, ◌∷◌, ◌++◌, Option, Some, None, is_some, is_none, option_and_then, refl, sym, ap, ◌∙◌, subst, arith, eq-eqb, eqb-true}
+use Rattle.std.proofs.Common.{◌≡◌, ℕ, zero, suc, ◌+◌, ◌-◌, ◌<◌, ◌≤◌, ◌==◌, ◌&&◌, ◌||◌, not, if◌then◌else◌, Bool, true, false, List, ◌∷◌, ◌++◌, Option, Some, None, is_some, is_none, option_and_then, refl, sym, ap, ◌∙◌, subst, arith, eqb-true}
 use Rattle.std.specs.Option.{option_map_or}
 use Rattle.std.specs.List.{filter, range_with_len}
 use Rattle.std.proofs.lemmas.Bool.{false≢true, eqb-false, ne_eqb}
 use Rattle.std.proofs.lemmas.Option.{same_Some}
-use Rattle.rbc_spec.specs.SectionRuns.{SectionRun, no_run, within, behind, is_empty, passing}
+use Rattle.rbc_spec.specs.SectionRuns.{SectionRun, no_run, within, is_empty, passing}
 use Rattle.rbc_spec.specs.Line.{Line}
 use Rattle.rbc_spec.specs.Place.{Place, Position, place_on}
 use Rattle.rbc_spec.specs.Centre.{Mission, Shut, Open, is_taken_for}
@@ -15,12 +15,11 @@ use Rattle.law_base.proofs.Runs.{within_none, within_behind}
 use Rattle.rbc_book.specs.Book.{Pages, entry_at, wish_at}
 use Rattle.rbc_hand.specs.Hands.{Holding}
 use Rattle.rbc_allocation.specs.Sections.{FreesRun, front_of, rest_of, wished}
-use Rattle.rbc_mission.specs.Supervisions.{SupervisionState, HasRouteForm, hand_of, pool_of, without_front, with_front, still_handing, right_left}
+use Rattle.rbc_mission.specs.Supervisions.{SupervisionState, HasRouteForm, hand_of, without_front, with_front, still_handing, right_left}
 use Rattle.rbc_mission.specs.declared.held.HeldRight.TheVariants.{Nothing as HeldNothing, Held}
 use Rattle.rbc_right.specs.Rights.{right_of}
 use Rattle.rbc_shorten.specs.Standstill.{ahead_of, begins_before, standing_act}
 use Rattle.rbc_shorten.proofs.Ahead.{ahead_is_cut}
-use Rattle.rbc_shorten.specs.declared.answer.Cut.{Cut}
 use Rattle.rbc_shorten.specs.declared.answer.Cut.TheVariants.{Nothing, Keep}
 use Rattle.rbc_train.specs.Desk.{IsKeptAt}
 use Rattle.rbc_train.specs.Standstill.{cleared_count, uncleared, left_ahead, LeavesFront, IsAhead}

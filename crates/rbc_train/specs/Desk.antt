@@ -1,6 +1,6 @@
 -- A centre seen from one of its trains: the parts of its state that a message of the train finds, and those that it
 -- leaves.
-use Rattle.std.specs.Prelude.{◌≡◌, ◌⊎◌, ◌+◌, ◌++◌, ◌≤◌, ◌<◌, ℕ, Bool, List, [], Some, None, Option, Result, Ok, Err, map, is_none, is_some, true, false, length}
+use Rattle.std.specs.Prelude.{◌≡◌, ◌+◌, ◌≤◌, ◌<◌, ℕ, Bool, List, [], Some, None, Option, Result, Ok, Err, map, is_none, true, false, length}
 use Rattle.rbc_spec.specs.Maps.{put}
 use Rattle.rbc_spec.specs.SectionRuns.{within, behind, is_empty}
 use Rattle.rbc_spec.specs.Line.{Line, is_home, train_number}
@@ -16,13 +16,12 @@ use Rattle.rbc_book.specs.Book.{Pages, is_own, entry_at, wish_at}
 use Rattle.rbc_right.specs.Rights.{Rights, is_here}
 use Rattle.rbc_pending_start.specs.Waits.{IsCovered}
 use Rattle.rbc_allocation.specs.Sections.{IsHeldAt}
-use Rattle.rbc_hand.specs.SectionRuns.{run_of}
-use Rattle.rbc_mission.specs.Supervisions.{SupervisionState, HasRouteForm, HasSupervision}
+use Rattle.rbc_mission.specs.Supervisions.{HasRouteForm}
 use Rattle.rbc_handover.specs.Expectations.{expected_from}
 use Rattle.rbc_session.specs.SessionStates.{session_phase}
 use Rattle.rbc_train.specs.Desks.{IsBookOf, HasBook}
 use Rattle.rbc_train.specs.Reasons.{reason_of}
-use Rattle.rbc_train.specs.Letters.{mail_to}
+use Rattle.rbc_train.specs.Letters.{mail_of, mail_to}
 use Rattle.rbc_train.specs.Sayings.{told_train}
 use Rattle.rbc_train.specs.declared.heard.Heard.{Heard}
 use Rattle.rbc_train.specs.declared.mail.Mail.{Mail}
@@ -132,6 +131,10 @@ posted frames reply = record reply { frames = frames }
 -- nothing is said to the train, and other centres and the interlocking are told this
 abbrev pub unsaid : Mail → List ℕ → Heard
 unsaid mail told = record { saying = None; order = None; mail = mail; told = told }
+
+-- nothing is said, sent or told
+abbrev pub nothing : Heard
+nothing = unsaid (mail_of None) []
 
 -- what a frame of train t came to at centre c, or a message that was answered, where it is left as k
 abbrev pub reply_left : Line → ℕ → ℕ → Centre → Heard → Reply

@@ -12,3 +12,4 @@ pub mod Standstill
 pub mod Starts
 pub mod Homes
 pub mod Guards
+pub mod Written

@@ -8,9 +8,10 @@ ghost use Rattle.rbc_spec.specs.Message.{TrainData, Request};
 ghost use Rattle.rbc_spec.specs.Step as step;
 ghost use Rattle.rbc_book.specs.Book.{Pages, is_own};
 ghost use Rattle.rbc_right.specs.Rights.{Rights};
-ghost use Rattle.rbc_train.specs.Desk.{HearsTrain, IsAtBook, IsKeptAt, IsOnTrack, KeepsState, last_said, with_parts, effect_left};
+ghost use Rattle.rbc_train.specs.Desk.{HearsTrain, IsAtBook, IsKeptAt, IsOnTrack, KeepsState, last_said, nothing, with_parts, effect_left};
 ghost use Rattle.rbc_msgs.specs.StepMessage.{position_of};
 ghost use Rattle.rbc_handover.specs.Giving.{with_count};
+ghost use Rattle.rbc_train.specs.Written.{written};
 
 use crate::heard::Heard;
 use crate::reason::Reason;
@@ -27,8 +28,9 @@ use rbc_vars::{LEndsection, TTrain};
 impl TrainState {
     /// Message 129: the train data of a mission that goes on are known, and acknowledged.
     #[inline(never)]
-    pub(crate) fn train_data(&mut self, t_train: u32) -> Result<Heard, Reason>
-        requires { self.old.said < last_said }
+    pub(crate) fn train_data(&mut self, t_train: u32, out: &mut Heard) -> Result<(), Reason>
+        requires out { out.old ≡ nothing }
+        requires count { self.old.said < last_said }
         ensures exact { (line : track.Line) (c : ℕ) (book : Pages) (rights : Rights) (k : spec.Centre)
             (position : place.Position)
             → HearsTrain line c k t_train self.old book rights
@@ -38,7 +40,8 @@ impl TrainState {
               nid_engine = self.old.supervision.engine;
               body = TrainData position;
             }))
-            ≡ effect_left line c self.old.supervision.engine (with_parts self.new book rights k) result }
+            ≡ effect_left line c self.old.supervision.engine (with_parts self.new book rights k)
+            (written result out.new) }
         ensures left { self.new ≡ record self.old {
           heard = self.new.heard;
           said = self.new.said;
@@ -55,7 +58,8 @@ impl TrainState {
         self.supervision.note_data();
         let acknowledgement = TrackBody::DataAcknowledged(TTrain::new(u64::from(t_train)));
         let saying = self.answer(NID_LRBG_UNKNOWN, acknowledgement);
-        Ok(Heard::said(saying))
+        out.saying = Some(saying);
+        Ok(())
     }
 
     /// Message 132: the hand is extended by the sections that may follow it, first those of the pool, and the authority
@@ -70,7 +74,9 @@ impl TrainState {
         count: &mut HandoverCount,
         t_train: u32,
         position: &Position,
-    ) -> Result<Heard, Reason>
+        out: &mut Heard,
+    ) -> Result<(), Reason>
+        requires out { out.old ≡ nothing }
         requires count { self.old.said + 1 < last_said }
         requires announced { count.old < 1073741823 }
         requires at { IsAtBook line.now centre self.old book.old }
@@ -85,7 +91,7 @@ impl TrainState {
               body = Request (position_of position.now);
             }))
             ≡ effect_left line.now centre self.old.supervision.engine
-            (with_count count.new (with_parts self.new book.new rights k)) result }
+            (with_count count.new (with_parts self.new book.new rights k)) (written result out.new) }
         ensures left { self.new ≡ record self.old {
           heard = self.new.heard;
           said = self.new.said;
@@ -120,6 +126,8 @@ impl TrainState {
             l_endsection: LEndsection::new(u64::from(grant.end)),
         });
         let saying = self.answer(place.group, authority);
-        Ok(self.at_border(line, centre, count, place.track, saying))
+        out.saying = Some(saying);
+        self.at_border(line, centre, count, place.track, out);
+        Ok(())
     }
 }

@@ -1,6 +1,6 @@
 //! What follows the answer to a request at the border to the next centre (3.15.1, profile).
 
-ghost use Rattle.std.specs.Prelude.{◌≡◌, ◌-◌, ◌≤◌, ◌++◌, ℕ, Option, Some, []};
+ghost use Rattle.std.specs.Prelude.{◌≡◌, ◌-◌, ◌≤◌, ◌++◌, ℕ, Option, None, []};
 ghost use Rattle.std.specs.Option.{option_map_or};
 ghost use Rattle.rbc_spec.specs.Centre as spec;
 ghost use Rattle.rbc_spec.specs.Message as order;
@@ -15,8 +15,9 @@ ghost use Rattle.rbc_place.specs.Places.{place_of};
 ghost use Rattle.rbc_handover.specs.Giving.{with_count};
 ghost use Rattle.rbc_mission.specs.Supervisions.{HasSupervision, with_supervision};
 ghost use Rattle.rbc_train.specs.Bordering.{KeepsAtBorder, MayAnnounce};
-ghost use Rattle.rbc_train.specs.Desk.{counted_to, posted, replied};
+ghost use Rattle.rbc_train.specs.Desk.{counted_to, nothing, posted, replied};
 ghost use Rattle.rbc_train.specs.Letters.{letters, mail_home, no_sections, notices};
+ghost use Rattle.rbc_train.specs.declared.mail.Notice.TheVariants as notice;
 ghost use Rattle.rbc_train.specs.Sayings.{sayings_of};
 
 use crate::heard::Heard;
@@ -36,7 +37,7 @@ use rbc_vars::{DRbctr, NidC, NidRbc};
 impl TrainState {
     /// A handover to the next centre on the track is announced, where the hand has a section of its home and none
     /// stands: the train is told where the border is. Then that centre is asked for the sections behind the hand, where
-    /// they are due. The train was answered this before.
+    /// they are due.
     #[inline(always)]
     pub(crate) fn at_border(
         &mut self,
@@ -44,85 +45,88 @@ impl TrainState {
         centre: u8,
         count: &mut HandoverCount,
         track: u8,
-        saying: Saying,
-    ) -> Heard
-        requires { MayAnnounce line.now self.old count.old }
+        out: &mut Heard,
+    )
+        requires out { out.old ≡ record nothing { saying = out.old.saying } }
+        requires may { MayAnnounce line.now self.old count.old }
         ensures exact { (e : ℕ → Option spec.Expectation) (k : spec.Centre) → HasSupervision k self.old.supervision
             → k.said self.old.supervision.engine ≡ self.old.said → k.announced ≡ count.old
             → option_map_or (rules.at_border line.now centre self.old.supervision.engine)
             (next_centre line.now centre track) rest k
-            ≡ posted (λ d. notices self.old.supervision.engine e result.mail.notice d ++ letters result.mail.letter d)
+            ≡ posted (λ d. notices self.old.supervision.engine e out.new.mail.notice d ++ letters out.new.mail.letter d)
             (replied (with_count count.new
             (counted_to self.old.supervision.engine self.new.said
-            (with_supervision self.new.supervision k))) (sayings_of result.order) []) }
-        ensures heard { result ≡ record {
-          saying = Some saying;
-          order = result.order;
-          mail = mail_home 0 no_sections result.mail.notice result.mail.letter;
+            (with_supervision self.new.supervision k))) (sayings_of out.new.order) []) }
+        ensures heard { out.new ≡ record {
+          saying = out.old.saying;
+          order = out.new.order;
+          mail = mail_home 0 no_sections out.new.mail.notice out.new.mail.letter;
           told = [];
         } }
         ensures keeps { KeepsAtBorder self.old self.new count.old count.new }
     {
         let Some(next) = line.next_centre(centre, track) else {
-            return Heard::said(saying);
+            return;
         };
-        let (order, notice) = self.announce(line, count, next);
-        let letter = self.ask_route(line, next);
-        Heard::bordering(saying, order, notice, letter)
+        self.announce(line, count, next, out);
+        self.ask_route(line, next, &mut out.mail.letter);
     }
 
     // A handover to this centre is announced, where that is due.
     #[inline(never)]
-    fn announce(
-        &mut self,
-        line: &Line,
-        count: &mut HandoverCount,
-        to: u8,
-    ) -> (Option<Saying>, Notice)
-        requires { MayAnnounce line.now self.old count.old }
+    fn announce(&mut self, line: &Line, count: &mut HandoverCount, to: u8, out: &mut Heard)
+        requires out { (out.old.order ≡ None) × (out.old.mail.notice ≡ notice.Nothing) }
+        requires may { MayAnnounce line.now self.old count.old }
         ensures exact { (e : ℕ → Option spec.Expectation) (k : spec.Centre) → HasSupervision k self.old.supervision
             → k.said self.old.supervision.engine ≡ self.old.said → k.announced ≡ count.old
             → rules.announce_if_due line.now self.old.supervision.engine to k
-            ≡ posted (notices self.old.supervision.engine e result.1)
+            ≡ posted (notices self.old.supervision.engine e out.new.mail.notice)
             (replied (with_count count.new
             (counted_to self.old.supervision.engine self.new.said
-            (with_supervision self.new.supervision k))) (sayings_of result.0) []) }
+            (with_supervision self.new.supervision k))) (sayings_of out.new.order) []) }
+        ensures heard { out.new ≡ record out.old {
+          order = out.new.order;
+          mail = record out.old.mail { notice = out.new.mail.notice };
+        } }
         ensures keeps { KeepsAtBorder self.old self.new count.old count.new }
     {
         let Some(mission) = self.supervision.mission() else {
-            return (None, Notice::Nothing);
+            return;
         };
         let Some(announcement) = self.supervision.announce(line, count, to) else {
-            return (None, Notice::Nothing);
+            return;
         };
         let Announcement { number, border } = announcement;
         let order = TrackBody::Transition(transition(line, to, border, &mission.place));
-        let notice = Notice::Announce {
+        out.mail.notice = Notice::Announce {
             name: HandoverName { number, to },
             track: mission.place.track,
         };
-        (Some(self.answer(mission.place.group, order)), notice)
+        out.order = Some(self.answer(mission.place.group, order));
     }
 
     // The next centre is asked for the sections behind the hand, where they are due.
     #[inline(never)]
-    fn ask_route(&mut self, line: &Line, next: u8) -> Option<Letter>
+    fn ask_route(&mut self, line: &Line, next: u8, letter: &mut Option<Letter>)
+        requires { letter.old ≡ None }
         ensures exact { (k : spec.Centre) → HasSupervision k self.old.supervision
             → rules.ask_route_if_due line.now self.old.supervision.engine next k
-            ≡ posted (letters result) (replied (with_supervision self.new.supervision k) [] []) }
+            ≡ posted (letters letter.new) (replied (with_supervision self.new.supervision k) [] []) }
         ensures left { self.new
             ≡ record self.old { supervision = record self.old.supervision { asked = self.new.supervision.asked } } }
     {
         let engine = self.nid_engine();
-        let question = self.supervision.ask(line, next)?;
-        Some(Letter {
+        let Some(question) = self.supervision.ask(line, next) else {
+            return;
+        };
+        *letter = Some(Letter {
             to: next,
             body: Body::RouteAsk {
                 engine,
                 first: question.first,
                 most: question.most,
             },
-        })
+        });
     }
 }
 

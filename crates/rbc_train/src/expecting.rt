@@ -11,10 +11,12 @@ ghost use Rattle.rbc_msgs.specs.StepMessage.{position_of};
 ghost use Rattle.rbc_book.specs.Book.{Pages};
 ghost use Rattle.rbc_right.specs.Rights.{Rights};
 ghost use Rattle.rbc_session.specs.SessionStates.{session_phase};
-ghost use Rattle.rbc_train.specs.Desk.{HasParts, HearsTrain, with_parts, reply_left, effect_left};
+ghost use Rattle.rbc_train.specs.Desk.{HasParts, HearsTrain, nothing, with_parts, reply_left, effect_left};
+ghost use Rattle.rbc_train.specs.Written.{written};
 
 use crate::front::is_in_area;
 use crate::heard::Heard;
+use crate::mail::Notice;
 use crate::reason::Reason;
 use crate::train::TrainState;
 use rbc_line::Line;
@@ -23,34 +25,32 @@ use rbc_packets::Position;
 impl TrainState {
     /// Announce of a centre: the train is expected from there under this number, where it is not expected from there
     /// already.
-    pub(crate) fn announced(&mut self, line: &Line, from: u8, number: u32, track: u8) -> Heard
+    pub(crate) fn announced(&mut self, line: &Line, from: u8, number: u32, track: u8)
         requires { from < length self.old.expectations }
         ensures exact { (c : ℕ) (book : Pages) (rights : Rights) (k : spec.Centre)
             → HasParts line.now c k self.old book rights
             → (if nat_lt track (length line.now.tracks) then links.announced from number self.old.supervision.engine
             else rest) k
-            ≡ reply_left line.now c self.old.supervision.engine (with_parts self.new book rights k) result }
+            ≡ reply_left line.now c self.old.supervision.engine (with_parts self.new book rights k) nothing }
         ensures same { self.new ≡ record self.old { expectations = self.new.expectations } }
         ensures count { length self.new.expectations ≡ length self.old.expectations }
     {
         if track >= line.track_count() {
-            return Heard::nothing();
+            return;
         }
         self.expectations.announced(from, number);
-        Heard::nothing()
     }
 
     /// Cancel of a centre: the train is not expected from there any more, where it was under this number.
-    pub(crate) fn cancelled(&mut self, from: u8, number: u32) -> Heard
+    pub(crate) fn cancelled(&mut self, from: u8, number: u32)
         ensures exact { (line : track.Line) (c : ℕ) (book : Pages) (rights : Rights) (k : spec.Centre)
             → HasParts line c k self.old book rights
             → links.cancelled from number self.old.supervision.engine k
-            ≡ reply_left line c self.old.supervision.engine (with_parts self.new book rights k) result }
+            ≡ reply_left line c self.old.supervision.engine (with_parts self.new book rights k) nothing }
         ensures same { self.new ≡ record self.old { expectations = self.new.expectations } }
         ensures count { length self.new.expectations ≡ length self.old.expectations }
     {
         self.expectations.cancelled(from, number);
-        Heard::nothing()
     }
 
     /// Message 136 of a train that is supervised elsewhere, with its session up: where the train is expected here and
@@ -62,7 +62,9 @@ impl TrainState {
         centre: u8,
         t_train: u32,
         position: &Position,
-    ) -> Result<Heard, Reason>
+        out: &mut Heard,
+    ) -> Result<(), Reason>
+        requires out { out.old ≡ nothing }
         requires up { session_phase self.old.session_state ≡ spec.Up }
         requires none { self.old.supervision.mission ≡ None }
         ensures exact { (book : Pages) (rights : Rights) (k : spec.Centre)
@@ -73,7 +75,8 @@ impl TrainState {
               nid_engine = self.old.supervision.engine;
               body = Report (position_of position.now);
             }))
-            ≡ effect_left line.now centre self.old.supervision.engine (with_parts self.new book rights k) result }
+            ≡ effect_left line.now centre self.old.supervision.engine (with_parts self.new book rights k)
+            (written result out.new) }
         ensures same { self.new ≡ record self.old { heard = self.new.heard; expectations = self.new.expectations } }
         ensures count { length self.new.expectations ≡ length self.old.expectations }
     {
@@ -84,6 +87,7 @@ impl TrainState {
             return Err(Reason::NotSupervised);
         }
         self.heard = Some(t_train);
-        Ok(Heard::taking_over(self.expectations.take_over()))
+        out.mail.notice = Notice::TakingOver(self.expectations.take_over());
+        Ok(())
     }
 }

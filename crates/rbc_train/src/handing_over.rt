@@ -13,12 +13,13 @@ ghost use Rattle.rbc_linkmsg.specs.Bodies.{body_of};
 ghost use Rattle.rbc_linkmsg.specs.Bodies as bodies;
 ghost use Rattle.rbc_place.specs.Places.{place_of};
 ghost use Rattle.rbc_session.specs.SessionStates.{session_phase};
-ghost use Rattle.rbc_train.specs.Desk.{HasParts, IsAtBook, KeepsState, last_said, with_parts, counted_to, replied, reply_left};
+ghost use Rattle.rbc_train.specs.Desk.{HasParts, IsAtBook, KeepsState, last_said, nothing, with_parts, counted_to, replied, reply_left};
 ghost use Rattle.rbc_train.specs.Sayings.{sayings_of};
 
 use crate::asking::is_up;
 use crate::heard::Heard;
 use crate::letter::Letter;
+use crate::mail::{Mail, Notice};
 use crate::routes::session_order;
 use crate::saying::Saying;
 use crate::train::TrainState;
@@ -40,23 +41,31 @@ impl TrainState {
         book: &mut Book,
         from: u8,
         number: u32,
-    ) -> Heard
+        out: &mut Heard,
+    )
+        requires out { out.old ≡ nothing }
         requires count { self.old.said < last_said }
         requires at { IsAtBook line.now centre self.old book.old }
         ensures exact { (rights : Rights) (k : spec.Centre) → HasParts line.now centre k self.old book.old rights
             → links.taking_over line.now centre from number self.old.supervision.engine k
-            ≡ reply_left line.now centre self.old.supervision.engine (with_parts self.new book.new rights k) result }
+            ≡ reply_left line.now centre self.old.supervision.engine (with_parts self.new book.new rights k) out.new }
         ensures left { self.new ≡ record self.old { said = self.new.said; supervision = self.new.supervision } }
         ensures keeps { KeepsState line.now centre self.old self.new }
         ensures homes { (s : ℕ) → is_own book.new s ≡ is_own book.old s }
     {
         let nid_engine = self.nid_engine();
         let Some(yielded) = self.supervision.yield_to(line, centre, book, from, number) else {
-            return Heard::nothing();
+            return;
         };
         let letter = yield_letter(nid_engine, self.heard, yielded);
         let order = self.order_if_gone(line, centre, yielded.is_gone);
-        Heard::yielded(yielded.mission.place.track, yielded.pool, letter, order)
+        out.order = order;
+        out.mail = Mail::home(
+            yielded.mission.place.track,
+            yielded.pool,
+            Notice::Nothing,
+            Some(letter),
+        );
     }
 
     // The order to end its session, for a train that is no more to come here.

@@ -16,6 +16,7 @@ ghost use Rattle.rbc_handover.specs.Giving.{with_count};
 ghost use Rattle.rbc_train.specs.Desks.{IsBookOf};
 ghost use Rattle.rbc_train.specs.Letters.{tells_others};
 ghost use Rattle.rbc_train.specs.SessionStates.{Enters};
+ghost use Rattle.rbc_train.specs.Written.{written};
 
 use crate::heard::Heard;
 use crate::reason::Reason;
@@ -29,8 +30,8 @@ use rbc_session::Sessions;
 
 impl TrainState {
     /// Takes a message of this train, at centre c with this book, these rights, these sessions and so many handovers
-    /// announced: what it comes to, or why it is left without an answer, which changes nothing. There is room for a
-    /// session that it opens.
+    /// announced: what it comes to is written over `out`, or it is said why it is left without an answer, which changes
+    /// nothing. Then `out` has no meaning. There is room for a session that it opens.
     #[inline(always)]
     pub fn take(
         &mut self,
@@ -41,7 +42,8 @@ impl TrainState {
         count: &mut HandoverCount,
         sessions: &mut Sessions,
         message: &TrainMsg,
-    ) -> Result<Heard, Reason>
+        out: &mut Heard,
+    ) -> Result<(), Reason>
         requires engine { message.now.nid_engine ≡ self.old.supervision.engine }
         requires number { self.old.supervision.number < length registrar.old }
         requires book { IsBookOf line.now centre book.old }
@@ -58,7 +60,7 @@ impl TrainState {
             → k.announced ≡ count.old
             → step.effect line.now centre k (step.Train (step_message message.now))
             ≡ effect_left line.now centre self.old.supervision.engine
-            (with_count count.new (with_parts self.new book.new registrar.new k)) result }
+            (with_count count.new (with_parts self.new book.new registrar.new k)) (written result out.new) }
         ensures kept { KeepsTrain self.old self.new }
         ensures held { IsHeld line.now centre self.new }
         ensures covers { IsCovered line.now self.old.waiting → IsCovered line.now self.new.waiting }
@@ -68,34 +70,41 @@ impl TrainState {
         ensures stands { Enters sessions.old sessions.new self.new.session_state self.old.supervision.engine
             (session_phase self.new.session_state) }
     {
+        *out = Heard::nothing();
         let t_train = message.t_train();
         if self.is_stale(t_train) {
             return Err(Reason::StaleStamp);
         }
-        // Each of these writes what the message comes to straight to its place: inlined here, it would be copied part
-        // by part.
         match message.body() {
-            TrainBody::InitiationOfSession => self.initiation_of_session(book, sessions, t_train),
-            TrainBody::TerminationOfSession => self.termination_of_session(book, sessions, t_train),
+            TrainBody::InitiationOfSession => {
+                self.initiation_of_session(book, sessions, t_train, out)
+            }
+            TrainBody::TerminationOfSession => {
+                self.termination_of_session(book, sessions, t_train, out)
+            }
             TrainBody::SessionEstablished => self.session_established(sessions, t_train),
             TrainBody::StartOfMission { q_status, position } => {
-                self.start_of_mission(line, centre, book, registrar, t_train, *q_status, position)
+                self.start_of_mission(
+                    line, centre, book, registrar, t_train, *q_status, position, out,
+                )
             }
-            TrainBody::TrainData { .. } => self.train_data(t_train),
+            TrainBody::TrainData { .. } => self.train_data(t_train, out),
             TrainBody::Request { position, .. } => {
-                self.request(line, centre, book, count, t_train, position)
+                self.request(line, centre, book, count, t_train, position, out)
             }
             TrainBody::Report { position } => {
-                self.report(line, centre, book, registrar, t_train, position)
+                self.report(line, centre, book, registrar, t_train, position, out)
             }
             TrainBody::ShorteningGranted { request, position } => {
-                self.shortening_granted(line, centre, book, registrar, t_train, *request, position)
+                self.shortening_granted(
+                    line, centre, book, registrar, t_train, *request, position, out,
+                )
             }
             TrainBody::ShorteningRejected { request, .. } => {
                 self.shortening_rejected(t_train, *request)
             }
             TrainBody::EndOfMission { position } => {
-                self.end_of_mission(line, centre, book, registrar, t_train, position)
+                self.end_of_mission(line, centre, book, registrar, t_train, position, out)
             }
         }
     }

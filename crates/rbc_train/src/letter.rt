@@ -1,6 +1,6 @@
 //! What one other centre is told.
 
-ghost use Rattle.std.specs.Prelude.{◌≡◌, Some, option_map};
+ghost use Rattle.std.specs.Prelude.{◌≡◌, Some, None, option_map};
 ghost use Rattle.rbc_spec.specs.Line.{registrar};
 ghost use Rattle.rbc_train.specs.Homes.{GoesHome};
 ghost use Rattle.rbc_train.specs.Letters.{bodies_in, letters};
@@ -48,12 +48,14 @@ pub(crate) fn go_home(
     nid_engine: u32,
     right: HeldRight,
     registrar: &mut Registrar,
-) -> Option<Letter>
-    ensures { GoesHome line.now centre nid_engine right result registrar.old registrar.new }
+    letter: &mut Option<Letter>,
+)
+    requires { letter.old ≡ None }
+    ensures { GoesHome line.now centre nid_engine right letter.new registrar.old registrar.new }
 {
     match right {
-        HeldRight::Nothing => None,
-        HeldRight::Held(right) => send_home(line, centre, nid_engine, right, registrar),
+        HeldRight::Nothing => {}
+        HeldRight::Held(right) => *letter = send_home(line, centre, nid_engine, right, registrar),
     }
 }
 

@@ -27,17 +27,6 @@ pub enum Notice {
 }
 
 impl Notice {
-    /// A handover that stood is cancelled, if one did.
-    #[inline(always)]
-    pub(crate) fn cancel(name: Option<HandoverName>) -> Notice
-        ensures { result ≡ cancel_of name }
-    {
-        match name {
-            Some(name) => Notice::Cancel(name),
-            None => Notice::Nothing,
-        }
-    }
-
     /// What it tells a centre about this train, of which this is expected.
     pub fn to_centre(self, nid_engine: u32, expectations: &Expectations, centre: u8) -> Option<Body>
         ensures { bodies_in result ≡ notices nid_engine (expected_from expectations.now) self centre }
@@ -128,6 +117,17 @@ impl Mail {
             second: NO_SECTIONS,
             notice,
             letter,
+        }
+    }
+
+    /// A handover that stood is cancelled, if one did.
+    #[inline(always)]
+    pub(crate) fn cancel(&mut self, name: Option<HandoverName>)
+        requires { self.old.notice ≡ Notice.Nothing }
+        ensures { self.new ≡ record self.old { notice = cancel_of name } }
+    {
+        if let Some(name) = name {
+            self.notice = Notice::Cancel(name);
         }
     }
 }

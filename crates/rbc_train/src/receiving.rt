@@ -19,7 +19,8 @@ use rbc_linkmsg::Body;
 use rbc_right::Registrar;
 
 impl TrainState {
-    /// Takes what another centre says of this train, in a frame that is the next of its link: what it comes to.
+    /// Takes what another centre says of this train, in a frame that is the next of its link: what it comes to
+    /// is written over `out`.
     pub fn receive(
         &mut self,
         line: &Line,
@@ -28,7 +29,8 @@ impl TrainState {
         registrar: &mut Registrar,
         from: u8,
         body: Body,
-    ) -> Heard
+        out: &mut Heard,
+    )
         requires engine { engine_in (body_of body) ≡ self.old.supervision.engine }
         requires train { self.old.waiting.engine ≡ self.old.supervision.engine }
         requires number { self.old.supervision.number < length registrar.old }
@@ -42,7 +44,7 @@ impl TrainState {
             → is_none (train_number line.now self.old.supervision.engine) ≡ false
             → received line.now centre from (body_of body) k
             ≡ reply_left line.now centre self.old.supervision.engine
-            (with_parts self.new book.new registrar.new k) result }
+            (with_parts self.new book.new registrar.new k) out.new }
         ensures kept { KeepsTrain self.old self.new }
         ensures held { IsHeld line.now centre self.new }
         ensures session { self.new.session_state ≡ self.old.session_state }
@@ -50,17 +52,18 @@ impl TrainState {
         ensures expected { length self.new.expectations ≡ length self.old.expectations }
         ensures desk { KeepsDesk self.old.supervision.number book.old book.new registrar.old registrar.new }
     {
+        *out = Heard::nothing();
         match body {
-            Body::AskRight { .. } => self.right_asked(line, centre, registrar, from),
-            Body::GiveRight { .. } => self.right_given(line, centre, registrar),
-            Body::RefuseRight { .. } => self.right_refused(book),
+            Body::AskRight { .. } => self.right_asked(line, centre, registrar, from, out),
+            Body::GiveRight { .. } => self.right_given(line, centre, registrar, out),
+            Body::RefuseRight { .. } => self.right_refused(book, out),
             Body::ReturnRight { .. } => self.right_returned(line, centre, registrar),
             Body::RouteAsk { first, most, .. } => {
-                self.route_asked(line, centre, book, from, first, most)
+                self.route_asked(line, centre, book, from, first, most, out)
             }
-            Body::RouteInfo { run, .. } => self.route_told(line, from, run),
-            Body::RouteWithdraw { section, .. } => self.route_withdrawn(line, section),
-            Body::RouteReturn { run, .. } => self.route_returned(line, centre, book, run),
+            Body::RouteInfo { run, .. } => self.route_told(line, from, run, out),
+            Body::RouteWithdraw { section, .. } => self.route_withdrawn(line, section, out),
+            Body::RouteReturn { run, .. } => self.route_returned(line, centre, book, run, out),
             Body::Announce {
                 handover,
                 track,
@@ -68,7 +71,7 @@ impl TrainState {
             } => self.announced(line, from, handover, track),
             Body::Cancel { handover, .. } => self.cancelled(from, handover),
             Body::TakingOver { handover, .. } => {
-                self.taking_over(line, centre, book, from, handover)
+                self.taking_over(line, centre, book, from, handover, out)
             }
             Body::Yield {
                 handover,
@@ -88,7 +91,7 @@ impl TrainState {
                     place,
                     hand,
                 };
-                self.yielded(line, centre, book, registrar, coming)
+                self.yielded(line, centre, book, registrar, coming, out)
             }
         }
     }

@@ -7,7 +7,7 @@ ghost use Rattle.rbc_spec.specs.Centre as spec;
 ghost use Rattle.rbc_spec.specs.Message.{Report, EndOfMission};
 ghost use Rattle.rbc_spec.specs.Step as step;
 ghost use Rattle.rbc_msgs.specs.StepMessage.{position_of};
-ghost use Rattle.rbc_train.specs.Desk.{HearsTrain, IsAtDesk, IsKeptAt, KeepsState, KeepsDesk, with_parts, unsaid, effect_left, Does};
+ghost use Rattle.rbc_train.specs.Desk.{HearsTrain, IsAtDesk, IsKeptAt, KeepsState, KeepsDesk, with_parts, nothing, unsaid, effect_left, Does};
 ghost use Rattle.rbc_spec.specs.Rules as rules;
 ghost use Rattle.rbc_train.specs.Letters.{mail_home};
 ghost use Rattle.rbc_place.specs.Places.{place_of};
@@ -15,9 +15,9 @@ ghost use Rattle.rbc_allocation.specs.Sections.{wished, rest_of};
 ghost use Rattle.rbc_shorten.specs.declared.answer.Cut.TheVariants.{Nothing};
 ghost use Rattle.rbc_mission.specs.Supervisions.{hand_of, pool_of};
 ghost use Rattle.rbc_train.specs.Standstill.{IsAhead, LeavesFront, SendsHome, left_ahead};
+ghost use Rattle.rbc_train.specs.Written.{written};
 
 use crate::heard::Heard;
-use crate::mail::NO_SECTIONS;
 use crate::reason::Reason;
 use crate::train::TrainState;
 use rbc_allocation::wished_around;
@@ -49,8 +49,10 @@ impl TrainState {
         registrar: &mut Registrar,
         t_train: u32,
         position: &Position,
-    ) -> Result<Heard, Reason>
-        requires { IsAtDesk line.now centre self.old book.old registrar.old }
+        out: &mut Heard,
+    ) -> Result<(), Reason>
+        requires out { out.old ≡ nothing }
+        requires at { IsAtDesk line.now centre self.old book.old registrar.old }
         ensures exact { (k : spec.Centre) → HearsTrain line.now centre k t_train self.old book.old registrar.old
             → step.effect line.now centre k
             (step.Train (record {
@@ -59,7 +61,7 @@ impl TrainState {
               body = Report (position_of position.now);
             }))
             ≡ effect_left line.now centre self.old.supervision.engine
-            (with_parts self.new book.new registrar.new k) result }
+            (with_parts self.new book.new registrar.new k) (written result out.new) }
         ensures left { self.new ≡ record self.old {
           heard = self.new.heard;
           supervision = self.new.supervision;
@@ -70,13 +72,14 @@ impl TrainState {
     {
         self.up()?;
         let Some(mission) = self.supervision.mission() else {
-            return self.report_elsewhere(line, centre, t_train, position);
+            return self.report_elsewhere(line, centre, t_train, position, out);
         };
         let Some(place) = place_on(line, mission.place.track, position) else {
             return Err(Reason::NoPlace);
         };
         self.heard = Some(t_train);
-        Ok(self.clear(line, centre, book, registrar, place))
+        self.clear(line, centre, book, registrar, place, out);
+        Ok(())
     }
 
     /// Message 150: what the train has cleared is given back, where its report has a place; at standstill what lies
@@ -90,8 +93,10 @@ impl TrainState {
         registrar: &mut Registrar,
         t_train: u32,
         position: &Position,
-    ) -> Result<Heard, Reason>
-        requires { IsAtDesk line.now centre self.old book.old registrar.old }
+        out: &mut Heard,
+    ) -> Result<(), Reason>
+        requires out { out.old ≡ nothing }
+        requires at { IsAtDesk line.now centre self.old book.old registrar.old }
         ensures exact { (k : spec.Centre) → HearsTrain line.now centre k t_train self.old book.old registrar.old
             → step.effect line.now centre k
             (step.Train (record {
@@ -100,7 +105,7 @@ impl TrainState {
               body = EndOfMission (position_of position.now);
             }))
             ≡ effect_left line.now centre self.old.supervision.engine
-            (with_parts self.new book.new registrar.new k) result }
+            (with_parts self.new book.new registrar.new k) (written result out.new) }
         ensures left { self.new ≡ record self.old { heard = self.new.heard; supervision = self.new.supervision } }
         ensures keeps { KeepsState line.now centre self.old self.new }
         ensures desk { KeepsDesk self.old.supervision.number book.old book.new registrar.old registrar.new }
@@ -113,17 +118,22 @@ impl TrainState {
         self.heard = Some(t_train);
         let track = mission.place.track;
         let ahead = self.ahead(line, book, track, position);
-        let heard = self.report_here(line, centre, book, registrar, track, position);
+        self.report_here(line, centre, book, registrar, track, position, out);
         match ahead {
             Some(Ahead { keep, told }) => {
-                let left = self.leave_ahead(line, centre, book, registrar, track, keep);
+                let mut left = Heard::nothing();
+                self.leave_ahead(line, centre, book, registrar, track, keep, &mut left);
                 self.supervision.end_mission();
-                Ok(heard.and_ahead(told, left))
+                out.mail.second = left.mail.first;
+                out.mail.notice = left.mail.notice;
+                out.told = told;
+                Ok(())
             }
             None => {
                 let pool = self.supervision.return_pool();
                 self.supervision.end_mission();
-                Ok(heard.with_second(pool))
+                out.mail.second = pool;
+                Ok(())
             }
         }
     }
@@ -165,16 +175,18 @@ impl TrainState {
         registrar: &mut Registrar,
         track: u8,
         keep: u16,
-    ) -> Heard
+        out: &mut Heard,
+    )
+        requires out { out.old ≡ nothing }
         requires at { IsAtDesk line.now centre self.old book.old registrar.old }
         requires some { 1 ≤ keep }
         requires keep { keep ≤ (hand_of self.old.supervision).count }
         ensures exact { (m : spec.Mission) → self.old.supervision.mission ≡ Some m → m.place.track ≡ track
             → Does line.now centre
             (rules.cut line.now centre self.old.supervision.engine
-            (m.hand.first + keep - 1) m) self.old book.old registrar.old self.new book.new registrar.new result }
+            (m.hand.first + keep - 1) m) self.old book.old registrar.old self.new book.new registrar.new out.new }
         ensures stays { IsKeptAt line.now centre self.old → IsKeptAt line.now centre self.new }
-        ensures heard { result ≡ unsaid (mail_home track result.mail.first result.mail.notice None)
+        ensures heard { out.new ≡ unsaid (mail_home track out.new.mail.first out.new.mail.notice None)
             (wished self.old.supervision.engine (rest_of keep (hand_of self.old.supervision)) book.old) }
         ensures pool { pool_of self.new.supervision ≡ no_run }
         ensures left { self.new ≡ record self.old { supervision = self.new.supervision } }
@@ -182,7 +194,7 @@ impl TrainState {
         ensures desk { KeepsDesk self.old.supervision.number book.old book.new registrar.old registrar.new }
     {
         let released = self.supervision.shorten(line, keep, book);
-        self.released(line, centre, registrar, track, released)
+        self.released(line, centre, registrar, track, released, out);
     }
 
     // What the train has cleared leaves its hand, where the report has a place on this track.
@@ -195,25 +207,27 @@ impl TrainState {
         registrar: &mut Registrar,
         track: u8,
         position: &Position,
-    ) -> Heard
-        requires { IsAtDesk line.now centre self.old book.old registrar.old }
+        out: &mut Heard,
+    )
+        requires out { out.old ≡ nothing }
+        requires at { IsAtDesk line.now centre self.old book.old registrar.old }
         ensures exact { (m : spec.Mission) → self.old.supervision.mission ≡ Some m → m.place.track ≡ track
             → Does line.now centre
             (rules.report_here line.now centre self.old.supervision.engine
-            (position_of position.now) m) self.old book.old registrar.old self.new book.new registrar.new result }
+            (position_of position.now) m) self.old book.old registrar.old self.new book.new registrar.new out.new }
         ensures stays { IsKeptAt line.now centre self.old → IsKeptAt line.now centre self.new }
-        ensures sends { SendsHome track self.new.supervision result }
+        ensures sends { SendsHome track self.new.supervision out.new }
         ensures track { (m n : spec.Mission) → self.old.supervision.mission ≡ Some m → m.place.track ≡ track
             → self.new.supervision.mission ≡ Some n → n.place.track ≡ track }
         ensures front { (p : spec_place.Place) → spec_place.place_on line.now track (position_of position.now) ≡ Some p
-            → LeavesFront line.now p self.old.supervision self.new.supervision result.told book.old book.new }
+            → LeavesFront line.now p self.old.supervision self.new.supervision out.new.told book.old book.new }
         ensures left { self.new ≡ record self.old { supervision = self.new.supervision } }
         ensures keeps { KeepsState line.now centre self.old self.new }
         ensures desk { KeepsDesk self.old.supervision.number book.old book.new registrar.old registrar.new }
     {
         match place_on(line, track, position) {
-            Some(place) => self.clear(line, centre, book, registrar, place),
-            None => Heard::returned(track, NO_SECTIONS),
+            Some(place) => self.clear(line, centre, book, registrar, place, out),
+            None => out.mail.track = track,
         }
     }
 
@@ -227,23 +241,25 @@ impl TrainState {
         book: &mut Book,
         registrar: &mut Registrar,
         place: Place,
-    ) -> Heard
-        requires { IsAtDesk line.now centre self.old book.old registrar.old }
+        out: &mut Heard,
+    )
+        requires out { out.old ≡ nothing }
+        requires at { IsAtDesk line.now centre self.old book.old registrar.old }
         ensures exact { (m : spec.Mission) → self.old.supervision.mission ≡ Some m → m.place.track ≡ place.track
             → Does line.now centre
             (rules.clear line.now centre self.old.supervision.engine m
-            (place_of place)) self.old book.old registrar.old self.new book.new registrar.new result }
+            (place_of place)) self.old book.old registrar.old self.new book.new registrar.new out.new }
         ensures stays { IsKeptAt line.now centre self.old → IsKeptAt line.now centre self.new }
-        ensures sends { SendsHome place.track self.new.supervision result }
+        ensures sends { SendsHome place.track self.new.supervision out.new }
         ensures track { (m : spec.Mission) → self.new.supervision.mission ≡ Some m → m.place.track ≡ place.track }
         ensures front { LeavesFront line.now
-            (place_of place) self.old.supervision self.new.supervision result.told book.old book.new }
+            (place_of place) self.old.supervision self.new.supervision out.new.told book.old book.new }
         ensures left { self.new ≡ record self.old { supervision = self.new.supervision } }
         ensures keeps { KeepsState line.now centre self.old self.new }
         ensures desk { KeepsDesk self.old.supervision.number book.old book.new registrar.old registrar.new }
     {
         let count = cleared(line, self.hand(), &place);
         let released = self.supervision.clear_front(place, count, book);
-        self.released(line, centre, registrar, place.track, released)
+        self.released(line, centre, registrar, place.track, released, out);
     }
 }

@@ -7,13 +7,13 @@ ghost use Rattle.rbc_spec.specs.Links as links;
 ghost use Rattle.rbc_book.specs.Book.{Pages, is_own};
 ghost use Rattle.rbc_right.specs.Rights.{Rights};
 ghost use Rattle.rbc_pending_start.specs.Waits.{IsCovered};
-ghost use Rattle.rbc_train.specs.Desk.{HasParts, IsHeld, KeepsTrain, KeepsRights, last_said, unsaid, with_parts, reply_left};
+ghost use Rattle.rbc_train.specs.Desk.{HasParts, IsHeld, KeepsTrain, KeepsRights, last_said, nothing, unsaid, with_parts, reply_left};
 ghost use Rattle.rbc_train.specs.Homes.{GoesHome};
 ghost use Rattle.rbc_train.specs.Letters.{cancel_of, mail_home};
 
 use crate::heard::Heard;
 use crate::letter::{Letter, go_home};
-use crate::mail::{Mail, NO_SECTIONS, Notice};
+use crate::mail::NO_SECTIONS;
 use crate::train::TrainState;
 use rbc_book::Book;
 use rbc_line::Line;
@@ -30,16 +30,19 @@ impl TrainState {
         centre: u8,
         registrar: &mut Registrar,
         from: u8,
-    ) -> Heard
+        out: &mut Heard,
+    )
+        requires out { out.old ≡ nothing }
         ensures exact { (book : Pages) (k : spec.Centre) → HasParts line.now centre k self.old book registrar.old
             → links.right_asked line.now centre from self.old.supervision.engine k
-            ≡ reply_left line.now centre self.old.supervision.engine (with_parts self.new book registrar.new k) result }
+            ≡ reply_left line.now centre self.old.supervision.engine (with_parts self.new book registrar.new k)
+            out.new }
         ensures same { self.new ≡ self.old }
         ensures rights { KeepsRights self.old.supervision.number registrar.old registrar.new }
     {
         let engine = self.nid_engine();
         if line.registrar(engine) != Some(centre) {
-            return Heard::nothing();
+            return;
         }
         let body = match registrar.ask(self.supervision.number()) {
             Asked::Given(right) => {
@@ -48,7 +51,7 @@ impl TrainState {
             }
             Asked::NotHere => Body::RefuseRight { engine },
         };
-        Heard::told(Letter { to: from, body })
+        out.mail.letter = Some(Letter { to: from, body });
     }
 
     /// GiveRight: a start that waits becomes a mission, and the train is accepted. A right that nothing waits for goes
@@ -58,13 +61,16 @@ impl TrainState {
         line: &Line,
         centre: u8,
         registrar: &mut Registrar,
-    ) -> Heard
+        out: &mut Heard,
+    )
+        requires out { out.old ≡ nothing }
         requires count { self.old.said < last_said }
         requires train { self.old.waiting.engine ≡ self.old.supervision.engine }
         requires number { self.old.supervision.number < length registrar.old }
         ensures exact { (book : Pages) (k : spec.Centre) → HasParts line.now centre k self.old book registrar.old
             → links.right_given line.now centre self.old.supervision.engine k
-            ≡ reply_left line.now centre self.old.supervision.engine (with_parts self.new book registrar.new k) result }
+            ≡ reply_left line.now centre self.old.supervision.engine (with_parts self.new book registrar.new k)
+            out.new }
         ensures left { self.new ≡ record self.old {
           said = self.new.said;
           supervision = self.new.supervision;
@@ -76,12 +82,13 @@ impl TrainState {
         ensures rights { KeepsRights self.old.supervision.number registrar.old registrar.new }
     {
         if !self.waiting.has_asked() {
-            return Heard::nothing();
+            return;
         }
         let right = Right::arrive(self.supervision.number());
         if self.waiting.place().is_some() && self.supervision.mission().is_none() {
             self.supervision.admit(&mut self.waiting, right);
-            return self.answered(TrackBody::TrainAccepted);
+            out.saying = Some(self.answered(TrackBody::TrainAccepted));
+            return;
         }
         self.waiting.note_answer();
         let released = Released {
@@ -90,39 +97,36 @@ impl TrainState {
             returned: NO_SECTIONS,
             cancelled: None,
         };
-        self.released(line, centre, registrar, 0, released)
+        self.released(line, centre, registrar, 0, released, out);
     }
 
     /// RefuseRight: a start that waits is dropped, and the train is rejected.
-    pub(crate) fn right_refused(&mut self, book: &mut Book) -> Heard
-        requires { self.old.said < last_said }
+    pub(crate) fn right_refused(&mut self, book: &mut Book, out: &mut Heard)
+        requires out { out.old ≡ nothing }
+        requires count { self.old.said < last_said }
         ensures exact { (line : track.Line) (c : ℕ) (rights : Rights) (k : spec.Centre)
             → HasParts line c k self.old book.old rights
             → links.right_refused line c self.old.supervision.engine k
-            ≡ reply_left line c self.old.supervision.engine (with_parts self.new book.new rights k) result }
+            ≡ reply_left line c self.old.supervision.engine (with_parts self.new book.new rights k) out.new }
         ensures kept { KeepsTrain self.old self.new }
         ensures left { self.new ≡ record self.old { said = self.new.said; waiting = self.new.waiting } }
         ensures covers { (line : track.Line) → IsCovered line self.old.waiting → IsCovered line self.new.waiting }
         ensures homes { (s : ℕ) → is_own book.new s ≡ is_own book.old s }
     {
         let Some(told) = self.waiting.give_up(book) else {
-            return Heard::nothing();
+            return;
         };
-        let heard = self.answered(TrackBody::TrainRejected);
-        Heard { told, ..heard }
+        out.saying = Some(self.answered(TrackBody::TrainRejected));
+        out.told = told;
     }
 
     /// ReturnRight: the right is at its registrar again, where it is not in a mission of the registrar's own.
-    pub(crate) fn right_returned(
-        &mut self,
-        line: &Line,
-        centre: u8,
-        registrar: &mut Registrar,
-    ) -> Heard
+    pub(crate) fn right_returned(&mut self, line: &Line, centre: u8, registrar: &mut Registrar)
         requires number { self.old.supervision.number < length registrar.old }
         ensures exact { (book : Pages) (k : spec.Centre) → HasParts line.now centre k self.old book registrar.old
             → links.right_returned line.now centre self.old.supervision.engine k
-            ≡ reply_left line.now centre self.old.supervision.engine (with_parts self.new book registrar.new k) result }
+            ≡ reply_left line.now centre self.old.supervision.engine (with_parts self.new book registrar.new k)
+            nothing }
         ensures same { self.new ≡ self.old }
         ensures rights { KeepsRights self.old.supervision.number registrar.old registrar.new }
     {
@@ -130,7 +134,6 @@ impl TrainState {
         if is_registrar && self.supervision.mission().is_none() {
             registrar.back(Right::arrive(self.supervision.number()));
         }
-        Heard::nothing()
     }
 
     // What leaves a mission on this track: what it gives back is told, lent sections and its right go home, and its
@@ -143,10 +146,12 @@ impl TrainState {
         registrar: &mut Registrar,
         track: u8,
         released: Released,
-    ) -> Heard
-        ensures heard { result ≡ unsaid
-            (mail_home track released.returned (cancel_of released.cancelled) result.mail.letter) released.told }
-        ensures right { GoesHome line.now centre self.now.supervision.engine released.right result.mail.letter
+        out: &mut Heard,
+    )
+        requires { out.old ≡ nothing }
+        ensures heard { out.new ≡ unsaid
+            (mail_home track released.returned (cancel_of released.cancelled) out.new.mail.letter) released.told }
+        ensures right { GoesHome line.now centre self.now.supervision.engine released.right out.new.mail.letter
             registrar.old registrar.new }
     {
         let Released {
@@ -155,12 +160,11 @@ impl TrainState {
             returned,
             cancelled,
         } = released;
-        let letter = go_home(line, centre, self.nid_engine(), right, registrar);
-        Heard {
-            saying: None,
-            order: None,
-            mail: Mail::home(track, returned, Notice::cancel(cancelled), letter),
-            told,
-        }
+        out.told = told;
+        out.mail.track = track;
+        out.mail.first = returned;
+        out.mail.cancel(cancelled);
+        let engine = self.nid_engine();
+        go_home(line, centre, engine, right, registrar, &mut out.mail.letter);
     }
 }

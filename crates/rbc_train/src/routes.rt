@@ -16,7 +16,7 @@ ghost use Rattle.rbc_hand.specs.SectionRuns.{run_of};
 ghost use Rattle.rbc_msgs.specs.Bodies.{track_body};
 ghost use Rattle.rbc_msgs.specs.declared.track.TrackBody.TheVariants as code;
 ghost use Rattle.rbc_right.specs.Rights.{Rights};
-ghost use Rattle.rbc_train.specs.Desk.{HasParts, last_said, with_parts, replied, reply_left};
+ghost use Rattle.rbc_train.specs.Desk.{HasParts, last_said, nothing, with_parts, replied, reply_left};
 ghost use Rattle.rbc_train.specs.Sayings.{sayings_of};
 
 use crate::heard::Heard;
@@ -42,29 +42,40 @@ impl TrainState {
         from: u8,
         first: u16,
         most: u16,
-    ) -> Heard
+        out: &mut Heard,
+    )
+        requires { out.old ≡ nothing }
         ensures exact { (rights : Rights) (k : spec.Centre) → HasParts line.now centre k self.now book.old rights
             → links.route_asked line.now centre from self.now.supervision.engine first most k
-            ≡ reply_left line.now centre self.now.supervision.engine (with_parts self.now book.new rights k) result }
+            ≡ reply_left line.now centre self.now.supervision.engine (with_parts self.now book.new rights k) out.new }
         ensures homes { (s : ℕ) → is_own book.new s ≡ is_own book.old s }
     {
         let engine = self.nid_engine();
         match lend(line, centre, book, engine, first, most) {
-            Some(run) => Heard::told(Letter {
-                to: from,
-                body: Body::RouteInfo { engine, run },
-            }),
-            None => Heard::nothing(),
+            Some(run) => {
+                out.mail.letter = Some(Letter {
+                    to: from,
+                    body: Body::RouteInfo { engine, run },
+                });
+            }
+            None => {}
         }
     }
 
     /// RouteInfo of a centre: the sections that were asked for are the pool of the train's mission, or go home again.
-    pub(crate) fn route_told(&mut self, line: &Line, from: u8, sections: SectionRun) -> Heard
+    pub(crate) fn route_told(
+        &mut self,
+        line: &Line,
+        from: u8,
+        sections: SectionRun,
+        out: &mut Heard,
+    )
+        requires out { out.old ≡ nothing }
         requires few { sections.count ≤ 31 }
         ensures exact { (c : ℕ) (book : Pages) (rights : Rights) (k : spec.Centre)
             → HasParts line.now c k self.old book rights
             → links.route_told line.now c from self.old.supervision.engine (run_of sections) k
-            ≡ reply_left line.now c self.old.supervision.engine (with_parts self.new book rights k) result }
+            ≡ reply_left line.now c self.old.supervision.engine (with_parts self.new book rights k) out.new }
         ensures left { self.new ≡ record self.old {
           supervision = record self.old.supervision {
             mission = self.new.supervision.mission;
@@ -74,23 +85,26 @@ impl TrainState {
     {
         let engine = self.nid_engine();
         match self.supervision.info(line, from, sections) {
-            Some(run) => Heard::told(Letter {
-                to: from,
-                body: Body::RouteReturn { engine, run },
-            }),
-            None => Heard::nothing(),
+            Some(run) => {
+                out.mail.letter = Some(Letter {
+                    to: from,
+                    body: Body::RouteReturn { engine, run },
+                });
+            }
+            None => {}
         }
     }
 
     /// RouteWithdraw: a section of the pool goes home with all behind it. The train is asked to end its authority
     /// before one of its hand (3.8.6), where that may be asked.
-    pub(crate) fn route_withdrawn(&mut self, line: &Line, s: u16) -> Heard
-        requires { self.old.said < last_said }
+    pub(crate) fn route_withdrawn(&mut self, line: &Line, s: u16, out: &mut Heard)
+        requires out { out.old ≡ nothing }
+        requires count { self.old.said < last_said }
         ensures exact { (c : ℕ) (book : Pages) (rights : Rights) (k : spec.Centre)
             → HasParts line.now c k self.old book rights
             → (if is_some (section line.now s) then links.route_withdrawn line.now c self.old.supervision.engine s
             else rest) k
-            ≡ reply_left line.now c self.old.supervision.engine (with_parts self.new book rights k) result }
+            ≡ reply_left line.now c self.old.supervision.engine (with_parts self.new book rights k) out.new }
         ensures left { self.new ≡ record self.old {
           said = self.new.said;
           supervision = record self.old.supervision { mission = self.new.supervision.mission };
@@ -98,14 +112,17 @@ impl TrainState {
         ensures counted { self.new.said ≤ self.old.said + 1 }
     {
         if s >= line.section_count() {
-            return Heard::nothing();
+            return;
         }
         let Some(mission) = self.supervision.mission() else {
-            return Heard::nothing();
+            return;
         };
         match self.supervision.withdraw(s) {
-            Some(sections) => Heard::returned(mission.place.track, sections),
-            None => Heard::of(self.ask_back(line, s)),
+            Some(sections) => {
+                out.mail.track = mission.place.track;
+                out.mail.first = sections;
+            }
+            None => out.saying = self.ask_back(line, s),
         }
     }
 
@@ -117,26 +134,26 @@ impl TrainState {
         centre: u8,
         book: &mut Book,
         sections: SectionRun,
-    ) -> Heard
+        out: &mut Heard,
+    )
+        requires out { out.old ≡ nothing }
         requires count { self.old.said < last_said }
         requires range { HasRunRange 1 63 (run_of sections) }
         ensures exact { (rights : Rights) (k : spec.Centre) → HasParts line.now centre k self.old book.old rights
             → (if all_of (λ s. is_some (section line.now s)) (run_of sections)
             then links.route_returned line.now centre self.old.supervision.engine (run_of sections) else rest) k
-            ≡ reply_left line.now centre self.old.supervision.engine (with_parts self.new book.new rights k) result }
+            ≡ reply_left line.now centre self.old.supervision.engine (with_parts self.new book.new rights k) out.new }
         ensures left { self.new ≡ record self.old { said = self.new.said } }
         ensures counted { self.new.said ≤ self.old.said + 1 }
         ensures homes { (s : ℕ) → is_own book.new s ≡ is_own book.old s }
     {
         if sections.behind() > u32::from(line.section_count()) {
-            return Heard::nothing();
+            return;
         }
         let told = bring_back(book, self.nid_engine(), sections);
         let saying = self.end_order(line, centre, book);
-        Heard {
-            told,
-            ..Heard::of(saying)
-        }
+        out.told = told;
+        out.saying = saying;
     }
 
     // The order to end its session, for a train that is no more to come here.

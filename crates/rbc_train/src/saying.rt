@@ -1,11 +1,9 @@
-ghost use Rattle.std.specs.Prelude.{◌≡◌, ◌<◌, ◌+◌, [], ◌∷◌, None};
+ghost use Rattle.std.specs.Prelude.{◌≡◌, ◌<◌, ◌+◌, [], ◌∷◌, Some};
 ghost use Rattle.rbc_spec.specs.Message.{unknown_group};
 ghost use Rattle.rbc_msgs.specs.Bodies.{track_body};
 ghost use Rattle.rbc_train.specs.Desk.{last_said};
-ghost use Rattle.rbc_train.specs.Letters.{mail_of};
 ghost use Rattle.rbc_train.specs.Sayings.{saying_of, sayings_of};
 
-use crate::heard::Heard;
 use crate::train::TrainState;
 use rbc_msgs::{NID_LRBG_UNKNOWN, TrackBody, TrackMsg};
 
@@ -69,10 +67,10 @@ impl TrainState {
         Saying::of_count(nid_engine, self.said, nid_lrbg, body)
     }
 
-    /// The next message to the train says this, from no balise group, and nothing else is said.
-    pub(crate) fn answered(&mut self, body: TrackBody) -> Heard
+    /// The next message to the train says this, from no balise group.
+    pub(crate) fn answered(&mut self, body: TrackBody) -> Saying
         requires { self.old.said < last_said }
-        ensures said { sayings_of result.saying
+        ensures said { sayings_of (Some result)
             ≡ record {
               nid_engine = self.old.supervision.engine;
               message = record {
@@ -81,9 +79,8 @@ impl TrainState {
                 body = track_body body;
               };
             } ∷ [] }
-        ensures heard { result ≡ record { saying = result.saying; order = None; mail = mail_of None; told = [] } }
         ensures counted { self.new ≡ record self.old { said = self.old.said + 1 } }
     {
-        Heard::said(self.answer(NID_LRBG_UNKNOWN, body))
+        self.answer(NID_LRBG_UNKNOWN, body)
     }
 }

@@ -10,11 +10,11 @@ ghost use Rattle.rbc_right.specs.Rights.{Rights};
 ghost use Rattle.rbc_pending_start.specs.Waits.{IsCovered};
 ghost use Rattle.rbc_session.specs.Sessions.{HasRoom};
 ghost use Rattle.rbc_session.specs.SessionStates.{session_phase, StandsFor};
-ghost use Rattle.rbc_train.specs.Desk.{HearsTrain, KeepsTrain, last_said, with_parts, effect_left};
+ghost use Rattle.rbc_train.specs.Desk.{HearsTrain, KeepsTrain, last_said, nothing, with_parts, effect_left};
 ghost use Rattle.rbc_train.specs.SessionStates.{Enters};
+ghost use Rattle.rbc_train.specs.Written.{written};
 
 use crate::heard::Heard;
-use crate::mail::Mail;
 use crate::reason::Reason;
 use crate::session_state::{close, establish, open};
 use crate::train::TrainState;
@@ -31,7 +31,9 @@ impl TrainState {
         book: &mut Book,
         sessions: &mut Sessions,
         t_train: u32,
-    ) -> Result<Heard, Reason>
+        out: &mut Heard,
+    ) -> Result<(), Reason>
+        requires out { out.old ≡ nothing }
         requires stands { StandsFor sessions.old self.old.session_state self.old.supervision.engine }
         requires room { HasRoom sessions.old }
         requires count { self.old.said < last_said }
@@ -43,7 +45,8 @@ impl TrainState {
               nid_engine = self.old.supervision.engine;
               body = InitiationOfSession;
             }))
-            ≡ effect_left line c self.old.supervision.engine (with_parts self.new book.new rights k) result }
+            ≡ effect_left line c self.old.supervision.engine (with_parts self.new book.new rights k)
+            (written result out.new) }
         ensures kept { KeepsTrain self.old self.new }
         ensures left { self.new ≡ record self.old {
           session_state = self.new.session_state;
@@ -63,12 +66,9 @@ impl TrainState {
         self.supervision.forget_proposal();
         let told = self.waiting.drop_start(book);
         let saying = self.answer(NID_LRBG_UNKNOWN, TrackBody::SystemVersion);
-        Ok(Heard {
-            saying: Some(saying),
-            order: None,
-            mail: Mail::of(None),
-            told,
-        })
+        out.saying = Some(saying);
+        out.told = told;
+        Ok(())
     }
 
     /// Message 159: the session, if it was opened, is up.
@@ -77,7 +77,7 @@ impl TrainState {
         &mut self,
         sessions: &mut Sessions,
         t_train: u32,
-    ) -> Result<Heard, Reason>
+    ) -> Result<(), Reason>
         requires stands { StandsFor sessions.old self.old.session_state self.old.supervision.engine }
         ensures exact { (line : track.Line) (c : ℕ) (book : Pages) (rights : Rights) (k : spec.Centre)
             → HearsTrain line c k t_train self.old book rights
@@ -87,7 +87,8 @@ impl TrainState {
               nid_engine = self.old.supervision.engine;
               body = SessionEstablished;
             }))
-            ≡ effect_left line c self.old.supervision.engine (with_parts self.new book rights k) result }
+            ≡ effect_left line c self.old.supervision.engine (with_parts self.new book rights k)
+            (written result nothing) }
         ensures left { self.new
             ≡ record self.old { session_state = self.new.session_state; heard = self.new.heard } }
         ensures stands { Enters sessions.old sessions.new self.new.session_state self.old.supervision.engine
@@ -101,7 +102,7 @@ impl TrainState {
         self.heard = Some(t_train);
         let nid_engine = self.nid_engine();
         establish(&mut self.session_state, sessions, nid_engine);
-        Ok(Heard::nothing())
+        Ok(())
     }
 
     /// Message 156: the session that stands is closed, with a request to shorten that stands and a start of mission
@@ -112,7 +113,9 @@ impl TrainState {
         book: &mut Book,
         sessions: &mut Sessions,
         t_train: u32,
-    ) -> Result<Heard, Reason>
+        out: &mut Heard,
+    ) -> Result<(), Reason>
+        requires out { out.old ≡ nothing }
         requires stands { StandsFor sessions.old self.old.session_state self.old.supervision.engine }
         requires count { self.old.said < last_said }
         ensures exact { (line : track.Line) (c : ℕ) (rights : Rights) (k : spec.Centre)
@@ -123,7 +126,8 @@ impl TrainState {
               nid_engine = self.old.supervision.engine;
               body = TerminationOfSession;
             }))
-            ≡ effect_left line c self.old.supervision.engine (with_parts self.new book.new rights k) result }
+            ≡ effect_left line c self.old.supervision.engine (with_parts self.new book.new rights k)
+            (written result out.new) }
         ensures kept { KeepsTrain self.old self.new }
         ensures left { self.new ≡ record self.old {
           session_state = self.new.session_state;
@@ -147,11 +151,8 @@ impl TrainState {
         self.supervision.forget_proposal();
         let told = self.waiting.drop_start(book);
         let saying = self.answer(NID_LRBG_UNKNOWN, TrackBody::TerminationAcknowledged);
-        Ok(Heard {
-            saying: Some(saying),
-            order: None,
-            mail: Mail::of(None),
-            told,
-        })
+        out.saying = Some(saying);
+        out.told = told;
+        Ok(())
     }
 }

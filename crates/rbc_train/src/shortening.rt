@@ -6,10 +6,11 @@ ghost use Rattle.rbc_spec.specs.Message.{ShorteningGranted, ShorteningRejected};
 ghost use Rattle.rbc_spec.specs.Place as place;
 ghost use Rattle.rbc_spec.specs.Step as step;
 ghost use Rattle.rbc_msgs.specs.StepMessage.{position_of};
-ghost use Rattle.rbc_train.specs.Desk.{HearsTrain, IsAtDesk, KeepsState, KeepsDesk, with_parts, effect_left};
+ghost use Rattle.rbc_train.specs.Desk.{HearsTrain, IsAtDesk, KeepsState, KeepsDesk, nothing, with_parts, effect_left};
 ghost use Rattle.rbc_spec.specs.Line as track;
 ghost use Rattle.rbc_book.specs.Book.{Pages};
 ghost use Rattle.rbc_right.specs.Rights.{Rights};
+ghost use Rattle.rbc_train.specs.Written.{written};
 
 use crate::heard::Heard;
 use crate::reason::Reason;
@@ -35,8 +36,10 @@ impl TrainState {
         t_train: u32,
         request: TTrain,
         position: &Position,
-    ) -> Result<Heard, Reason>
-        requires { IsAtDesk line.now centre self.old book.old registrar.old }
+        out: &mut Heard,
+    ) -> Result<(), Reason>
+        requires out { out.old ≡ nothing }
+        requires at { IsAtDesk line.now centre self.old book.old registrar.old }
         ensures exact { (k : spec.Centre) → HearsTrain line.now centre k t_train self.old book.old registrar.old
             → step.effect line.now centre k
             (step.Train (record {
@@ -45,7 +48,7 @@ impl TrainState {
               body = ShorteningGranted request (position_of position.now);
             }))
             ≡ effect_left line.now centre self.old.supervision.engine
-            (with_parts self.new book.new registrar.new k) result }
+            (with_parts self.new book.new registrar.new k) (written result out.new) }
         ensures left { self.new ≡ record self.old { heard = self.new.heard; supervision = self.new.supervision } }
         ensures keeps { KeepsState line.now centre self.old self.new }
         ensures desk { KeepsDesk self.old.supervision.number book.old book.new registrar.old registrar.new }
@@ -64,12 +67,13 @@ impl TrainState {
                 self.heard = Some(t_train);
                 let released = self.supervision.shorten(line, keep, book);
                 let track = mission.place.track;
-                Ok(self.released(line, centre, registrar, track, released))
+                self.released(line, centre, registrar, track, released, out);
+                Ok(())
             }
             Ok(Cut::Nothing) => {
                 self.heard = Some(t_train);
                 self.supervision.forget_proposal();
-                Ok(Heard::nothing())
+                Ok(())
             }
             Err(_) => Err(Reason::Unasked),
         }
@@ -81,7 +85,7 @@ impl TrainState {
         &mut self,
         t_train: u32,
         request: TTrain,
-    ) -> Result<Heard, Reason>
+    ) -> Result<(), Reason>
         ensures exact { (line : track.Line) (c : ℕ) (book : Pages) (rights : Rights) (k : spec.Centre)
             (position : place.Position)
             → HearsTrain line c k t_train self.old book rights
@@ -91,7 +95,8 @@ impl TrainState {
               nid_engine = self.old.supervision.engine;
               body = ShorteningRejected request position;
             }))
-            ≡ effect_left line c self.old.supervision.engine (with_parts self.new book rights k) result }
+            ≡ effect_left line c self.old.supervision.engine (with_parts self.new book rights k)
+            (written result nothing) }
         ensures left { self.new ≡ record self.old {
           heard = self.new.heard;
           supervision = record self.old.supervision { mission = self.new.supervision.mission };
@@ -104,7 +109,7 @@ impl TrainState {
         }
         self.heard = Some(t_train);
         self.supervision.forget_proposal();
-        Ok(Heard::nothing())
+        Ok(())
     }
 }
 

@@ -14,12 +14,12 @@ ghost use Rattle.rbc_right.specs.Rights.{Rights};
 ghost use Rattle.rbc_place.specs.Places.{place_of};
 ghost use Rattle.rbc_pending_start.specs.Waits.{IsCovered};
 ghost use Rattle.rbc_allocation.specs.Sections.{IsAllOpen};
-ghost use Rattle.rbc_train.specs.Desk.{HasParts, HearsTrain, IsAtBook, IsHeld, KeepsTrain, KeepsState, KeepsDesk, last_said, with_parts, effect_left};
+ghost use Rattle.rbc_train.specs.Desk.{HasParts, HearsTrain, IsAtBook, IsHeld, KeepsTrain, KeepsState, KeepsDesk, last_said, nothing, with_parts, effect_left};
 ghost use Rattle.rbc_train.specs.Starts.{started};
+ghost use Rattle.rbc_train.specs.Written.{written};
 
 use crate::heard::Heard;
 use crate::letter::{Letter, to_registrar};
-use crate::mail::Mail;
 use crate::reason::Reason;
 use crate::starting::{are_free, has_all, place_of_start};
 use crate::train::TrainState;
@@ -27,7 +27,6 @@ use rbc_book::Book;
 use rbc_hand::SectionRun;
 use rbc_line::Line;
 use rbc_linkmsg::Body;
-use rbc_mission::Told;
 use rbc_msgs::TrackBody;
 use rbc_packets::Position;
 use rbc_place::{Place, covered};
@@ -46,7 +45,9 @@ impl TrainState {
         t_train: u32,
         q_status: QStatus,
         position: &Position,
-    ) -> Result<Heard, Reason>
+        out: &mut Heard,
+    ) -> Result<(), Reason>
+        requires out { out.old ≡ nothing }
         requires count { self.old.said < last_said }
         requires at { IsAtBook line.now centre self.old book.old }
         ensures exact { (k : spec.Centre) → HearsTrain line.now centre k t_train self.old book.old registrar.old
@@ -57,7 +58,7 @@ impl TrainState {
               body = StartOfMission (is_valid q_status) (position_of position.now);
             }))
             ≡ effect_left line.now centre self.old.supervision.engine
-            (with_parts self.new book.new registrar.new k) result }
+            (with_parts self.new book.new registrar.new k) (written result out.new) }
         ensures left { self.new ≡ record self.old {
           heard = self.new.heard;
           said = self.new.said;
@@ -73,15 +74,11 @@ impl TrainState {
         }
         self.heard = Some(t_train);
         match self.start(line, centre, book, registrar, q_status, position) {
-            Start::Accepted => Ok(self.answered(TrackBody::TrainAccepted)),
-            Start::Rejected => Ok(self.answered(TrackBody::TrainRejected)),
-            Start::Waiting(letter) => Ok(Heard {
-                saying: None,
-                order: None,
-                mail: Mail::of(letter),
-                told: Told::nothing(),
-            }),
+            Start::Accepted => out.saying = Some(self.answered(TrackBody::TrainAccepted)),
+            Start::Rejected => out.saying = Some(self.answered(TrackBody::TrainRejected)),
+            Start::Waiting(letter) => out.mail.letter = letter,
         }
+        Ok(())
     }
 
     // Within the hand of a train that is supervised here its mission goes on; another begins where its sections are

@@ -11,8 +11,7 @@ ghost use Rattle.rbc_spec.specs.Sections as sections;
 ghost use Rattle.rbc_spec.specs.Place.{group_start as start_of_group};
 ghost use Rattle.rbc_spec.specs.Links as links;
 ghost use Rattle.rbc_spec.specs.Maps.{has, put};
-ghost use Rattle.rbc_spec.specs.SectionRuns.{within};
-ghost use Rattle.rbc_book.specs.Book.{is_own, entry_at, wish_at};
+ghost use Rattle.rbc_book.specs.Book.{is_own, wish_at};
 ghost use Rattle.rbc_allocation.specs.Sections.{IsHeldBy};
 ghost use Rattle.rbc_handover.specs.Expectations.{expected_from, is_taking_under};
 ghost use Rattle.rbc_mission.specs.Passing.{IsBooked};
@@ -21,7 +20,7 @@ ghost use Rattle.rbc_hand.specs.SectionRuns.{run_of};
 ghost use Rattle.rbc_linkmsg.specs.Bodies as bodies;
 ghost use Rattle.rbc_place.specs.Places.{place_of};
 ghost use Rattle.rbc_train.specs.Arriving.{MayGoOn, taken_up};
-ghost use Rattle.rbc_train.specs.Desk.{HasParts, IsAtBook, KeepsState, last_said, with_parts, reply_left};
+ghost use Rattle.rbc_train.specs.Desk.{HasParts, IsAtBook, KeepsState, last_said, nothing, with_parts, reply_left};
 ghost use Rattle.rbc_train.specs.Desks.{IsBookOf};
 
 use crate::front::{has_group_on_track, is_on_track};
@@ -64,7 +63,9 @@ impl TrainState {
         book: &mut Book,
         registrar: &Registrar,
         coming: Coming,
-    ) -> Heard
+        out: &mut Heard,
+    )
+        requires out { out.old ≡ nothing }
         requires count { self.old.said < last_said }
         requires at { IsAtBook line.now centre self.old book.old }
         requires place { HasPlaceRange (bodies.place_of coming.place) }
@@ -74,7 +75,7 @@ impl TrainState {
             (run_of coming.hand) coming.heard coming.has_data coming.is_ended) (carried_place
             (bodies.place_of coming.place)) rest k
             ≡ reply_left line.now centre self.old.supervision.engine
-            (with_parts self.new book.new registrar.now k) result }
+            (with_parts self.new book.new registrar.now k) out.new }
         ensures left { self.new ≡ record self.old {
           heard = self.new.heard;
           said = self.new.said;
@@ -85,15 +86,15 @@ impl TrainState {
         ensures homes { (s : ℕ) → is_own book.new s ≡ is_own book.old s }
     {
         let Some(place) = arriving_place(coming.place) else {
-            return Heard::nothing();
+            return;
         };
         if !self.may_take(line, centre, book, registrar, &coming, &place) {
-            return Heard::nothing();
+            return;
         }
         self.take_mission(line, book, coming, place);
         match first_wished(line, centre, book, coming.hand) {
-            Some(s) => Heard::of(self.ask_back(line, s)),
-            None => Heard::nothing(),
+            Some(s) => out.saying = self.ask_back(line, s),
+            None => {}
         }
     }
 

@@ -28,7 +28,7 @@ transition-requires c = record {
   near =
       let d = (goal.at.transition-requires c).In-Some-announce in
       let border = c.in-Some-announce.ensures.border (mission d) (there d) in
-      c.requires.near (mission d) (there d) c.in-Some-announce.announcement.border border.1;
+      c.requires.may.near (mission d) (there d) c.in-Some-announce.announcement.border border.1;
 }
 
 pub returns-clause-exact : goal.returns-clause-exact

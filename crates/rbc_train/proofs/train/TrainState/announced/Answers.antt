@@ -1,9 +1,9 @@
-use Rattle.std.proofs.Common.{◌≡◌, ◌∙◌, true, false, nat_lt, length, if◌then◌else◌, [], ap, sym, arith}
+use Rattle.std.proofs.Common.{◌≡◌, ◌∙◌, true, false, nat_lt, length, if◌then◌else◌, [], ap, arith}
 use Rattle.std.proofs.lemmas.Bool.Decides.{nat_tests}
 use Rattle.rbc_spec.specs.Centre.{Centre}
 use Rattle.rbc_spec.specs.Acts.{rest}
 use Rattle.rbc_spec.specs.Links.{announced}
-use Rattle.rbc_train.specs.Desk.{with_parts, replied, reply_left}
+use Rattle.rbc_train.specs.Desk.{replied}
 use Rattle.rbc_train.proofs.Desk.{same_parts, has_expectations, expects_left}
 use Rattle.rbc_train.proofs.train.TrainState.announced.Goals as goal
 
@@ -15,7 +15,7 @@ returns-then-track-track_count-clause-exact c = λ n book rights k has.
     let count = c.track_count.ensures.value in
     let far : nat_lt c.args.track (length line.tracks) ≡ false = grind (arith, nat_tests) in
     ap (λ b. (if b then announced c.args.from c.args.number p.supervision.engine else rest) k) far
-    ∙ same_parts line n k p book rights has ∙ ap (reply_left line n p.supervision.engine (with_parts p book rights k)) (sym c.nothing.ensures)
+    ∙ same_parts line n k p book rights has
 
 pub returns-clause-exact : goal.returns-clause-exact
 returns-clause-exact c = λ n book rights k has.
@@ -24,9 +24,7 @@ returns-clause-exact c = λ n book rights k has.
     let t = p.supervision.engine in
     let past = c.if-track-track_count.false in
     let count = c.track_count.ensures.value in
-    let new = record p { expectations = c.announced.new.self } in
     let near : nat_lt c.args.track (length line.tracks) ≡ true = grind (arith, nat_tests) in
     ap (λ b. (if b then announced c.args.from c.args.number t else rest) k) near
     ∙ c.announced.ensures.exact line t k (has_expectations line n k p book rights has)
     ∙ ap (λ (x : Centre). replied x [] []) (expects_left line n k p book rights has c.announced.new.self)
-    ∙ ap (reply_left line n t (with_parts new book rights k)) (sym c.nothing-2.ensures)

@@ -10,5 +10,5 @@ use Rattle.rbc_train.proofs.train.TrainState.ask_route.Goals as goal
 pub returns-clause-exact : goal.returns-clause-exact
 returns-clause-exact c = λ k has.
     let t = c.args.self.now.supervision.engine in
-    c.ask.ensures.exact k has ∙ ap (λ o. sending c.args.next (option_map (λ q. RouteAsk t q.first q.most) o) (with_supervision c.ask.new.self k)) c.in_ok-question.was
-    ∙ ap (λ (e : ℕ). posted (letters (Some (record { to = c.args.next; body = code.RouteAsk e c.in_ok-question.question.first c.in_ok-question.question.most }))) (replied (with_supervision c.ask.new.self k) [] [])) (sym c.nid_engine-engine.ensures)
+    c.ask.ensures.exact k has ∙ ap (λ o. sending c.args.next (option_map (λ q. RouteAsk t q.first q.most) o) (with_supervision c.ask.new.self k)) c.in-Some.is
+    ∙ ap (λ (e : ℕ). posted (letters (Some (record { to = c.args.next; body = code.RouteAsk e c.in-Some.question.first c.in-Some.question.most }))) (replied (with_supervision c.ask.new.self k) [] [])) (sym c.nid_engine-engine.ensures)

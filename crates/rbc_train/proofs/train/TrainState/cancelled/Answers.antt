@@ -1,6 +1,6 @@
-use Rattle.std.proofs.Common.{◌∙◌, [], ap, sym}
+use Rattle.std.proofs.Common.{◌∙◌, [], ap}
 use Rattle.rbc_spec.specs.Centre.{Centre}
-use Rattle.rbc_train.specs.Desk.{with_parts, replied, reply_left}
+use Rattle.rbc_train.specs.Desk.{replied}
 use Rattle.rbc_train.proofs.Desk.{has_expectations, expects_left}
 use Rattle.rbc_train.proofs.train.TrainState.cancelled.Goals as goal
 
@@ -8,7 +8,5 @@ pub returns-clause-exact : goal.returns-clause-exact
 returns-clause-exact c = λ line n book rights k has.
     let p = c.args.self.now in
     let t = p.supervision.engine in
-    let new = record p { expectations = c.cancelled.new.self } in
     c.cancelled.ensures.exact line t k (has_expectations line n k p book rights has)
     ∙ ap (λ (x : Centre). replied x [] []) (expects_left line n k p book rights has c.cancelled.new.self)
-    ∙ ap (reply_left line n t (with_parts new book rights k)) (sym c.nothing.ensures)

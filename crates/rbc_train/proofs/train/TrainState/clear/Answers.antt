@@ -24,7 +24,7 @@ clear_front-released-requires-clause-some c = subst (λ (r : SectionRun). c.clea
 pub clear_front-released-requires-clause-held : goal.clear_front-released-requires-clause-held
 clear_front-released-requires-clause-held c =
     let old = c.args.self.now in
-    held_as old.supervision.engine old.supervision.engine (is_home c.args.line.now c.args.centre) (is_own c.args.book.now) old.supervision.hand refl c.requires.book c.requires.held
+    held_as old.supervision.engine old.supervision.engine (is_home c.args.line.now c.args.centre) (is_own c.args.book.now) old.supervision.hand refl c.requires.at.book c.requires.at.held
 
 pub returns-clause-exact : goal.returns-clause-exact
 returns-clause-exact c = λ m there on k has.
@@ -33,15 +33,15 @@ returns-clause-exact c = λ m there on k has.
     let place = place_of c.args.place in
     let left = c.clear_front-released.new.self in
     let sections = c.clear_front-released.result.returned in
-    let letter = c.released.result.mail.letter in
+    let letter = c.released.new.out.mail.letter in
     let notice = cancel_of c.clear_front-released.result.cancelled in
-    clears line c.args.centre k old c.args.book.now c.args.registrar.now has m there place c.requires.number (λ d. (with_parts (record old { supervision = left }) c.clear_front-released.new.book c.released.new.registrar k).expects d old.supervision.engine) left (hand_rest c.cleared-count.result old.supervision.hand) c.clear_front-released.new.book c.released.new.registrar c.clear_front-released.result.told c.clear_front-released.result.cancelled letter
+    clears line c.args.centre k old c.args.book.now c.args.registrar.now has m there place c.requires.at.number (λ d. (with_parts (record old { supervision = left }) c.clear_front-released.new.book c.released.new.registrar k).expects d old.supervision.engine) left (hand_rest c.cleared-count.result old.supervision.hand) c.clear_front-released.new.book c.released.new.registrar c.clear_front-released.result.told c.clear_front-released.result.cancelled letter
     c.cleared-count.result
     (c.cleared-count.ensures.value ∙ ap (passing (is_cleared line place)) c.hand.ensures.value ∙ ap (λ (x : SupervisionState). passing (is_cleared line place) (hand_of x)) (λ i. record old.supervision { mission = there i }))
     c.clear_front-released.ensures.supervision c.clear_front-released.ensures.book c.clear_front-released.ensures.told sections c.clear_front-released.ensures.returned c.clear_front-released.ensures.cancelled
     (goes_as line c.args.centre old.supervision.engine left.engine c.clear_front-released.result.right (right_left old.supervision left) letter c.args.registrar.now c.released.new.registrar
     (ap (λ (x : SupervisionState). x.engine) c.clear_front-released.ensures.supervision) c.clear_front-released.ensures.right c.released.ensures.right)
-    ∙ sym (released_as line c.args.centre old.supervision.engine (with_parts (record old { supervision = left }) c.clear_front-released.new.book c.released.new.registrar k) c.released.result c.clear_front-released.result.told
+    ∙ sym (released_as line c.args.centre old.supervision.engine (with_parts (record old { supervision = left }) c.clear_front-released.new.book c.released.new.registrar k) c.released.new.out c.clear_front-released.result.told
     (mail_home m.place.track sections notice letter) (c.released.ensures.heard ∙ ap (λ (track : ℕ). unsaid (mail_home track sections notice letter) c.clear_front-released.result.told) (sym on)))
 
 pub returns-clause-stays : goal.returns-clause-stays
@@ -61,7 +61,7 @@ returns-clause-sends c =
     let mail = ap (λ (x : Heard). x.mail) c.released.ensures.heard in
     record {
       order = ap (λ (x : Heard). x.order) c.released.ensures.heard;
-      mail = sent_home c.args.place.track c.clear_front-released.result.returned (cancel_of c.clear_front-released.result.cancelled) c.released.result.mail mail;
+      mail = sent_home c.args.place.track c.clear_front-released.result.returned (cancel_of c.clear_front-released.result.cancelled) c.released.new.out.mail mail;
       letter = λ stands. (
         (c.released.ensures.right.nothing (c.clear_front-released.ensures.right ∙ none_left old left stands)).0,
         ap (λ (x : Mail). x.notice) mail
@@ -78,7 +78,7 @@ returns-clause-keeps c =
     let engine = ap (λ (x : SupervisionState). x.engine) c.clear_front-released.ensures.supervision in
     keeps_state c.args.line.now c.args.centre old old.heard left (ap (λ (x : SupervisionState). x.number) c.clear_front-released.ensures.supervision) engine
     (held_as old.supervision.engine left.engine (is_own c.clear_front-released.new.book) (is_home c.args.line.now c.args.centre) left.hand (sym engine)
-    (λ s. sym (c.clear_front-released.ensures.book.homes s ∙ c.requires.book s)) c.clear_front-released.ensures.held)
+    (λ s. sym (c.clear_front-released.ensures.book.homes s ∙ c.requires.at.book s)) c.clear_front-released.ensures.held)
 
 pub returns-clause-front : goal.returns-clause-front
 returns-clause-front c =

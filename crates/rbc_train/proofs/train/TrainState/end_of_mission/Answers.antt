@@ -14,14 +14,14 @@ use Rattle.rbc_train.proofs.Ends.{ended, finished, ends, ends_ahead}
 use Rattle.rbc_train.proofs.Unanswered.{no_session, no_mission}
 use Rattle.rbc_train.proofs.train.TrainState.end_of_mission.Goals as goal
 
-pub leave_ahead-left-requires-clause-keep : goal.leave_ahead-left-requires-clause-keep
-leave_ahead-left-requires-clause-keep c =
+pub leave_ahead-requires-clause-keep : goal.leave_ahead-requires-clause-keep
+leave_ahead-requires-clause-keep c =
     let old = c.args.self.now in
     let m = mission_in old.supervision c.in_ok-mission.mission in
     let at = c.in_ok-mission.ensures in
     let a = c.in-Some.ensures.some in
-    keeps_fit c.args.line.now old.supervision.engine m.place.track (position_of c.args.position.now) c.args.book.now c.report_here-heard.new.book old.supervision c.report_here-heard.new.self.supervision m c.in-Some.field-0.keep
-    c.report_here-heard.result.told c.in-Some.field-0.told at a (c.report_here-heard.ensures.front a.place a.at)
+    keeps_fit c.args.line.now old.supervision.engine m.place.track (position_of c.args.position.now) c.args.book.now c.report_here.new.book old.supervision c.report_here.new.self.supervision m c.in-Some.field-0.keep
+    c.report_here.new.out.told c.in-Some.field-0.told at a (c.report_here.ensures.front a.place a.at)
 
 pub returns-in-Some-clause-exact : goal.returns-in-Some-clause-exact
 returns-in-Some-clause-exact c = λ k h.
@@ -30,17 +30,17 @@ returns-in-Some-clause-exact c = λ k h.
     let old = c.args.self.now in
     let m = mission_in old.supervision c.in_ok-mission.mission in
     let at = c.in_ok-mission.ensures in
-    let report = c.report_here-heard in
-    let cut = c.leave_ahead-left in
+    let report = c.report_here in
+    let cut = c.leave_ahead in
     let kept = report.ensures.stays (parts_heard line n k c.args.t_train old c.args.book.now c.args.registrar.now h.parts).kept in
     ends_ahead line n k c.args.t_train old c.args.book.now c.args.registrar.now (position_of c.args.position.now) h
-    m report.new.self report.new.book report.new.registrar report.result
+    m report.new.self report.new.book report.new.registrar report.new.out
     c.in_ok-up.ensures at c.if-mission.false
     report.ensures.keeps.train.engine report.ensures.desk.homes kept (report.ensures.exact m at refl) report.ensures.sends.order report.ensures.sends.mail report.ensures.sends.letter (λ x stands. report.ensures.track m x at refl stands) report.ensures.front
-    c.in-Some.field-0.keep c.in-Some.field-0.told c.in-Some.ensures.some cut.new.self cut.new.book cut.new.registrar cut.result
+    c.in-Some.field-0.keep c.in-Some.field-0.told c.in-Some.ensures.some cut.new.self cut.new.book cut.new.registrar cut.new.out
     cut.ensures.exact cut.ensures.stays (ap (λ (x : Heard). x.saying) cut.ensures.heard) (ap (λ (x : Heard). x.order) cut.ensures.heard) (ap (λ (x : Heard). x.told) cut.ensures.heard) (ap (λ (x : Heard). x.mail) cut.ensures.heard)
     cut.ensures.pool cut.ensures.left cut.ensures.keeps.train.engine cut.ensures.desk.homes
-    ∙ (λ i. by_reply (reply_left line n old.supervision.engine (with_parts (record cut.new.self { supervision = sym c.end_mission.ensures i }) cut.new.book cut.new.registrar k) (sym c.and_ahead.ensures i)))
+    ∙ (λ i. by_reply (reply_left line n old.supervision.engine (with_parts (record cut.new.self { supervision = sym c.end_mission.ensures i }) cut.new.book cut.new.registrar k) (record report.new.out { mail = record report.new.out.mail { second = cut.new.out.mail.first; notice = cut.new.out.mail.notice }; told = c.in-Some.field-0.told })))
 
 pub returns-in-None-clause-exact : goal.returns-in-None-clause-exact
 returns-in-None-clause-exact c = λ k h.
@@ -49,18 +49,18 @@ returns-in-None-clause-exact c = λ k h.
     let old = c.args.self.now in
     let m = mission_in old.supervision c.in_ok-mission.mission in
     let at = c.in_ok-mission.ensures in
-    let report = c.report_here-heard in
+    let report = c.report_here in
     let mid = report.new.self in
     let kept = report.ensures.stays (parts_heard line n k c.args.t_train old c.args.book.now c.args.registrar.now h.parts).kept in
     let done : c.end_mission-in-None.new.self ≡ finished mid.supervision =
     c.end_mission-in-None.ensures ∙ ap (λ (x : SupervisionState). record x { mission = option_map ended x.mission }) c.return_pool-pool.ensures.state in
     ends line n k c.args.t_train old c.args.book.now c.args.registrar.now (position_of c.args.position.now) h
-    m mid report.new.book report.new.registrar report.result
+    m mid report.new.book report.new.registrar report.new.out
     c.in_ok-up.ensures at c.if-mission.false
     report.ensures.keeps.train.engine report.ensures.desk.homes kept (report.ensures.exact m at refl) report.ensures.sends.order report.ensures.sends.mail report.ensures.sends.letter (λ x stands. report.ensures.track m x at refl stands) report.ensures.front
     c.return_pool-pool.result c.return_pool-pool.ensures.run
     ((λ i. left_ahead line m.place.track (position_of c.args.position.now) (hand_of (record old.supervision { mission = sym at i }))) ∙ c.ahead-ahead.ensures.none c.in-None.is)
-    ∙ (λ i. by_reply (reply_left line n old.supervision.engine (with_parts (record mid { supervision = sym done i }) report.new.book report.new.registrar k) (sym c.with_second.ensures i)))
+    ∙ (λ i. by_reply (reply_left line n old.supervision.engine (with_parts (record mid { supervision = sym done i }) report.new.book report.new.registrar k) (record report.new.out { mail = record report.new.out.mail { second = c.return_pool-pool.result } })))
 
 pub returns-in_err-up-clause-exact : goal.returns-in_err-up-clause-exact
 returns-in_err-up-clause-exact c = λ k h.

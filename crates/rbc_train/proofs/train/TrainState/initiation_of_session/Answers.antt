@@ -1,12 +1,10 @@
-use Rattle.std.proofs.Common.{◌+◌, ◌∙◌, [], ◌∷◌, ap, sym, refl, Some}
+use Rattle.std.proofs.Common.{◌+◌, ◌∙◌, [], ◌∷◌, ap, sym, refl, Some, Ok}
 use Rattle.rbc_spec.specs.Message.{SystemVersion, unknown_group}
 use Rattle.rbc_spec.specs.Centre.{Opened}
 use Rattle.rbc_mission.specs.Supervisions.{SupervisionState}
-use Rattle.rbc_train.specs.Desk.{with_parts, posted, replied}
-use Rattle.rbc_train.specs.Letters.{mail_to}
-use Rattle.rbc_train.specs.Sayings.{saying_of}
-use Rattle.rbc_train.specs.declared.mail.Mail.{Mail}
-use Rattle.rbc_train.proofs.Desk.{by_reply, left_as, answer_to}
+use Rattle.rbc_train.specs.Desk.{with_parts, effect_left}
+use Rattle.rbc_train.specs.declared.heard.Heard.{Heard}
+use Rattle.rbc_train.proofs.Desk.{left_as, answer_to}
 use Rattle.rbc_train.proofs.SessionMessages.{opened_again}
 use Rattle.rbc_train.proofs.SessionStates.{phase_entered}
 use Rattle.rbc_train.proofs.train.TrainState.initiation_of_session.Goals as goal
@@ -23,4 +21,4 @@ returns-clause-exact c = λ line n rights k h.
     (c.answer-saying.ensures.counted ∙ ap (λ (x : SupervisionState). record { session_state = session; heard = Some c.args.t_train; said = old.said + 1; supervision = x; waiting = waiting; expectations = old.expectations }) c.forget_proposal.ensures)
     (ap (λ x. x ∷ []) (c.answer-saying.ensures.saying ∙ ap (λ (x : SupervisionState). record { nid_engine = x.engine; message = record { t_train = old.said + 1; nid_lrbg = unknown_group; body = SystemVersion } }) c.forget_proposal.ensures))
     refl)
-    ∙ ap (λ (mail : Mail). by_reply (posted (mail_to line n old.supervision.engine (λ d. (with_parts c.answer-saying.new.self c.drop_start-told.new.book rights k).expects d old.supervision.engine) mail) (replied (with_parts c.answer-saying.new.self c.drop_start-told.new.book rights k) (saying_of c.answer-saying.result ∷ []) told))) (sym c.of.ensures)
+    ∙ ap (λ (x : Heard). effect_left line n old.supervision.engine (with_parts c.answer-saying.new.self c.drop_start-told.new.book rights k) (Ok (record x { saying = Some c.answer-saying.result; told = told }))) (sym c.requires.out)

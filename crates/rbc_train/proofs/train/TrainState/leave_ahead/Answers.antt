@@ -31,7 +31,7 @@ returns-clause-exact c = λ m there on k has.
     let book' = c.shorten-released.new.book in
     let rights' = c.released.new.registrar in
     let sections = c.shorten-released.result.returned in
-    let letter = c.released.result.mail.letter in
+    let letter = c.released.new.out.mail.letter in
     let told = c.shorten-released.result.told in
     let cancelled = c.shorten-released.result.cancelled in
     let last = m.hand.first + c.args.keep - 1 in
@@ -46,7 +46,7 @@ returns-clause-exact c = λ m there on k has.
     (c.shorten-released.ensures.returned ∙ (λ i. cut_run (counts i) (record old.supervision { mission = there i })))
     (goes_as line c.args.centre t left.engine c.shorten-released.result.right (right_left old.supervision left) letter c.args.registrar.now rights'
     (ap (λ (x : SupervisionState). x.engine) c.shorten-released.ensures.supervision) c.shorten-released.ensures.right c.released.ensures.right)
-    ∙ sym (released_as line c.args.centre t (with_parts (record old { supervision = left }) book' rights' k) c.released.result told
+    ∙ sym (released_as line c.args.centre t (with_parts (record old { supervision = left }) book' rights' k) c.released.new.out told
     (mail_home m.place.track sections (cancel_of cancelled) letter)
     (c.released.ensures.heard ∙ ap (λ (track : ℕ). unsaid (mail_home track sections (cancel_of cancelled) letter) told) (sym on)))
 
@@ -60,12 +60,12 @@ returns-clause-heard c =
     let left = c.shorten-released.new.self in
     let is = ap (λ (x : SupervisionState). x.mission) c.shorten-released.ensures.supervision in
     let silent = (c.released.ensures.right.nothing (c.shorten-released.ensures.right ∙ none_back c.args.line.now c.args.keep c.requires.some old left is)).0 in
-    let goes = mail_home c.args.track c.shorten-released.result.returned (cancel_of c.shorten-released.result.cancelled) c.released.result.mail.letter in
+    let goes = mail_home c.args.track c.shorten-released.result.returned (cancel_of c.shorten-released.result.cancelled) c.released.new.out.mail.letter in
     let mail = ap (λ (x : Heard). x.mail) c.released.ensures.heard in
     c.released.ensures.heard ∙ ap (unsaid goes) c.shorten-released.ensures.told
     ∙ ap (λ (m : Mail). unsaid m (wished old.engine (rest_of c.args.keep (hand_of old)) c.args.book.now))
-    (sym mail ∙ sent_home c.args.track c.shorten-released.result.returned (cancel_of c.shorten-released.result.cancelled) c.released.result.mail mail
-    ∙ ap (mail_home c.args.track c.released.result.mail.first c.released.result.mail.notice) silent)
+    (sym mail ∙ sent_home c.args.track c.shorten-released.result.returned (cancel_of c.shorten-released.result.cancelled) c.released.new.out.mail mail
+    ∙ ap (mail_home c.args.track c.released.new.out.mail.first c.released.new.out.mail.notice) silent)
 
 pub returns-clause-pool : goal.returns-clause-pool
 returns-clause-pool c =

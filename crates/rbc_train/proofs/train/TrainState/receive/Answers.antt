@@ -1,5 +1,6 @@
-use Rattle.std.proofs.Common.{length, ap, arith}
+use Rattle.std.proofs.Common.{length, ap, sym, ◌∙◌, arith}
 use Rattle.std.proofs.lemmas.Bool.{ltb-true}
+use Rattle.rbc_train.specs.Desk.{with_parts, reply_left}
 use Rattle.rbc_train.specs.declared.train.TrainState.{TrainState}
 use Rattle.rbc_train.proofs.Kept.{still_held}
 use Rattle.rbc_train.proofs.Received.{takes_ask, takes_right, takes_refusal, takes_back, takes_route_ask, takes_route, takes_withdrawal, takes_return, takes_announcement, takes_cancellation, takes_claim, takes_yield, told_range, returned_range, yielded_range}
@@ -19,10 +20,11 @@ returns-in-RefuseRight-clause-exact c = λ k has known.
 
 pub returns-in-ReturnRight-clause-exact : goal.returns-in-ReturnRight-clause-exact
 returns-in-ReturnRight-clause-exact c = λ k has known.
-    takes_back c.args.line.now c.args.centre c.args.from c.args.self.now.supervision.engine k c.args.body _ c.requires.engine known _ c.in-ReturnRight.is (c.right_returned.ensures.exact c.args.book.now k has)
+    takes_back c.args.line.now c.args.centre c.args.from c.args.self.now.supervision.engine k c.args.body _ c.requires.engine known _ c.in-ReturnRight.is
+    (c.right_returned.ensures.exact c.args.book.now k has ∙ ap (reply_left c.args.line.now c.args.centre c.args.self.now.supervision.engine (with_parts c.right_returned.new.self c.args.book.now c.right_returned.new.registrar k)) (sym c.nothing.ensures))
 
-pub route_told-requires : goal.route_told-requires
-route_told-requires c = record { few = (told_range c.args.body _ c.in-RouteInfo.run' c.in-RouteInfo.is c.requires.range).count.1 }
+pub route_told-requires-clause-few : goal.route_told-requires-clause-few
+route_told-requires-clause-few c = (told_range c.args.body _ c.in-RouteInfo.run' c.in-RouteInfo.is c.requires.range).count.1
 
 pub route_returned-requires-clause-range : goal.route_returned-requires-clause-range
 route_returned-requires-clause-range c = returned_range c.args.body _ c.in-RouteReturn.run' c.in-RouteReturn.is c.requires.range
@@ -56,12 +58,12 @@ yielded-requires-clause-hand c = (yielded_range c.args.body _ _ _ _ _ c.in-Yield
 pub returns-in-Announce-clause-exact : goal.returns-in-Announce-clause-exact
 returns-in-Announce-clause-exact c = λ k has known.
     takes_announcement c.args.line.now c.args.centre c.args.from c.args.self.now.supervision.engine k c.args.body _ c.requires.engine known c.in-Announce.handover _ c.in-Announce.track c.in-Announce.is
-    (c.announced.ensures.exact c.args.centre c.args.book.now c.args.registrar.now k has)
+    (c.announced.ensures.exact c.args.centre c.args.book.now c.args.registrar.now k has ∙ ap (reply_left c.args.line.now c.args.centre c.args.self.now.supervision.engine (with_parts c.announced.new.self c.args.book.now c.args.registrar.now k)) (sym c.nothing.ensures))
 
 pub returns-in-Cancel-clause-exact : goal.returns-in-Cancel-clause-exact
 returns-in-Cancel-clause-exact c = λ k has known.
     takes_cancellation c.args.line.now c.args.centre c.args.from c.args.self.now.supervision.engine k c.args.body _ c.requires.engine known c.in-Cancel.handover _ c.in-Cancel.is
-    (c.cancelled.ensures.exact c.args.line.now c.args.centre c.args.book.now c.args.registrar.now k has)
+    (c.cancelled.ensures.exact c.args.line.now c.args.centre c.args.book.now c.args.registrar.now k has ∙ ap (reply_left c.args.line.now c.args.centre c.args.self.now.supervision.engine (with_parts c.cancelled.new.self c.args.book.now c.args.registrar.now k)) (sym c.nothing.ensures))
 
 pub returns-in-TakingOver-clause-exact : goal.returns-in-TakingOver-clause-exact
 returns-in-TakingOver-clause-exact c = λ k has known.

@@ -22,7 +22,7 @@ returns-clause-exact c = λ k h.
     let there = sym c.mission.ensures.value ∙ ap (option_map (mission_in old.supervision)) c.in-Some.is in
     let on = sym c.place_on.ensures.value ∙ ap (option_map place_of) c.in-Some-place_on.is in
     reports line c.args.centre k c.args.t_train old c.args.book.now c.args.registrar.now (position_of c.args.position.now) h
-    m (place_of c.in-Some-place_on.place) c.clear.new.self c.clear.new.book c.clear.new.registrar c.clear.result
+    m (place_of c.in-Some-place_on.place) c.clear.new.self c.clear.new.book c.clear.new.registrar c.clear.new.out
     c.in_ok-up.ensures there on c.clear.ensures.keeps.train.engine
     (c.clear.ensures.exact m there (sym (on_track line m.place.track (position_of c.args.position.now) (place_of c.in-Some-place_on.place) on)))
 

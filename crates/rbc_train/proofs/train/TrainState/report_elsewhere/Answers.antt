@@ -7,6 +7,7 @@ use Rattle.rbc_spec.specs.Place.{extent, has_front}
 use Rattle.rbc_msgs.specs.StepMessage.{position_of}
 use Rattle.rbc_train.specs.Desk.{with_parts, effect_left}
 use Rattle.rbc_train.specs.declared.heard.Heard.{Heard}
+use Rattle.rbc_train.specs.declared.mail.Notice.TheVariants as notice
 use Rattle.rbc_train.proofs.Desk.{has_expectations}
 use Rattle.rbc_train.proofs.Reports.{not_supervised, takes_over}
 use Rattle.rbc_train.proofs.train.TrainState.report_elsewhere.Goals as goal
@@ -40,4 +41,4 @@ returns-clause-exact c = λ book rights k h.
     ((λ i. sym (c.is_expected.ensures.exact line t k (has_expectations line n k p book rights h.parts)) i && sym c.is_in_area.ensures i)
     ∙ (λ i. c.if-not-is_expected.false i && c.if-not-is_in_area.false i))
     (λ j there. c.take_over.ensures.exact line t j there)
-    ∙ ap (λ (x : Heard). effect_left line n t (with_parts (record p { heard = Some c.args.t_train; expectations = c.take_over.new.self }) book rights k) (Ok x)) (sym c.taking_over.ensures)
+    ∙ ap (λ (x : Heard). effect_left line n t (with_parts (record p { heard = Some c.args.t_train; expectations = c.take_over.new.self }) book rights k) (Ok (record x { mail = record x.mail { notice = notice.TakingOver c.take_over.result } }))) (sym c.requires.out)

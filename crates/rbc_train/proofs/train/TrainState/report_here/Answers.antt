@@ -15,7 +15,7 @@ returns-in-Some-clause-exact c = λ m there is k has.
 
 pub returns-in-Some-clause-sends : goal.returns-in-Some-clause-sends
 returns-in-Some-clause-sends c =
-    subst (λ (track : ℕ). SendsHome track c.clear.new.self.supervision c.clear.result)
+    subst (λ (track : ℕ). SendsHome track c.clear.new.self.supervision c.clear.new.out)
     (on_track c.args.line.now c.args.track (position_of c.args.position.now) (place_of c.in-Some.place) (sym c.place_on.ensures.value ∙ ap (option_map place_of) c.in-Some.is))
     c.clear.ensures.sends
 
@@ -27,7 +27,7 @@ returns-in-Some-clause-track c = λ m n there is stands.
 pub returns-in-Some-clause-front : goal.returns-in-Some-clause-front
 returns-in-Some-clause-front c = λ p is.
     let same : place_of c.in-Some.place ≡ p = same_Some (place_of c.in-Some.place) p (sym (sym c.place_on.ensures.value ∙ ap (option_map place_of) c.in-Some.is) ∙ is) in
-    subst (λ (q : Place). LeavesFront c.args.line.now q c.args.self.now.supervision c.clear.new.self.supervision c.clear.result.told c.args.book.now c.clear.new.book) same c.clear.ensures.front
+    subst (λ (q : Place). LeavesFront c.args.line.now q c.args.self.now.supervision c.clear.new.self.supervision c.clear.new.out.told c.args.book.now c.clear.new.book) same c.clear.ensures.front
 
 pub returns-in-None-clause-front : goal.returns-in-None-clause-front
 returns-in-None-clause-front c = λ p is. let none : None ≡ Some p = sym (sym c.place_on.ensures.value ∙ ap (option_map place_of) c.in-None.is) ∙ is in cc

@@ -45,8 +45,11 @@ lengthen-requires c = λ x is.
     (grows line c.args.book.now (place_of c.in-Some.place) m sections grant.line (c.requires.kept.form m there) (c.requires.kept.pool.follows m there)
     (λ s here. c.requires.at.book s ∙ c.requires.kept.pool.away m there s here) grant.room grant.each)
 
-pub at_border-requires : goal.at_border-requires
-at_border-requires c =
+pub at_border-requires-clause-out : goal.at_border-requires-clause-out
+at_border-requires-clause-out c = ap (λ (x : Heard). record x { saying = Some c.answer-saying.result }) c.requires.out
+
+pub at_border-requires-clause-may : goal.at_border-requires-clause-may
+at_border-requires-clause-may c =
     let once = ap (λ (p : TrainState). p.said) c.answer-saying.ensures.counted in
     let room = c.requires.count in
     record {
@@ -84,7 +87,7 @@ returns-clause-exact c = λ rights k h so_many.
     let book' = c.lengthen.new.book in
     let answered = c.answer-saying.ensures in
     let bordering = c.at_border.ensures in
-    let told = c.at_border.result in
+    let told = c.at_border.new.out in
     let new = c.at_border.new.self in
     let announced' = c.at_border.new.count in
     let t = old.supervision.engine in

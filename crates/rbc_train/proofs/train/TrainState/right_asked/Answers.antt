@@ -1,4 +1,4 @@
-use Rattle.std.proofs.Common.{◌≡◌, ℕ, true, false, Some, None, [], sym, ap, ◌∙◌}
+use Rattle.std.proofs.Common.{◌≡◌, ℕ, true, false, Some, sym, ap, ◌∙◌}
 use Rattle.rbc_spec.specs.Maps.{put}
 use Rattle.rbc_spec.specs.Line.{registrar}
 use Rattle.rbc_spec.specs.Centre.{is_registrar_of}
@@ -6,7 +6,6 @@ use Rattle.law_base.proofs.Puts.{put_there}
 use Rattle.rbc_linkmsg.specs.declared.body.Body.TheVariants.{GiveRight, RefuseRight}
 use Rattle.rbc_right.specs.Rights.{is_here}
 use Rattle.rbc_train.specs.Desk.{with_parts, reply_left}
-use Rattle.rbc_train.specs.Letters.{mail_of}
 use Rattle.rbc_train.specs.declared.heard.Heard.{Heard}
 use Rattle.rbc_train.proofs.Desk.{same_parts}
 use Rattle.rbc_train.proofs.Runs.{is_registered, not_registered}
@@ -22,7 +21,7 @@ returns-then-ne-clause-exact c = λ book k has.
     let away : is_registrar_of line c.args.centre t ≡ false =
     not_registered line c.args.centre t c.registrar.result (c.registrar.ensures ∙ ap (registrar line) c.nid_engine-engine.ensures) (so_not _ c.if-ne.ensures) in
     rw away (same_parts line c.args.centre k p book c.args.registrar.now has)
-    ∙ ap (reply_left line c.args.centre t (with_parts p book c.args.registrar.now k)) (sym c.nothing.ensures)
+    ∙ ap (reply_left line c.args.centre t (with_parts p book c.args.registrar.now k)) (sym c.requires.out)
 
 pub returns-clause-exact : goal.returns-clause-exact
 returns-clause-exact c = λ book k has.
@@ -38,9 +37,9 @@ returns-clause-exact c = λ book k has.
       | in-Given w ↦
           gives line c.args.centre k p book rights has c.args.from c.ask.new.self here (sym (ap (is_here rights) c.number.ensures) ∙ was_here _ _ _ w.in-Given.ensures.answer) gone
           ∙ ap (λ (h : Heard). reply_left line c.args.centre t (with_parts p book c.ask.new.self k) h)
-          (sym (c.told.ensures ∙ (λ l. record { saying = None; order = None; mail = mail_of (Some (record { to = c.args.from; body = (w.body-is ∙ ap (λ (u : ℕ). GiveRight u) c.nid_engine-engine.ensures) l })); told = [] })))
+          (sym (λ l. let x = c.requires.out l in record x { mail = record x.mail { letter = Some (record { to = c.args.from; body = (w.body-is ∙ ap (λ (u : ℕ). GiveRight u) c.nid_engine-engine.ensures) l }) } }))
       | in-NotHere w ↦
           refuses line c.args.centre k p book rights has c.args.from c.ask.new.self here (sym (ap (is_here rights) c.number.ensures) ∙ was_gone _ _ w.in-NotHere.ensures.answer) gone
           ∙ ap (λ (h : Heard). reply_left line c.args.centre t (with_parts p book c.ask.new.self k) h)
-          (sym (c.told.ensures ∙ (λ l. record { saying = None; order = None; mail = mail_of (Some (record { to = c.args.from; body = (w.body-is ∙ ap (λ (u : ℕ). RefuseRight u) c.nid_engine-engine.ensures) l })); told = [] })))
+          (sym (λ l. let x = c.requires.out l in record x { mail = record x.mail { letter = Some (record { to = c.args.from; body = (w.body-is ∙ ap (λ (u : ℕ). RefuseRight u) c.nid_engine-engine.ensures) l }) } }))
     ]

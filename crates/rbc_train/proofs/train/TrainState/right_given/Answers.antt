@@ -1,4 +1,4 @@
-use Rattle.std.proofs.Common.{◌≡◌, ◌+◌, ◌&&◌, false, [], is_some, is_none, refl, sym, ap, ◌∙◌, subst}
+use Rattle.std.proofs.Common.{◌≡◌, ◌+◌, ◌&&◌, false, [], Some, is_some, is_none, refl, sym, ap, ◌∙◌, subst}
 use Rattle.rbc_spec.specs.Message.{TrainAccepted}
 use Rattle.law_base.proofs.Lists.{none_is}
 use Rattle.rbc_right.specs.Rights.{right_of}
@@ -9,6 +9,7 @@ use Rattle.rbc_mission.specs.Supervisions.{claims_on}
 use Rattle.rbc_train.specs.Desk.{with_parts, unsaid}
 use Rattle.rbc_train.specs.Homes.{GoesHome}
 use Rattle.rbc_train.specs.Letters.{mail_home, no_sections}
+use Rattle.rbc_train.specs.declared.heard.Heard.{Heard}
 use Rattle.rbc_train.specs.declared.mail.Notice.TheVariants as notice
 use Rattle.rbc_train.proofs.Desk.{answer_to, heard_said}
 use Rattle.rbc_train.proofs.Requests.{some_mapped}
@@ -24,8 +25,8 @@ returns-then-is_none-clause-exact c = λ book k has.
     (none_is p.supervision.mission (none_told _ c.mission.result p.supervision.mission c.is_none.result c.mission.ensures.value c.is_none.ensures ∙ c.if-is_none.true))
     (ap is_some (sym c.place.ensures) ∙ some_mapped place_of c.place.result ∙ sym c.is_some.ensures ∙ c.if-is_some.true)
     c.admit.ensures.supervision c.admit.ensures.waits
-    ∙ sym (heard_said c.args.line.now c.args.centre p.supervision.engine k c.answered.new.self new book c.args.registrar.now c.answered.result (answer_to p.supervision.engine (p.said + 1) TrainAccepted) c.answered.ensures.counted
-    (c.answered.ensures.said ∙ (λ i. answer_to (c.admit.ensures.supervision i).engine (p.said + 1) TrainAccepted)) c.answered.ensures.heard)
+    ∙ sym (heard_said c.args.line.now c.args.centre p.supervision.engine k c.answered.new.self new book c.args.registrar.now (record c.args.out.now { saying = Some c.answered.result }) (answer_to p.supervision.engine (p.said + 1) TrainAccepted) c.answered.ensures.counted
+    (c.answered.ensures.said ∙ (λ i. answer_to (c.admit.ensures.supervision i).engine (p.said + 1) TrainAccepted)) (ap (λ (x : Heard). record x { saying = Some c.answered.result }) c.requires.out))
 
 pub returns-clause-exact : goal.returns-clause-exact
 returns-clause-exact c = λ book k has.
@@ -37,7 +38,7 @@ returns-clause-exact c = λ book k has.
           rw (some ∙ w.if-is_some.true) other
       | else-is_some-via-else-is_some w ↦ rw (some ∙ w.if-is_some.false) refl
     ] in
-    given_in_vain c.args.line.now c.args.centre k p book c.args.registrar.now has c.released.result.mail.letter c.released.new.registrar c.note_answer.new.self (sym c.has_asked.ensures ∙ c.if-not-has_asked.false) busy c.requires.number
-    (subst (λ (r : Right). GoesHome c.args.line.now c.args.centre p.supervision.engine (Held r) c.released.result.mail.letter c.args.registrar.now c.released.new.registrar) (c.arrive-right.ensures ∙ ap right_of c.number.ensures) c.released.ensures.right)
+    given_in_vain c.args.line.now c.args.centre k p book c.args.registrar.now has c.released.new.out.mail.letter c.released.new.registrar c.note_answer.new.self (sym c.has_asked.ensures ∙ c.if-not-has_asked.false) busy c.requires.number
+    (subst (λ (r : Right). GoesHome c.args.line.now c.args.centre p.supervision.engine (Held r) c.released.new.out.mail.letter c.args.registrar.now c.released.new.registrar) (c.arrive-right.ensures ∙ ap right_of c.number.ensures) c.released.ensures.right)
     c.note_answer.ensures
-    ∙ sym (released_as c.args.line.now c.args.centre p.supervision.engine (with_parts (record p { waiting = c.note_answer.new.self }) book c.released.new.registrar k) c.released.result [] (mail_home 0 no_sections notice.Nothing c.released.result.mail.letter) (c.released.ensures.heard ∙ ap (unsaid (mail_home 0 no_sections notice.Nothing c.released.result.mail.letter)) c.nothing-2.ensures))
+    ∙ sym (released_as c.args.line.now c.args.centre p.supervision.engine (with_parts (record p { waiting = c.note_answer.new.self }) book c.released.new.registrar k) c.released.new.out [] (mail_home 0 no_sections notice.Nothing c.released.new.out.mail.letter) (c.released.ensures.heard ∙ ap (unsaid (mail_home 0 no_sections notice.Nothing c.released.new.out.mail.letter)) c.nothing.ensures))

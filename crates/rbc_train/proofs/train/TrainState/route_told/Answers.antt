@@ -1,10 +1,11 @@
-use Rattle.std.proofs.Common.{◌∙◌, ℕ, option_map, ap, sym}
+use Rattle.std.proofs.Common.{◌∙◌, ℕ, Some, option_map, ap, sym}
 use Rattle.rbc_spec.specs.Frame.{RouteReturn}
 use Rattle.rbc_hand.specs.SectionRuns.{run_of}
 use Rattle.rbc_linkmsg.specs.declared.body.Body.TheVariants as code
 use Rattle.rbc_border.specs.Lending.{sending}
 use Rattle.rbc_mission.specs.Supervisions.{SupervisionState}
 use Rattle.rbc_train.specs.Desk.{with_parts, reply_left}
+use Rattle.rbc_train.specs.declared.heard.Heard.{Heard}
 use Rattle.rbc_train.proofs.Desk.{has_supervision, supervision_left}
 use Rattle.rbc_train.proofs.RouteFrames.{told_as}
 use Rattle.rbc_train.proofs.train.TrainState.route_told.Goals as goal
@@ -19,7 +20,8 @@ returns-in-Some-clause-exact c = λ n book rights k has.
     c.info.ensures.exact n k (has_supervision line n k p book rights has)
     ∙ (λ i. sending c.args.from (option_map (λ run. RouteReturn t (run_of run)) (c.in-Some.is i))
     (supervision_left line n k p book rights has left (ap (λ (x : SupervisionState). x.engine) c.info.ensures.state) (ap (λ (x : SupervisionState). x.number) c.info.ensures.state) i))
-    ∙ told_as line n t c.args.from c.nid_engine-engine.result (λ (e : ℕ). code.RouteReturn e c.in-Some.run') j c.told.result c.nid_engine-engine.ensures c.told.ensures
+    ∙ told_as line n t c.args.from c.nid_engine-engine.result (λ (e : ℕ). code.RouteReturn e c.in-Some.run') j (record c.args.out.now { mail = record c.args.out.now.mail { letter = Some (record { to = c.args.from; body = code.RouteReturn c.nid_engine-engine.result c.in-Some.run' }) } }) c.nid_engine-engine.ensures
+    (ap (λ (x : Heard). record x { mail = record x.mail { letter = Some (record { to = c.args.from; body = code.RouteReturn c.nid_engine-engine.result c.in-Some.run' }) } }) c.requires.out)
 
 pub returns-in-None-clause-exact : goal.returns-in-None-clause-exact
 returns-in-None-clause-exact c = λ n book rights k has.
@@ -31,4 +33,4 @@ returns-in-None-clause-exact c = λ n book rights k has.
     c.info.ensures.exact n k (has_supervision line n k p book rights has)
     ∙ (λ i. sending c.args.from (option_map (λ run. RouteReturn t (run_of run)) (c.in-None.is i))
     (supervision_left line n k p book rights has left (ap (λ (x : SupervisionState). x.engine) c.info.ensures.state) (ap (λ (x : SupervisionState). x.number) c.info.ensures.state) i))
-    ∙ ap (reply_left line n t j) (sym c.nothing.ensures)
+    ∙ ap (reply_left line n t j) (sym c.requires.out)

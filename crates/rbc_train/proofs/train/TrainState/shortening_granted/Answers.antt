@@ -22,7 +22,7 @@ use Rattle.rbc_train.proofs.train.TrainState.shortening_granted.Goals as goal
 pub shorten-released-requires-clause-held : goal.shorten-released-requires-clause-held
 shorten-released-requires-clause-held c =
     let old = c.args.self.now in
-    held_as old.supervision.engine old.supervision.engine (is_home c.args.line.now c.args.centre) (is_own c.args.book.now) old.supervision.hand refl c.requires.book c.requires.held
+    held_as old.supervision.engine old.supervision.engine (is_home c.args.line.now c.args.centre) (is_own c.args.book.now) old.supervision.hand refl c.requires.at.book c.requires.at.held
 
 pub returns-in-Ok-Keep-clause-exact : goal.returns-in-Ok-Keep-clause-exact
 returns-in-Ok-Keep-clause-exact c = λ k h.
@@ -41,14 +41,14 @@ returns-in-Ok-Keep-clause-exact c = λ k h.
     gives_back line c.args.centre k c.args.t_train old c.args.book.now c.args.registrar.now c.args.request position h m p
     c.in_ok-up.ensures there standing
     (ap (λ (s : ℕ). is_unasked (Some m) (ShorteningGranted s position)) (sym c.value.ensures.value) ∙ sym (c.in-Ok-Keep.ensures.reason m position refl))
-    c.in-Ok-Keep.keep left (hand_front c.in-Ok-Keep.keep old.supervision.hand) c.shorten-released.new.book c.released.new.registrar c.shorten-released.result.told c.shorten-released.result.cancelled c.released.result.mail.letter c.shorten-released.result.returned
+    c.in-Ok-Keep.keep left (hand_front c.in-Ok-Keep.keep old.supervision.hand) c.shorten-released.new.book c.released.new.registrar c.shorten-released.result.told c.shorten-released.result.cancelled c.released.new.out.mail.letter c.shorten-released.result.returned
     (c.in-Ok-Keep.ensures.rules c.args.centre old.supervision.engine position m p (record { proposal = standing; place = c.front_on-front.ensures })
     ∙ ap (act_of line c.args.centre old.supervision.engine m p) c.in-Ok-Keep.field-0-is)
-    (kept_is line (run_of hand) front asked.0 c.in-Ok-Keep.keep (asked.2 ∙ c.in-Ok-Keep.field-0-is)) c.requires.number
+    (kept_is line (run_of hand) front asked.0 c.in-Ok-Keep.keep (asked.2 ∙ c.in-Ok-Keep.field-0-is)) c.requires.at.number
     c.shorten-released.ensures.supervision c.shorten-released.ensures.book c.shorten-released.ensures.told c.shorten-released.ensures.returned c.shorten-released.ensures.cancelled
-    (goes_as line c.args.centre old.supervision.engine left.engine c.shorten-released.result.right (right_left old.supervision left) c.released.result.mail.letter c.args.registrar.now c.released.new.registrar
+    (goes_as line c.args.centre old.supervision.engine left.engine c.shorten-released.result.right (right_left old.supervision left) c.released.new.out.mail.letter c.args.registrar.now c.released.new.registrar
     (ap (λ (x : SupervisionState). x.engine) c.shorten-released.ensures.supervision) c.shorten-released.ensures.right c.released.ensures.right)
-    c.released.result c.released.ensures.heard
+    c.released.new.out c.released.ensures.heard
 
 pub returns-in-Ok-Nothing-clause-exact : goal.returns-in-Ok-Nothing-clause-exact
 returns-in-Ok-Nothing-clause-exact c = λ k h.
@@ -68,7 +68,7 @@ returns-in-Ok-Nothing-clause-exact c = λ k h.
     (ap (λ (s : ℕ). is_unasked (Some m) (ShorteningGranted s position)) (sym c.value.ensures.value) ∙ sym (c.in-Ok-Nothing.ensures.reason m position refl))
     (c.in-Ok-Nothing.ensures.rules c.args.centre old.supervision.engine position m p (record { proposal = standing; place = c.front_on-front.ensures })
     ∙ ap (act_of line c.args.centre old.supervision.engine m p) c.in-Ok-Nothing.field-0-is)
-    ∙ (λ i. by_reply (reply_left line c.args.centre old.supervision.engine (with_parts (record heard { supervision = sym c.forget_proposal.ensures i }) c.args.book.now c.args.registrar.now k) (sym c.nothing.ensures i)))
+    ∙ (λ i. by_reply (reply_left line c.args.centre old.supervision.engine (with_parts (record heard { supervision = sym c.forget_proposal.ensures i }) c.args.book.now c.args.registrar.now k) (sym c.requires.out i)))
 
 pub returns-in-Ok-Keep-clause-keeps : goal.returns-in-Ok-Keep-clause-keeps
 returns-in-Ok-Keep-clause-keeps c =
@@ -77,7 +77,7 @@ returns-in-Ok-Keep-clause-keeps c =
     let engine = ap (λ (x : SupervisionState). x.engine) c.shorten-released.ensures.supervision in
     keeps_state c.args.line.now c.args.centre old (Some c.args.t_train) left (ap (λ (x : SupervisionState). x.number) c.shorten-released.ensures.supervision) engine
     (held_as old.supervision.engine left.engine (is_own c.shorten-released.new.book) (is_home c.args.line.now c.args.centre) left.hand (sym engine)
-    (λ s. sym (c.shorten-released.ensures.book.homes s ∙ c.requires.book s)) c.shorten-released.ensures.held)
+    (λ s. sym (c.shorten-released.ensures.book.homes s ∙ c.requires.at.book s)) c.shorten-released.ensures.held)
 
 pub returns-in-Ok-Nothing-clause-keeps : goal.returns-in-Ok-Nothing-clause-keeps
 returns-in-Ok-Nothing-clause-keeps c =
@@ -85,7 +85,7 @@ returns-in-Ok-Nothing-clause-keeps c =
     let left = c.forget_proposal.new.self in
     let engine = ap (λ (x : SupervisionState). x.engine) c.forget_proposal.ensures in
     keeps_state c.args.line.now c.args.centre old (Some c.args.t_train) left (ap (λ (x : SupervisionState). x.number) c.forget_proposal.ensures) engine
-    (still_held c.args.line.now c.args.centre old (record old { supervision = left }) engine (ap (λ (x : SupervisionState). x.hand) c.forget_proposal.ensures) c.requires.held)
+    (still_held c.args.line.now c.args.centre old (record old { supervision = left }) engine (ap (λ (x : SupervisionState). x.hand) c.forget_proposal.ensures) c.requires.at.held)
 
 pub returns-in_err-up-clause-exact : goal.returns-in_err-up-clause-exact
 returns-in_err-up-clause-exact c = λ k h.

@@ -3,7 +3,7 @@ use Rattle.std.proofs.lemmas.Result.{err_from_is_err_and}
 use Rattle.rbc_spec.specs.Message.{ShorteningRejected}
 use Rattle.rbc_spec.specs.Step.{is_unasked}
 use Rattle.rbc_train.specs.Guards.{mission_in}
-use Rattle.rbc_train.specs.Desk.{with_parts, effect_left}
+use Rattle.rbc_train.specs.Desk.{nothing, with_parts, effect_left}
 use Rattle.rbc_train.proofs.ShorteningRejected.{rejects}
 use Rattle.rbc_train.proofs.Unanswered.{no_session, no_mission}
 use Rattle.rbc_train.proofs.train.TrainState.shortening_rejected.Goals as goal
@@ -14,7 +14,7 @@ returns-clause-exact c = λ line n book rights k position h.
     let m = mission_in old.supervision c.in_ok-mission.mission in
     rejects line n k c.args.t_train old book rights h c.args.request position m c.in_ok-up.ensures c.in_ok-mission.ensures
     (ap (λ (s : ℕ). is_unasked (Some m) (ShorteningRejected s position)) (sym c.value.ensures.value) ∙ sym (c.rejected.ensures.reason m position refl) ∙ sym c.is_err.ensures.value ∙ c.if-is_err.false)
-    ∙ (λ i. effect_left line n old.supervision.engine (with_parts (record { session_state = old.session_state; heard = Some c.args.t_train; said = old.said; supervision = sym c.forget_proposal.ensures i; waiting = old.waiting; expectations = old.expectations }) book rights k) (Ok (sym c.nothing.ensures i)))
+    ∙ (λ i. effect_left line n old.supervision.engine (with_parts (record { session_state = old.session_state; heard = Some c.args.t_train; said = old.said; supervision = sym c.forget_proposal.ensures i; waiting = old.waiting; expectations = old.expectations }) book rights k) (Ok nothing))
 
 pub returns-in_err-up-clause-exact : goal.returns-in_err-up-clause-exact
 returns-in_err-up-clause-exact c = λ line n book rights k position h.

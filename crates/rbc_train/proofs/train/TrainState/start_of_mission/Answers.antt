@@ -1,15 +1,13 @@
-use Rattle.std.proofs.Common.{◌∙◌, [], List, ap, sym, refl, ℕ}
+use Rattle.std.proofs.Common.{◌∙◌, ap, sym, refl, Some, Ok}
 use Rattle.std.proofs.lemmas.Result.{err_from_is_err_and}
 use Rattle.rbc_spec.specs.Message.{StartOfMission, TrainAccepted, TrainRejected}
 use Rattle.rbc_spec.specs.Centre.{Centre}
 use Rattle.rbc_msgs.specs.StepMessage.{position_of, is_valid}
 use Rattle.rbc_place.specs.Places.{place_of}
-use Rattle.rbc_train.specs.Desk.{with_parts, replied, posted}
-use Rattle.rbc_train.specs.Letters.{mail_to}
+use Rattle.rbc_train.specs.Desk.{with_parts, effect_left}
 use Rattle.rbc_train.specs.Starts.{started}
-use Rattle.rbc_train.specs.declared.mail.Mail.{Mail}
+use Rattle.rbc_train.specs.declared.heard.Heard.{Heard}
 use Rattle.rbc_train.specs.declared.start_of_mission.Start.{Start}
-use Rattle.rbc_train.proofs.Desk.{by_reply}
 use Rattle.rbc_train.proofs.Starts.{none_there, starts_answered, starts_waiting}
 use Rattle.rbc_train.proofs.Unanswered.{no_session}
 use Rattle.rbc_train.proofs.train.TrainState.start_of_mission.Goals as goal
@@ -23,8 +21,8 @@ returns-in-Accepted-clause-exact c = λ k h.
     starts_answered c.args.line.now c.args.centre k c.args.t_train old c.args.book.now c.args.registrar.now h (is_valid c.args.q_status) (position_of c.args.position.now)
     c.start.result c.start.new.self c.start.new.book c.start.new.registrar c.in_ok-up.ensures
     (sym c.place.ensures ∙ none_there place_of c.place.result (sym c.is_some.ensures ∙ c.if-is_some.false)) c.start.ensures.keeps.train.engine c.start.ensures.exact
-    TrainAccepted c.answered.new.self c.answered.result (λ (j : Centre). ap (λ (s : Start). started old.supervision.engine s j) c.in-Accepted.is)
-    c.answered.ensures.counted c.answered.ensures.said c.answered.ensures.heard
+    TrainAccepted c.answered.new.self (record c.args.out.now { saying = Some c.answered.result }) (λ (j : Centre). ap (λ (s : Start). started old.supervision.engine s j) c.in-Accepted.is)
+    c.answered.ensures.counted c.answered.ensures.said (ap (λ (x : Heard). record x { saying = Some c.answered.result }) c.requires.out)
 
 pub returns-in-Rejected-clause-exact : goal.returns-in-Rejected-clause-exact
 returns-in-Rejected-clause-exact c = λ k h.
@@ -32,8 +30,8 @@ returns-in-Rejected-clause-exact c = λ k h.
     starts_answered c.args.line.now c.args.centre k c.args.t_train old c.args.book.now c.args.registrar.now h (is_valid c.args.q_status) (position_of c.args.position.now)
     c.start.result c.start.new.self c.start.new.book c.start.new.registrar c.in_ok-up.ensures
     (sym c.place.ensures ∙ none_there place_of c.place.result (sym c.is_some.ensures ∙ c.if-is_some.false)) c.start.ensures.keeps.train.engine c.start.ensures.exact
-    TrainRejected c.answered-in-Rejected.new.self c.answered-in-Rejected.result (λ (j : Centre). ap (λ (s : Start). started old.supervision.engine s j) c.in-Rejected.is)
-    c.answered-in-Rejected.ensures.counted c.answered-in-Rejected.ensures.said c.answered-in-Rejected.ensures.heard
+    TrainRejected c.answered-in-Rejected.new.self (record c.args.out.now { saying = Some c.answered-in-Rejected.result }) (λ (j : Centre). ap (λ (s : Start). started old.supervision.engine s j) c.in-Rejected.is)
+    c.answered-in-Rejected.ensures.counted c.answered-in-Rejected.ensures.said (ap (λ (x : Heard). record x { saying = Some c.answered-in-Rejected.result }) c.requires.out)
 
 pub returns-in-Waiting-clause-exact : goal.returns-in-Waiting-clause-exact
 returns-in-Waiting-clause-exact c = λ k h.
@@ -42,8 +40,7 @@ returns-in-Waiting-clause-exact c = λ k h.
     c.start.result c.start.new.self c.start.new.book c.start.new.registrar c.in_ok-up.ensures
     (sym c.place.ensures ∙ none_there place_of c.place.result (sym c.is_some.ensures ∙ c.if-is_some.false)) c.start.ensures.keeps.train.engine c.start.ensures.exact
     c.in-Waiting.letter c.in-Waiting.is
-    ∙ ap (λ (mail : Mail). by_reply (posted (mail_to c.args.line.now c.args.centre old.supervision.engine (λ d. (with_parts c.start.new.self c.start.new.book c.start.new.registrar k).expects d old.supervision.engine) mail) (replied (with_parts c.start.new.self c.start.new.book c.start.new.registrar k) [] []))) (sym c.of.ensures)
-    ∙ ap (λ (told : List ℕ). by_reply (posted (mail_to c.args.line.now c.args.centre old.supervision.engine (λ d. (with_parts c.start.new.self c.start.new.book c.start.new.registrar k).expects d old.supervision.engine) c.of.result) (replied (with_parts c.start.new.self c.start.new.book c.start.new.registrar k) [] told))) (sym c.nothing.ensures)
+    ∙ ap (λ (x : Heard). effect_left c.args.line.now c.args.centre old.supervision.engine (with_parts c.start.new.self c.start.new.book c.start.new.registrar k) (Ok (record x { mail = record x.mail { letter = c.in-Waiting.letter } }))) (sym c.requires.out)
 
 pub returns-in_err-up-clause-exact : goal.returns-in_err-up-clause-exact
 returns-in_err-up-clause-exact c = λ k h.

@@ -1,4 +1,4 @@
-use Rattle.std.proofs.Common.{◌≡◌, ℕ, ◌∙◌, [], if◌then◌else◌, None, arith, length, ap, sym, refl, subst}
+use Rattle.std.proofs.Common.{◌≡◌, ℕ, ◌∙◌, [], if◌then◌else◌, Some, None, arith, length, ap, sym, refl, subst}
 use Rattle.std.specs.Option.{option_map_or}
 use Rattle.rbc_spec.specs.Frame.{Yield, yielded_place}
 use Rattle.rbc_spec.specs.Line.{is_home}
@@ -14,7 +14,11 @@ use Rattle.rbc_session.specs.SessionStates.{session_phase}
 use Rattle.rbc_mission.specs.Supervisions.{SupervisionState, with_supervision}
 use Rattle.rbc_mission.specs.Handovers.{sends_off}
 use Rattle.rbc_train.specs.Desk.{with_parts, counted_to, replied, reply_left}
+use Rattle.rbc_train.specs.Letters.{mail_home}
 use Rattle.rbc_train.specs.Sayings.{sayings_of}
+use Rattle.rbc_train.specs.declared.heard.Heard.{Heard}
+use Rattle.rbc_train.specs.declared.mail.Mail.{Mail}
+use Rattle.rbc_train.specs.declared.mail.Notice.TheVariants as notice
 use Rattle.rbc_train.proofs.Desk.{has_supervision}
 use Rattle.rbc_train.proofs.Kept.{held_as, held_again, still_held, keeps_by, keeps_state}
 use Rattle.rbc_train.proofs.RouteFrames.{has_pages}
@@ -41,7 +45,7 @@ returns-in_default-clause-exact c = λ rights k has.
     stays line n c.args.from c.args.number k old c.args.book.now rights has left book' same.0 same.1
     (c.yield_to.ensures.exact k (has_supervision line n k old c.args.book.now rights has) (has_pages line n k old c.args.book.now rights has)
     ∙ ap (λ o. option_map_or (sends_off line n t) o rest (with_supervision left (with_book book' k))) c.in_default.is)
-    ∙ ap (reply_left line n t (with_parts (record old { supervision = left }) book' rights k)) (sym c.nothing.ensures)
+    ∙ ap (reply_left line n t (with_parts (record old { supervision = left }) book' rights k)) (sym c.requires.out)
 
 pub returns-in_default-clause-keeps : goal.returns-in_default-clause-keeps
 returns-in_default-clause-keeps c =
@@ -80,7 +84,8 @@ returns-clause-exact c = λ rights k has.
     ∙ (λ i. sends_off line n t y (with_supervision (gone i) (with_book book' k))))
     (subst (λ (u : ℕ). (j : Centre) → j.phase u ≡ session_phase old.session_state → j.said u ≡ old.said → (if y.is_gone then end_order line n u else rest) j ≡ replied (counted_to u new.said j) (sayings_of order) [])
     (ap (λ (x : SupervisionState). x.engine) gone) c.order_if_gone-order.ensures.exact at has.has_phase has.has_said)
-    ∙ ap (reply_left line n t (with_parts new book' rights k)) (sym c.yielded.ensures)
+    ∙ ap (λ (x : Heard). reply_left line n t (with_parts new book' rights k) (record x { order = order; mail = mail_home y.mission.place.track y.pool notice.Nothing (Some c.yield_letter-letter.result) })) (sym c.requires.out)
+    ∙ ap (λ (m : Mail). reply_left line n t (with_parts new book' rights k) (record c.args.out.now { order = order; mail = m })) (sym c.home-out.ensures)
 
 pub returns-clause-keeps : goal.returns-clause-keeps
 returns-clause-keeps c =

@@ -18,7 +18,7 @@ returns-clause-exact c = λ line n book rights k position h.
     (c.answer-saying.ensures.counted ∙ ap (λ (x : SupervisionState). record { session_state = old.session_state; heard = Some c.args.t_train; said = old.said + 1; supervision = x; waiting = old.waiting; expectations = old.expectations }) c.note_data.ensures)
     (ap (λ x. x ∷ []) (c.answer-saying.ensures.saying ∙ (λ i. record { nid_engine = (c.note_data.ensures i).engine; message = record { t_train = old.said + 1; nid_lrbg = unknown_group; body = DataAcknowledged ((c.new.ensures ∙ c.from.ensures) i) } })))
     refl)
-    ∙ ap (λ (x : Heard). effect_left line n old.supervision.engine (with_parts c.answer-saying.new.self book rights k) (Ok x)) (sym c.said.ensures)
+    ∙ ap (λ (x : Heard). effect_left line n old.supervision.engine (with_parts c.answer-saying.new.self book rights k) (Ok (record x { saying = Some c.answer-saying.result }))) (sym c.requires.out)
 
 pub returns-in_err-up-clause-exact : goal.returns-in_err-up-clause-exact
 returns-in_err-up-clause-exact c = λ line n book rights k position h.

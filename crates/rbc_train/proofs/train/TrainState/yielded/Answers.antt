@@ -7,6 +7,7 @@ use Rattle.rbc_place.specs.Places.{place_of}
 use Rattle.rbc_train.specs.Arriving.{taken_up}
 use Rattle.rbc_train.specs.Desk.{with_parts, reply_left}
 use Rattle.rbc_train.specs.Sayings.{sayings_of}
+use Rattle.rbc_train.specs.declared.heard.Heard.{Heard}
 use Rattle.rbc_train.specs.declared.train.TrainState.{TrainState}
 use Rattle.rbc_train.proofs.Desk.{same_parts}
 use Rattle.rbc_train.proofs.Kept.{held_again, still_held, keeps_by}
@@ -20,7 +21,7 @@ returns-in_default-clause-exact c = λ k has.
     let p = c.args.self.now in
     let y = c.args.coming in
     ap (λ o. option_map_or (yielded line n y.from y.number p.supervision.engine (run_of y.hand) y.heard y.has_data y.is_ended) o rest k) (sym c.arriving_place.ensures ∙ ap (option_map place_of) c.in_default.is)
-    ∙ same_parts line n k p c.args.book.now c.args.registrar.now has ∙ ap (reply_left line n p.supervision.engine (with_parts p c.args.book.now c.args.registrar.now k)) (sym c.nothing.ensures)
+    ∙ same_parts line n k p c.args.book.now c.args.registrar.now has ∙ ap (reply_left line n p.supervision.engine (with_parts p c.args.book.now c.args.registrar.now k)) (sym c.requires.out)
 
 pub returns-then-not-may_take-clause-exact : goal.returns-then-not-may_take-clause-exact
 returns-then-not-may_take-clause-exact c = λ k has.
@@ -30,7 +31,7 @@ returns-then-not-may_take-clause-exact c = λ k has.
     let y = c.args.coming in
     ap (λ o. option_map_or (yielded line n y.from y.number p.supervision.engine (run_of y.hand) y.heard y.has_data y.is_ended) o rest k) (sym c.arriving_place.ensures ∙ ap (option_map place_of) c.in-Some.is)
     ∙ rw (sym (c.may_take.ensures.exact k has) ∙ c.if-not-may_take.true) (same_parts line n k p c.args.book.now c.args.registrar.now has)
-    ∙ ap (reply_left line n p.supervision.engine (with_parts p c.args.book.now c.args.registrar.now k)) (sym c.nothing-then-not-may_take.ensures)
+    ∙ ap (reply_left line n p.supervision.engine (with_parts p c.args.book.now c.args.registrar.now k)) (sym c.requires.out)
 
 pub may_take-requires-clause-some : goal.may_take-requires-clause-some
 may_take-requires-clause-some c = c.requires.hand.count.0
@@ -51,16 +52,16 @@ returns-in-Some-first_wished-clause-exact c = λ k has.
     let place = place_of c.in-Some.place in
     let taken = c.take_mission.ensures in
     let x = c.take_mission.new.self in
-    let asked = c.ask_back.ensures in
+    let asked = c.ask_back-out.ensures in
     ap (λ o. option_map_or (yielded line n y.from y.number t (run_of y.hand) y.heard y.has_data y.is_ended) o rest k) (sym c.arriving_place.ensures ∙ ap (option_map place_of) c.in-Some.is)
     ∙ rw (sym (c.may_take.ensures.exact k has) ∙ c.if-not-may_take.false)
     (wished_first line n k p c.args.book.now c.args.registrar.now has y place x.supervision.hand x.expectations c.take_mission.new.book taken.book taken.expected c.requires.hand taken.count
-    c.in-Some-first_wished.s c.ask_back.new.self (sayings_of c.ask_back.result) (sym c.first_wished.ensures ∙ c.in-Some-first_wished.is)
-    (asked_so line c.in-Some-first_wished.s x (taken_up y place x.supervision.hand x.expectations p) c.ask_back.new.self (sayings_of c.ask_back.result) taken.left asked.exact)
+    c.in-Some-first_wished.s c.ask_back-out.new.self (sayings_of c.ask_back-out.result) (sym c.first_wished.ensures ∙ c.in-Some-first_wished.is)
+    (asked_so line c.in-Some-first_wished.s x (taken_up y place x.supervision.hand x.expectations p) c.ask_back-out.new.self (sayings_of c.ask_back-out.result) taken.left asked.exact)
     (asked.engine ∙ ap (λ (q : TrainState). q.supervision.engine) taken.left) (asked.number ∙ ap (λ (q : TrainState). q.supervision.number) taken.left)
     (asked.question ∙ ap (λ (q : TrainState). q.supervision.asked) taken.left) (asked.session_state ∙ ap (λ (q : TrainState). q.session_state) taken.left)
     (asked.heard ∙ ap (λ (q : TrainState). q.heard) taken.left) (asked.waiting ∙ ap (λ (q : TrainState). q.waiting) taken.left) asked.expectations)
-    ∙ ap (reply_left line n t (with_parts c.ask_back.new.self c.take_mission.new.book c.args.registrar.now k)) (sym c.of.ensures)
+    ∙ ap (λ (x : Heard). reply_left line n t (with_parts c.ask_back-out.new.self c.take_mission.new.book c.args.registrar.now k) (record x { saying = c.ask_back-out.result })) (sym c.requires.out)
 
 pub returns-in-None-clause-exact : goal.returns-in-None-clause-exact
 returns-in-None-clause-exact c = λ k has.
@@ -77,7 +78,7 @@ returns-in-None-clause-exact c = λ k has.
     ∙ rw (sym (c.may_take.ensures.exact k has) ∙ c.if-not-may_take.false)
     (unwished line n k p c.args.book.now c.args.registrar.now has y place x.supervision.hand x.expectations book' taken.book taken.expected c.requires.hand taken.count
     (sym c.first_wished.ensures ∙ c.in-None.is))
-    ∙ (λ i. reply_left line n t (with_parts (sym taken.left i) book' c.args.registrar.now k) (sym c.nothing-in-None.ensures i))
+    ∙ (λ i. reply_left line n t (with_parts (sym taken.left i) book' c.args.registrar.now k) (sym c.requires.out i))
 
 pub returns-in-Some-first_wished-clause-keeps : goal.returns-in-Some-first_wished-clause-keeps
 returns-in-Some-first_wished-clause-keeps c =
@@ -85,8 +86,8 @@ returns-in-Some-first_wished-clause-keeps c =
     let p = c.args.self.now in
     let taken = c.take_mission.ensures in
     let x = c.take_mission.new.self in
-    let q = c.ask_back.new.self in
-    let asked = c.ask_back.ensures in
+    let q = c.ask_back-out.new.self in
+    let asked = c.ask_back-out.ensures in
     let engine = ap (λ (y : TrainState). y.supervision.engine) taken.left in
     let before = ap (λ (y : TrainState). y.said) taken.left in
     let once = asked.said in
