@@ -24,7 +24,7 @@ pub(crate) struct Reach {
 impl Reach {
     ghost use Rattle.rbc_centre.specs.Reached.{IsOutside};
 
-    /// The least stretch that has all centres to which this mail of a step goes.
+    /// A stretch that has each centre to which this mail of a step goes.
     #[inline(always)]
     pub(crate) fn of(line: &Line, centre: u8, mail: &Mail) -> Reach
         ensures { (d : ℕ) → d < 8 → IsOutside result d → (t : ℕ) → (e : ℕ → Option Expectation)

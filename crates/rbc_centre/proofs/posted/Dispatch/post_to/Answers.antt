@@ -1,4 +1,4 @@
-use Rattle.std.proofs.Common.{◌∙◌, ◌+◌, ◌++◌, ℕ, List, length, Option, ap, sym, subst, arith}
+use Rattle.std.proofs.Common.{◌∙◌, ◌++◌, ℕ, List, length, Option, ap, sym, subst, arith}
 use Rattle.rbc_spec.specs.Frame.{Body}
 use Rattle.rbc_hand.specs.SectionRuns.{run_of}
 use Rattle.rbc_linkmsg.specs.declared.body.Body.{Body as BodyCode}
