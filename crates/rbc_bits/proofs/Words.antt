@@ -1,5 +1,5 @@
 -- Bits that stand at the front of a word of 128 bits.
-use Rattle.std.proofs.Common.{◌≡◌, ℕ, ◌+◌, ◌-◌, ◌*◌, ◌/◌, ◌%◌, ◌^◌, ◌<◌, ◌≤◌, ◌++◌, List, length, take, drop, sym, ap, ◌∙◌, arith}
+use Rattle.std.proofs.Common.{◌≡◌, ℕ, ◌+◌, ◌-◌, ◌*◌, ◌/◌, ◌%◌, ◌^◌, ◌<◌, ◌≤◌, ◌++◌, Bool, List, length, take, drop, sym, ap, ◌∙◌, length-append, arith}
 use Rattle.std.proofs.Math.Nat.{div-lt_iff_lt-mul}
 use Rattle.std.proofs.Math.Seq.{take-append-add}
 use Rattle.std.proofs.lemmas.List.{take_at, take-append-le, take-append-drop, length-take-le}
@@ -50,6 +50,10 @@ joined_words bytes high low enough fits first second =
     let sixteen : 16 ≡ length xs + 8 = omega (arith, length-take-le 8 bytes enough) in
     let parts : take 16 bytes ≡ xs ++ take 8 ys = ap (take 16) (sym (take-append-drop 8 bytes)) ∙ ap (λ n. take n (xs ++ ys)) sixteen ∙ take-append-add xs ys 8 in
     ap bits_of parts ∙ bits_of-append xs (take 8 ys) ∙ ap (λ t. t ++ bits_of (take 8 ys)) first ∙ ap (λ t. field 64 high ++ t) second ∙ field-append 64 64 high low fits
+
+-- how many bits are behind a field
+pub length-behind : (bits rest : List Bool) (n v : ℕ) → bits ≡ field n v ++ rest → length bits ≡ n + length rest
+length-behind bits rest n v e = omega (arith, ap length e, length-append (field n v) rest, length-field n v)
 
 -- the number of the first n bits has n binary digits
 pub high : (word n : ℕ) → word < 2 ^ 128 → n ≤ 128 → word / 2 ^ (128 - n) < 2 ^ n

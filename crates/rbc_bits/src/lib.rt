@@ -15,4 +15,5 @@ pub use fault::BitFault;
 pub use part::BitPart;
 pub use reader::BitReader;
 pub use row::BitRow;
+pub use word::BitWord;
 pub use writer::BitWriter;

@@ -112,9 +112,9 @@ impl<'a> BitReader<'a> {
         Some(BitPart::new(word, others))
     }
 
-    // The bits that are left as one word, where they are few, and so many bytes stand before their end.
+    /// The bits that are left as one word, where they are few, and so many bytes stand before their end.
     #[inline(always)]
-    fn word(&self) -> Option<BitWord>
+    pub fn word(&self) -> Option<BitWord>
         ensures { IfSome result (λ word. word ≡ self.now) }
     {
         let end = self.used + self.left;

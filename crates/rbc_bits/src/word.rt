@@ -5,9 +5,9 @@ ghost use Rattle.rbc_bits.specs.Reading.{field_at};
 use crate::fault::BitFault;
 use std::marker::Model;
 
-/// Bits that are still to be read, in one word. A refusal moves nothing.
+/// Bits that are still to be read, in one word of 128 bits. A refusal moves nothing.
 #[derive(Debug, Drop)]
-pub(crate) struct BitWord {
+pub struct BitWord {
     /// They stand at its front.
     word: u128,
     left: u32,
@@ -47,10 +47,25 @@ impl BitWord {
 
     /// How many bits are left.
     #[inline(always)]
-    pub(crate) fn remaining(&self) -> u32
+    pub fn remaining(&self) -> u32
         ensures { result ≡ length self.now }
     {
         self.left
+    }
+
+    /// Reads the field of the next n bits, which are there: so nothing is tested.
+    #[inline(always)]
+    pub fn next(&mut self, n: u32) -> u64
+        requires width { (1 ≤ n) × (n ≤ 64) }
+        requires there { n ≤ length self.old }
+        ensures field { self.old ≡ field n result ++ self.new }
+        ensures fits { result < 2 ^ n }
+        ensures length { length self.old ≡ n + length self.new }
+    {
+        let value = (self.word >> (128 - n)) as u64;
+        self.word <<= n;
+        self.left -= n;
+        value
     }
 
     /// Reads the field of the next n bits.
@@ -67,10 +82,7 @@ impl BitWord {
         if self.left < n {
             return Err(BitFault::Short);
         }
-        let value = (self.word >> (128 - n)) as u64;
-        self.word <<= n;
-        self.left -= n;
-        Ok(value)
+        Ok(self.next(n))
     }
 }
 

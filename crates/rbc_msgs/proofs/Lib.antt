@@ -13,3 +13,4 @@ mod Cuts
 mod NotShort
 mod FirstFault
 mod Start
+mod Placed

@@ -4,6 +4,7 @@ use Rattle.std.specs.List.{flat_map, AllByRecursion}
 use Rattle.std.proofs.lemmas.Bool.{lt-ltb, le-ltb, ne_eqb}
 use Rattle.std.proofs.lemmas.List.Elements.{recursion_from_All}
 use Rattle.std.proofs.lemmas.List.Concat.{flat_map-cons}
+use Rattle.rbc_spec.specs.Message.{unknown_time}
 use Rattle.rbc_bits.specs.Bits.{field, bits_of, filling, filled}
 use Rattle.rbc_bits.proofs.Bytes.{bits_of-injective}
 use Rattle.rbc_bits.proofs.Taking.{field_at-field}
@@ -83,10 +84,24 @@ spells bytes m n l_message start b c d e f number-at len front whole t engine bo
     start-found bytes n l_message start b front whole len ∙ ap (λ k. field 8 k ++ (field 10 (length bytes) ++ b)) number-at ∙ ap (λ x. field 8 (train_number m.body) ++ (field 10 (length bytes) ++ x)) tail ∙ sym (parts (length bytes) m f) in
     record { text = filled-from bytes (train_bits (length bytes) m) f all fill; l_message = limit; fits = fits }
 
+-- the same without further packets, from the whole header
+pub spells-alone : (bytes : List ℕ) (m : TrainText) (n : ℕ) (rest left : List Bool)
+    → n ≡ train_number m.body → bits_of bytes ≡ field 8 n ++ (field 10 (length bytes) ++ (field 32 m.t_train ++ (field 24 m.nid_engine ++ rest)))
+    → rest ≡ train_body_bits m.body ++ left → m.further ≡ [] → IsFilling left → length bytes < length_limit
+    → m.t_train < unknown_time → m.nid_engine < 2 ^ 24 → TrainBodyFits m.body → SpellsTrain bytes m
+unfolding behind further-bits
+spells-alone bytes m n rest left number-at start body none fill limit time engine fits =
+    let after : left ≡ flat_map packet_bits m.further ++ left = ap (λ ps. flat_map packet_bits ps ++ left) (sym none) in
+    let tail = body ∙ ap (λ x. train_body_bits m.body ++ x) after in
+    let all : bits_of bytes ≡ train_bits (length bytes) m ++ left =
+    start ∙ ap (λ k. field 8 k ++ (field 10 (length bytes) ++ (field 32 m.t_train ++ (field 24 m.nid_engine ++ rest)))) number-at
+    ∙ ap (λ x. field 8 (train_number m.body) ++ (field 10 (length bytes) ++ (field 32 m.t_train ++ (field 24 m.nid_engine ++ x)))) tail ∙ sym (parts (length bytes) m left) in
+    record { text = filled-from bytes (train_bits (length bytes) m) left all fill; l_message = limit; fits = record { t_train = time; nid_engine = engine; body = fits; further = rw none tt } }
+
 -- ---- what is spelled so is read: packets
 
 -- a field, and what stands behind it
-field-parts : (n v : ℕ) (fields : List Field) (rest : List Bool) → joined ((n, v) ∷ fields) ++ rest ≡ field n v ++ (joined fields ++ rest)
+pub field-parts : (n v : ℕ) (fields : List Field) (rest : List Bool) → joined ((n, v) ∷ fields) ++ rest ≡ field n v ++ (joined fields ++ rest)
 field-parts n v fields rest = ap (λ t. t ++ rest) (joined-cons (n, v) fields) ∙ append_assoc (field n v) (joined fields) rest
 
 packet-parts : (p : Packet) (rest : List Bool) → packet_bits p ++ rest ≡ field 8 p.nid_packet ++ (opaque_bits p ++ rest)

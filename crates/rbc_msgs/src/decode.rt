@@ -12,19 +12,19 @@ use crate::fault::MsgFault;
 use crate::number::{TrackNumber, TrainNumber};
 use crate::reading::{end, start_of, take, take_fixed, take_time, whole};
 use crate::track::TrackMsg;
-use crate::track_reading;
 use crate::train::TrainMsg;
-use crate::train_reading::{read_body, read_further, read_no_further, read_usual_body};
+use crate::train_reading::{read_body, read_further};
+use crate::{track_reading, usual};
 use std::alloc::Global;
 
-// How many bytes most reports and requests have.
+// How many bytes most messages with a position report have.
 const USUAL_LENGTH: usize = 26;
 
-// NID_MESSAGE of a report.
-const REPORT: u8 = 136;
+// How many bytes most answers to a request to shorten have.
+const ANSWER_LENGTH: usize = 30;
 
-// NID_MESSAGE of a request.
-const REQUEST: u8 = 132;
+// How many bytes messages have that are a header alone.
+const BARE_LENGTH: usize = 10;
 
 /// The message of a train that the bytes spell, all of the bytes. Only packets that are kept without being read take
 /// memory.
@@ -38,7 +38,19 @@ pub fn decode_train(alloc: Global, bytes: &[u8]) -> Result<TrainMsg, MsgFault>
     // Memory is wanted only where a packet is kept, or where the fault can be found behind one.
     ensures memory { IfErr result (λ e. e ≡ MsgFault.Memory → MayKeep kept_packets (read_train bytes.now)) }
 {
-    train_of(alloc, bytes)
+    if bytes.len() == USUAL_LENGTH {
+        // A test for each: so each is read with its number known before it is read.
+        if let Some(message) = usual::report(bytes) {
+            return Ok(message);
+        }
+        if let Some(message) = usual::request(bytes) {
+            return Ok(message);
+        }
+    }
+    match rarer(alloc, bytes) {
+        Ok(message) => Ok(message),
+        Err(fault) => Err(fault),
+    }
 }
 
 /// The message of a centre that the bytes spell, all of the bytes.
@@ -53,60 +65,46 @@ pub fn decode_track(bytes: &[u8]) -> Result<TrackMsg, MsgFault>
     track_from(bytes)
 }
 
-#[inline(always)]
-fn train_of(alloc: Global, bytes: &[u8]) -> Result<TrainMsg, MsgFault>
+// Messages that are rarer than reports and requests. It is a call, whose result is looked at before it is handed on: so
+// the place of the others' results is known, and these are written there field by field.
+#[inline(never)]
+fn rarer(alloc: Global, bytes: &[u8]) -> Result<TrainMsg, MsgFault>
     ensures exact { Gives (λ x. x) result (read_train bytes.now) }
     ensures found { IfOk result (λ m. SpellsTrain bytes.now m) }
     ensures memory { IfErr result (λ e. e ≡ MsgFault.Memory → MayKeep kept_packets (read_train bytes.now)) }
 {
-    if bytes.len() == USUAL_LENGTH {
-        // A test for each: so each is read with its number known before it is read.
-        if bytes[0] == REPORT {
-            if let Some(message) = usual(bytes) {
-                return Ok(message);
-            }
-        }
-        if bytes[0] == REQUEST {
-            if let Some(message) = usual(bytes) {
-                return Ok(message);
-            }
+    if bytes.len() == BARE_LENGTH {
+        if let Some(message) = usual::bare(bytes) {
+            return Ok(message);
         }
     }
-    train_from(alloc, bytes)
-}
-
-// A report or a request whose position report is a usual one, and that has no further packet. None where it is another
-// message, or none. With its length and its number known, the places of its fields are known before it is read.
-#[tactic(auto, unfolding(crate::specs::TrainReading::read_train))]
-#[inline(always)]
-fn usual(bytes: &[u8]) -> Option<TrainMsg>
-    ensures exact { IfSome result (λ m. read_train bytes.now ≡ Ok m) }
-    ensures found { IfSome result (λ m. SpellsTrain bytes.now m) }
-{
-    let Ok((number, l_message)) = start_of(bytes) else {
-        return None;
-    };
-    let Ok(number) = TrainNumber::of(number) else {
-        return None;
-    };
-    let Ok(mut reader) = whole(number.least_length(), l_message, bytes) else {
-        return None;
-    };
-    let Ok(t_train) = take_time(&mut reader) else {
-        return None;
-    };
-    let Ok(nid_engine) = take(&mut reader, 24) else {
-        return None;
-    };
-    let body = read_usual_body(number, &mut reader)?;
-    let further = read_no_further(&reader)?;
-    let Ok(()) = end(reader, MsgFault::Packet) else {
-        return None;
-    };
-    Some(TrainMsg::new(t_train, nid_engine as u32, body, further))
+    if bytes.len() == ANSWER_LENGTH {
+        if let Some(message) = usual::granted(bytes) {
+            return Ok(message);
+        }
+        if let Some(message) = usual::rejected(bytes) {
+            return Ok(message);
+        }
+    }
+    if bytes.len() == USUAL_LENGTH {
+        if let Some(message) = usual::end_of_mission(bytes) {
+            return Ok(message);
+        }
+        if let Some(message) = usual::start_of_mission(bytes) {
+            return Ok(message);
+        }
+    }
+    if let Some(message) = usual::train_data(alloc, bytes) {
+        return Ok(message);
+    }
+    match train_from(alloc, bytes) {
+        Ok(message) => Ok(message),
+        Err(fault) => Err(fault),
+    }
 }
 
 #[tactic(auto, unfolding(crate::specs::TrainReading::read_train))]
+#[inline(never)]
 fn train_from(alloc: Global, bytes: &[u8]) -> Result<TrainMsg, MsgFault>
     ensures exact { Gives (λ x. x) result (read_train bytes.now) }
     ensures found { IfOk result (λ m. SpellsTrain bytes.now m) }

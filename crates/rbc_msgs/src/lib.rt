@@ -22,6 +22,7 @@ mod train_copy;
 mod train_reading;
 mod train_same;
 mod train_writing;
+mod usual;
 
 pub use decode::{decode_track, decode_train};
 pub use encode::{encode_track, encode_train};

@@ -42,6 +42,14 @@ impl TrainNumber {
         }
     }
 
+    /// NID_MESSAGE.
+    #[inline(always)]
+    pub(crate) fn value(self) -> u64
+        ensures { result ≡ train_number_value self }
+    {
+        self as u64
+    }
+
     /// The least L_MESSAGE.
     #[inline(always)]
     pub(crate) fn least_length(self) -> usize

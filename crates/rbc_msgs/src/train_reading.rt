@@ -1,6 +1,6 @@
 //! What stands behind the header of a train's message, in the order of the tests.
 
-ghost use Rattle.std.specs.Prelude.{◌≡◌, ◌^◌, ◌<◌, ◌++◌, [], ◌∷◌, length, IfOk, IfErr, IfSome, Ok};
+ghost use Rattle.std.specs.Prelude.{◌≡◌, ◌^◌, ◌<◌, ◌++◌, [], ◌∷◌, length, IfOk, IfErr};
 ghost use Rattle.std.specs.List.{flat_map, AllByRecursion};
 ghost use Rattle.rbc_packets.specs.Layout.{joined};
 ghost use Rattle.rbc_packets.specs.Packet.{PacketFits};
@@ -61,57 +61,6 @@ pub(crate) fn read_body(
         TrainNumber::StartOfMission => start_of_mission(reader),
         TrainNumber::SessionEstablished => Ok(TrainBody::SessionEstablished),
     }
-}
-
-/// The body of a report or of a request with a usual position report. None where it is another, or none.
-#[inline(always)]
-pub(crate) fn read_usual_body(number: TrainNumber, reader: &mut BitReader) -> Option<TrainBody>
-    ensures exact { IfSome result (λ body. train_body_at number reader.old ≡ Ok (body, reader.new)) }
-    ensures taken { IfSome result (λ body. reader.old ≡ train_body_bits body ++ reader.new) }
-    ensures number { IfSome result (λ body. train_number body ≡ train_number_value number) }
-    ensures fits { IfSome result TrainBodyFits }
-{
-    match number {
-        TrainNumber::Report => {
-            let position = usual_position(reader)?;
-            Some(TrainBody::Report { position })
-        }
-        TrainNumber::Request => usual_request(reader),
-        _ => None,
-    }
-}
-
-#[tactic(auto, unfolding(crate::specs::TrainReading::request_at, rbc_packets::specs::Layout::joined))]
-#[inline(always)]
-fn usual_request(reader: &mut BitReader) -> Option<TrainBody>
-    ensures exact { IfSome result (λ body. request_at reader.old ≡ Ok (body, reader.new)) }
-    ensures taken { IfSome result (λ body. reader.old ≡ train_body_bits body ++ reader.new) }
-    ensures number { IfSome result (λ body. train_number body ≡ 132) }
-    ensures fits { IfSome result TrainBodyFits }
-{
-    let Ok(reason) = take(reader, 5) else {
-        return None;
-    };
-    let q_marqstreason = QMarqstreason::new(reason);
-    let position = usual_position(reader)?;
-    Some(TrainBody::Request {
-        q_marqstreason,
-        position,
-    })
-}
-
-// Packet 0 of the usual length, which has to stand there.
-#[tactic(auto, unfolding(crate::specs::TrainReading::position_packet_at, rbc_packets::specs::Layout::joined))]
-#[inline(always)]
-fn usual_position(reader: &mut BitReader) -> Option<Position>
-    ensures exact { IfSome result (λ p. position_packet_at reader.old ≡ Ok (p, reader.new)) }
-    ensures taken { IfSome result (λ p. reader.old ≡ joined (position_packet p) ++ reader.new) }
-    ensures fits { IfSome result PositionFits }
-{
-    let Ok(()) = required(reader, Position::NID_PACKET) else {
-        return None;
-    };
-    Position::read_usual(reader)
 }
 
 #[tactic(auto, unfolding(crate::specs::TrainReading::train_data_at))]
@@ -182,9 +131,9 @@ fn position(reader: &mut BitReader) -> Result<Position, MsgFault>
     Ok(Position::read_packet(reader)?)
 }
 
-// Packet 11, which has to stand there.
+/// Packet 11, which has to stand there.
 #[tactic(auto, unfolding(crate::specs::TrainReading::data_packet_at, rbc_packets::specs::Layout::joined))]
-fn data_packet(alloc: Global, reader: &mut BitReader) -> Result<Opaque, MsgFault>
+pub(crate) fn data_packet(alloc: Global, reader: &mut BitReader) -> Result<Opaque, MsgFault>
     ensures exact { TakesUnless MsgFault.Memory (λ x. x) result reader.new (data_packet_at reader.old) }
     ensures taken { IfOk result (λ p. reader.old ≡ packet_bits p ++ reader.new) }
     ensures number { IfOk result (λ p. p.nid_packet ≡ 11) }
@@ -209,19 +158,6 @@ pub(crate) fn read_further(alloc: Global, reader: &mut BitReader) -> Result<Pack
         return Ok(Packets::none());
     }
     read_some(alloc, reader)
-}
-
-/// No further packet, where no 8 bits are left.
-#[inline(always)]
-pub(crate) fn read_no_further(reader: &BitReader) -> Option<Packets>
-    ensures exact { IfSome result (λ ps. further_at (length reader.now) reader.now ≡ Ok (ps, reader.now)) }
-    ensures taken { IfSome result (λ ps. reader.now ≡ flat_map packet_bits ps ++ reader.now) }
-    ensures fits { IfSome result (AllByRecursion IsFurther) }
-{
-    if reader.remaining() < 8 {
-        return Some(Packets::none());
-    }
-    None
 }
 
 // The same, where there may be some: a call of its own, since few messages have any.

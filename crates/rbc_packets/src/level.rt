@@ -1,4 +1,4 @@
-ghost use Rattle.std.specs.Prelude.{◌≡◌, ◌++◌, IfOk, OnOk, IsOkUnless};
+ghost use Rattle.std.specs.Prelude.{◌≡◌, ◌+◌, ◌≤◌, ◌++◌, length, IfOk, IfSome, OnOk, OnSome, IsOkUnless};
 ghost use Rattle.rbc_packets.specs.Layout.{joined, widths};
 ghost use Rattle.rbc_packets.specs.Steps.{Takes};
 ghost use Rattle.rbc_packets.specs.PositionSpelling.{level_fields, LevelFits};
@@ -6,7 +6,7 @@ ghost use Rattle.rbc_packets.specs.PositionReading.{level_at};
 
 use crate::fault::PacketFault;
 use crate::reading::{m_level, take};
-use rbc_bits::{BitPart, BitWriter};
+use rbc_bits::{BitPart, BitWord, BitWriter};
 use rbc_vars::{MLevel, NidNtc};
 
 /// M_LEVEL and NID_NTC: the level under which the train runs, and the national system where it is level NTC.
@@ -50,6 +50,27 @@ impl Level {
             MLevel::Spare5 => Ok(Level::Spare5),
             MLevel::Spare6 => Ok(Level::Spare6),
             MLevel::Spare7 => Ok(Level::Spare7),
+        }
+    }
+
+    /// The field at the front of a word that has it. None where NID_NTC follows.
+    #[tactic(auto, unfolding(crate::specs::Layout::joined))]
+    #[inline(always)]
+    pub(crate) fn usual(word: &mut BitWord) -> Option<Self>
+        requires { 3 ≤ length word.old }
+        ensures taken { IfSome result (λ l. word.old ≡ joined (level_fields l) ++ word.new) }
+        ensures fits { IfSome result LevelFits }
+        ensures length { OnSome result (length word.old ≡ 3 + length word.new) }
+    {
+        match MLevel::of(word.next(3))? {
+            MLevel::Level0 => Some(Level::Level0),
+            MLevel::Ntc => None,
+            MLevel::Level1 => Some(Level::Level1),
+            MLevel::Level2 => Some(Level::Level2),
+            MLevel::Level3 => Some(Level::Level3),
+            MLevel::Spare5 => Some(Level::Spare5),
+            MLevel::Spare6 => Some(Level::Spare6),
+            MLevel::Spare7 => Some(Level::Spare7),
         }
     }
 

@@ -1,4 +1,4 @@
-ghost use Rattle.std.specs.Prelude.{◌≡◌, ◌++◌, IfOk, OnOk, IsOkUnless};
+ghost use Rattle.std.specs.Prelude.{◌≡◌, ◌+◌, ◌≤◌, ◌++◌, length, IfOk, IfSome, OnOk, OnSome, IsOkUnless};
 ghost use Rattle.rbc_packets.specs.Layout.{joined};
 ghost use Rattle.rbc_packets.specs.Steps.{Takes};
 ghost use Rattle.rbc_packets.specs.PositionSpelling.{location_fields, LocationFits};
@@ -6,16 +6,16 @@ ghost use Rattle.rbc_packets.specs.PositionReading.{location_at};
 
 use crate::fault::PacketFault;
 use crate::reading::{direction, q_scale, take};
-use rbc_bits::{BitPart, BitWriter};
+use rbc_bits::{BitPart, BitWord, BitWriter};
 use rbc_vars::{DLrbg, Direction, LDoubtover, LDoubtunder, NidLrbg, QScale};
 
 /// Where the train is: its estimated front end from a balise group, and how far it may be behind and ahead of it.
 #[derive(Clone, Copy, Debug, PartialEq, Eq)]
 pub struct Location {
-    /// The unit of the distances.
-    pub q_scale: QScale,
     /// The balise group.
     pub nid_lrbg: NidLrbg,
+    /// The unit of the distances.
+    pub q_scale: QScale,
     /// From the group to the estimated front end.
     pub d_lrbg: DLrbg,
     /// Which way the train stands.
@@ -44,6 +44,33 @@ impl Location {
         let l_doubtover = LDoubtover::new(take(part, 15)?);
         let l_doubtunder = LDoubtunder::new(take(part, 15)?);
         Ok(Location {
+            q_scale,
+            nid_lrbg,
+            d_lrbg,
+            q_dirlrbg,
+            q_dlrbg,
+            l_doubtover,
+            l_doubtunder,
+        })
+    }
+
+    /// The fields at the front of a word that has them.
+    #[tactic(auto, unfolding(crate::specs::Layout::joined))]
+    #[inline(always)]
+    pub(crate) fn usual(word: &mut BitWord) -> Option<Self>
+        requires { 75 ≤ length word.old }
+        ensures taken { IfSome result (λ l. word.old ≡ joined (location_fields l) ++ word.new) }
+        ensures fits { IfSome result LocationFits }
+        ensures length { OnSome result (length word.old ≡ 75 + length word.new) }
+    {
+        let q_scale = QScale::of(word.next(2))?;
+        let nid_lrbg = NidLrbg::new(word.next(24));
+        let d_lrbg = DLrbg::new(word.next(15));
+        let q_dirlrbg = Direction::of(word.next(2))?;
+        let q_dlrbg = Direction::of(word.next(2))?;
+        let l_doubtover = LDoubtover::new(word.next(15));
+        let l_doubtunder = LDoubtunder::new(word.next(15));
+        Some(Location {
             q_scale,
             nid_lrbg,
             d_lrbg,

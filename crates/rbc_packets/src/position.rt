@@ -1,4 +1,5 @@
-ghost use Rattle.std.specs.Prelude.{◌≡◌, ◌+◌, ◌≤◌, ◌++◌, ◌∷◌, IfOk, IfSome, OnOk, IsOkUnless, Bool, List, Ok};
+ghost use Rattle.std.specs.Prelude.{◌≡◌, ◌+◌, ◌≤◌, ◌++◌, ◌∷◌, length, IfOk, IfSome, OnOk, IsOkUnless, Bool, List, Ok};
+ghost use Rattle.rbc_bits.specs.Bits.{field};
 ghost use Rattle.rbc_packets.specs.Layout.{joined, widths, train_packet};
 ghost use Rattle.rbc_packets.specs.Steps.{Takes};
 ghost use Rattle.rbc_packets.specs.PositionSpelling.{position_fields, running_fields, RunningFits, PositionFits};
@@ -10,7 +11,7 @@ use crate::location::Location;
 use crate::reading::{direction, end, take, train_part};
 use crate::train_length::TrainLength;
 use crate::writing::put_train_header;
-use rbc_bits::{BitPart, BitReader, BitWriter};
+use rbc_bits::{BitPart, BitReader, BitWord, BitWriter};
 use rbc_vars::{Direction, MMode, VTrain};
 
 /// Packet 0, position report (7.4.3.1).
@@ -18,10 +19,10 @@ use rbc_vars::{Direction, MMode, VTrain};
 pub struct Position {
     /// Where the train is.
     pub location: Location,
-    /// Its integrity and length.
-    pub train_length: TrainLength,
     /// Its speed.
     pub v_train: VTrain,
+    /// Its integrity and length.
+    pub train_length: TrainLength,
     /// Which way it moves.
     pub q_dirtrain: Direction,
     /// The mode of its equipment.
@@ -73,24 +74,12 @@ impl Position {
         Ok(position)
     }
 
-    /// Reads the packet behind its NID_PACKET, where its bits are as many as those of most reports: of a train whose
-    /// length is known, and that runs under no national system. None where it is another packet, or none. The places of
-    /// its fields are known before it is read.
+    /// The bits behind the header of a packet that has as many as most reports: those of a train whose length is known,
+    /// and that runs under no national system. None where it has fewer or more, or where they stand in no word.
     #[inline(always)]
-    pub fn read_usual(reader: &mut BitReader) -> Option<Self>
-        ensures exact { IfSome result (λ p. position_at reader.old ≡ Ok (p, reader.new)) }
-        ensures found { IfSome result
-            (λ p. (reader.old ≡ joined (train_packet (position_fields p)) ++ reader.new) × PositionFits p) }
-    {
-        Position::usual(reader)
-    }
-
-    #[tactic(auto, unfolding(crate::specs::PositionReading::position_at))]
-    #[inline(always)]
-    fn usual(reader: &mut BitReader) -> Option<Self>
-        ensures exact { IfSome result (λ p. position_at reader.old ≡ Ok (p, reader.new)) }
-        ensures taken { IfSome result (λ p. reader.old ≡ joined (train_packet (position_fields p)) ++ reader.new) }
-        ensures fits { IfSome result PositionFits }
+    pub fn usual_bits(reader: &mut BitReader) -> Option<BitWord>
+        ensures taken { IfSome result (λ bits. reader.old ≡ field 13 129 ++ (bits ++ reader.new)) }
+        ensures length { IfSome result (λ bits. length bits ≡ 108) }
     {
         let Ok(bits) = train_part(reader) else {
             return None;
@@ -98,11 +87,31 @@ impl Position {
         if bits.remaining() != USUAL_BITS {
             return None;
         }
-        let part = in_word(&bits)?;
-        match Position::whole(part) {
-            Ok(position) => Some(position),
-            Err(_) => None,
-        }
+        bits.word()
+    }
+
+    /// The position report of these bits. None where they tell no length, or where a value is refused. The places of its
+    /// fields are known, so nothing but values is tested.
+    #[tactic(auto, unfolding(crate::specs::Layout::joined))]
+    #[inline(always)]
+    pub fn of_usual(mut bits: BitWord) -> Option<Self>
+        requires { length bits ≡ 108 }
+        ensures found { IfSome result (λ p. (bits ≡ joined (position_fields p)) × PositionFits p) }
+    {
+        let location = Location::usual(&mut bits)?;
+        let train_length = TrainLength::usual(&mut bits)?;
+        let v_train = VTrain::new(bits.next(7));
+        let q_dirtrain = Direction::of(bits.next(2))?;
+        let m_mode = MMode::new(bits.next(4));
+        let level = Level::usual(&mut bits)?;
+        Some(Position {
+            location,
+            train_length,
+            v_train,
+            q_dirtrain,
+            m_mode,
+            level,
+        })
     }
 
     // All bits behind the header, which stand in no word. It is a function of its own, so that the fields of the others

@@ -1,4 +1,4 @@
-ghost use Rattle.std.specs.Prelude.{◌≡◌, ◌++◌, IfOk, OnOk, IsOkUnless};
+ghost use Rattle.std.specs.Prelude.{◌≡◌, ◌+◌, ◌≤◌, ◌++◌, length, IfOk, IfSome, OnOk, OnSome, IsOkUnless};
 ghost use Rattle.rbc_packets.specs.Layout.{joined, widths};
 ghost use Rattle.rbc_packets.specs.Steps.{Takes};
 ghost use Rattle.rbc_packets.specs.PositionSpelling.{train_length_fields, TrainLengthFits};
@@ -6,7 +6,7 @@ ghost use Rattle.rbc_packets.specs.PositionReading.{train_length_at};
 
 use crate::fault::PacketFault;
 use crate::reading::{q_length, take};
-use rbc_bits::{BitPart, BitWriter};
+use rbc_bits::{BitPart, BitWord, BitWriter};
 use rbc_vars::{LTrainint, QLength};
 
 /// Q_LENGTH and L_TRAININT: what is known of the train's integrity, and its length where it is confirmed.
@@ -41,6 +41,28 @@ impl TrainLength {
                 Ok(TrainLength::ConfirmedByDriver(l_trainint))
             }
             QLength::Lost => Ok(TrainLength::Lost),
+        }
+    }
+
+    /// The fields at the front of a word that has them. None where no length is told.
+    #[tactic(auto, unfolding(crate::specs::Layout::joined))]
+    #[inline(always)]
+    pub(crate) fn usual(word: &mut BitWord) -> Option<Self>
+        requires { 17 ≤ length word.old }
+        ensures taken { IfSome result (λ l. word.old ≡ joined (train_length_fields l) ++ word.new) }
+        ensures fits { IfSome result TrainLengthFits }
+        ensures length { OnSome result (length word.old ≡ 17 + length word.new) }
+    {
+        match QLength::of(word.next(2))? {
+            QLength::ConfirmedByDevice => {
+                let l_trainint = LTrainint::new(word.next(15));
+                Some(TrainLength::ConfirmedByDevice(l_trainint))
+            }
+            QLength::ConfirmedByDriver => {
+                let l_trainint = LTrainint::new(word.next(15));
+                Some(TrainLength::ConfirmedByDriver(l_trainint))
+            }
+            _ => None,
         }
     }
 

@@ -1,4 +1,4 @@
-use Rattle.std.proofs.Common.{◌∙◌, ◌+◌, ◌≤◌, ◌++◌, length, ap, arith, length-append}
+use Rattle.std.proofs.Common.{◌∙◌, ◌+◌, ◌≤◌, length, ap, arith, length-append}
 use Rattle.rbc_bits.specs.Bits.{field}
 use Rattle.rbc_bits.proofs.Fields.{length-field}
 use Rattle.rbc_bits.proofs.Rows.{length-row, near-row, near-written, far-row, far-written}
