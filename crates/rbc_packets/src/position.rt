@@ -90,8 +90,8 @@ impl Position {
         bits.word()
     }
 
-    /// The position report of these bits. None where they tell no length, or where a value is refused. The places of its
-    /// fields are known, so nothing but values is tested.
+    /// The position report of these bits. None where they tell no length, or where a value is refused. The places of
+    /// its fields are known, so nothing but values is tested.
     #[tactic(auto, unfolding(crate::specs::Layout::joined))]
     #[inline(always)]
     pub fn of_usual(mut bits: BitWord) -> Option<Self>
