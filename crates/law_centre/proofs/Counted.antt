@@ -4,14 +4,14 @@ use Rattle.std.specs.List.{All}
 use Rattle.std.proofs.lemmas.Bool.{and_parts, and_from, both_ways, cases_Bool, ltb-false}
 use Rattle.std.proofs.lemmas.List.Elements.{All-nil, All-cons}
 use Rattle.rbc_spec.specs.Line.{Line, is_centre, is_linked}
-use Rattle.rbc_spec.specs.Frame.{Body}
+use Rattle.rbc_spec.specs.Frame.{Body, last_stamp}
 use Rattle.rbc_spec.specs.Centre.{Centre}
-use Rattle.rbc_spec.specs.Step.{Event, Train, Set, Unset, Deliver, ClockEnd, LinkFull, effect, ticked, stamp_of, last_stamp, has_full_link, refusal, taken, numbered}
+use Rattle.rbc_spec.specs.Step.{Event, Train, Set, Unset, Deliver, ClockEnd, LinkFull, effect, ticked, stamp_of, has_full_link, refusal, taken, numbered}
 use Rattle.law_base.proofs.Lists.{any-range}
 use Rattle.law_centre.specs.Sending.{HoldsFew, TakesFew, IsCountedInRange}
 use Rattle.law_centre.proofs.SentTaken.{done}
 
-numbered_in : (stamp count : ℕ) (bodies : List Body) → 1 ≤ stamp → stamp ≤ 1073741823 → count + length bodies ≤ 65536 → All IsCountedInRange (numbered stamp count bodies)
+numbered_in : (stamp count : ℕ) (bodies : List Body) → 1 ≤ stamp → stamp ≤ last_stamp → count + length bodies ≤ 65536 → All IsCountedInRange (numbered stamp count bodies)
 numbered_in stamp count [] low high few = All-nil IsCountedInRange
 numbered_in stamp count (b ∷ bs) low high few = All-cons IsCountedInRange (record { number = count + 1; stamp = stamp; body = b }) (numbered stamp (count + 1) bs)
     (record { number = (omega arith, omega (arith, few)); stamp = (low, high) }) (numbered_in stamp (count + 1) bs low high (omega (arith, few)))

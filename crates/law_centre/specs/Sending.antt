@@ -3,7 +3,7 @@ use Rattle.std.specs.Prelude.{◌≡◌, ◌⊎◌, ℕ, ◌+◌, ◌<◌, ◌�
 use Rattle.rbc_spec.specs.SectionRuns.{behind}
 use Rattle.rbc_spec.specs.Line.{Line}
 use Rattle.rbc_spec.specs.Place.{Place, covered}
-use Rattle.rbc_spec.specs.Frame.{Frame, Body, ReturnRight, RouteAsk, RouteReturn, Announce, Cancel, Yield}
+use Rattle.rbc_spec.specs.Frame.{Frame, Body, ReturnRight, RouteAsk, RouteReturn, Announce, Cancel, Yield, last_stamp}
 use Rattle.rbc_spec.specs.Centre.{Centre, Mission}
 use Rattle.rbc_spec.specs.Step.{Event, Train, Set, Unset, Deliver}
 
@@ -55,4 +55,4 @@ TakesFew (Deliver d f) = BringsFew f.body
 -- the number and the stamp of a frame are in the ranges of their fields
 pub record IsCountedInRange (f : Frame) : Type 0 where
   pub number : (1 ≤ f.number) × (f.number ≤ 65536)
-  pub stamp : (1 ≤ f.stamp) × (f.stamp ≤ 1073741823)
+  pub stamp : (1 ≤ f.stamp) × (f.stamp ≤ last_stamp)

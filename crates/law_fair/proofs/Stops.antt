@@ -5,11 +5,11 @@ use Rattle.std.proofs.lemmas.Bool.{cases_eq, lt-ltb}
 use Rattle.std.proofs.lemmas.List.{append-nil}
 use Rattle.rbc_spec.specs.Maps.{put}
 use Rattle.rbc_spec.specs.Line.{Line}
-use Rattle.rbc_spec.specs.Frame.{Frame}
+use Rattle.rbc_spec.specs.Frame.{Frame, last_stamp}
 use Rattle.rbc_spec.specs.Outcome.{Outcome}
 use Rattle.rbc_spec.specs.Centre.{Centre}
 use Rattle.rbc_spec.specs.Step as centre
-use Rattle.rbc_spec.specs.Step.{Refusal, ClockEnd, LinkFull, step, refusal, taken, last_stamp, has_full_link}
+use Rattle.rbc_spec.specs.Step.{Refusal, ClockEnd, LinkFull, step, refusal, taken, has_full_link}
 use Rattle.rbc_spec.specs.World.{World, Event, Bytes, Set, Unset, Delivery, Answer, NotSent, frame_sent, stepped, takes, world_step}
 use Rattle.law_base.proofs.Puts.{put_here, put_other}
 use Rattle.law_local.proofs.Worlds.{world_of}

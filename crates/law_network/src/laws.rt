@@ -1,13 +1,13 @@
 //! Laws of the flow between the centres of a line.
 
-ghost use Rattle.std.specs.Prelude.{◌≡◌, ◌≤◌, ◌<◌, ℕ, ◌+◌, ◌==◌, ◌&&◌, not, if◌then◌else◌, Bool, true, List, [], ◌∷◌, ◌++◌, All, Some, Ok};
+ghost use Rattle.std.specs.Prelude.{◌≡◌, ◌≤◌, ℕ, ◌+◌, ◌==◌, ◌&&◌, not, if◌then◌else◌, Bool, true, List, [], All, Some, Ok};
 ghost use Rattle.law_counting.specs.Sums.{one_if};
-ghost use Rattle.law_counting.specs.Network.{took, acted, to_one, TakesHead, IsCounted};
+ghost use Rattle.law_counting.specs.Network.{took, acted, TakesHead, IsCounted};
 ghost use Rattle.law_counting.specs.Resource.{sent_by};
 ghost use Rattle.law_local.specs.Local.{IsOrdered};
 ghost use Rattle.rbc_spec.specs.Maps.{put};
 ghost use Rattle.rbc_spec.specs.SectionRuns.{SectionRun, within};
-ghost use Rattle.rbc_spec.specs.Line.{Line, IsLine, is_centre, is_home};
+ghost use Rattle.rbc_spec.specs.Line.{Line, IsLine, is_centre};
 ghost use Rattle.rbc_spec.specs.Place.{Place};
 ghost use Rattle.rbc_spec.specs.Frame.{Frame, Body, YieldedPlace, carried_place};
 ghost use Rattle.rbc_spec.specs.Frame.Body.{GiveRight, Yield};

@@ -6,13 +6,13 @@ use Rattle.std.proofs.lemmas.List.Elements.{All-nil, All-cons, All-head, All-tai
 use Rattle.rbc_spec.specs.SectionRuns.{behind}
 use Rattle.rbc_spec.specs.Line.{Line, IsLine, is_centre, is_linked}
 use Rattle.rbc_spec.specs.Message.{TrainMessage, unknown_time}
-use Rattle.rbc_spec.specs.Frame.{Body, AskRight, GiveRight, RefuseRight, ReturnRight, RouteAsk, RouteInfo, RouteWithdraw, RouteReturn, Announce, Cancel, TakingOver, Yield, Frame, IsEngine, HasBodyRange}
+use Rattle.rbc_spec.specs.Frame.{Body, AskRight, GiveRight, RefuseRight, ReturnRight, RouteAsk, RouteInfo, RouteWithdraw, RouteReturn, Announce, Cancel, TakingOver, Yield, Frame, IsEngine, HasBodyRange, last_stamp}
 use Rattle.rbc_spec.specs.Outcome.{Reason, Taken as LinkAnswer, Next, Old, Early, NoLink}
 use Rattle.rbc_spec.specs.Centre.{Centre, beginning}
 use Rattle.rbc_spec.specs.Acts.{Reply, rest, ◌>>◌, hear}
 use Rattle.rbc_spec.specs.Links.{received}
 use Rattle.rbc_spec.specs.Maps.{put}
-use Rattle.rbc_spec.specs.Step.{Event, Train, Set, Unset, Deliver, ClockEnd, LinkFull, Effect, effect, silence, hear_and_answer, set, unset, offered, taken_by, ticked, stamp_of, last_stamp, has_full_link, refusal, numbered}
+use Rattle.rbc_spec.specs.Step.{Event, Train, Set, Unset, Deliver, ClockEnd, LinkFull, Effect, effect, silence, hear_and_answer, set, unset, offered, taken_by, ticked, stamp_of, has_full_link, refusal, numbered}
 use Rattle.law_centre.specs.Sending.{HoldsFew, BringsFew, TakesFew, IsCountedInRange}
 use Rattle.law_centre.proofs.Counted.{counted}
 use Rattle.law_ranges.specs.Ranges.{HasMessageRanges, HasEventRanges, HasStateParts, HasStateRanges, IsSentInRange}

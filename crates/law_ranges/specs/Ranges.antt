@@ -4,9 +4,9 @@ use Rattle.rbc_spec.specs.SectionRuns.{SectionRun, most_in_hand, behind}
 use Rattle.rbc_spec.specs.Line.{Line, is_centre, is_linked}
 use Rattle.rbc_spec.specs.Place.{Place, Position, covered}
 use Rattle.rbc_spec.specs.Message.{TrainMessage, TrainBody, TrainData, Request, Report, ShorteningGranted, ShorteningRejected, EndOfMission, StartOfMission, unknown_time}
-use Rattle.rbc_spec.specs.Frame.{Body, yielded_place, IsEngine, IsHandoverNumber, HasRunRange, HasPlaceRange, HasBodyRange}
+use Rattle.rbc_spec.specs.Frame.{Body, yielded_place, IsEngine, IsHandoverNumber, HasRunRange, HasPlaceRange, HasBodyRange, last_stamp}
 use Rattle.rbc_spec.specs.Centre.{Centre, Entry, Out, Mission, Handing, Expectation}
-use Rattle.rbc_spec.specs.Step.{Event, Train, Set, Unset, Deliver, last_stamp}
+use Rattle.rbc_spec.specs.Step.{Event, Train, Set, Unset, Deliver}
 
 -- ## What comes
 

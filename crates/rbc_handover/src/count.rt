@@ -1,4 +1,5 @@
 ghost use Rattle.std.specs.Prelude.{◌≡◌, ◌+◌, ◌<◌, ◌≤◌};
+ghost use Rattle.rbc_spec.specs.Frame.{last_stamp};
 
 use std::marker::Model;
 
@@ -17,7 +18,7 @@ impl Model for HandoverCount {
 
     ghost view = { λ c. c.announced };
 
-    ghost invariant = { λ c. c.announced ≤ 1073741823 };
+    ghost invariant = { λ c. c.announced ≤ last_stamp };
 }
 
 impl HandoverCount {
@@ -31,14 +32,14 @@ impl HandoverCount {
     /// How many handovers were announced, at most 1 073 741 823. It is the number of the last.
     pub fn announced(&self) -> u32
         ensures value { result ≡ self.now }
-        ensures most { self.now ≤ 1073741823 }
+        ensures most { self.now ≤ last_stamp }
     {
         self.announced
     }
 
     // The next number, for a handover that is announced now.
     pub(crate) fn take_next(&mut self) -> u32
-        requires { self.old < 1073741823 }
+        requires { self.old < last_stamp }
         ensures number { result ≡ self.old + 1 }
         ensures count { self.new ≡ self.old + 1 }
     {

@@ -7,6 +7,7 @@ ghost use Rattle.rbc_spec.specs.Centre as spec;
 ghost use Rattle.rbc_spec.specs.Acts as acts;
 ghost use Rattle.rbc_spec.specs.Rules as rules;
 ghost use Rattle.rbc_spec.specs.Links as links;
+ghost use Rattle.rbc_spec.specs.Frame.{last_stamp};
 
 use crate::count::HandoverCount;
 use crate::handing::{Handing, HandoverName};
@@ -46,7 +47,7 @@ impl Handover {
     /// Announces a handover to this centre (3.15.1), where none stands: it has the next number, which is answered. None
     /// exactly where one stands, and then nothing changes.
     pub fn announce(&mut self, count: &mut HandoverCount, to: u8) -> Option<u32>
-        requires { count.old < 1073741823 }
+        requires { count.old < last_stamp }
         ensures number { result ≡ (if is_some (handing_of self.old) then None else Some (count.old + 1)) }
         ensures handover { handing_of self.new
             ≡ (if is_some (handing_of self.old) then handing_of self.old else Some (begun to (count.old + 1))) }

@@ -1,7 +1,7 @@
 -- Laws of the frames of a link.
 use Rattle.std.proofs.Common.{◌≡◌, ◌⊎◌, ℕ, zero, suc, ◌+◌, ◌<◌, ◌≤◌, inl, inr, List, [], ◌∷◌, ◌++◌, length, length-append, Some, slice_get, refl, ap, sym, ◌∙◌, arith}
 use Rattle.std.proofs.lemmas.List.{map-append}
-use Rattle.rbc_spec.specs.Frame.{Body}
+use Rattle.rbc_spec.specs.Frame.{Body, last_stamp}
 use Rattle.rbc_spec.specs.Step.{numbered}
 use Rattle.rbc_link.specs.declared.sent.Sent.{Sent}
 use Rattle.rbc_link.specs.Outgoing.{AreFrames, sent_as, frame_by, frames_by}
@@ -15,7 +15,7 @@ get_more (z ∷ zs) x y (suc i) is = elim (get_more zs x y i is) [ inl before �
 
 -- one more frame, with the next number
 pub frames_more : {B : Type 0} (frames more : List (Sent B)) (number stamp : ℕ) (body : B) → more ≡ frames ++ sent_as number stamp body ∷ [] → number ≡ length frames + 1
-    → length frames < 65536 → (1 ≤ stamp) × (stamp ≤ 1073741823) → AreFrames frames → AreFrames more
+    → length frames < 65536 → (1 ≤ stamp) × (stamp ≤ last_stamp) → AreFrames frames → AreFrames more
 frames_more frames more number stamp body pushed next low stamped are = record {
   count = rw pushed (simp (length-append) (omega (arith, low)));
   each = λ i f is. elim (get_more frames (sent_as number stamp body) f i (ap (λ xs. slice_get xs i) (sym pushed) ∙ is)) [

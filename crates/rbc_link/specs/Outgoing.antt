@@ -1,6 +1,6 @@
 -- What was sent on a link.
 use Rattle.std.specs.Prelude.{◌≡◌, ℕ, ◌+◌, ◌-◌, ◌≤◌, ◌==◌, if◌then◌else◌, List, length, map, Option, Some, None, slice_get}
-use Rattle.rbc_spec.specs.Frame.{Frame, Body}
+use Rattle.rbc_spec.specs.Frame.{Frame, Body, last_stamp}
 use Rattle.rbc_link.specs.declared.sent.Sent.{Sent}
 
 -- the frames in order, and for how many more there is room
@@ -18,7 +18,7 @@ frame_number frames number = if number == 0 then None else slice_get frames (num
 -- the frame has this number, and the stamp of a step
 pub record IsNumber {B : Type 0} (n : ℕ) (f : Sent B) : Type 0 where
   pub number : f.number ≡ n
-  pub stamp : (1 ≤ f.stamp) × (f.stamp ≤ 1073741823)
+  pub stamp : (1 ≤ f.stamp) × (f.stamp ≤ last_stamp)
 
 -- the frames of a link: as many as a link carries, each with its number
 pub record AreFrames {B : Type 0} (frames : List (Sent B)) : Type 0 where

@@ -1,6 +1,7 @@
 ghost use Rattle.std.specs.Prelude.{◌≡◌, ◌+◌, ◌≤◌, ◌<◌, true, [], ◌∷◌, ◌++◌, length, OnOk, IsOk};
 ghost use Rattle.rbc_spec.specs.Frame as spec;
 ghost use Rattle.rbc_spec.specs.Step.{offered, numbered};
+ghost use Rattle.rbc_spec.specs.Frame.{last_stamp};
 ghost use Rattle.rbc_link.specs.Inbox.{answer_of, taken_after};
 ghost use Rattle.rbc_link.specs.Outgoing.{frames_by, sent_as};
 
@@ -59,7 +60,7 @@ impl<B> Link<B> {
     pub(crate) fn send(&mut self, stamp: u32, body: B) -> u32
         requires room { 0 < self.old.outbox.room }
         requires numbers { length self.old.outbox.frames < 65536 }
-        requires stamped { (1 ≤ stamp) × (stamp ≤ 1073741823) }
+        requires stamped { (1 ≤ stamp) × (stamp ≤ last_stamp) }
         ensures number { result ≡ length self.old.outbox.frames + 1 }
         ensures linked { self.new.is_linked ≡ self.old.is_linked }
         ensures inbox { self.new.inbox ≡ self.old.inbox }

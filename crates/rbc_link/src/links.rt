@@ -5,6 +5,7 @@ ghost use Rattle.rbc_spec.specs.Line.{is_linked};
 ghost use Rattle.rbc_spec.specs.Maps.{put};
 ghost use Rattle.rbc_spec.specs.Step.{offered, numbered};
 ghost use Rattle.rbc_spec.specs.Outcome.{NoLink};
+ghost use Rattle.rbc_spec.specs.Frame.{last_stamp};
 ghost use Rattle.rbc_link.specs.Inbox.{answer_of, taken_after};
 ghost use Rattle.rbc_link.specs.Outgoing.{frame_number, frames_by};
 ghost use Rattle.rbc_link.specs.Links as listed;
@@ -171,7 +172,7 @@ impl<B> Links<B> {
         requires linked { has_link self.old to ≡ true }
         requires room { 0 < room_to self.old to }
         requires numbers { length (sent_to self.old to) < 65536 }
-        requires stamped { (1 ≤ stamp) × (stamp ≤ 1073741823) }
+        requires stamped { (1 ≤ stamp) × (stamp ≤ last_stamp) }
         ensures number { result ≡ length (sent_to self.old to) + 1 }
         ensures count { length self.new ≡ length self.old }
         ensures linked { (d : ℕ) → has_link self.new d ≡ has_link self.old d }

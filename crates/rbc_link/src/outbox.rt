@@ -1,5 +1,6 @@
 ghost use Rattle.std.specs.Prelude.{◌≡◌, ◌+◌, ◌≤◌, ◌<◌, length, nat_lt, option_copied, [], ◌∷◌, ◌++◌, OnOk, IsOk, IsTrue};
 ghost use Rattle.rbc_spec.specs.Frame as spec;
+ghost use Rattle.rbc_spec.specs.Frame.{last_stamp};
 ghost use Rattle.rbc_link.specs.Outgoing as outgoing;
 
 use crate::sent::Sent;
@@ -88,7 +89,7 @@ impl<B> Outbox<B> {
     pub fn send(&mut self, stamp: u32, body: B) -> u32
         requires room { 0 < self.old.room }
         requires numbers { length self.old.frames < 65536 }
-        requires stamped { (1 ≤ stamp) × (stamp ≤ 1073741823) }
+        requires stamped { (1 ≤ stamp) × (stamp ≤ last_stamp) }
         ensures number { result ≡ length self.old.frames + 1 }
         ensures frames { self.new.frames ≡ self.old.frames ++ sent_as (length self.old.frames + 1) stamp body ∷ [] }
         ensures numbered { (meaning : B → spec.Body) → frames_by meaning self.new.frames

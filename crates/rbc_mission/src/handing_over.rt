@@ -8,6 +8,7 @@ ghost use Rattle.rbc_spec.specs.Centre.{Taken, is_out_for};
 ghost use Rattle.rbc_spec.specs.Acts as acts;
 ghost use Rattle.rbc_spec.specs.Rules as rules;
 ghost use Rattle.rbc_spec.specs.Links as links;
+ghost use Rattle.rbc_spec.specs.Frame.{last_stamp};
 ghost use Rattle.rbc_book.specs.Book.{is_own, entry_at};
 ghost use Rattle.rbc_hand.specs.SectionRuns.{run_of};
 ghost use Rattle.rbc_right.specs.Rights.{right_of};
@@ -62,7 +63,7 @@ impl Supervision {
         count: &mut HandoverCount,
         to: u8,
     ) -> Option<Announcement>
-        requires { count.old < 1073741823 }
+        requires { count.old < last_stamp }
         ensures state { self.new
             ≡ option_map_or (λ a. with_handing (Some (begun to a.number)) self.old) result self.old }
         ensures count { count.new ≡ option_map_or (λ a. count.old + 1) result count.old }

@@ -88,8 +88,12 @@ HasBodyRange (TakingOver number t) = IsHandoverNumber number × IsEngine t
 HasBodyRange (Yield number t heard has_data is_ended place hand) =
     IsHandoverNumber number × IsEngine t × (heard ≤ 4294967294) × HasPlaceRange place × HasRunRange 1 most_in_hand hand
 
+-- the greatest stamp of a step
+abbrev pub last_stamp : ℕ
+last_stamp = 1073741823
+
 -- a link carries at most 65 536 frames, numbered from 1, each with its step's stamp
 pub record HasFrameRanges (f : Frame) : Type 0 where
   pub number : (1 ≤ f.number) × (f.number ≤ 65536)
-  pub stamp : (1 ≤ f.stamp) × (f.stamp ≤ 1073741823)
+  pub stamp : (1 ≤ f.stamp) × (f.stamp ≤ last_stamp)
   pub body : HasBodyRange f.body

@@ -8,7 +8,7 @@ use Rattle.rbc_spec.specs.Line.{Line, is_home, is_linked, end, train_number}
 use Rattle.rbc_spec.specs.Sections.{section_count}
 use Rattle.rbc_spec.specs.Place.{Position, extent, has_front, has_room, place_on}
 use Rattle.rbc_spec.specs.Message.{TrainMessage, TrainBody, Request, Report, ShorteningGranted, ShorteningRejected, StartOfMission, SessionEstablished, is_stale}
-use Rattle.rbc_spec.specs.Frame.{Frame, Body, RouteWithdraw}
+use Rattle.rbc_spec.specs.Frame.{Frame, Body, RouteWithdraw, last_stamp}
 use Rattle.rbc_spec.specs.Outcome.{Reason, reasons_of, StaleStamp, NoSession, ForeignEngine, NoPlace, NotSupervised, NoTrainData, ProposalPending, Unasked, MissionEnded, WrongPhase, Outcome, Done, Asked, NotHome, Taken as LinkAnswer, Next, Old, Early, NoLink}
 use Rattle.rbc_spec.specs.Centre.{Centre, Entry, Shut, Open, Taken, Out, Mission, is_closed, is_up, is_unused, is_expected}
 use Rattle.rbc_spec.specs.Acts.{Act, Reply, become, rest, ◌>>◌, hear, propose_if_so}
@@ -156,9 +156,6 @@ effect line c k (Deliver d f) =
 abbrev pub stamp_of : Centre → Event → ℕ
 stamp_of k (Deliver d f) = max k.clock f.stamp + 1
 stamp_of k event = k.clock + 1
-
-abbrev pub last_stamp : ℕ
-last_stamp = 1073741823
 
 -- a link has fewer than four of its 65 536 numbers left
 abbrev pub has_full_link : Line → ℕ → Centre → Bool

@@ -4,6 +4,7 @@ use Rattle.rbc_spec.specs.SectionRuns.{within}
 use Rattle.rbc_spec.specs.Line.{Line, start}
 use Rattle.rbc_spec.specs.Place.{group_start}
 use Rattle.rbc_spec.specs.Centre.{Mission}
+use Rattle.rbc_spec.specs.Frame.{last_stamp}
 use Rattle.rbc_mission.specs.Supervisions.{SupervisionState}
 use Rattle.rbc_train.specs.Desk.{last_said}
 use Rattle.rbc_train.specs.declared.train.TrainState.{TrainState}
@@ -25,7 +26,7 @@ pub record KeepsHand (old new : SupervisionState) : Type 0 where
 -- border is near
 pub record MayAnnounce (line : Line) (p : TrainState) (count : ℕ) : Type 0 where
   pub said : p.said < last_said
-  pub announced : count < 1073741823
+  pub announced : count < last_stamp
   pub near : IsNear line p.supervision
 
 -- no more has changed than an announcement and a question change: at most one message more was said, and one handover

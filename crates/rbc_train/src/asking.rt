@@ -6,6 +6,7 @@ ghost use Rattle.rbc_spec.specs.Acts.{propose_if_so};
 ghost use Rattle.rbc_spec.specs.Centre as spec;
 ghost use Rattle.rbc_session.specs.SessionStates.{phase_of, session_phase};
 ghost use Rattle.rbc_shorten.specs.Facts.{AreFactsOf};
+ghost use Rattle.rbc_train.specs.Desk.{last_said};
 ghost use Rattle.rbc_train.specs.Guards.{mission_in};
 ghost use Rattle.rbc_train.specs.Trains.{asked, HasTrain};
 ghost use Rattle.rbc_train.specs.Sayings.{sayings_of};
@@ -25,7 +26,7 @@ impl TrainState {
     /// Asks the train to end its movement authority before a section (3.8.6), where that may be asked.
     #[inline(never)]
     pub fn ask_back(&mut self, line: &Line, s: u16) -> Option<Saying>
-        requires count { self.old.said < 4294967294 }
+        requires count { self.old.said < last_said }
         ensures exact { (k : spec.Centre) → HasTrain k self.old.supervision.engine self.old
             → propose_if_so line.now self.old.supervision.engine s k
             ≡ asked self.old.supervision.engine self.new (sayings_of result) k }

@@ -6,6 +6,7 @@ ghost use Rattle.rbc_spec.specs.Line as track;
 ghost use Rattle.rbc_spec.specs.Place as place;
 ghost use Rattle.rbc_spec.specs.Message.{TrainData, Request};
 ghost use Rattle.rbc_spec.specs.Step as step;
+ghost use Rattle.rbc_spec.specs.Frame.{last_stamp};
 ghost use Rattle.rbc_book.specs.Book.{Pages, is_own};
 ghost use Rattle.rbc_right.specs.Rights.{Rights};
 ghost use Rattle.rbc_train.specs.Desk.{HearsTrain, IsAtBook, IsKeptAt, IsOnTrack, KeepsState, last_said, nothing, with_parts, effect_left};
@@ -78,7 +79,7 @@ impl TrainState {
     ) -> Result<(), Reason>
         requires out { out.old ≡ nothing }
         requires count { self.old.said + 1 < last_said }
-        requires announced { count.old < 1073741823 }
+        requires announced { count.old < last_stamp }
         requires at { IsAtBook line.now centre self.old book.old }
         requires kept { IsKeptAt line.now centre self.old }
         requires on { IsOnTrack line.now self.old }

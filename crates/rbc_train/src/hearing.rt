@@ -5,6 +5,7 @@ ghost use Rattle.rbc_spec.specs.Centre as spec;
 ghost use Rattle.rbc_spec.specs.Line.{train_number};
 ghost use Rattle.rbc_spec.specs.Message.{is_stale};
 ghost use Rattle.rbc_spec.specs.Step as step;
+ghost use Rattle.rbc_spec.specs.Frame.{last_stamp};
 ghost use Rattle.rbc_msgs.specs.StepMessage.{step_message};
 ghost use Rattle.rbc_msgs.specs.TrainText.{TrainText};
 ghost use Rattle.rbc_msgs.specs.declared.train_body.TrainBody.TheVariants.{InitiationOfSession};
@@ -54,7 +55,7 @@ impl TrainState {
         requires room { message.now.body ≡ InitiationOfSession → is_stale message.now.t_train self.old.heard ≡ false
             → HasRoom sessions.old }
         requires count { self.old.said < 4294967293 }
-        requires announced { count.old < 1073741823 }
+        requires announced { count.old < last_stamp }
         ensures exact { (k : spec.Centre) → HasParts line.now centre k self.old book.old registrar.old
             → is_none (train_number line.now self.old.supervision.engine) ≡ false
             → k.announced ≡ count.old

@@ -8,7 +8,7 @@ ghost use Rattle.rbc_spec.specs.Frame.{HasBodyRange};
 ghost use Rattle.rbc_linkmsg.specs.Bodies.{body_of, engine_in};
 ghost use Rattle.rbc_pending_start.specs.Waits.{IsCovered};
 ghost use Rattle.rbc_train.specs.Desks.{IsBookOf};
-ghost use Rattle.rbc_train.specs.Desk.{HasParts, IsHeld, KeepsTrain, KeepsDesk, with_parts, reply_left};
+ghost use Rattle.rbc_train.specs.Desk.{HasParts, IsHeld, KeepsTrain, KeepsDesk, last_said, with_parts, reply_left};
 
 use crate::heard::Heard;
 use crate::taking_up::Coming;
@@ -38,7 +38,7 @@ impl TrainState {
         requires held { IsHeld line.now centre self.old }
         requires expected { length self.old.expectations ≡ length line.now.centres }
         requires from { is_centre line.now from ≡ true }
-        requires count { self.old.said < 4294967294 }
+        requires count { self.old.said < last_said }
         requires range { HasBodyRange (body_of body) }
         ensures exact { (k : spec.Centre) → HasParts line.now centre k self.old book.old registrar.old
             → is_none (train_number line.now self.old.supervision.engine) ≡ false

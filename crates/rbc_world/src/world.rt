@@ -232,9 +232,10 @@ impl World {
         if c as usize >= self.centres.len() {
             return Ok(Reply::NoCentre);
         }
-        match decode_train(self.alloc, bytes) {
-            Ok(message) => self.hear(c as usize, &message, out),
-            Err(fault) => unread(fault),
+        let decoded = decode_train(self.alloc, bytes);
+        match &decoded {
+            Ok(message) => self.hear(c as usize, message, out),
+            Err(fault) => unread(*fault),
         }
     }
 }
