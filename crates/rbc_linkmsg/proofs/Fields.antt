@@ -1,6 +1,6 @@
--- Fields that stand one behind the other: what is written behind them, and that bytes have one reading.
-use Rattle.std.proofs.Common.{◌≡◌, ℕ, ◌+◌, ◌^◌, ◌<◌, List, [], ◌∷◌, ◌++◌, length, drop, refl, sym, ap, ◌∙◌, append_assoc, length-append}
-use Rattle.std.proofs.lemmas.List.{drop_at, append-nil}
+-- Fields that stand one behind the other: their bytes have one reading.
+use Rattle.std.proofs.Common.{◌≡◌, ℕ, ◌+◌, ◌^◌, ◌<◌, List, [], ◌∷◌, ◌++◌, length, drop, refl, sym, ap, ◌∙◌, length-append}
+use Rattle.std.proofs.lemmas.List.{drop_at}
 use Rattle.byteorder.specs.Endian.{big_bytes, big_number}
 use Rattle.byteorder.specs.Numbers.{big_number-reads_back, length-bytes_high_first}
 use Rattle.rbc_linkmsg.specs.Spelling.{Field, spelled, AllFit}
@@ -8,21 +8,6 @@ use Rattle.rbc_linkmsg.specs.Spelling.{Field, spelled, AllFit}
 pub spelled-cons : (f : Field) (fields : List Field) → spelled (f ∷ fields) ≡ big_bytes f.0 f.1 ++ spelled fields
 unfolding spelled
 spelled-cons f fields = refl
-
-pub spelled-append : (xs ys : List Field) → spelled (xs ++ ys) ≡ spelled xs ++ spelled ys
-unfolding spelled
-spelled-append [] ys = refl
-spelled-append (x ∷ xs) ys =
-    ap (λ t. big_bytes x.0 x.1 ++ t) (spelled-append xs ys) ∙ sym (append_assoc (big_bytes x.0 x.1) (spelled xs) (spelled ys))
-
--- fields behind fields behind what stood there
-pub behind : (old a b : List ℕ) (xs ys : List Field) → a ≡ old ++ spelled xs → b ≡ a ++ spelled ys → b ≡ old ++ spelled (xs ++ ys)
-behind old a b xs ys p q =
-    q ∙ ap (λ t. t ++ spelled ys) p ∙ append_assoc old (spelled xs) (spelled ys) ∙ ap (λ t. old ++ t) (sym (spelled-append xs ys))
-
-pub spelled-one : (n v : ℕ) → spelled ((n, v) ∷ []) ≡ big_bytes n v ++ []
-unfolding spelled
-spelled-one n v = refl
 
 -- a number of so many bytes, and what stands behind it, are told from each other
 pub one_number : (n x y : ℕ) (xs ys : List ℕ) → x < 256 ^ n → y < 256 ^ n → big_bytes n x ++ xs ≡ big_bytes n y ++ ys → (x ≡ y) × (xs ≡ ys)
@@ -57,8 +42,3 @@ one_fields ((n, x) ∷ fs) ((m, y) ∷ gs) w fs-fit gs-fit e =
 pub length-spelled-cons : (n v : ℕ) (fields : List Field) → length (spelled ((n, v) ∷ fields)) ≡ n + length (spelled fields)
 length-spelled-cons n v fields =
     ap length (spelled-cons (n, v) fields) ∙ length-append (big_bytes n v) (spelled fields) ∙ ap (λ k. k + length (spelled fields)) (length-bytes_high_first n v)
-
--- a number behind fields
-pub number_behind : (old a b : List ℕ) (xs : List Field) (n v : ℕ) → a ≡ old ++ spelled xs → b ≡ a ++ big_bytes n v → b ≡ old ++ spelled (xs ++ (n, v) ∷ [])
-number_behind old a b xs n v p q =
-    behind old a b xs ((n, v) ∷ []) p (q ∙ ap (λ t. a ++ t) (sym (spelled-one n v ∙ append-nil (big_bytes n v))))

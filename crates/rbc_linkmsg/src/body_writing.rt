@@ -1,6 +1,6 @@
-//! The body of a frame, written field by field.
+//! The body of a frame, each kind's fields at their places.
 
-ghost use Rattle.std.specs.Prelude.{◌≡◌, ◌+◌, ◌<◌, ◌++◌, ◌∷◌, [], OnOk};
+ghost use Rattle.std.specs.Prelude.{◌≡◌, ◌+◌, ◌<◌, ◌≤◌, ◌++◌, ◌∷◌, [], length, drop, OnOk};
 ghost use Rattle.rbc_hand.specs.SectionRuns.{run_of};
 ghost use Rattle.rbc_spec.specs.Frame.{HasBodyRange};
 ghost use Rattle.rbc_linkmsg.specs.Bodies.{body_of, place_of};
@@ -8,7 +8,7 @@ ghost use Rattle.rbc_linkmsg.specs.Spelling as spelling;
 
 use crate::body::{Body, YieldedPlace};
 use crate::kind::FrameKind;
-use crate::writing::{put_run, put_u8, put_u16, put_u32};
+use byteorder::{BigEndian, ByteOrder};
 use rbc_hand::SectionRun;
 use std::alloc::AllocError;
 
@@ -33,7 +33,6 @@ pub(crate) fn kind_of(body: Body) -> FrameKind
 }
 
 /// The fields behind the kind.
-#[tactic(auto, unfolding(crate::specs::Spelling::spelled))]
 pub(crate) fn put_body(bytes: &mut Vec<u8>, body: Body) -> Result<(), AllocError>
     requires { HasBodyRange (body_of body) }
     ensures { OnOk result
@@ -43,30 +42,29 @@ pub(crate) fn put_body(bytes: &mut Vec<u8>, body: Body) -> Result<(), AllocError
         Body::AskRight { engine }
         | Body::GiveRight { engine }
         | Body::RefuseRight { engine }
-        | Body::ReturnRight { engine } => put_u32(bytes, engine),
+        | Body::ReturnRight { engine } => bytes.extend_from_slice(&engine_bytes(engine)),
         Body::RouteAsk {
             engine,
             first,
             most,
-        } => put_route(bytes, engine, SectionRun { first, count: most }),
-        Body::RouteInfo { engine, run } | Body::RouteReturn { engine, run } => put_route(
-            bytes, engine, run,
-        ),
+        } => {
+            let run = SectionRun { first, count: most };
+            bytes.extend_from_slice(&route_bytes(engine, run))
+        }
+        Body::RouteInfo { engine, run } | Body::RouteReturn { engine, run } => {
+            bytes.extend_from_slice(&route_bytes(engine, run))
+        }
         Body::RouteWithdraw { engine, section } => {
-            put_u32(bytes, engine)?;
-            put_u16(bytes, section)
+            bytes.extend_from_slice(&section_bytes(engine, section))
         }
         Body::Announce {
             handover,
             engine,
             track,
-        } => {
-            put_handover(bytes, handover, engine)?;
-            put_u8(bytes, track)
+        } => bytes.extend_from_slice(&announced_bytes(handover, engine, track)),
+        Body::Cancel { handover, engine } | Body::TakingOver { handover, engine } => {
+            bytes.extend_from_slice(&handover_bytes(handover, engine))
         }
-        Body::Cancel { handover, engine } | Body::TakingOver { handover, engine } => put_handover(
-            bytes, handover, engine,
-        ),
         Body::Yield {
             handover,
             engine,
@@ -75,64 +73,135 @@ pub(crate) fn put_body(bytes: &mut Vec<u8>, body: Body) -> Result<(), AllocError
             is_ended,
             place,
             hand,
-        } => {
-            put_handover(bytes, handover, engine)?;
-            put_u32(bytes, heard)?;
-            put_place(bytes, has_data, is_ended, place)?;
-            put_run(bytes, hand)?;
-            Ok(())
-        }
+        } => bytes.extend_from_slice(&yield_bytes(
+            handover, engine, heard, has_data, is_ended, place, hand,
+        )),
     }
 }
 
-// NID_ENGINE and a run of sections.
+// NID_ENGINE alone.
+#[inline(always)]
 #[tactic(auto, unfolding(crate::specs::Spelling::spelled))]
-fn put_route(bytes: &mut Vec<u8>, engine: u32, run: SectionRun) -> Result<(), AllocError>
-    requires { run.count < 256 }
-    ensures { OnOk result
-        (bytes.new.items ≡ bytes.old.items ++ spelling.spelled ((4, engine) ∷ spelling.run_fields (run_of run))) }
+fn engine_bytes(engine: u32) -> [u8; 4]
+    ensures { result ≡ spelling.spelled ((4, engine) ∷ []) }
 {
-    put_u32(bytes, engine)?;
-    put_run(bytes, run)
+    let mut bytes = [0; 4];
+    BigEndian::write_u32(&mut bytes, engine);
+    bytes
+}
+
+// NID_ENGINE and a run of sections.
+#[inline(always)]
+#[tactic(auto, unfolding(crate::specs::Spelling::spelled))]
+fn route_bytes(engine: u32, run: SectionRun) -> [u8; 7]
+    requires { run.count < 256 }
+    ensures { result ≡ spelling.spelled ((4, engine) ∷ spelling.run_fields (run_of run)) }
+{
+    let mut bytes = [0; 7];
+    BigEndian::write_u32(&mut bytes, engine);
+    write_run(&mut bytes[4..], run);
+    bytes
+}
+
+// NID_ENGINE and a section.
+#[inline(always)]
+#[tactic(auto, unfolding(crate::specs::Spelling::spelled))]
+fn section_bytes(engine: u32, section: u16) -> [u8; 6]
+    ensures { result ≡ spelling.spelled ((4, engine) ∷ (2, section) ∷ []) }
+{
+    let mut bytes = [0; 6];
+    BigEndian::write_u32(&mut bytes, engine);
+    BigEndian::write_u16(&mut bytes[4..], section);
+    bytes
 }
 
 // The handover's number and NID_ENGINE.
+#[inline(always)]
 #[tactic(auto, unfolding(crate::specs::Spelling::spelled))]
-fn put_handover(bytes: &mut Vec<u8>, handover: u32, engine: u32) -> Result<(), AllocError>
-    ensures { OnOk result (bytes.new.items ≡ bytes.old.items ++ spelling.spelled ((4, handover) ∷ (4, engine) ∷ [])) }
+fn handover_bytes(handover: u32, engine: u32) -> [u8; 8]
+    ensures { result ≡ spelling.spelled ((4, handover) ∷ (4, engine) ∷ []) }
 {
-    put_u32(bytes, handover)?;
-    put_u32(bytes, engine)
+    let mut bytes = [0; 8];
+    BigEndian::write_u32(&mut bytes, handover);
+    BigEndian::write_u32(&mut bytes[4..], engine);
+    bytes
 }
 
-// A place, and the flags, of which one says whether its rear is known.
+// The handover's number, NID_ENGINE and the track.
+#[inline(always)]
 #[tactic(auto, unfolding(crate::specs::Spelling::spelled))]
-fn put_place(
-    bytes: &mut Vec<u8>,
+fn announced_bytes(handover: u32, engine: u32, track: u8) -> [u8; 9]
+    ensures { result ≡ spelling.spelled ((4, handover) ∷ (4, engine) ∷ (1, track) ∷ []) }
+{
+    let mut bytes = [0; 9];
+    BigEndian::write_u32(&mut bytes, handover);
+    BigEndian::write_u32(&mut bytes[4..], engine);
+    bytes[8] = track;
+    bytes
+}
+
+// The fields of a Yield.
+#[inline(always)]
+#[tactic(auto, unfolding(crate::specs::Spelling::spelled))]
+fn yield_bytes(
+    handover: u32,
+    engine: u32,
+    heard: u32,
     has_data: bool,
     is_ended: bool,
     place: YieldedPlace,
-) -> Result<(), AllocError>
-    ensures { OnOk result
-        (bytes.new.items ≡ bytes.old.items
-        ++ spelling.spelled (spelling.place_fields has_data is_ended (place_of place))) }
+    hand: SectionRun,
+) -> [u8; 29]
+    requires { hand.count < 256 }
+    ensures { result ≡ spelling.spelled ((4, handover) ∷ (4, engine) ∷ (4, heard)
+        ∷ (spelling.place_fields has_data is_ended (place_of place) ++ spelling.run_fields (run_of hand))) }
 {
-    put_u8(bytes, place.track)?;
-    put_u8(bytes, flags(has_data, is_ended, place.rear.is_some()))?;
-    put_u32(bytes, place.group)?;
-    put_ends(bytes, place)?;
-    Ok(())
+    let mut bytes = [0; 29];
+    BigEndian::write_u32(&mut bytes, handover);
+    BigEndian::write_u32(&mut bytes[4..], engine);
+    BigEndian::write_u32(&mut bytes[8..], heard);
+    write_place(&mut bytes[12..], has_data, is_ended, place);
+    write_run(&mut bytes[26..], hand);
+    bytes
+}
+
+// A place, and the flags, of which one says whether its rear is known.
+#[inline(always)]
+#[tactic(auto, unfolding(crate::specs::Spelling::spelled))]
+fn write_place(bytes: &mut [u8], has_data: bool, is_ended: bool, place: YieldedPlace)
+    requires { 14 ≤ length bytes.old }
+    ensures { bytes.new
+        ≡ spelling.spelled (spelling.place_fields has_data is_ended (place_of place)) ++ drop 14 bytes.old }
+{
+    bytes[0] = place.track;
+    bytes[1] = flags(has_data, is_ended, place.rear.is_some());
+    BigEndian::write_u32(&mut bytes[2..], place.group);
+    write_ends(&mut bytes[6..], place);
 }
 
 // The front and the rear.
+#[inline(always)]
 #[tactic(auto, unfolding(crate::specs::Spelling::spelled))]
-fn put_ends(bytes: &mut Vec<u8>, place: YieldedPlace) -> Result<(), AllocError>
-    ensures { OnOk result
-        (bytes.new.items ≡ bytes.old.items
-        ++ spelling.spelled ((4, spelling.distance place.front) ∷ (4, spelling.rear_distance place.rear) ∷ [])) }
+fn write_ends(bytes: &mut [u8], place: YieldedPlace)
+    requires { 8 ≤ length bytes.old }
+    ensures { bytes.new
+        ≡ spelling.spelled ((4, spelling.distance place.front) ∷ (4, spelling.rear_distance place.rear) ∷ [])
+        ++ drop 8 bytes.old }
 {
-    put_u32(bytes, place.front.cast_unsigned())?;
-    put_u32(bytes, rear_distance(place.rear))
+    BigEndian::write_u32(bytes, place.front.cast_unsigned());
+    BigEndian::write_u32(&mut bytes[4..], rear_distance(place.rear));
+}
+
+// The first section and how many they are.
+#[inline(always)]
+#[tactic(auto, unfolding(crate::specs::Spelling::spelled))]
+fn write_run(bytes: &mut [u8], run: SectionRun)
+    requires room { 3 ≤ length bytes.old }
+    requires count { run.count < 256 }
+    ensures { bytes.new ≡ spelling.spelled (spelling.run_fields (run_of run)) ++ drop 3 bytes.old }
+{
+    BigEndian::write_u16(bytes, run.first);
+    bytes[2] = run.count as u8;
 }
 
 /// The flags of a Yield.

@@ -16,7 +16,6 @@ mod kind;
 mod laws;
 mod ranges;
 mod reading;
-mod writing;
 mod yield_reading;
 
 pub use body::{Body, YieldedPlace};
