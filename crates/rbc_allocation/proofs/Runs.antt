@@ -1,20 +1,20 @@
 -- Sections that are taken into use for a train, and given back.
-use Rattle.std.proofs.Common.{◌≡◌, ℕ, zero, suc, ◌+◌, ◌-◌, ◌<◌, ◌≤◌, ◌==◌, ◌&&◌, ◌||◌, inl, inr, Bool, true, false, cond, not, List, [], ◌∷◌, ◌++◌, length, take, drop, replicate, Option, Some, nat_lt, refl, ap, sym, ◌∙◌, arith, append_assoc}
+use Rattle.std.proofs.Common.{◌≡◌, ℕ, zero, suc, ◌+◌, ◌-◌, ◌<◌, ◌≤◌, ◌==◌, ◌&&◌, ◌||◌, inl, inr, Bool, true, false, cond, not, List, [], ◌∷◌, ◌++◌, length, take, drop, replicate, nat_lt, refl, ap, sym, ◌∙◌, arith, length-append}
 use Rattle.std.proofs.Math.Bool.{and-true, and-false}
 use Rattle.std.proofs.Math.Seq.{take-length}
-use Rattle.std.proofs.lemmas.Bool.{cases_Bool, cond-true}
+use Rattle.std.proofs.lemmas.Bool.{cases_Bool}
 use Rattle.std.proofs.lemmas.Bool.Decides.{eqb_tells, nat_tests}
-use Rattle.std.proofs.lemmas.List.{append-nil, length-drop, length-take-le, drop-drop, replicate-append-replicate}
-use Rattle.std.proofs.lemmas.Option.{cond_some}
-use Rattle.rbc_spec.specs.SectionRuns.{SectionRun, within, joined, is_empty}
-use Rattle.rbc_spec.specs.Centre.{Entry, Taken, is_open, is_taken_for}
+use Rattle.std.proofs.lemmas.List.{length-drop, length-replicate, length-take-le, drop-drop}
+use Rattle.rbc_spec.specs.SectionRuns.{SectionRun, within, is_empty}
+use Rattle.rbc_spec.specs.Centre.{Taken, is_open, is_taken_for}
 use Rattle.rbc_book.specs.Book.{Pages, is_own, entry_at, wish_at}
-use Rattle.rbc_book.specs.Claim.{section_of, train_of, claim_on, claim_if, is_taken_by}
+use Rattle.rbc_book.specs.Claim.{section_of, claim_on, claims_on, claimed, claims_train, is_taken_by}
 use Rattle.rbc_book.specs.declared.claim.Claim.{Claim}
+use Rattle.rbc_book.specs.declared.claim.Claims.{Claims}
 use Rattle.rbc_hand.specs.Tokens.{Held, Own}
 use Rattle.rbc_hand.specs.declared.token.Token.{Token}
 use Rattle.rbc_hand.specs.declared.token.Token.TheVariants as code
-use Rattle.rbc_hand.specs.Hands.{Holding, run, one, takes, extended}
+use Rattle.rbc_hand.specs.Hands.{Holding, run, one, takes}
 use Rattle.rbc_allocation.specs.Sections.{TakesRun, FreesRun, hand_rest, hand_front}
 use Rattle.rbc_allocation.proofs.Backs.{back_to, entry_then, wish_then, entry_twice, wish_twice}
 
@@ -46,67 +46,44 @@ within_before first n s = grind (arith, nat_tests)
 pub takes_none : (t first : ℕ) (book : Pages) → TakesRun t (record { first = first; count = 0 }) book book
 takes_none t first book = record { homes = λ s. refl; entry = λ s. rw (within_none first s) refl; wish = λ s. refl }
 
-taken_twice : (t : ℕ) (e : Entry) (x y : Bool) → cond (y && is_open (cond (x && is_open e) (Taken t) e)) (Taken t) (cond (x && is_open e) (Taken t) e) ≡ cond ((x || y) && is_open e) (Taken t) e
-taken_twice t e true true = elim (cases_Bool (is_open e)) [ inl h ↦ rw h refl | inr h ↦ rw (h, h) refl ]
-taken_twice t e true false = refl
-taken_twice t e false true = refl
-taken_twice t e false false = refl
-
--- one run after another
-pub takes_then : (t : ℕ) (r q p : SectionRun) (a b c : Pages) → ((s : ℕ) → within p s ≡ (within r s || within q s)) → TakesRun t r a b → TakesRun t q b c → TakesRun t p a c
-takes_then t r q p a b c both first next = record {
-  homes = λ s. next.homes s ∙ first.homes s;
-  entry = λ s. next.entry s ∙ ap (λ e. cond (within q s && is_open e) (Taken t) e) (first.entry s) ∙ taken_twice t (entry_at a s) (within r s) (within q s)
-      ∙ ap (λ b. cond (b && is_open (entry_at a s)) (Taken t) (entry_at a s)) (sym (both s));
-  wish = λ s. next.wish s ∙ first.wish s;
-}
-
--- one section
-pub takes_one : (t s : ℕ) (a b : Pages) → is_open (entry_at a s) ≡ true → ((k : ℕ) → is_own b k ≡ is_own a k) → ((k : ℕ) → entry_at b k ≡ cond (is_open (entry_at a s) && (k == s)) (Taken t) (entry_at a k)) → ((k : ℕ) → wish_at b k ≡ wish_at a k)
-    → TakesRun t (one s) a b
-takes_one t s a b free homes entry wish = record {
+-- all of a run, where they are open
+pub takes_all : (t : ℕ) (r : SectionRun) (a b : Pages) → ((s : ℕ) → within r s ≡ true → is_open (entry_at a s) ≡ true) → ((s : ℕ) → is_own b s ≡ is_own a s)
+    → ((s : ℕ) → entry_at b s ≡ cond (within r s) (Taken t) (entry_at a s)) → ((s : ℕ) → wish_at b s ≡ wish_at a s) → TakesRun t r a b
+takes_all t r a b free homes entry wish = record {
   homes = homes;
-  entry = λ k. entry k ∙ ap (λ x. cond (x && (k == s)) (Taken t) (entry_at a k)) free
-      ∙ (elim (eqb_tells k s) as (λ _. cond (k == s) (Taken t) (entry_at a k) ≡ cond (within (one s) k && is_open (entry_at a k)) (Taken t) (entry_at a k)) [
-        | inl e ↦ rw (within_one s k, e.0, e.1, free) refl
-        | inr e ↦ rw (within_one s k, e.0) refl
-      ]);
+  entry = λ s. entry s ∙ elim (cases_Bool (within r s)) [
+    | inl has ↦ rw (has, free s has) refl
+    | inr not ↦ rw not refl
+  ];
   wish = wish;
 }
 
--- so many sections of a run from a first are in the hand, behind the n0 that were there
-pub record HasTaken (t from n0 k : ℕ) (held : List Held) (hand : Holding) (old new : Pages) : Type 0 where
-  pub count : length hand.holds ≡ n0 + k
-  pub begins : 0 < length hand.holds → hand.first + n0 ≡ from
-  pub holds : hand.holds ≡ held ++ replicate k (Own t)
-  pub book : TakesRun t (record { first = from; count = k }) old new
+-- a hand with so many own sections more, from a first
+pub record HasGrown (h g : Holding) (first count t : ℕ) : Type 0 where
+  pub long : length g.holds ≡ length h.holds + count
+  pub begins : g.first + length h.holds ≡ first
+  pub holds : g.holds ≡ h.holds ++ replicate count (Own t)
 
-pub taken_none : (t from : ℕ) (hand : Holding) (book : Pages) → (0 < length hand.holds → hand.first + length hand.holds ≡ from) → HasTaken t from (length hand.holds) 0 hand.holds hand book book
-taken_none t from hand book next = record { count = omega arith; begins = next; holds = sym (append-nil hand.holds); book = takes_none t from book }
-
-joined_count : (r : SectionRun) (s : ℕ) → (joined r (one s)).count ≡ r.count + 1
-joined_count r s = elim (eqb_tells r.count 0) as (λ _. (joined r (one s)).count ≡ r.count + 1) [ inl e ↦ rw (e.0, e.1) refl | inr e ↦ rw (e.0) refl ]
-
-joined_begins : (r : SectionRun) (s n0 k from : ℕ) → r.count ≡ n0 + k → (0 < r.count → r.first + n0 ≡ from) → s ≡ from + k → (joined r (one s)).first + n0 ≡ from
-joined_begins r s n0 k from count begins is =
-    elim (eqb_tells r.count 0) as (λ _. (joined r (one s)).first + n0 ≡ from) [
-      | inl e ↦ rw (e.0) (omega (arith, e.1, count, is))
-      | inr e ↦ rw (e.0) (begins (by r.count e.1))
-    ]
-  where
-    by : (n : ℕ) → (n ≡ 0 → ⊥) → 0 < n
-    by zero other = absurd (other refl)
-    by (suc n) other = omega arith
-
-pub taken_more : (t from n0 k s : ℕ) (held : List Held) (hand more : Holding) (a b c : Pages) → s ≡ from + k → HasTaken t from n0 k held hand a b → more ≡ extended hand s (Own t) → run more ≡ joined (run hand) (one s) → TakesRun t (one s) b c
-    → HasTaken t from n0 (k + 1) held more a c
-taken_more t from n0 k s held hand more a b c is before longer grown next = record {
-  count = let e : length more.holds ≡ length hand.holds + 1 = ap (λ (r : SectionRun). r.count) grown ∙ joined_count (run hand) s in omega (arith, e, before.count);
-  begins = λ _. ap (λ (r : SectionRun). r.first + n0) grown ∙ joined_begins (run hand) s n0 k from before.count before.begins is;
-  holds = ap (λ (h : Holding). h.holds) longer ∙ ap (λ xs. xs ++ Own t ∷ []) before.holds ∙ append_assoc held (replicate k (Own t)) (Own t ∷ [])
-      ∙ ap (λ xs. held ++ xs) (replicate-append-replicate k 1 (Own t));
-  book = takes_then t _ (one s) _ a b c (λ j. within_more from k j ∙ ap (λ x. within (record { first = from; count = k }) j || within (one x) j) (sym is)) before.book next;
+pub grows : (h g : Holding) (first count t : ℕ) (claims : Claims) → claims ≡ claims_on (record { first = first; count = count }) t → (0 < length h.holds → h.first + length h.holds ≡ first)
+    → g ≡ record { first = cond (length h.holds == 0) (claimed claims).first h.first; holds = h.holds ++ replicate (claimed claims).count (Own (claims_train claims)) } → HasGrown h g first count t
+grows h g first count t claims are next is = record {
+  long = ap length holds ∙ length-append h.holds (replicate count (Own t)) ∙ ap (λ n. length h.holds + n) (length-replicate count (Own t));
+  begins = ap (λ (x : Holding). x.first + length h.holds) grown ∙ elim (eqb_tells (length h.holds) 0) as (λ _. cond (length h.holds == 0) first h.first + length h.holds ≡ first) [
+    | inl e ↦ rw (e.0) (omega (arith, e.1))
+    | inr e ↦ rw (e.0) (next (some (length h.holds) e.1))
+  ];
+  holds = holds;
 }
+  where
+    grown : g ≡ record { first = cond (length h.holds == 0) first h.first; holds = h.holds ++ replicate count (Own t) }
+    grown = is ∙ ap (λ (x : Claims). record { first = cond (length h.holds == 0) (claimed x).first h.first; holds = h.holds ++ replicate (claimed x).count (Own (claims_train x)) }) are
+
+    holds : g.holds ≡ h.holds ++ replicate count (Own t)
+    holds = ap (λ (x : Holding). x.holds) grown
+
+    some : (n : ℕ) → (n ≡ 0 → ⊥) → 0 < n
+    some zero other = absurd (other refl)
+    some (suc n) other = omega arith
 
 -- the next one may come behind the hand
 pub takes_next : (h : Holding) (from n0 k count s : ℕ) → s ≡ from + k → length h.holds ≡ n0 + k → (0 < length h.holds → h.first + n0 ≡ from) → n0 + count ≤ 32 → from + count ≤ 65535 → k < count → takes (run h) s ≡ true
@@ -129,15 +106,6 @@ takes_next h from n0 k count s is long begins most numbers lt =
 not_within : (from k j : ℕ) → j ≡ from + k → within (record { first = from; count = k }) j ≡ false
 unfolding within
 not_within from k j e = grind (arith, nat_tests)
-
-is_within : (from k count j : ℕ) → j ≡ from + k → k < count → within (record { first = from; count = count }) j ≡ true
-unfolding within
-is_within from k count j e lt = grind (arith, nat_tests)
-
--- and is open as before
-pub open_next : (t from k count s : ℕ) (a b : Pages) → s ≡ from + k → k < count → ((j : ℕ) → within (record { first = from; count = count }) j ≡ true → is_open (entry_at a j) ≡ true) → TakesRun t (record { first = from; count = k }) a b → is_open (entry_at b s) ≡ true
-open_next t from k count s a b is lt all so_far =
-    ap is_open (so_far.entry s) ∙ ap (λ x. is_open (cond (x && is_open (entry_at a s)) (Taken t) (entry_at a s))) (not_within from k s is) ∙ all s (is_within from k count s is lt)
 
 -- ## Given back
 
@@ -196,14 +164,6 @@ pub frees_one : (t s : ℕ) (claim : Claim) (a b : Pages) → claim ≡ claim_on
 frees_one t s claim a b is homes entry wish = frees_on t s a b homes
     (λ k. entry k ∙ ap (λ (x : Claim). cond (is_taken_by a x && (k == section_of x)) (back_to (wish_at a (section_of x))) (entry_at a k)) is)
     (λ k. wish k ∙ ap (λ (x : Claim). cond (is_taken_by a x && (k == section_of x)) false (wish_at a k)) is)
-
--- a section that is taken comes behind the last
-pub taken_in : (h new : Holding) (s t : ℕ) (b : Bool) (o : Option Claim) (claim : Claim) → o ≡ claim_if b s t → o ≡ Some claim → takes (run h) s ≡ true
-    → new ≡ cond (takes (run h) (section_of claim)) (extended h (section_of claim) (Own (train_of claim))) h → new ≡ extended h s (Own t)
-taken_in h new s t b o claim is some room came =
-    let on : claim_on s t ≡ claim = (cond_some b (claim_on s t) claim (sym is ∙ some)).1 in
-    came ∙ ap (λ (x : Claim). cond (takes (run h) (section_of x)) (extended h (section_of x) (Own (train_of x))) h) (sym on)
-    ∙ cond-true (takes (run h) s) (extended h s (Own t)) h room
 
 hand_by : (h : Holding) (first : ℕ) (holds : List Held) → h.first ≡ first → h.holds ≡ holds → h ≡ record { first = first; holds = holds }
 hand_by h first holds a b i = record { first = a i; holds = b i }

@@ -1,10 +1,10 @@
 ghost use Rattle.std.specs.Prelude.{◌≡◌, ◌+◌, ◌-◌, ◌++◌, ◌≤◌, ◌<◌, ◌&&◌, ℕ, length, replicate, true, false, if◌then◌else◌, ◌^◌};
-ghost use Rattle.rbc_spec.specs.SectionRuns.{within, behind, is_empty, joined};
+ghost use Rattle.rbc_spec.specs.SectionRuns.{within, behind, is_empty};
 ghost use Rattle.rbc_spec.specs.Centre.{is_open, is_taken_for};
 ghost use Rattle.rbc_book.specs.Book.{is_own, entry_at, wish_at};
 ghost use Rattle.rbc_hand.specs.SectionRuns.{run_of};
 ghost use Rattle.rbc_hand.specs.Tokens.{Held, Own, token_of};
-ghost use Rattle.rbc_hand.specs.Hands.{run, one, takes, extended};
+ghost use Rattle.rbc_hand.specs.Hands.{run, one};
 ghost use Rattle.rbc_allocation.specs.Marks.{marked};
 ghost use Rattle.rbc_allocation.specs.Sections.{TakesRun, FreesRun, front_of, rest_of, wished, hand_rest, hand_front, is_held_as, IsHeldBy};
 
@@ -28,21 +28,6 @@ fn end_token(token: Token, book: &mut Book) -> bool
     }
 }
 
-// Takes a section into the hand.
-fn take(hand: &mut Hand, s: u16, nid_engine: u32, book: &mut Book)
-    requires room { takes (run hand.old) s ≡ true }
-    requires open { is_open (entry_at book.old s) ≡ true }
-    ensures hand { hand.new ≡ extended hand.old s (Own nid_engine) }
-    ensures run { run hand.new ≡ joined (run hand.old) (one s) }
-    ensures book { TakesRun nid_engine (one s) book.old book.new }
-{
-    if let Some(claim) = book.take(s, nid_engine) {
-        if let Err(token) = hand.extend(Token::Own(claim)) {
-            end_token(token, book);
-        }
-    }
-}
-
 /// Takes sections into the hand, behind its last.
 pub fn take_run(hand: &mut Hand, sections: SectionRun, nid_engine: u32, book: &mut Book)
     requires room { length hand.old.holds + sections.count ≤ 32 }
@@ -55,9 +40,8 @@ pub fn take_run(hand: &mut Hand, sections: SectionRun, nid_engine: u32, book: &m
     ensures held { IsHeldBy nid_engine hand.old book.old → IsHeldBy nid_engine hand.new book.new }
     ensures book { TakesRun nid_engine (run_of sections) book.old book.new }
 {
-    for k in 0..sections.count {
-        take(hand, sections.first + k, nid_engine, book);
-    }
+    let claims = book.take_run(sections.first, sections.count, nid_engine);
+    hand.extend_own(claims);
 }
 
 // The first section leaves the hand. Whether it was wished back.

@@ -11,3 +11,4 @@ pub mod Sheets
 pub mod Searches
 pub mod Places
 pub mod Alone
+pub mod Changed

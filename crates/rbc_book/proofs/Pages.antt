@@ -147,7 +147,7 @@ pub record IsChanged (old new : Pages) (s : ℕ) (change : Change) (was : Option
   pub wish : is_own old s ≡ true → (k : ℕ) → wish_at new k ≡ put (wish_at old) s (wish_after change (entry_at old s) (wish_at old s)) k
   pub shut : was ≡ None → entry_at old s ≡ Shut
 
-of_page : (pages : Pages) (s : ℕ) (page : Page) → Some page ≡ page_of pages s → IsPageOf pages s page
+pub of_page : (pages : Pages) (s : ℕ) (page : Page) → Some page ≡ page_of pages s → IsPageOf pages s page
 unfolding entry_at wish_at
 of_page pages s page is = record {
   entry = ap (λ o. option_map_or (λ (q : Page). entry_of q.entry) o Shut) is;

@@ -4,6 +4,7 @@ use Rattle.std.proofs.lemmas.Bool.{cases_lt, cases_Bool, and_parts, and_from, an
 use Rattle.rbc_spec.specs.SectionRuns.{within}
 use Rattle.law_base.proofs.Runs.{within_true, within_from, same_tests}
 use Rattle.rbc_book.specs.Runs.{At, AreInOrder, AreApart, GoesOn, IsFollowed, GoesOnAt, sections_of, sections_in, spot_of, spot_at}
+use Rattle.rbc_book.specs.Edits.{IsWhole}
 use Rattle.rbc_book.specs.declared.run.Run.{Run}
 use Rattle.rbc_book.proofs.Rows.{at_from, order_at}
 
@@ -26,11 +27,11 @@ split_at i s [] = []
 split_at zero s (r ∷ rs) = if is_inside s r then before s r ∷ from s r ∷ rs else r ∷ rs
 split_at (suc i) s (r ∷ rs) = r ∷ split_at i s rs
 
--- a section is a run of its own, at this place; nothing else is said of the sections, and only that run could go on with the one before
+-- so many sections from one on are a run of their own, at this place; nothing else is said of the sections, and only that run could go on with the one before
 -- or the next with it
-pub record IsSingledOut (s : ℕ) (old new : List Run) (place : ℕ) : Type 0 where
+pub record IsSingledOut (s size : ℕ) (old new : List Run) (place : ℕ) : Type 0 where
   pub spots : (k : ℕ) → spot_at new k ≡ spot_at old k
-  pub alone : At (λ r. (r.first ≡ s) × (r.count ≡ 1)) place new
+  pub alone : At (IsWhole s size) place new
   pub order : AreInOrder 0 new
   pub count : sections_in new ≡ sections_in old
   pub seams : (j : ℕ) → GoesOnAt j new → (j ≡ place) ⊎ (suc j ≡ place)
@@ -158,7 +159,7 @@ split-outside i s [] r at outside = refl
 split-outside zero s (q ∷ qs) r at outside = rw at (rw outside refl)
 split-outside (suc i) s (q ∷ qs) r at outside = ap (λ xs. q ∷ xs) (split-outside i s qs r at outside)
 
--- ## A section is singled out
+-- ## Sections are singled out
 
 no_seam : (runs : List Run) → AreApart runs → (i j : ℕ) → Seam i runs j → j ≡ i
 no_seam runs apart i j seam = elim seam [
@@ -169,27 +170,27 @@ no_seam runs apart i j seam = elim seam [
   ]
 ]
 
--- of a row in which the section begins a run, and all that could be one ends in front of that
-module _ (s i : ℕ) (old mid : List Run) (r : Run) (begins : r.first ≡ s) (some : 1 ≤ r.count) (at : At (λ q. q ≡ r) i mid) (order : AreInOrder 0 mid)
+-- of a row in which the first of them begins a run, and all that could be one ends in front of that
+module _ (s size i : ℕ) (old mid : List Run) (r : Run) (begins : r.first ≡ s) (some : 1 ≤ size) (fits : size ≤ r.count) (at : At (λ q. q ≡ r) i mid) (order : AreInOrder 0 mid)
     (spots : (k : ℕ) → spot_at mid k ≡ spot_at old k) (count : sections_in mid ≡ sections_in old) (seams : (j : ℕ) → GoesOnAt j mid → suc j ≡ i) where
-  alone : At (λ q. (q.first ≡ s) × (q.count ≡ 1)) i (split_at i (s + 1) mid)
-  alone = elim (cases_Bool (is_inside (s + 1) r)) [
-    | inl inside ↦ at_from (λ q. (q.first ≡ s) × (q.count ≡ 1)) (split_at i (s + 1) mid) i (before (s + 1) r) (begins, omega (arith, begins)) (at_first i (s + 1) mid r at inside)
+  alone : At (IsWhole s size) i (split_at i (s + size) mid)
+  alone = elim (cases_Bool (is_inside (s + size) r)) [
+    | inl inside ↦ at_from (IsWhole s size) (split_at i (s + size) mid) i (before (s + size) r) (begins, omega (arith, begins)) (at_first i (s + size) mid r at inside)
     | inr outside ↦
-        let short : r.count ≡ 1 = elim (cases_lt 1 r.count) [
-          | inl long ↦ absurd (both_ways (is_inside (s + 1) r) outside (inside_from (s + 1) r (omega (arith, begins)) (omega (arith, begins))))
-          | inr short ↦ omega (arith, some)
+        let short : r.count ≡ size = elim (cases_lt size r.count) [
+          | inl long ↦ absurd (both_ways (is_inside (s + size) r) outside (inside_from (s + size) r (omega (arith, begins, some)) (omega (arith, begins, long))))
+          | inr short ↦ omega (arith, fits, short)
         ] in
-        at_from (λ q. (q.first ≡ s) × (q.count ≡ 1)) (split_at i (s + 1) mid) i r (begins, short) (rw (split-outside i (s + 1) mid r at outside) at)
+        at_from (IsWhole s size) (split_at i (s + size) mid) i r (begins, short) (rw (split-outside i (s + size) mid r at outside) at)
   ]
 
-  pub second : IsSingledOut s old (split_at i (s + 1) mid) i
+  pub second : IsSingledOut s size old (split_at i (s + size) mid) i
   second = record {
-    spots = λ k. spots-split i (s + 1) mid k ∙ spots k;
+    spots = λ k. spots-split i (s + size) mid k ∙ spots k;
     alone = alone;
-    order = order-split i (s + 1) 0 mid order;
-    count = count-split i (s + 1) mid ∙ count;
-    seams = λ j h. elim (seams-split i (s + 1) mid j h) [
+    order = order-split i (s + size) 0 mid order;
+    count = count-split i (s + size) mid ∙ count;
+    seams = λ j h. elim (seams-split i (s + size) mid j h) [
       | inl here ↦ inl here
       | inr other ↦ elim other [
         | inl same ↦ inr (seams j same)
@@ -198,20 +199,16 @@ module _ (s i : ℕ) (old mid : List Run) (r : Run) (begins : r.first ≡ s) (so
     ];
   }
 
--- a section of a run, behind its first
-pub single_inside : (s i : ℕ) (runs : List Run) (r : Run) → At (λ q. q ≡ r) i runs → within (sections_of r) s ≡ true → r.first < s → AreInOrder 0 runs → AreApart runs
-    → IsSingledOut s runs (split_at (suc i) (s + 1) (split_at i s runs)) (suc i)
-single_inside s i runs r at has behind order apart =
-    let ends = within_true (sections_of r) s has in
-    let inside : is_inside s r ≡ true = inside_from s r behind ends.1 in
-    second s (suc i) runs (split_at i s runs) (from s r) refl (omega (arith, ends.1)) (at_second i s runs r at inside) (order-split i s 0 runs order)
+-- sections of a run, behind its first
+pub single_inside : (s size i : ℕ) (runs : List Run) (r : Run) → At (λ q. q ≡ r) i runs → 1 ≤ size → r.first < s → s + size ≤ r.first + r.count → AreInOrder 0 runs → AreApart runs
+    → IsSingledOut s size runs (split_at (suc i) (s + size) (split_at i s runs)) (suc i)
+single_inside s size i runs r at some behind fits order apart =
+    let inside : is_inside s r ≡ true = inside_from s r behind (omega (arith, some, fits)) in
+    second s size (suc i) runs (split_at i s runs) (from s r) refl some (omega (arith, behind, fits)) (at_second i s runs r at inside) (order-split i s 0 runs order)
     (spots-split i s runs) (count-split i s runs) (λ j h. ap suc (no_seam runs apart i j (seams-split i s runs j h)))
 
--- the first section of a run
-pub single_first : (s i : ℕ) (runs : List Run) (r : Run) → At (λ q. q ≡ r) i runs → within (sections_of r) s ≡ true → s ≤ r.first → AreInOrder 0 runs → AreApart runs
-    → IsSingledOut s runs (split_at i (s + 1) (split_at i s runs)) i
-single_first s i runs r at has low order apart =
-    let ends = within_true (sections_of r) s has in
-    let outside : is_inside s r ≡ false = and_left (nat_lt r.first s) (within (sections_of r) s) (le-ltb r.first s low) in
-    subst (λ mid. IsSingledOut s runs (split_at i (s + 1) mid) i) (sym (split-outside i s runs r at outside))
-    (second s i runs runs r (omega (arith, ends.0)) (order_at 0 runs i r order at).some at order (λ k. refl) refl (λ j h. absurd (apart j h)))
+-- the first sections of a run
+pub single_first : (s size i : ℕ) (runs : List Run) (r : Run) → At (λ q. q ≡ r) i runs → 1 ≤ size → r.first ≡ s → size ≤ r.count → AreInOrder 0 runs → AreApart runs
+    → IsSingledOut s size runs (split_at i (s + size) runs) i
+single_first s size i runs r at some first fits order apart =
+    second s size i runs runs r first some fits at order (λ k. refl) refl (λ j h. absurd (apart j h))

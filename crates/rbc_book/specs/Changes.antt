@@ -1,8 +1,10 @@
 -- What becomes of a section, in the words of the rules.
-use Rattle.std.specs.Prelude.{◌≡◌, ℕ, Bool, not, false, if◌then◌else◌}
+use Rattle.std.specs.Prelude.{◌≡◌, ◌≤◌, ℕ, Bool, not, true, false, Some, if◌then◌else◌}
+use Rattle.rbc_spec.specs.SectionRuns.{SectionRun, within}
 use Rattle.rbc_spec.specs.Centre.{Entry, Shut, Open, Taken, Out, is_open, is_unused, is_taken_for, is_out_for}
 use Rattle.rbc_book.specs.Entries.{entry_of}
-use Rattle.rbc_book.specs.Book.{Pages, entry_at, wish_at}
+use Rattle.rbc_book.specs.Book.{Pages, is_own, entry_at, wish_at}
+use Rattle.rbc_book.specs.Sheet.{Sheet, page_on}
 use Rattle.rbc_book.specs.declared.page.Page.{Page}
 use Rattle.rbc_book.specs.declared.change.Change.{Change}
 use Rattle.rbc_book.specs.declared.change.Change.TheVariants.{Set, Unset, Take, GiveBack, Lend, Reclaim}
@@ -30,7 +32,22 @@ wish_after (GiveBack t) entry wish = if is_taken_for t entry then false else wis
 wish_after (Lend t) entry wish = wish
 wish_after (Reclaim t) entry wish = wish
 
+-- the sections of the run are in use for a train, and nothing else changed
+pub record IsTaken (r : SectionRun) (t : ℕ) (old new : Pages) : Type 0 where
+  pub homes : (k : ℕ) → is_own new k ≡ is_own old k
+  pub entry : (k : ℕ) → entry_at new k ≡ (if within r k then Taken t else entry_at old k)
+  pub wish : (k : ℕ) → wish_at new k ≡ wish_at old k
+
 -- a page after a change
 pub record IsAfter (change : Change) (old new : Page) : Type 0 where
   pub entry : entry_of new.entry ≡ entry_after change (entry_of old.entry) old.is_wished
   pub wish : new.is_wished ≡ wish_after change (entry_of old.entry) old.is_wished
+
+-- sections from one on, at least that one and no more than so many, had one page, which is changed, and nothing else
+pub record IsPartChanged (s most : ℕ) (change : Change) (page : Page) (size : ℕ) (old new : Sheet) : Type 0 where
+  pub some : 1 ≤ size
+  pub fits : size ≤ most
+  pub had : (k : ℕ) → within (record { first = s; count = size }) k ≡ true → page_on old k ≡ Some page
+  pub next : Page
+  pub after : IsAfter change page next
+  pub pages : (k : ℕ) → page_on new k ≡ (if within (record { first = s; count = size }) k then Some next else page_on old k)

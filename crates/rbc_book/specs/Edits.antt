@@ -2,7 +2,7 @@
 use Rattle.std.specs.Prelude.{◌≡◌, ◌≢◌, ℕ, zero, suc, ◌+◌, ◌⊎◌, ◌<◌, ◌≤◌, ◌==◌, Some, List, [], ◌∷◌, if◌then◌else◌}
 use Rattle.std.specs.List.{All}
 use Rattle.rbc_book.specs.Runs.{run_page, GoesOnAt, AreInOrder, AreApart, sections_in, spot_at}
-use Rattle.rbc_spec.specs.Maps.{put}
+use Rattle.rbc_spec.specs.SectionRuns.{SectionRun, within}
 use Rattle.rbc_book.specs.Sheet.{Spot, page_in, track_in}
 use Rattle.rbc_book.specs.declared.page.Page.{Page}
 use Rattle.rbc_book.specs.declared.run.Run.{Run}
@@ -39,21 +39,29 @@ resized first count r = record { first = first; count = count; track = r.track; 
 abbrev pub with_page : Page → Run → Run
 with_page page r = record { first = r.first; count = r.count; track = r.track; is_wished = page.is_wished; entry = page.entry }
 
--- the section is the whole run
-abbrev pub IsWhole : ℕ → Run → Type 0
-IsWhole s r = (r.first ≡ s) × (r.count ≡ 1)
+-- so many sections from one on
+abbrev pub stretch : ℕ → ℕ → SectionRun
+stretch s size = record { first = s; count = size }
 
--- the section is the first of a run of more, which has another page
-abbrev pub IsFirst : ℕ → Page → Run → Type 0
-IsFirst s page r = (r.first ≡ s) × (1 < r.count) × (run_page r ≢ page)
+-- the run has them
+abbrev pub Has : ℕ → ℕ → Run → Type 0
+Has s size r = (r.first ≤ s) × (s + size ≤ r.first + r.count)
 
--- the section is the last of a run of more, which has another page
-abbrev pub IsLast : ℕ → Page → Run → Type 0
-IsLast s page r = (s + 1 ≡ r.first + r.count) × (1 < r.count) × (run_page r ≢ page)
+-- they are the whole run
+abbrev pub IsWhole : ℕ → ℕ → Run → Type 0
+IsWhole s size r = (r.first ≡ s) × (r.count ≡ size)
 
--- the section is one of a run, and not at its ends, and the run has another page
-abbrev pub IsInner : ℕ → Page → Run → Type 0
-IsInner s page r = (r.first < s) × (s + 1 < r.first + r.count) × (run_page r ≢ page)
+-- they are the first of a run of more, which has another page
+abbrev pub IsFirst : ℕ → ℕ → Page → Run → Type 0
+IsFirst s size page r = (r.first ≡ s) × (size < r.count) × (run_page r ≢ page)
+
+-- they are the last of a run of more, which has another page
+abbrev pub IsLast : ℕ → ℕ → Page → Run → Type 0
+IsLast s size page r = (s + size ≡ r.first + r.count) × (size < r.count) × (run_page r ≢ page)
+
+-- they are of a run, and not at its ends, and the run has another page
+abbrev pub IsInner : ℕ → ℕ → Page → Run → Type 0
+IsInner s size page r = (r.first < s) × (s + size < r.first + r.count) × (run_page r ≢ page)
 
 -- all runs end in front of a section
 abbrev pub AreBefore : ℕ → List Run → Type 0
@@ -67,10 +75,10 @@ pub record IsAppended (s : ℕ) (spot : Spot) (old new : List Run) : Type 0 wher
   pub before : AreBefore (s + 1) new
   pub count : sections_in new ≡ sections_in old + 1
 
--- the page of a section is written, and no other; the tracks stay
-pub record IsWritten (s : ℕ) (page : Page) (old new : List Run) : Type 0 where
+-- the page of so many sections from one on is written, and no other; the tracks stay
+pub record IsWritten (s size : ℕ) (page : Page) (old new : List Run) : Type 0 where
   pub order : AreInOrder 0 new
   pub apart : AreApart new
   pub count : sections_in new ≡ sections_in old
-  pub pages : (k : ℕ) → page_in (spot_at new k) ≡ put (λ j. page_in (spot_at old j)) s (Some page) k
+  pub pages : (k : ℕ) → page_in (spot_at new k) ≡ (if within (stretch s size) k then Some page else page_in (spot_at old k))
   pub tracks : (k : ℕ) → track_in (spot_at new k) ≡ track_in (spot_at old k)

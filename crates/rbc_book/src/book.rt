@@ -1,12 +1,12 @@
-ghost use Rattle.std.specs.Prelude.{◌≡◌, ℕ, ◌==◌, ◌&&◌, not, true, false, if◌then◌else◌, IfOk, OnErr, MatchResult, IfSome, None, is_some};
+ghost use Rattle.std.specs.Prelude.{◌≡◌, ℕ, ◌+◌, ◌≤◌, ◌==◌, ◌&&◌, not, true, false, if◌then◌else◌, IfOk, OnErr, MatchResult, IfSome, None, is_some};
 ghost use Rattle.rbc_spec.specs.Centre as spec;
 ghost use Rattle.rbc_spec.specs.Line.{is_home};
-ghost use Rattle.rbc_spec.specs.SectionRuns.{longest};
+ghost use Rattle.rbc_spec.specs.SectionRuns.{longest, within};
 ghost use Rattle.rbc_spec.specs.Maps.{put};
 
 use crate::answer::{Back, NotHome, Unset};
 use crate::change::Change;
-use crate::claim::Claim;
+use crate::claim::{Claim, Claims};
 use crate::page::Page;
 use crate::runs::Runs;
 use rbc_line::Line;
@@ -33,9 +33,9 @@ impl Book {
     ghost use Rattle.rbc_spec.specs.Centre.{is_open, is_unused, is_out_for, is_used_for};
     ghost use Rattle.rbc_book.specs.Entries.{entry_of};
     ghost use Rattle.rbc_book.specs.Book.{is_own, entry_at, wish_at};
-    ghost use Rattle.rbc_book.specs.Claim.{section_of, train_of, claim_if, is_taken_by};
+    ghost use Rattle.rbc_book.specs.Claim.{section_of, train_of, claim_if, claims_on, is_taken_by};
     ghost use Rattle.rbc_book.specs.Answers.{unset_answer, back_answer};
-    ghost use Rattle.rbc_book.specs.Changes.{IsPageOf, entry_after, wish_after};
+    ghost use Rattle.rbc_book.specs.Changes.{IsPageOf, IsTaken, entry_after, wish_after};
 
     /// The book of a centre of the line at its beginning: every section is shut, and none is wished back.
     pub fn new(alloc: Global, line: &Line, centre: u8) -> Result<Book, AllocError>
@@ -151,6 +151,44 @@ impl Book {
             section: s,
             nid_engine,
         })
+    }
+
+    // Takes an open section into use for a train, and those behind it that its run has too, at most so many in all:
+    // how many they are.
+    #[inline]
+    fn take_part(&mut self, s: u16, most: u16, nid_engine: u32) -> u16
+        requires some { 1 ≤ most }
+        requires open { is_open (entry_at self.old s) ≡ true }
+        ensures some { 1 ≤ result }
+        ensures most { result ≤ most }
+        ensures taken { IsTaken (record { first = s; count = result }) nid_engine self.old self.new }
+    {
+        let Some((_, size)) = self.runs.change_part(s, most, Change::Take { nid_engine }) else {
+            return 0;
+        };
+        size
+    }
+
+    /// Takes open sections into use for a train, one behind another: the claims on them.
+    pub fn take_run(&mut self, first: u16, count: u16, nid_engine: u32) -> Claims
+        requires numbers { first + count ≤ 65535 }
+        requires open { (s : ℕ) → within (record { first = first; count = count }) s ≡ true
+            → is_open (entry_at self.old s) ≡ true }
+        ensures claims { result ≡ claims_on (record { first = first; count = count }) nid_engine }
+        ensures homes { (k : ℕ) → is_own self.new k ≡ is_own self.old k }
+        ensures entry { (k : ℕ) → entry_at self.new k ≡ (if within (record { first = first; count = count }) k
+            then spec.Taken nid_engine else entry_at self.old k) }
+        ensures wish { (k : ℕ) → wish_at self.new k ≡ wish_at self.old k }
+    {
+        let mut taken = 0;
+        while taken < count {
+            taken += self.take_part(first + taken, count - taken, nid_engine);
+        }
+        Claims {
+            first,
+            count,
+            nid_engine,
+        }
     }
 
     /// Gives a section back: it becomes open, or shut where it is wished back, and then the wish ends. A claim whose

@@ -25,3 +25,62 @@ impl Claim {
         self.nid_engine
     }
 }
+
+/// The claims on consecutive sections for one train, as they come from the book. They can't be copied, and not be
+/// dropped: they go off one by one.
+#[must_use]
+#[derive(Debug)]
+pub struct Claims {
+    pub(crate) first: u16,
+    pub(crate) count: u16,
+    pub(crate) nid_engine: u32,
+}
+
+impl Claims {
+    ghost use Rattle.std.specs.Prelude.{◌≡◌, ◌+◌, ◌-◌, ◌<◌, ◌≤◌};
+    ghost use Rattle.rbc_spec.specs.SectionRuns.{behind};
+    ghost use Rattle.rbc_book.specs.Claim.{claim_on, claims_on, claimed, claims_train};
+
+    /// The first of the sections, numbered over the whole line.
+    pub fn first(&self) -> u16
+        ensures { result ≡ (claimed self.now).first }
+    {
+        self.first
+    }
+
+    /// How many they are.
+    pub fn len(&self) -> u16
+        ensures { result ≡ (claimed self.now).count }
+    {
+        self.count
+    }
+
+    /// The claim on the first of them goes off.
+    pub fn cut_front(&mut self) -> Claim
+        requires some { 0 < (claimed self.old).count }
+        requires numbers { behind (claimed self.old) ≤ 65535 }
+        ensures claim { result ≡ claim_on (claimed self.old).first (claims_train self.old) }
+        ensures rest { self.new ≡ claims_on
+            (record { first = (claimed self.old).first + 1; count = (claimed self.old).count - 1 })
+            (claims_train self.old) }
+    {
+        let section = self.first;
+        self.first += 1;
+        self.count -= 1;
+        Claim {
+            section,
+            nid_engine: self.nid_engine,
+        }
+    }
+
+    /// They end, when none is left.
+    pub fn end(self)
+        requires { (claimed self).count ≡ 0 }
+    {
+        let Claims {
+            first: _,
+            count: _,
+            nid_engine: _,
+        } = self;
+    }
+}

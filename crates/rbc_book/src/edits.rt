@@ -1,9 +1,8 @@
 //! Changes of a row of runs that stand in order of their first sections. None of them takes memory where there is room.
-ghost use Rattle.std.specs.Prelude.{◌≡◌, ◌+◌, ◌<◌, ◌≤◌, length, vec_capacity, true, OnOk, IfSome, None, slice_get};
+ghost use Rattle.std.specs.Prelude.{◌≡◌, ◌+◌, ◌<◌, ◌≤◌, length, vec_capacity, OnOk, IfSome, None, slice_get};
 ghost use Rattle.std.specs.List.{insert};
-ghost use Rattle.rbc_spec.specs.SectionRuns.{within};
-ghost use Rattle.rbc_book.specs.Runs.{most, At, AreInOrder, AreApart, sections_of, sections_in};
-ghost use Rattle.rbc_book.specs.Edits.{changed_at, resized, IsJoined, IsWritten, AreBefore, IsAppended};
+ghost use Rattle.rbc_book.specs.Runs.{most, At, AreInOrder, AreApart, sections_in};
+ghost use Rattle.rbc_book.specs.Edits.{changed_at, resized, Has, IsJoined, IsWritten, AreBefore, IsAppended};
 
 use crate::page::Page;
 use crate::parts::{write_first, write_inside, write_last, write_whole};
@@ -61,29 +60,30 @@ pub(crate) fn join(runs: &mut Vec<Run>, i: usize)
     runs.remove(i + 1);
 }
 
-// Writes the page of a section of the run at a place: in that run, or in the one before or behind, or in a run of its
-// own.
+// Writes the page of so many sections from one on, which the run at a place has: in that run, or in the one before or
+// behind, or in a run of their own.
 #[inline(never)]
-pub(crate) fn write_at(runs: &mut Vec<Run>, i: usize, s: u16, page: Page)
-    requires here { At (λ r. within (sections_of r) s ≡ true) i runs.old.items }
+pub(crate) fn write_at(runs: &mut Vec<Run>, i: usize, s: u16, size: u16, page: Page)
+    requires some { 1 ≤ size }
+    requires here { At (Has s size) i runs.old.items }
     requires order { AreInOrder 0 runs.old.items }
     requires apart { AreApart runs.old.items }
     requires room { sections_in runs.old.items ≤ vec_capacity runs.old }
-    ensures written { IsWritten s page runs.old.items runs.new.items }
+    ensures written { IsWritten s size page runs.old.items runs.new.items }
     ensures capacity { vec_capacity runs.old ≤ vec_capacity runs.new }
 {
     let run = runs[i];
     if run.page() == page {
         return;
     }
-    if run.count == 1 {
-        write_whole(runs, i, s, page);
+    if run.count == size {
+        write_whole(runs, i, s, size, page);
     } else if run.first == s {
-        write_first(runs, i, s, page);
-    } else if run.behind() == u32::from(s) + 1 {
-        write_last(runs, i, s, page);
+        write_first(runs, i, s, size, page);
+    } else if run.behind() == u32::from(s) + u32::from(size) {
+        write_last(runs, i, s, size, page);
     } else {
-        write_inside(runs, i, s, page);
+        write_inside(runs, i, s, size, page);
     }
 }
 

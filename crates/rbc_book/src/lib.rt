@@ -18,5 +18,5 @@ mod runs;
 
 pub use answer::{Back, NotHome, Unset};
 pub use book::Book;
-pub use claim::Claim;
+pub use claim::{Claim, Claims};
 pub use page::{Entry, Page};

@@ -1,5 +1,6 @@
-//! The page of a section is written by where the section stands in its run: it is the whole run, its first section, its
-//! last, or one inside. Where a neighbour of the run goes on with it under that page, that neighbour takes it in.
+//! The page of consecutive sections is written by where they stand in their run: they are the whole run, its first
+//! sections, its last, or some inside. Where a neighbour of the run goes on with them under that page, that neighbour
+//! takes them in.
 ghost use Rattle.std.specs.Prelude.{◌≡◌, ◌+◌, ◌-◌, ◌<◌, ◌≤◌, length, vec_capacity, IfSome, None};
 ghost use Rattle.rbc_book.specs.Runs.{At, AreInOrder, AreApart, GoesOn, sections_in};
 ghost use Rattle.rbc_book.specs.Edits.{changed_at, with_page, IsWhole, IsFirst, IsLast, IsInner, IsWritten};
@@ -44,12 +45,13 @@ fn turn(runs: &mut Vec<Run>, i: usize, page: Page)
     run.entry = page.entry;
 }
 
-// Writes the page of a run of one section.
-pub(crate) fn write_whole(runs: &mut Vec<Run>, i: usize, s: u16, page: Page)
-    requires here { At (IsWhole s) i runs.old.items }
+// Writes the page of a whole run.
+pub(crate) fn write_whole(runs: &mut Vec<Run>, i: usize, s: u16, size: u16, page: Page)
+    requires some { 1 ≤ size }
+    requires here { At (IsWhole s size) i runs.old.items }
     requires order { AreInOrder 0 runs.old.items }
     requires apart { AreApart runs.old.items }
-    ensures written { IsWritten s page runs.old.items runs.new.items }
+    ensures written { IsWritten s size page runs.old.items runs.new.items }
     ensures capacity { vec_capacity runs.old ≤ vec_capacity runs.new }
 {
     turn(runs, i, page);
@@ -59,26 +61,27 @@ pub(crate) fn write_whole(runs: &mut Vec<Run>, i: usize, s: u16, page: Page)
     }
 }
 
-// Writes the page of the first section of a run of more.
-pub(crate) fn write_first(runs: &mut Vec<Run>, i: usize, s: u16, page: Page)
-    requires here { At (IsFirst s page) i runs.old.items }
+// Writes the page of the first sections of a run of more.
+pub(crate) fn write_first(runs: &mut Vec<Run>, i: usize, s: u16, size: u16, page: Page)
+    requires some { 1 ≤ size }
+    requires here { At (IsFirst s size page) i runs.old.items }
     requires order { AreInOrder 0 runs.old.items }
     requires apart { AreApart runs.old.items }
     requires room { sections_in runs.old.items ≤ vec_capacity runs.old }
-    ensures written { IsWritten s page runs.old.items runs.new.items }
+    ensures written { IsWritten s size page runs.old.items runs.new.items }
     ensures capacity { vec_capacity runs.old ≤ vec_capacity runs.new }
 {
     let run = runs[i];
     let alone = Run {
-        count: 1,
+        count: size,
         is_wished: page.is_wished,
         entry: page.entry,
         ..run
     };
-    let first = s + 1;
-    let count = run.count - 1;
+    let first = s + size;
+    let count = run.count - size;
     if let Some(ahead) = ahead_of(runs, i, alone) {
-        resize(runs, i - 1, ahead.first, ahead.count + 1);
+        resize(runs, i - 1, ahead.first, ahead.count + size);
         resize(runs, i, first, count);
     } else {
         resize(runs, i, first, count);
@@ -86,19 +89,20 @@ pub(crate) fn write_first(runs: &mut Vec<Run>, i: usize, s: u16, page: Page)
     }
 }
 
-// Writes the page of the last section of a run of more.
-pub(crate) fn write_last(runs: &mut Vec<Run>, i: usize, s: u16, page: Page)
-    requires here { At (IsLast s page) i runs.old.items }
+// Writes the page of the last sections of a run of more.
+pub(crate) fn write_last(runs: &mut Vec<Run>, i: usize, s: u16, size: u16, page: Page)
+    requires some { 1 ≤ size }
+    requires here { At (IsLast s size page) i runs.old.items }
     requires order { AreInOrder 0 runs.old.items }
     requires apart { AreApart runs.old.items }
     requires room { sections_in runs.old.items ≤ vec_capacity runs.old }
-    ensures written { IsWritten s page runs.old.items runs.new.items }
+    ensures written { IsWritten s size page runs.old.items runs.new.items }
     ensures capacity { vec_capacity runs.old ≤ vec_capacity runs.new }
 {
     let run = runs[i];
     let alone = Run {
         first: s,
-        count: 1,
+        count: size,
         is_wished: page.is_wished,
         entry: page.entry,
         ..run
@@ -106,34 +110,35 @@ pub(crate) fn write_last(runs: &mut Vec<Run>, i: usize, s: u16, page: Page)
     let count = s - run.first;
     if let Some(next) = behind_of(runs, i + 1, alone) {
         resize(runs, i, run.first, count);
-        resize(runs, i + 1, s, 1 + next.count);
+        resize(runs, i + 1, s, size + next.count);
     } else {
         resize(runs, i, run.first, count);
         put(runs, i + 1, alone);
     }
 }
 
-// Writes the page of a section inside a run, which is divided.
-pub(crate) fn write_inside(runs: &mut Vec<Run>, i: usize, s: u16, page: Page)
-    requires here { At (IsInner s page) i runs.old.items }
+// Writes the page of sections inside a run, which is divided.
+pub(crate) fn write_inside(runs: &mut Vec<Run>, i: usize, s: u16, size: u16, page: Page)
+    requires some { 1 ≤ size }
+    requires here { At (IsInner s size page) i runs.old.items }
     requires order { AreInOrder 0 runs.old.items }
     requires apart { AreApart runs.old.items }
     requires room { sections_in runs.old.items ≤ vec_capacity runs.old }
-    ensures written { IsWritten s page runs.old.items runs.new.items }
+    ensures written { IsWritten s size page runs.old.items runs.new.items }
     ensures capacity { vec_capacity runs.old ≤ vec_capacity runs.new }
 {
     let run = runs[i];
     let count = s - run.first;
     let alone = Run {
         first: s,
-        count: 1,
+        count: size,
         is_wished: page.is_wished,
         entry: page.entry,
         ..run
     };
     let rest = Run {
-        first: s + 1,
-        count: run.count - count - 1,
+        first: s + size,
+        count: run.count - count - size,
         ..run
     };
     resize(runs, i, run.first, count);

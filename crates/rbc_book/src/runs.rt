@@ -1,8 +1,8 @@
-ghost use Rattle.std.specs.Prelude.{◌≡◌, ℕ, IfOk, IfSome, Option, None, Some, option_map, true, false};
+ghost use Rattle.std.specs.Prelude.{◌≡◌, ◌≤◌, ℕ, IfOk, IfSome, Option, None, Some, option_map, true, false};
 ghost use Rattle.rbc_spec.specs.SectionRuns.{longest, within};
 ghost use Rattle.rbc_spec.specs.Maps.{put};
 ghost use Rattle.rbc_book.specs.Sheet.{spot_on, page_on, track_on, is_open_on, is_used_in, is_used_on, home_track};
-ghost use Rattle.rbc_book.specs.Changes.{IsAfter};
+ghost use Rattle.rbc_book.specs.Changes.{IsAfter, IsPartChanged};
 ghost use Rattle.rbc_book.specs.Runs.{At, AreInOrder, IsRunOf, sections_of, spot_at};
 
 use crate::change::Change;
@@ -99,10 +99,24 @@ impl Runs {
         ensures tracks { (k : ℕ) → track_on self.new k ≡ track_on self.old k }
         ensures none { result ≡ None → self.new ≡ self.old }
     {
-        let place = find(&self.runs, s)?;
-        let page = self.runs[place].page();
-        write_at(&mut self.runs, place, s, change.of(page));
+        let (page, _) = self.change_part(s, 1, change)?;
         Some(page)
+    }
+
+    /// Changes the page of a section, and of those behind it that its run has too, at most so many in all: the page
+    /// that they had, and how many they are. None where the section has no page.
+    #[inline]
+    pub(crate) fn change_part(&mut self, s: u16, most: u16, change: Change) -> Option<(Page, u16)>
+        requires some { 1 ≤ most }
+        ensures part { IfSome result (λ part. IsPartChanged s most change part.0 part.1 self.old self.new) }
+        ensures tracks { (k : ℕ) → track_on self.new k ≡ track_on self.old k }
+        ensures none { result ≡ None → (page_on self.old s ≡ None) × (self.new ≡ self.old) }
+    {
+        let place = find(&self.runs, s)?;
+        let run = self.runs[place];
+        let size = most.min(run.count - (s - run.first));
+        write_at(&mut self.runs, place, s, size, change.of(run.page()));
+        Some((run.page(), size))
     }
 
     // The run that has the section.

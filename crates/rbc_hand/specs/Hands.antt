@@ -1,5 +1,5 @@
 -- Hands: consecutive sections, and what is held of each.
-use Rattle.std.specs.Prelude.{◌≡◌, ℕ, ◌+◌, ◌-◌, ◌≤◌, ◌==◌, Bool, ◌&&◌, ◌||◌, List, [], ◌∷◌, ◌++◌, length, map, take, drop, if◌then◌else◌, Option, option_map, nat_lt, slice_get}
+use Rattle.std.specs.Prelude.{◌≡◌, ℕ, zero, suc, ◌+◌, ◌-◌, ◌≤◌, ◌==◌, Bool, ◌&&◌, ◌||◌, List, [], ◌∷◌, ◌++◌, length, map, take, drop, if◌then◌else◌, Option, option_map, nat_lt, slice_get}
 use Rattle.std.specs.List.{AllByRecursion}
 use Rattle.rbc_spec.specs.SectionRuns.{SectionRun, behind, is_empty}
 use Rattle.rbc_hand.specs.declared.token.Token.{Token}
@@ -69,6 +69,11 @@ IsAllOwn t h = AllByRecursion (λ held. held ≡ Own t) h.holds
 abbrev pub Follow : ℕ → List Token → Type 0
 Follow first [] = Unit {0}
 Follow first (token ∷ tokens) = (section_of token ≡ first) × Follow (first + 1) tokens
+
+-- the tokens of so many own sections, from a first, for a train
+abbrev pub own_tokens : ℕ → ℕ → ℕ → List Token
+own_tokens first zero t = []
+own_tokens first (suc n) t = token_of first (Own t) ∷ own_tokens (first + 1) n t
 
 -- what is held by these tokens, from a first
 abbrev pub holding : ℕ → List Token → Holding

@@ -1,7 +1,12 @@
-ghost use Rattle.std.specs.Prelude.{◌≡◌, ◌==◌, ◌<◌, ℕ, ◌+◌, ◌-◌, length, true, not, is_some, if◌then◌else◌, Ok, Err, IsOk, IsSome, IfOk, IfSome};
+ghost use Rattle.std.specs.Prelude.{◌≡◌, ◌==◌, ◌<◌, ℕ, ◌+◌, ◌-◌, ◌≤◌, ◌++◌, length, replicate, true, not, is_some, if◌then◌else◌, Ok, Err, IsOk, IsSome, IfOk, IfSome};
+ghost use Rattle.std.specs.VecDeque.{deque_capacity};
+ghost use Rattle.rbc_spec.specs.SectionRuns.{behind};
+ghost use Rattle.rbc_book.specs.Claim.{claimed, claims_train};
+ghost use Rattle.rbc_hand.specs.Hands.{own_tokens};
 
 use crate::section_run::SectionRun;
 use crate::token::Token;
+use rbc_book::Claims;
 use std::alloc::{AllocError, Global};
 use std::collections::VecDeque;
 use std::marker::Model;
@@ -28,11 +33,25 @@ impl Model for Hand {
     ghost invariant = { λ h. IsHand h.first h.tokens.items (deque_capacity h.tokens) };
 }
 
+// Puts the tokens of claims behind these, which have the room.
+fn push_claims(tokens: &mut VecDeque<Token>, mut claims: Claims)
+    requires room { length tokens.old.items + (claimed claims).count ≤ deque_capacity tokens.old }
+    requires numbers { behind (claimed claims) ≤ 65535 }
+    ensures items { tokens.new.items ≡ tokens.old.items
+        ++ own_tokens (claimed claims).first (claimed claims).count (claims_train claims) }
+    ensures capacity { deque_capacity tokens.new ≡ deque_capacity tokens.old }
+{
+    for _ in 0..claims.len() {
+        tokens.push_back_reserved(Token::Own(claims.cut_front()));
+    }
+    claims.end();
+}
+
 impl Hand {
     ghost use Rattle.rbc_hand.specs.Tokens.{section_of, held_of, Own, token_of};
     ghost use Rattle.rbc_hand.specs.SectionRuns.{run_of};
     ghost use Rattle.rbc_hand.specs.Hands.{run, nothing, front, back, without_front, without_back, run_without_front, run_without_back, shorter_in_front, takes, extended, one, longer, IsAllOwn};
-    ghost use Rattle.rbc_spec.specs.SectionRuns.{no_run, is_empty, joined, behind};
+    ghost use Rattle.rbc_spec.specs.SectionRuns.{no_run, is_empty, joined};
 
     /// The most sections that a hand has.
     pub const ROOM: u16 = 32;
@@ -118,6 +137,20 @@ impl Hand {
         self.first = self.first_with(section);
         self.tokens.push_back_reserved(token);
         Ok(())
+    }
+
+    /// Adds the sections of claims behind the last, or begins an empty hand with them.
+    pub fn extend_own(&mut self, claims: Claims)
+        requires room { length self.old.holds + (claimed claims).count ≤ 32 }
+        requires numbers { behind (claimed claims) ≤ 65535 }
+        requires next { 0 < length self.old.holds → behind (run self.old) ≡ (claimed claims).first }
+        ensures { self.new ≡ record {
+          first = if length self.old.holds == 0 then (claimed claims).first else self.old.first;
+          holds = self.old.holds ++ replicate (claimed claims).count (Own (claims_train claims));
+        } }
+    {
+        self.first = self.first_with(claims.first());
+        push_claims(&mut self.tokens, claims);
     }
 
     /// Cuts off the first section: its token. None exactly where there is none, and then nothing changes.
