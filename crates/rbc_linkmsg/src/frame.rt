@@ -1,5 +1,5 @@
 ghost use Rattle.std.specs.Prelude.{◌≡◌, ◌≤◌};
-ghost use Rattle.rbc_spec.specs.Frame.{HasBodyRange};
+ghost use Rattle.rbc_spec.specs.Frame.{HasBodyRange, last_stamp};
 ghost use Rattle.rbc_linkmsg.specs.Bodies.{body_of};
 
 use crate::body::Body;
@@ -40,7 +40,7 @@ impl Frame {
     /// A frame of this number on its link, counted from 1, with the stamp of its step.
     pub fn new(number: u32, stamp: u32, body: Body) -> Frame
         requires number { (1 ≤ number) × (number ≤ 65536) }
-        requires stamp { (1 ≤ stamp) × (stamp ≤ 1073741823) }
+        requires stamp { (1 ≤ stamp) × (stamp ≤ last_stamp) }
         requires body { HasBodyRange (body_of body) }
         ensures { result ≡ record { number = number; stamp = stamp; body = body_of body } }
     {
@@ -62,7 +62,7 @@ impl Frame {
     /// The stamp of the step that sent it.
     pub fn stamp(&self) -> u32
         ensures value { result ≡ self.now.stamp }
-        ensures range { (1 ≤ result) × (result ≤ 1073741823) }
+        ensures range { (1 ≤ result) × (result ≤ last_stamp) }
     {
         self.stamp
     }

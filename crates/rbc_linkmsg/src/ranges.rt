@@ -1,7 +1,7 @@
 //! The ranges of the fields of a frame (profile).
 
 ghost use Rattle.std.specs.Prelude.{◌≤◌, ◌↔◌, IsTrue};
-ghost use Rattle.rbc_spec.specs.Frame.{HasBodyRange, HasRunRange, HasPlaceRange, IsEngine};
+ghost use Rattle.rbc_spec.specs.Frame.{HasBodyRange, HasRunRange, HasPlaceRange, IsEngine, last_stamp};
 ghost use Rattle.rbc_hand.specs.SectionRuns.{run_of};
 ghost use Rattle.rbc_linkmsg.specs.Bodies.{body_of, place_of};
 
@@ -10,7 +10,7 @@ use rbc_hand::SectionRun;
 
 /// Whether a link's frame may have this number, stamp and body.
 pub(crate) fn is_header(number: u32, stamp: u32) -> bool
-    ensures { IsTrue result ↔ (((1 ≤ number) × (number ≤ 65536)) × ((1 ≤ stamp) × (stamp ≤ 1073741823))) }
+    ensures { IsTrue result ↔ (((1 ≤ number) × (number ≤ 65536)) × ((1 ≤ stamp) × (stamp ≤ last_stamp))) }
 {
     number >= 1 && number <= 65_536 && stamp >= 1 && stamp <= 1_073_741_823
 }
