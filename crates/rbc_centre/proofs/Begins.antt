@@ -27,6 +27,7 @@ use Rattle.rbc_hand.specs.Hands.{Holding}
 use Rattle.rbc_allocation.specs.Sections.{IsHeldAt}
 use Rattle.rbc_train.specs.SessionStates.{Stands}
 use Rattle.rbc_train.specs.Trains.{unknown_state}
+use Rattle.rbc_centre.specs.Kept.{AreTrains}
 use Rattle.rbc_centre.specs.State.{stands_for, of_trains, right_at, IsOfTrain, IsUnknown}
 use Rattle.rbc_centre.specs.declared.desk.Desk.{Desk}
 use Rattle.rbc_train.specs.declared.train.TrainState.{TrainState}
@@ -89,9 +90,6 @@ module _ (line : Line) (states : List TrainState) (each : (i : ℕ) (p : TrainSt
 
   -- ## What holds of each train
 
-  pub none_said : (i : ℕ) (p : TrainState) → slice_get states i ≡ Some p → p.said ≤ 0
-  none_said i p at = let said : p.said ≡ 0 = ap (λ (q : TrainState). q.said) ((each i p at).state) in omega (arith, said)
-
   no_train : Train
   no_train = record { nid_engine = 0; registrar = 0 }
 
@@ -103,7 +101,7 @@ module _ (line : Line) (states : List TrainState) (each : (i : ℕ) (p : TrainSt
       sym same ∙ eqb-true q.nid_engine t passes
 
   -- no session stands with a train that was never heard, and no start of it waits
-  pub each_begins : (c : ℕ) (sessions : Records) → ((u : ℕ) → phase_at sessions u ≡ centre.Closed)
+  each_begins : (c : ℕ) (sessions : Records) → ((u : ℕ) → phase_at sessions u ≡ centre.Closed)
       → (t i : ℕ) (p : TrainState) → train_number line t ≡ Some i → slice_get states i ≡ Some p → IsOfTrain line c sessions t i p
   each_begins c sessions closed t i p number at =
       let is = (each i p at).state in
@@ -117,6 +115,9 @@ module _ (line : Line) (states : List TrainState) (each : (i : ℕ) (p : TrainSt
         expected = (each i p at).expected;
         session = subst (λ (q : TrainState). Stands sessions q.session_state t) (sym is) (closed t, λ key absent. cc);
       }
+
+  pub trains_begin : (c : ℕ) (sessions : Records) → ((u : ℕ) → phase_at sessions u ≡ centre.Closed) → length states ≡ length line.trains → AreTrains line c 0 sessions states
+  trains_begin c sessions closed count = record { count = count; each = each_begins c sessions closed; said = λ i p at. let none : p.said ≡ 0 = ap (λ (q : TrainState). q.said) ((each i p at).state) in omega (arith, none) }
 
 -- no frame was sent
 pub none_in_range : (links : List (Link Body)) → ((d : ℕ) → sent_to links d ≡ []) → (d : ℕ) → All HasFrameRanges (frames_by body_of (sent_to links d))

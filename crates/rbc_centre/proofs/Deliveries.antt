@@ -1,9 +1,10 @@
 -- A frame of another centre, and the links that it leaves.
-use Rattle.std.proofs.Common.{◌≡◌, ℕ, ◌+◌, ◌<◌, Bool, true, false, if◌then◌else◌, List, [], length, map, set, slice_get, Option, Some, None, is_some, is_none, nat_le, inl, inr, refl, sym, ap, ◌∙◌, subst, arith, max, All}
+use Rattle.std.proofs.Common.{◌≡◌, ℕ, ◌+◌, ◌<◌, Bool, true, false, if◌then◌else◌, List, [], length, map, set, slice_get, Option, Some, None, is_some, is_none, nat_le, inl, inr, refl, sym, ap, ◌∙◌, subst, arith, max}
+use Rattle.std.proofs.Math.Nat.{le-max_left}
 use Rattle.std.proofs.lemmas.Bool.Decides.{eqb_tells}
 use Rattle.rbc_spec.specs.Maps.{put}
 use Rattle.rbc_spec.specs.Line.{Line, is_centre, train_number}
-use Rattle.rbc_spec.specs.Frame.{Frame, Body, AskRight, GiveRight, RefuseRight, ReturnRight, RouteAsk, RouteInfo, RouteWithdraw, RouteReturn, Announce, Cancel, TakingOver, Yield, HasBodyRange, HasFrameRanges}
+use Rattle.rbc_spec.specs.Frame.{Frame, Body, AskRight, GiveRight, RefuseRight, ReturnRight, RouteAsk, RouteInfo, RouteWithdraw, RouteReturn, Announce, Cancel, TakingOver, Yield, HasBodyRange}
 use Rattle.rbc_spec.specs.Outcome.{Taken, Next, Old, Early, NoLink, Told}
 use Rattle.rbc_spec.specs.Centre as centre
 use Rattle.rbc_spec.specs.Acts.{Act, Reply, become, rest, ◌>>◌}
@@ -11,10 +12,8 @@ use Rattle.rbc_spec.specs.Step as step
 use Rattle.rbc_spec.specs.Step.{Deliver, offered}
 use Rattle.rbc_spec.specs.Links.{received}
 use Rattle.law_base.proofs.Puts.{put_same}
-use Rattle.law_centre_sound.proofs.Ranges.{range_hand}
 use Rattle.rbc_book.specs.Book.{Pages}
 use Rattle.rbc_link.specs.declared.link.Link.{Link}
-use Rattle.rbc_link.specs.declared.sent.Sent.{Sent}
 use Rattle.rbc_link.specs.declared.link_answer.LinkAnswer.{LinkAnswer}
 use Rattle.rbc_link.specs.declared.link_answer.LinkAnswer.TheVariants as code
 use Rattle.rbc_link.specs.Inbox.{answer_of, taken_after}
@@ -29,16 +28,17 @@ use Rattle.rbc_train.specs.Letters.{mail_to}
 use Rattle.rbc_train.specs.Sayings.{told_train}
 use Rattle.rbc_train.specs.declared.heard.Heard.{Heard}
 use Rattle.rbc_train.specs.declared.train.TrainState.{TrainState}
+use Rattle.rbc_centre.specs.Kept.{IsCentre}
 use Rattle.rbc_centre.specs.Posts.{MayPost}
 use Rattle.rbc_centre.specs.State.{stands_for}
 use Rattle.rbc_centre.specs.States.{state_of}
 use Rattle.rbc_centre.specs.declared.centre.Centre.{Centre as CentreCode}
-use Rattle.rbc_centre.proofs.Kept.{sound_left, ranged_left}
+use Rattle.rbc_centre.proofs.Kept.{links_still, trains_still, left_by}
 use Rattle.rbc_centre.proofs.Steps.{ticked_is, stands_kept, replied, effect_of, outcome_with}
 use Rattle.rbc_centre.proofs.Steps as Steps
 use Rattle.rbc_centre.proofs.Posts.{mail_few, linked_centre}
 use Rattle.rbc_centre.proofs.Trains.{same_count}
-use Rattle.rbc_centre.proofs.Turns.{sent_in_range, Stays, parts, is_known, left, mail_left, may_be_sent}
+use Rattle.rbc_centre.proofs.Turns.{parts, is_known, left, mail_left, may_be_sent}
 
 -- ## A frame
 
@@ -108,7 +108,7 @@ offered_as k d f mid a n number offer count linked taken sent room = record {
 }
 
 -- a frame is not refused where its stamp is not the last and no link is full
-pub delivered_allowed : (k : CentreCode) (d : ℕ) (f : Frame) → max k.clock f.stamp < 1073741823 → step.has_full_link k.line k.number (state_of k) ≡ false
+pub delivered_allowed : (k : CentreCode) (d : ℕ) (f : Frame) → max k.clock f.stamp < step.last_stamp → step.has_full_link k.line k.number (state_of k) ≡ false
     → step.refusal k.line k.number (state_of k) (Deliver d f) ≡ None
 delivered_allowed k d f early room = Steps.no_refusal k.line k.number (state_of k) (Deliver d f) (max k.clock f.stamp) (deliver_stamp k d f) early room
 
@@ -121,7 +121,7 @@ module _ (k : CentreCode) (clock d : ℕ) (f : Frame) (mid : List (Link BodyCode
 
   says : step.link_answer k.line k.number old d f ≡ answer
   unfolding stands_for
-  says = ap (λ b. if b then offered (taken_from k.links d) f.number else NoLink) (sym (k.each_link d)) ∙ sym is.offer
+  says = ap (λ b. if b then offered (taken_from k.links d) f.number else NoLink) (sym (k.rules.all_links.linked d)) ∙ sym is.offer
 
   -- a frame that is not the next leaves the links as they are
   pub keeps : is_next answer ≡ false → KeepsLinks k.links mid
@@ -193,17 +193,13 @@ module _ (k : CentreCode) (clock d : ℕ) (f : Frame) (mid : List (Link BodyCode
     silent =
         Steps.says k.line k.number k.clock clock k.book k.book k.desk k.desk k.links mid k.trains.items k.trains.items (Deliver d f) stamp is.sent [] [] (Some answer) None effect _ refl
 
-    pub stays_silent : step.refusal k.line k.number (state_of k) (Deliver d f) ≡ None → Stays k clock k.book k.desk mid k.trains.items
-    stays_silent allowed = record {
-      own_sections = k.own_sections;
-      each_right = k.each_right;
-      link_count = is.count ∙ k.link_count;
-      each_link = λ e. is.linked e ∙ k.each_link e;
-      each_frame = λ e. subst (λ (fs : List (Sent BodyCode)). All HasFrameRanges (frames_by body_of fs)) (sym (is.sent e)) (sent_in_range k e);
-      train_count = k.train_count;
-      sound = sound_left k.line k.number (state_of k) _ (Deliver d f) _ k.line_rules (range_hand f.body range) silent k.sound;
-      ranged = ranged_left k.line k.number (state_of k) _ (Deliver d f) _ k.line_rules (range_hand f.body range) silent allowed range k.ranged;
-    }
+    pub stays_silent : step.refusal k.line k.number (state_of k) (Deliver d f) ≡ None → IsCentre k.line k.number clock k.book k.desk k.sessions mid k.trains.items
+    stays_silent allowed =
+        let low = le-max_left k.clock f.stamp in
+        let now = deliver_stamp k d f in
+        left_by k (Deliver d f) clock k.book k.desk k.sessions mid k.trains.items _ silent allowed range (λ s. refl) refl
+        (links_still k.line k.number k.links mid is.count is.linked is.sent k.rules.all_links)
+        (trains_still k.line k.number k.clock clock k.sessions k.trains.items (omega (arith, low, now, stamp)) k.rules.all_trains)
 
 -- what a frame is heard to leave for other centres may be posted
 pub received_may : (k : CentreCode) (d : ℕ) (f : Frame) (clock : ℕ) (mid : List (Link BodyCode)) (x : centre.Centre) (old : TrainState) (e : ℕ → Option centre.Expectation) (heard : Heard) (answer : Taken)
@@ -215,7 +211,7 @@ pub received_may : (k : CentreCode) (d : ℕ) (f : Frame) (clock : ℕ) (mid : L
 received_may k d f clock mid x old e heard answer stamp sent effect allowed range linked same room =
     let bodies = mail_to k.line k.number old.supervision.engine e heard.mail in
     let few = mail_few k.line k.number old.supervision.engine e heard.mail in
-    may_be_sent k (Deliver d f) clock mid x bodies (told_train heard.saying heard.order) (map (λ s. Told s) heard.told) (Some answer) None stamp sent effect allowed range (λ u. linked u ∙ k.each_link u) few
+    may_be_sent k (Deliver d f) clock mid x bodies (told_train heard.saying heard.order) (map (λ s. Told s) heard.told) (Some answer) None stamp sent effect allowed range (λ u. linked u ∙ k.rules.all_links.linked u) few
     (λ u has. let most = room u (sym (linked u) ∙ has) in let count = few u in let left = same u in omega (arith, most, count, left))
 
 -- the frame of a link is of a centre of the line
@@ -223,7 +219,7 @@ pub next_from : (k : CentreCode) (d : ℕ) (f : Frame) (mid : List (Link BodyCod
 next_from k d f mid answer is next = by (has_link k.links d) refl
   where
     by : (b : Bool) → has_link k.links d ≡ b → is_centre k.line d ≡ true
-    by true has = linked_centre k.line k.number d (sym (k.each_link d) ∙ has)
+    by true has = linked_centre k.line k.number d (sym (k.rules.all_links.linked d) ∙ has)
     by false has = let no : Next ≡ NoLink = sym next ∙ is.offer ∙ ap (λ b. if b then offered (taken_from k.links d) f.number else NoLink) has in cc
 
 late : (b : Bool) → (if b then Old else Early) ≡ Next → ⊥

@@ -3,7 +3,7 @@ use Rattle.std.proofs.Common.{◌≡◌, ℕ, ◌+◌, ◌-◌, ◌≤◌, ◌==
 use Rattle.std.proofs.lemmas.List.Elements.{All-nil, All-cons, All-append, All-head, All-tail, All-weaker}
 use Rattle.rbc_spec.specs.Frame as spec
 use Rattle.rbc_spec.specs.Frame.{HasBodyRange, HasFrameRanges}
-use Rattle.rbc_spec.specs.Step.{numbered}
+use Rattle.rbc_spec.specs.Step.{last_stamp, numbered}
 use Rattle.law_base.proofs.Lists.{each_at}
 use Rattle.rbc_link.specs.declared.link.Link.{Link}
 use Rattle.rbc_link.specs.declared.sent.Sent.{Sent}
@@ -18,7 +18,7 @@ use Rattle.rbc_centre.specs.Views.{frame_number}
 
 -- ## The frames that are sent then
 
-in_range : (stamp count : ℕ) (bodies : List spec.Body) → 1 ≤ stamp → stamp ≤ 1073741823 → count + length bodies ≤ 65536 → All HasBodyRange bodies → All HasFrameRanges (numbered stamp count bodies)
+in_range : (stamp count : ℕ) (bodies : List spec.Body) → 1 ≤ stamp → stamp ≤ last_stamp → count + length bodies ≤ 65536 → All HasBodyRange bodies → All HasFrameRanges (numbered stamp count bodies)
 in_range stamp count [] low high few all = All-nil HasFrameRanges
 in_range stamp count (b ∷ bs) low high few all =
     All-cons HasFrameRanges (record { number = count + 1; stamp = stamp; body = b }) (numbered stamp (count + 1) bs)
@@ -26,7 +26,7 @@ in_range stamp count (b ∷ bs) low high few all =
     (in_range stamp (count + 1) bs low high (omega (arith, few)) (All-tail HasBodyRange b bs all))
 
 -- each frame of what may be posted is in its ranges
-pub posted_in_range : (stamp : ℕ) (bodies : ℕ → List spec.Body) (links : List (Link Body)) → 1 ≤ stamp → stamp ≤ 1073741823 → ((d : ℕ) → MayPost links d (bodies d))
+pub posted_in_range : (stamp : ℕ) (bodies : ℕ → List spec.Body) (links : List (Link Body)) → 1 ≤ stamp → stamp ≤ last_stamp → ((d : ℕ) → MayPost links d (bodies d))
     → (d : ℕ) → All HasFrameRanges (numbered stamp (length (sent_to links d)) (bodies d))
 posted_in_range stamp bodies links low high may d = of_bodies (bodies d) (may d)
   where
@@ -37,7 +37,7 @@ posted_in_range stamp bodies links low high may d = of_bodies (bodies d) (may d)
         in_range stamp (length (sent_to links d)) (x ∷ xs) low high numbers (All-weaker (IsFit links d) HasBodyRange (λ b fit. fit.range) (x ∷ xs) may.each)
 
 -- behind those that were sent too
-pub each_frame_after : (stamp : ℕ) (bodies : ℕ → List spec.Body) (old new : List (Link Body)) → 1 ≤ stamp → stamp ≤ 1073741823 → ((d : ℕ) → MayPost old d (bodies d))
+pub each_frame_after : (stamp : ℕ) (bodies : ℕ → List spec.Body) (old new : List (Link Body)) → 1 ≤ stamp → stamp ≤ last_stamp → ((d : ℕ) → MayPost old d (bodies d))
     → HasPosted body_of stamp bodies old new → ((d : ℕ) → All HasFrameRanges (frames_by body_of (sent_to old d)))
     → (d : ℕ) → All HasFrameRanges (frames_by body_of (sent_to new d))
 each_frame_after stamp bodies old new low high may posted each d =

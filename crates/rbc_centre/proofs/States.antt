@@ -1,5 +1,5 @@
 -- Laws of what is kept of sections and trains.
-use Rattle.std.proofs.Common.{◌≡◌, ◌*◌, ℕ, zero, suc, ◌==◌, ◌<◌, ◌≤◌, ◌≢◌, Bool, false, List, [], ◌∷◌, length, Option, Some, None, slice_get, set, refl, sym, ap, ◌∙◌, subst, inl, inr, arith, option_and_then}
+use Rattle.std.proofs.Common.{◌≡◌, ℕ, zero, suc, ◌==◌, ◌<◌, ◌≢◌, Bool, false, List, [], ◌∷◌, length, Option, Some, None, slice_get, set, refl, sym, ap, ◌∙◌, subst, inl, inr, arith, option_and_then}
 use Rattle.std.proofs.lemmas.Bool.Decides.{eqb_tells, nat_tests}
 use Rattle.std.proofs.lemmas.List.Quantifiers.{position-Some}
 use Rattle.std.specs.Option.{option_map_or}
@@ -12,7 +12,6 @@ use Rattle.rbc_session.specs.Sessions.{Records}
 use Rattle.rbc_spec.specs.Centre.{Phase}
 use Rattle.rbc_session.specs.declared.session.SessionState.{SessionState}
 use Rattle.rbc_pending_start.specs.Waits.{WaitState, IsCovered}
-use Rattle.rbc_train.specs.Desk.{IsHeld}
 use Rattle.rbc_train.specs.SessionStates.{Enters, Stands}
 use Rattle.rbc_centre.specs.State.{of_trains, right_at, IsOfTrain}
 use Rattle.rbc_train.proofs.SessionStates.{stands_for_train, stands_with_train}
@@ -107,16 +106,6 @@ each_after P states i new within here others j p found = elim (eqb_tells j i) as
   | inr e ↦ others j p (e.1) (sym (slice_get-set_other states i j new (e.1)) ∙ found)
 ]
 
--- what was said to each train is counted by the clock, also behind a change of one
-pub counted_after : (states : List TrainState) (i before clock : ℕ) (new : TrainState) → i < length states → new.said ≤ 2 * clock → before ≤ clock
-    → ((j : ℕ) (p : TrainState) → slice_get states j ≡ Some p → p.said ≤ 2 * before) → (j : ℕ) (p : TrainState) → slice_get (set states i new) j ≡ Some p → p.said ≤ 2 * clock
-counted_after states i before clock new within few later each =
-    each_after (λ j p. p.said ≤ 2 * clock) states i new within few (λ j p apart at. let early = each j p at in omega (arith, early, later))
-
-pub counted_later : (states : List TrainState) (before clock : ℕ) → before ≤ clock
-    → ((j : ℕ) (p : TrainState) → slice_get states j ≡ Some p → p.said ≤ 2 * before) → (j : ℕ) (p : TrainState) → slice_get states j ≡ Some p → p.said ≤ 2 * clock
-counted_later states before clock later each j p at = let early = each j p at in omega (arith, early, later)
-
 -- the number of a train of the line is its own
 pub other_train : (line : Line) (t u i j : ℕ) → train_number line t ≡ Some i → train_number line u ≡ Some j → j ≢ i → u ≢ t
 other_train line t u i j at_t at_u apart same = apart (let e : Some j ≡ Some i = sym at_u ∙ ap (train_number line) same ∙ at_t in cc)
@@ -132,7 +121,7 @@ each_train_after P line states t i state within at_t here each u j p at_u found 
     j p found at_u
 
 -- what stands with another train, where one has changed
-stands_beside : (line : Line) (c : ℕ) (old new : Records) (s : SessionState) (t u j : ℕ) (p : TrainState) (phase : Phase) → Enters old new s t phase → u ≢ t
+pub stands_beside : (line : Line) (c : ℕ) (old new : Records) (s : SessionState) (t u j : ℕ) (p : TrainState) (phase : Phase) → Enters old new s t phase → u ≢ t
     → IsOfTrain line c old u j p → IsOfTrain line c new u j p
 stands_beside line c old new s t u j p phase enters apart is = record {
   number = is.number;
@@ -143,24 +132,6 @@ stands_beside line c old new s t u j p phase enters apart is = record {
   expected = is.expected;
   session = stands_with_train new p.session_state u (enters.others p.session_state u apart (stands_for_train old p.session_state u is.session));
 }
-
--- what is kept of each train, behind a message of one
-pub each_of_train_after : (line : Line) (c : ℕ) (old new : Records) (states : List TrainState) (t i : ℕ) (state : TrainState) (phase : Phase) → i < length states → train_number line t ≡ Some i
-    → Enters old new state.session_state t phase → state.supervision.number ≡ i → state.supervision.engine ≡ t → state.waiting.engine ≡ t → IsCovered line state.waiting → IsHeld line c state → length state.expectations ≡ length line.centres
-    → ((u j : ℕ) (p : TrainState) → train_number line u ≡ Some j → slice_get states j ≡ Some p → IsOfTrain line c old u j p)
-    → (u j : ℕ) (p : TrainState) → train_number line u ≡ Some j → slice_get (set states i state) j ≡ Some p → IsOfTrain line c new u j p
-each_of_train_after line c old new states t i state phase within at_t enters number engine waiting covers held expected each =
-    each_train_after (IsOfTrain line c new) line states t i state within at_t
-    (record { number = number; engine = engine; waiting = waiting; covers = covers; held = held; expected = expected; session = stands_with_train new state.session_state t enters.stands })
-    (λ u j p apart at_u at. stands_beside line c old new state.session_state t u j p phase enters apart (each u j p at_u at))
-
--- the same, where no session has changed
-pub each_of_train_still : (line : Line) (c : ℕ) (sessions : Records) (states : List TrainState) (t i : ℕ) (state : TrainState) → i < length states → train_number line t ≡ Some i
-    → IsOfTrain line c sessions t i state
-    → ((u j : ℕ) (p : TrainState) → train_number line u ≡ Some j → slice_get states j ≡ Some p → IsOfTrain line c sessions u j p)
-    → (u j : ℕ) (p : TrainState) → train_number line u ≡ Some j → slice_get (set states i state) j ≡ Some p → IsOfTrain line c sessions u j p
-each_of_train_still line c sessions states t i state within at_t here each =
-    each_train_after (IsOfTrain line c sessions) line states t i state within at_t here (λ u j p apart. each u j p)
 
 -- a train that is asked for a section stays the one that it was
 pub asked_train : (line : Line) (c : ℕ) (sessions : Records) (t i : ℕ) (before after : TrainState) → IsOfTrain line c sessions t i before → after.supervision.number ≡ before.supervision.number

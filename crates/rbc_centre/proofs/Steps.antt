@@ -10,7 +10,7 @@ use Rattle.rbc_spec.specs.Outcome.{Reason, Saying, Word, Outcome, Taken}
 use Rattle.rbc_spec.specs.Centre as centre
 use Rattle.rbc_spec.specs.Acts.{Reply}
 use Rattle.rbc_spec.specs.Step as step
-use Rattle.rbc_spec.specs.Step.{Event, Train, Set, Unset, Effect, numbered}
+use Rattle.rbc_spec.specs.Step.{Event, Set, Unset, Effect, numbered}
 use Rattle.rbc_msgs.specs.TrainText.{TrainText}
 use Rattle.rbc_book.specs.Book.{Pages}
 use Rattle.rbc_link.specs.declared.link.Link.{Link}
@@ -138,13 +138,13 @@ tests_of false false h = (refl, refl)
 
 -- an event that is not refused has a stamp, and no link is full
 pub allowed : (line : Line) (c : ℕ) (k : centre.Centre) (event : Event) → step.refusal line c k event ≡ None
-    → (step.stamp_of k event ≤ 1073741823) × (step.has_full_link line c k ≡ false)
+    → (step.stamp_of k event ≤ step.last_stamp) × (step.has_full_link line c k ≡ false)
 allowed line c k event none =
     let tests = tests_of (nat_lt step.last_stamp (step.stamp_of k event)) (step.has_full_link line c k) none in
     (ltb-false step.last_stamp (step.stamp_of k event) tests.0, tests.1)
 
 -- and the other way round
-pub no_refusal : (line : Line) (c : ℕ) (k : centre.Centre) (event : Event) (stamp : ℕ) → step.stamp_of k event ≡ stamp + 1 → stamp < 1073741823 → step.has_full_link line c k ≡ false
+pub no_refusal : (line : Line) (c : ℕ) (k : centre.Centre) (event : Event) (stamp : ℕ) → step.stamp_of k event ≡ stamp + 1 → stamp < step.last_stamp → step.has_full_link line c k ≡ false
     → step.refusal line c k event ≡ None
 no_refusal line c k event stamp is early room =
     let e : nat_lt step.last_stamp (stamp + 1) ≡ false = grind (arith, nat_tests) in
@@ -152,7 +152,7 @@ no_refusal line c k event stamp is early room =
 
 -- the refusal of the event, by the stamp before its own
 pub refusal_by : (line : Line) (c : ℕ) (k : centre.Centre) (event : Event) (stamp : ℕ) → step.stamp_of k event ≡ stamp + 1
-    → (if nat_lt 1073741823 (stamp + 1) then Some step.ClockEnd else (if step.has_full_link line c k then Some step.LinkFull else None)) ≡ step.refusal line c k event
+    → (if nat_lt step.last_stamp (stamp + 1) then Some step.ClockEnd else (if step.has_full_link line c k then Some step.LinkFull else None)) ≡ step.refusal line c k event
 refusal_by line c k event stamp is = rw is refl
 
 pub taken_step : (line : Line) (c : ℕ) (k : centre.Centre) (event : Event) → step.refusal line c k event ≡ None → step.step line c event k ≡ Ok (step.taken line c event k)
@@ -167,12 +167,12 @@ refused_step line c k event fault.ClockEnd is = rw is refl
 
 -- what a test of the stamp and the links answers, as the refusal of the event
 pub ok_allowed : {T : Type 0} (line : Line) (c : ℕ) (k : centre.Centre) (event : Event) (stamp : ℕ) → step.stamp_of k event ≡ stamp + 1 → (r : Result T StepFault)
-    → OnOk r ((stamp < 1073741823) × (step.has_full_link line c k ≡ false)) → OnOk r (step.refusal line c k event ≡ None)
+    → OnOk r ((stamp < step.last_stamp) × (step.has_full_link line c k ≡ false)) → OnOk r (step.refusal line c k event ≡ None)
 ok_allowed line c k event stamp is (Ok x) room = no_refusal line c k event stamp is room.0 room.1
 ok_allowed line c k event stamp is (Err f) room = tt
 
 pub err_refused : {T : Type 0} (line : Line) (c : ℕ) (k : centre.Centre) (event : Event) (stamp : ℕ) → step.stamp_of k event ≡ stamp + 1 → (r : Result T StepFault)
-    → IfErr r (λ f. IsRefusalOf f (if nat_lt 1073741823 (stamp + 1) then Some step.ClockEnd else (if step.has_full_link line c k then Some step.LinkFull else None)))
+    → IfErr r (λ f. IsRefusalOf f (if nat_lt step.last_stamp (stamp + 1) then Some step.ClockEnd else (if step.has_full_link line c k then Some step.LinkFull else None)))
     → IfErr r (λ f. IsRefusalOf f (step.refusal line c k event))
 err_refused line c k event stamp is (Ok x) why = tt
 err_refused line c k event stamp is (Err f) why = subst (IsRefusalOf f) (refusal_by line c k event stamp is) why

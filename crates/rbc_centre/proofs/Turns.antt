@@ -1,10 +1,10 @@
 -- A centre behind the message or the frame of one train.
-use Rattle.std.proofs.Common.{◌≡◌, ◌*◌, ◌⊎◌, inl, inr, ℕ, ◌+◌, ◌<◌, ◌≤◌, Bool, false, true, List, [], Option, Some, None, length, map, slice_get, set, is_none, sym, ap, ◌∙◌, refl, subst, arith, All, Result, Ok, Err}
+use Rattle.std.proofs.Common.{◌≡◌, ◌⊎◌, inl, inr, ℕ, ◌+◌, ◌<◌, ◌≤◌, Bool, false, true, List, [], Option, Some, None, length, map, slice_get, set, is_none, sym, ap, ◌∙◌, refl, subst, arith, All, Result, Ok, Err}
 use Rattle.std.proofs.Math.Logic.{∥∥₁_elim}
 use Rattle.std.specs.Result.{OnErr}
 use Rattle.rbc_spec.specs.SectionRuns.{within as within_run}
 use Rattle.rbc_spec.specs.Sections.{is_on}
-use Rattle.rbc_spec.specs.Line.{Line, is_linked, is_home, train_number}
+use Rattle.rbc_spec.specs.Line.{Line, is_linked, train_number}
 use Rattle.rbc_spec.specs.Frame.{Frame, HasFrameRanges, Body as BodySent}
 use Rattle.rbc_spec.specs.Outcome.{Saying, Word, Taken, Reason, Told}
 use Rattle.rbc_spec.specs.Centre as centre
@@ -12,18 +12,16 @@ use Rattle.rbc_spec.specs.Centre.{Expectation}
 use Rattle.rbc_spec.specs.Step as step
 use Rattle.rbc_spec.specs.Step.{Event, Train, Set, Unset, Effect, numbered}
 use Rattle.rbc_spec.specs.Message.{TrainMessage}
-use Rattle.law_network.specs.Sound.{IsCentreSound}
-use Rattle.law_centre_sound.specs.Stays.{IsInRange}
-use Rattle.law_ranges.specs.Ranges.{HasMessageRanges, HasEventRanges, HasStateRanges, IsSentInRange}
+use Rattle.law_ranges.specs.Ranges.{HasMessageRanges, HasEventRanges, IsSentInRange}
 use Rattle.rbc_book.specs.Book.{Pages, is_own}
 use Rattle.rbc_link.specs.declared.link.Link.{Link}
-use Rattle.rbc_link.specs.declared.sent.Sent.{Sent}
-use Rattle.rbc_link.specs.Links.{has_link, sent_to, room_to, KeepsLinks, HasRoom}
+use Rattle.rbc_link.specs.Links.{has_link, sent_to, room_to, HasRoom}
 use Rattle.rbc_link.specs.Outgoing.{frames_by}
 use Rattle.rbc_link.specs.Posted.{HasPosted}
 use Rattle.rbc_linkmsg.specs.Bodies.{body_of}
 use Rattle.rbc_linkmsg.specs.declared.body.Body.{Body}
 use Rattle.rbc_right.specs.Rights.{Rights}
+use Rattle.rbc_session.specs.Sessions.{Records}
 use Rattle.rbc_handover.specs.Expectations.{expected_from}
 use Rattle.rbc_handover.specs.Giving.{with_count}
 use Rattle.rbc_centre.specs.declared.desk.Desk.{Desk}
@@ -34,59 +32,59 @@ use Rattle.rbc_train.specs.declared.mail.Mail.{Mail}
 use Rattle.rbc_train.specs.declared.heard.Heard.{Heard}
 use Rattle.rbc_train.specs.declared.reason.Reason.{Reason as ReasonCode}
 use Rattle.rbc_train.specs.declared.train.TrainState.{TrainState}
+use Rattle.rbc_centre.specs.Kept.{IsCentre, AreLinks, AreTrains}
 use Rattle.rbc_centre.specs.Posts.{MayPost}
 use Rattle.rbc_centre.specs.Rooms.{HasFrameRoom}
 use Rattle.rbc_centre.specs.Ranges.{AreInRange-prop}
 use Rattle.rbc_centre.specs.State.{stands_for, IsOfTrain}
 use Rattle.rbc_centre.specs.States.{state_of, IsSame}
 use Rattle.rbc_centre.specs.declared.centre.Centre.{Centre as CentreCode}
-use Rattle.rbc_centre.proofs.Kept.{sound_left, ranged_left, sent_in}
+use Rattle.rbc_centre.proofs.Kept.{links_posted, left_by, sent_in}
 use Rattle.rbc_centre.proofs.Posts.{mail_few, may_post}
-use Rattle.rbc_centre.proofs.SentFrames.{each_frame_after}
 use Rattle.rbc_centre.proofs.Silent.{sends_nothing}
-use Rattle.rbc_centre.proofs.States.{number_within, counted_after, part_of_train, slice_get-set_same}
+use Rattle.rbc_centre.proofs.States.{number_within, part_of_train, slice_get-set_same}
 use Rattle.rbc_centre.proofs.Steps as Steps
 use Rattle.rbc_centre.proofs.Steps.{ticked_is, stands_kept, replied, effect_of, outcome_with, answers, no_refusal}
 use Rattle.rbc_centre.proofs.Trains.{mission_of, announced_of, kept_at, has_train, train_left}
 
 -- the frames that were sent are in their ranges
 pub sent_in_range : (k : CentreCode) (d : ℕ) → All HasFrameRanges (frames_by body_of (sent_to k.links d))
-sent_in_range k = ∥∥₁_elim k.each_frame (AreInRange-prop (λ d. frames_by body_of (sent_to k.links d))) (λ each. each)
+sent_in_range k = ∥∥₁_elim k.rules.all_links.frames (AreInRange-prop (λ d. frames_by body_of (sent_to k.links d))) (λ each. each)
 
 -- a train of the line, with this number in the line file, and what the centre keeps of it
 module _ (k : CentreCode) (t i : ℕ) (old : TrainState) (number : train_number k.line t ≡ Some i) (at : slice_get k.trains.items i ≡ Some old) where
   pub within : i < length k.trains.items
-  within = number_within k.line k.trains.items t i number k.train_count
+  within = number_within k.line k.trains.items t i number k.rules.all_trains.count
 
   pub of_train : IsOfTrain k.line k.number k.sessions t i old
-  of_train = k.each_train t i old number at
+  of_train = k.rules.all_trains.each t i old number at
 
   pub is_known : is_none (train_number k.line old.supervision.engine) ≡ false
   is_known = ap (λ (n : ℕ). is_none (train_number k.line n)) of_train.engine ∙ ap is_none number
 
   pub has_number : old.supervision.number < length k.desk.registrar
-  has_number = omega (arith, of_train.number, within, k.train_count, k.each_right)
+  has_number = omega (arith, of_train.number, within, k.rules.all_trains.count, k.rules.each_right)
 
-  pub has_count : k.clock < 1073741823 → old.said < 4294967293
-  has_count early = let few = k.counted i old at in omega (arith, few, early)
+  pub has_count : k.clock < step.last_stamp → old.said < 4294967293
+  has_count early = let few = k.rules.all_trains.said i old at in omega (arith, few, early)
 
   pub kept_train : IsKeptAt k.line k.number old
   kept_train =
-      kept_at k.line k.number (state_of k) k.sessions t i old k.line_rules k.sound k.ranged of_train
+      kept_at k.line k.number (state_of k) k.sessions t i old k.rules.line_rules k.rules.sound k.rules.ranged of_train
       (mission_of k.line k.number k.clock t i k.book k.desk k.links k.trains.items old number at)
 
   -- each section of its hand is on the track of its mission
   pub on_track : (m : centre.Mission) → old.supervision.mission ≡ Some m → (s : ℕ) → within_run m.hand s ≡ true → is_on k.line m.place.track s ≡ true
   on_track m stands s inside =
       let mission = mission_of k.line k.number k.clock t i k.book k.desk k.links k.trains.items old number at in
-      (k.sound.mission t m (mission ∙ stands)).hand.on_track s inside
+      (k.rules.sound.mission t m (mission ∙ stands)).hand.on_track s inside
 
   module _ (clock : ℕ) (mid : List (Link Body)) where
     -- what the centre has of it, by its next clock and these links
     pub parts : HasParts k.line k.number (stands_for k.line k.number clock k.book k.desk mid k.trains.items) old k.book k.desk.registrar
     parts =
-        has_train k.line k.number clock t i k.book k.desk mid k.trains.items old number at within of_train.engine of_train.number k.line_rules
-        kept_train k.own_sections
+        has_train k.line k.number clock t i k.book k.desk mid k.trains.items old number at within of_train.engine of_train.number k.rules.line_rules
+        kept_train k.rules.own_sections
 
     module _ (new : TrainState) (book : Pages) (rights : Rights) (n : ℕ) (kept : KeepsTrain old new) (desk : KeepsDesk old.supervision.number k.book book k.desk.registrar rights) where
       abbrev states : List TrainState
@@ -107,23 +105,6 @@ module _ (k : CentreCode) (t i : ℕ) (old : TrainState) (number : train_number 
           ≡ mail_to k.line k.number old.supervision.engine (expected_from new.expectations) mail e
       mail_left mail e = λ j. mail_to k.line k.number old.supervision.engine (λ d. expects_left d j) mail e
 
-      pub each_counted : k.clock < clock → (j : ℕ) (p : TrainState) → slice_get states j ≡ Some p → p.said ≤ 2 * clock
-      each_counted later =
-          let few = k.counted i old at in
-          let more = kept.said in
-          counted_after k.trains.items i k.clock clock new within (omega (arith, few, more, later)) (omega (arith, later)) k.counted
-
--- what stays true of a centre behind a step
-pub record Stays (k : CentreCode) (clock : ℕ) (book : Pages) (desk : Desk) (links : List (Link Body)) (states : List TrainState) : Type 0 where
-  pub own_sections : (s : ℕ) → is_own book s ≡ is_home k.line k.number s
-  pub each_right : length desk.registrar ≡ length k.line.trains
-  pub link_count : length links ≡ length k.line.centres
-  pub each_link : (d : ℕ) → has_link links d ≡ is_linked k.line k.number d
-  pub each_frame : (d : ℕ) → All HasFrameRanges (frames_by body_of (sent_to links d))
-  pub train_count : length states ≡ length k.line.trains
-  pub sound : IsCentreSound k.line k.number (stands_for k.line k.number clock book desk links states)
-  pub ranged : ∥ HasStateRanges k.line k.number (stands_for k.line k.number clock book desk links states) ∥₁
-
 -- what a step sends to each centre, on links that are no different, may be posted: there is room for it, or there is none
 pub may_be_sent : (k : CentreCode) (event : Event) (clock : ℕ) (mid : List (Link Body)) (x : centre.Centre) (bodies : ℕ → List BodySent) (sayings : List Saying) (words : List Word) (link : Option Taken) (silence : Option Reason)
     → step.stamp_of (state_of k) event ≡ clock → ((d : ℕ) → sent_to mid d ≡ sent_to k.links d)
@@ -133,7 +114,7 @@ pub may_be_sent : (k : CentreCode) (event : Event) (clock : ℕ) (mid : List (Li
 may_be_sent k event clock mid x bodies sayings words link silence stamp same effect allowed ranges linked few room d =
     let sent : All (IsSentInRange k.line k.number d) (bodies d) =
     subst (λ (xs : List BodySent). All (IsSentInRange k.line k.number d) xs) ((λ i. (step.effect k.line k.number (step.ticked (stamp i) (state_of k)) event).reply.frames d) ∙ ap (λ (e : Effect). e.reply.frames d) effect)
-    (sent_in k.line k.number (state_of k) event k.line_rules allowed ranges k.ranged d) in
+    (sent_in k.line k.number (state_of k) event k.rules.line_rules allowed ranges k.rules.ranged d) in
     may_post k.line k.number k.clock k.book k.desk k.links mid k.trains.items d (bodies d) (Steps.allowed k.line k.number (state_of k) event allowed).1 (linked d) (same d) sent (few d) (room d)
 
 module _ (k : CentreCode) (event : Event) (clock : ℕ) (mid new : List (Link Body)) (book : Pages) (desk : Desk) (states : List TrainState)
@@ -149,19 +130,13 @@ module _ (k : CentreCode) (event : Event) (clock : ℕ) (mid new : List (Link Bo
       answers k.line k.number k.clock clock k.book book k.desk desk k.links mid new k.trains.items states bodies event
       stamp same posted sayings words link silence effect frames numbers _ refl
 
-  pub stays : 1 ≤ clock → clock ≤ 1073741823 → IsInRange event → step.refusal k.line k.number (state_of k) event ≡ None → HasEventRanges k.line k.number event → ((d : ℕ) → MayPost mid d (bodies d))
-      → ((s : ℕ) → is_own book s ≡ is_own k.book s) → length desk.registrar ≡ length k.desk.registrar → length states ≡ length k.trains.items → length mid ≡ length k.links → ((d : ℕ) → has_link mid d ≡ has_link k.links d)
-      → Stays k clock book desk new states
-  stays low high range allowed ranges may homes count trains links linked = record {
-    own_sections = λ s. homes s ∙ k.own_sections s;
-    each_right = count ∙ k.each_right;
-    link_count = posted.count ∙ links ∙ k.link_count;
-    each_link = λ d. posted.linked d ∙ linked d ∙ k.each_link d;
-    each_frame = each_frame_after clock bodies mid new low high may posted (λ d. subst (λ (fs : List (Sent Body)). All HasFrameRanges (frames_by body_of fs)) (sym (same d)) (sent_in_range k d));
-    train_count = trains ∙ k.train_count;
-    sound = sound_left k.line k.number (state_of k) _ event _ k.line_rules range turns k.sound;
-    ranged = ranged_left k.line k.number (state_of k) _ event _ k.line_rules range turns allowed ranges k.ranged;
-  }
+  pub stays : (sessions : Records) → 1 ≤ clock → step.refusal k.line k.number (state_of k) event ≡ None → HasEventRanges k.line k.number event → ((d : ℕ) → MayPost mid d (bodies d))
+      → ((s : ℕ) → is_own book s ≡ is_own k.book s) → length desk.registrar ≡ length k.desk.registrar → AreLinks k.line k.number mid → AreTrains k.line k.number clock sessions states
+      → IsCentre k.line k.number clock book desk sessions new states
+  stays sessions low allowed ranges may homes count links trains =
+      let early = (Steps.allowed k.line k.number (state_of k) event allowed).0 in
+      left_by k event clock book desk sessions new states _ turns allowed ranges homes count
+      (links_posted k.line k.number clock bodies mid new low (omega (arith, early, stamp)) may posted links) trains
 
 -- the stamp of a message
 pub heard_stamp : (k : CentreCode) (m : TrainMessage) → step.stamp_of (state_of k) (Train m) ≡ k.clock + 1
@@ -210,21 +185,6 @@ state_same old new same =
     (λ i. stands_for (same.line i) (same.number i) (same.clock i) (same.book i) (same.desk i) new.links ((same.trains i).items))
     ∙ stands_kept old.line old.number old.clock old.book old.desk old.links new.links old.trains.items same.links
 
--- and so does one whose links alone have other room
-pub stays_with : (k : CentreCode) (links : List (Link Body)) → KeepsLinks k.links links → Stays k k.clock k.book k.desk links k.trains.items
-stays_with k links keeps =
-    let is = stands_kept k.line k.number k.clock k.book k.desk k.links links k.trains.items keeps in
-    record {
-      own_sections = k.own_sections;
-      each_right = k.each_right;
-      link_count = keeps.count ∙ k.link_count;
-      each_link = λ d. keeps.linked d ∙ k.each_link d;
-      each_frame = λ d. subst (λ (fs : List (Sent Body)). All HasFrameRanges (frames_by body_of fs)) (sym (keeps.sent d)) (sent_in_range k d);
-      train_count = k.train_count;
-      sound = subst (IsCentreSound k.line k.number) (sym is) k.sound;
-      ranged = subst (λ (x : centre.Centre). ∥ HasStateRanges k.line k.number x ∥₁) (sym is) k.ranged;
-    }
-
 -- what holds in any case holds where a call fails
 pub on_err : {T E P : Type 0} (r : Result T E) → P → OnErr r P
 on_err (Ok x) h = tt
@@ -232,7 +192,7 @@ on_err (Err e) h = h
 
 -- ## What is not refused
 
-module _ (k : CentreCode) (early : k.clock < 1073741823) (room : step.has_full_link k.line k.number (state_of k) ≡ false) where
+module _ (k : CentreCode) (early : k.clock < step.last_stamp) (room : step.has_full_link k.line k.number (state_of k) ≡ false) where
   pub heard_allowed : (m : TrainMessage) → step.refusal k.line k.number (state_of k) (Train m) ≡ None
   heard_allowed m = no_refusal k.line k.number (state_of k) (Train m) k.clock (heard_stamp k m) early room
 
@@ -263,7 +223,7 @@ pub heard_may : (k : CentreCode) (m : TrainMessage) (t i : ℕ) (old : TrainStat
     (new : TrainState) (book : Pages) (rights : Rights) (n : ℕ) (kept : KeepsTrain old new) (desk : KeepsDesk old.supervision.number k.book book k.desk.registrar rights) (heard : Heard)
     → ((x : centre.Centre) → HasParts k.line k.number x old k.book k.desk.registrar → is_none (train_number k.line old.supervision.engine) ≡ false → x.announced ≡ k.desk.handovers
     → step.effect k.line k.number x (Train m) ≡ effect_left k.line k.number old.supervision.engine (with_count n (with_parts new book rights x)) (Ok heard))
-    → k.clock < 1073741823 → step.has_full_link k.line k.number (state_of k) ≡ false → HasMessageRanges m → (tells_others m.body ≡ true → HasRoom k.links 4)
+    → k.clock < step.last_stamp → step.has_full_link k.line k.number (state_of k) ≡ false → HasMessageRanges m → (tells_others m.body ≡ true → HasRoom k.links 4)
     → (d : ℕ) → MayPost k.links d (mail_to k.line k.number old.supervision.engine (expected_from new.expectations) heard.mail d)
 heard_may k m t i old number at new book rights n kept desk heard exact early none ranges room =
     let bodies = mail_to k.line k.number old.supervision.engine (expected_from new.expectations) heard.mail in
@@ -271,7 +231,7 @@ heard_may k m t i old number at new book rights n kept desk heard exact early no
     let words : List Word = map (λ s. Told s) heard.told in
     let few = mail_few k.line k.number old.supervision.engine (expected_from new.expectations) heard.mail in
     let effect = hears k (Train m) t i old number at (k.clock + 1) new book rights n kept desk heard exact in
-    may_be_sent k (Train m) (k.clock + 1) k.links _ bodies sayings words None None (heard_stamp k m) (λ d. refl) effect (heard_allowed k early none m) (k.of_line, ranges) k.each_link few
+    may_be_sent k (Train m) (k.clock + 1) k.links _ bodies sayings words None None (heard_stamp k m) (λ d. refl) effect (heard_allowed k early none m) (k.rules.of_line, ranges) k.rules.all_links.linked few
     (heard_room k m (k.clock + 1) _ bodies sayings words None None effect few room)
 
 -- and there is room for its frames, where it leaves some

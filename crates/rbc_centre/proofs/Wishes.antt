@@ -200,10 +200,10 @@ pub user_at : (k : CentreCode) (s i : ℕ) (before : TrainState) (here : (t : �
 user_at k s i before here asked found read =
     let u = user_of k s here asked in
     let number = found u.0 u.1 in
-    let within = number_within k.line k.trains.items u.0 i number k.train_count in
-    record { taken = u.1; number = number; within = within; at = read within; engine = (k.each_train u.0 i before number (read within)).engine }
+    let within = number_within k.line k.trains.items u.0 i number k.rules.all_trains.count in
+    record { taken = u.1; number = number; within = within; at = read within; engine = (k.rules.all_trains.each u.0 i before number (read within)).engine }
 
 pub no_user : (k : CentreCode) (s : ℕ) (here : (t : ℕ) → entry_at k.book s ≡ Out t → ⊥) (asked : Unset.Asked ≡ unset_answer (entry_at k.book s)) → ((t : ℕ) → entry_at k.book s ≡ Taken t → train_number k.line t ≡ None) → ⊥
 no_user k s here asked none =
     let u = user_of k s here asked in
-    user_number k.line k.number k.clock k.book k.book k.desk k.links k.trains.items s (k.own_sections s) k.sound u.0 u.1 (none u.0 u.1)
+    user_number k.line k.number k.clock k.book k.book k.desk k.links k.trains.items s (k.rules.own_sections s) k.rules.sound u.0 u.1 (none u.0 u.1)

@@ -32,10 +32,10 @@ module _ (k : CentreCode) (s t : ℕ) (book : Pages) (out : entry_at k.book s �
       let own = out_at_home k.book s t out in
       ap (λ (r : Reply). effect_of r None None)
       (ap (step.unset k.line k.number s) (ticked_is k.line k.number k.clock (k.clock + 1) k.book k.desk k.links k.trains.items)
-      ∙ sym (out_turns k.line k.number (k.clock + 1) k.book book k.desk k.links k.trains.items s (k.own_sections s) entry wish t own out))
+      ∙ sym (out_turns k.line k.number (k.clock + 1) k.book book k.desk k.links k.trains.items s (k.rules.own_sections s) entry wish t own out))
 
-  pub may_withdraw : k.clock < 1073741823 → step.has_full_link k.line k.number (state_of k) ≡ false → HasRoom k.links 4 → (d : ℕ) → MayPost k.links d (to_others k.line k.number (RouteWithdraw t s) d)
+  pub may_withdraw : k.clock < step.last_stamp → step.has_full_link k.line k.number (state_of k) ≡ false → HasRoom k.links 4 → (d : ℕ) → MayPost k.links d (to_others k.line k.number (RouteWithdraw t s) d)
   may_withdraw early none room d =
       may_be_sent k (Unset s) (k.clock + 1) k.links _ (to_others k.line k.number (RouteWithdraw t s)) [] (Asked s ∷ []) None None (unset_stamp k s) (λ e. refl) withdraws
-      (unset_allowed k early none s) tt k.each_link (λ e. let once = told_once (is_linked k.line k.number e) (RouteWithdraw t s) in omega (arith, once))
+      (unset_allowed k early none s) tt k.rules.all_links.linked (λ e. let once = told_once (is_linked k.line k.number e) (RouteWithdraw t s) in omega (arith, once))
       (λ e linked. let most = room e linked in let count = told_once (is_linked k.line k.number e) (RouteWithdraw t s) in omega (arith, most, count)) d

@@ -6,6 +6,7 @@ pub mod Sent
 pub mod Rooms
 pub mod Views
 pub mod State
+pub mod Kept
 pub mod States
 pub mod Answer
 pub mod Ranges

@@ -1,25 +1,17 @@
-ghost use Rattle.std.specs.Prelude.{◌≡◌, ◌≤◌, ◌<◌, ◌+◌, ◌*◌, ℕ, slice_get, true, false, length, nat_lt, if◌then◌else◌, All, IfOk, IfErr, OnOk, OnErr, Some, None, option_map};
-ghost use Rattle.rbc_spec.specs.Line.{IsLine, is_centre, is_home, is_linked, train_number};
-ghost use Rattle.rbc_spec.specs.Frame.{HasFrameRanges};
+ghost use Rattle.std.specs.Prelude.{◌≡◌, ◌<◌, ◌+◌, true, false, length, nat_lt, if◌then◌else◌, IfOk, IfErr, OnOk, OnErr, Some, None, option_map};
+ghost use Rattle.rbc_spec.specs.Line.{is_centre};
 ghost use Rattle.rbc_spec.specs.Centre.{beginning};
 ghost use Rattle.rbc_spec.specs.Step as spec;
-ghost use Rattle.rbc_spec.specs.Step.{refusal, has_full_link};
-ghost use Rattle.law_network.specs.Sound.{IsCentreSound};
-ghost use Rattle.law_ranges.specs.Ranges.{HasStateRanges};
-ghost use Rattle.rbc_book.specs.Book.{is_own};
+ghost use Rattle.rbc_spec.specs.Step.{refusal, has_full_link, last_stamp};
 ghost use Rattle.rbc_book.specs.Entries.{entry_of};
-ghost use Rattle.rbc_link.specs.Links.{has_link, sent_to};
 ghost use Rattle.rbc_link.specs.Links as links;
-ghost use Rattle.rbc_link.specs.Outgoing.{frames_by};
-ghost use Rattle.rbc_linkmsg.specs.Bodies.{body_of};
 ghost use Rattle.rbc_place.specs.Places.{place_of};
 ghost use Rattle.rbc_train.specs.Desks.{mission_by};
 ghost use Rattle.rbc_msgs.specs.StepMessage.{step_message};
 ghost use Rattle.rbc_session.specs.SessionStates.{phase_of};
 ghost use Rattle.rbc_centre.specs.Answer.{Steps, IsWantedBy, IsRefusalOf};
-ghost use Rattle.rbc_centre.specs.State.{stands_for, IsOfTrain};
+ghost use Rattle.rbc_centre.specs.Kept.{IsCentre};
 ghost use Rattle.rbc_centre.specs.Views.{event_of, outcome_of, frame_number, handing_at};
-ghost use Rattle.rbc_train.specs.declared.train.TrainState.{TrainState};
 
 use crate::desk::Desk;
 use crate::event::Event;
@@ -73,20 +65,7 @@ pub struct Centre {
     pub(crate) room: FrameRoom,
     /// What is kept of each train, in the order of the line file.
     pub(crate) trains: Vec<TrainState>,
-    ghost line_rules: { ∥ IsLine line ∥₁ },
-    ghost of_line: { is_centre line number ≡ true },
-    ghost in_time: { clock ≤ 1073741823 },
-    ghost own_sections: { (s : ℕ) → is_own book s ≡ is_home line number s },
-    ghost each_right: { length desk.registrar ≡ length line.trains },
-    ghost link_count: { length links ≡ length line.centres },
-    ghost each_link: { (d : ℕ) → has_link links d ≡ is_linked line number d },
-    ghost each_frame: { ∥ ((d : ℕ) → All HasFrameRanges (frames_by body_of (sent_to links d))) ∥₁ },
-    ghost train_count: { length trains.items ≡ length line.trains },
-    ghost each_train: { (t i : ℕ) → (p : TrainState) → train_number line t ≡ Some i → slice_get trains.items i ≡ Some p → IsOfTrain line number sessions t i p },
-    ghost counted: { (i : ℕ) → (p : TrainState) → slice_get trains.items i ≡ Some p → p.said ≤ 2 * clock },
-    ghost announced: { desk.handovers ≤ clock },
-    ghost sound: { IsCentreSound line number (stands_for line number clock book desk links trains.items) },
-    ghost ranged: { ∥ HasStateRanges line number (stands_for line number clock book desk links trains.items) ∥₁ },
+    ghost rules: { IsCentre line number clock book desk sessions links trains.items },
 }
 
 impl Drop for Centre {
@@ -223,9 +202,9 @@ impl Centre {
     #[inline(always)]
     pub(crate) fn may_take(&self, stamp: u32) -> Result<(), StepFault>
         ensures ok { OnOk result
-            ((stamp < 1073741823)
+            ((stamp < last_stamp)
             × (has_full_link (line_of self.now) (number_of self.now) (state_of self.now) ≡ false)) }
-        ensures err { IfErr result (λ fault. IsRefusalOf fault (if nat_lt 1073741823 (stamp + 1) then Some spec.ClockEnd
+        ensures err { IfErr result (λ fault. IsRefusalOf fault (if nat_lt last_stamp (stamp + 1) then Some spec.ClockEnd
             else (if has_full_link (line_of self.now) (number_of self.now) (state_of self.now)
             then Some spec.LinkFull else None))) }
     {

@@ -3,7 +3,7 @@
 
 ghost use Rattle.std.specs.Prelude.{◌≡◌, ◌<◌, OnOk, OnErr, false, max};
 ghost use Rattle.rbc_spec.specs.Step as spec;
-ghost use Rattle.rbc_spec.specs.Step.{has_full_link};
+ghost use Rattle.rbc_spec.specs.Step.{has_full_link, last_stamp};
 ghost use Rattle.rbc_link.specs.Links as links;
 ghost use Rattle.rbc_centre.specs.Answer.{TakesMemory};
 ghost use Rattle.rbc_centre.specs.Rooms.{HasFrameRoom};
@@ -28,7 +28,7 @@ impl Centre {
         frame: &Frame,
         out: &mut Outcome,
     ) -> Result<(), AllocError>
-        requires time { max self.old.clock frame.now.stamp < 1073741823 }
+        requires time { max self.old.clock frame.now.stamp < last_stamp }
         requires numbers { has_full_link (line_of self.old) (number_of self.old) (state_of self.old) ≡ false }
         ensures line { line_of self.new ≡ line_of self.old }
         ensures number { number_of self.new ≡ number_of self.old }
@@ -60,7 +60,7 @@ impl Centre {
 
     // The step of a frame. For what a next one is answered by there is room.
     fn take_frame(&mut self, from: u8, frame: &Frame, out: &mut Outcome)
-        requires time { max self.old.clock frame.now.stamp < 1073741823 }
+        requires time { max self.old.clock frame.now.stamp < last_stamp }
         requires numbers { has_full_link (line_of self.old) (number_of self.old) (state_of self.old) ≡ false }
         requires frames { TakesMemory (state_of self.old) (spec.Deliver from frame.now)
             → links.HasRoom self.old.links 4 }

@@ -4,7 +4,7 @@ ghost use Rattle.std.specs.Prelude.{◌≡◌, ◌<◌, OnOk, OnErr, true, false
 ghost use Rattle.rbc_spec.specs.Line.{train_number};
 ghost use Rattle.rbc_spec.specs.Message.{is_stale};
 ghost use Rattle.rbc_spec.specs.Step as spec;
-ghost use Rattle.rbc_spec.specs.Step.{has_full_link};
+ghost use Rattle.rbc_spec.specs.Step.{has_full_link, last_stamp};
 ghost use Rattle.rbc_msgs.specs.StepMessage.{step_message};
 ghost use Rattle.rbc_msgs.specs.declared.train_body.TrainBody.TheVariants.{InitiationOfSession};
 ghost use Rattle.rbc_session.specs.Sessions as sessions;
@@ -29,7 +29,7 @@ impl Centre {
     /// The step of a train's message, at a centre that refuses none. Room for a session and for frames is made first.
     #[inline(always)]
     pub(crate) fn take(&mut self, message: &TrainMsg, out: &mut Outcome) -> Result<(), AllocError>
-        requires time { self.old.clock < 1073741823 }
+        requires time { self.old.clock < last_stamp }
         requires numbers { has_full_link (line_of self.old) (number_of self.old) (state_of self.old) ≡ false }
         ensures line { line_of self.new ≡ line_of self.old }
         ensures number { number_of self.new ≡ number_of self.old }
@@ -72,7 +72,7 @@ impl Centre {
     // The step of a message of train number i of the line, at a centre that refuses none.
     #[inline(always)]
     fn take_from(&mut self, i: u8, message: &TrainMsg, out: &mut Outcome) -> Result<(), AllocError>
-        requires time { self.old.clock < 1073741823 }
+        requires time { self.old.clock < last_stamp }
         requires numbers { has_full_link (line_of self.old) (number_of self.old) (state_of self.old) ≡ false }
         requires number { train_number (line_of self.old) message.now.nid_engine ≡ Some i }
         ensures line { line_of self.new ≡ line_of self.old }
@@ -120,7 +120,7 @@ impl Centre {
     // The step of a message of train number i of the line, in its ranges.
     #[inline(always)]
     fn hear_train(&mut self, i: usize, message: &TrainMsg, out: &mut Outcome)
-        requires time { self.old.clock < 1073741823 }
+        requires time { self.old.clock < last_stamp }
         requires numbers { has_full_link (line_of self.old) (number_of self.old) (state_of self.old) ≡ false }
         requires number { train_number (line_of self.old) message.now.nid_engine ≡ Some i }
         requires ranges { HasMessageRanges (step_message message.now) }

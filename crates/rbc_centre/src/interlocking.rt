@@ -4,7 +4,7 @@ ghost use Rattle.std.specs.Prelude.{◌≡◌, ◌<◌, ℕ, IfSome, OnOk, OnErr
 ghost use Rattle.rbc_spec.specs.Centre as spec;
 ghost use Rattle.rbc_spec.specs.Line.{train_number};
 ghost use Rattle.rbc_spec.specs.Step as step;
-ghost use Rattle.rbc_spec.specs.Step.{has_full_link};
+ghost use Rattle.rbc_spec.specs.Step.{has_full_link, last_stamp};
 ghost use Rattle.rbc_book.specs.Book.{entry_at};
 ghost use Rattle.rbc_link.specs.Links as links;
 ghost use Rattle.rbc_centre.specs.Answer.{Steps, IsWantedBy, TakesMemory};
@@ -52,7 +52,7 @@ impl Centre {
 
     /// The interlocking releases a section.
     pub(crate) fn set(&mut self, s: u16, out: &mut Outcome)
-        requires time { self.old.clock < 1073741823 }
+        requires time { self.old.clock < last_stamp }
         requires numbers { has_full_link (line_of self.old) (number_of self.old) (state_of self.old) ≡ false }
         ensures line { line_of self.new ≡ line_of self.old }
         ensures number { number_of self.new ≡ number_of self.old }
@@ -69,7 +69,7 @@ impl Centre {
     /// The interlocking takes a section back. A train that has it in its movement authority is asked for it, and where
     /// it is lent each other centre. Room for the frames is made first.
     pub(crate) fn unset(&mut self, s: u16, out: &mut Outcome) -> Result<(), AllocError>
-        requires time { self.old.clock < 1073741823 }
+        requires time { self.old.clock < last_stamp }
         requires numbers { has_full_link (line_of self.old) (number_of self.old) (state_of self.old) ≡ false }
         ensures line { line_of self.new ≡ line_of self.old }
         ensures number { number_of self.new ≡ number_of self.old }
@@ -90,7 +90,7 @@ impl Centre {
     // A section is taken back that is out for this train: each other centre is asked for it, as it is not known here
     // which has it.
     fn withdraw(&mut self, s: u16, nid_engine: u32, out: &mut Outcome)
-        requires time { self.old.clock < 1073741823 }
+        requires time { self.old.clock < last_stamp }
         requires numbers { has_full_link (line_of self.old) (number_of self.old) (state_of self.old) ≡ false }
         requires out { entry_at self.old.book s ≡ spec.Out nid_engine }
         requires frames { links.HasRoom self.old.links 4 }
@@ -120,7 +120,7 @@ impl Centre {
 
     // A section is taken back that is not out.
     fn unset_here(&mut self, s: u16, out: &mut Outcome)
-        requires time { self.old.clock < 1073741823 }
+        requires time { self.old.clock < last_stamp }
         requires here { (t : ℕ) → entry_at self.old.book s ≡ spec.Out t → ⊥ }
         requires numbers { has_full_link (line_of self.old) (number_of self.old) (state_of self.old) ≡ false }
         ensures line { line_of self.new ≡ line_of self.old }

@@ -3,7 +3,7 @@
 ghost use Rattle.std.specs.Prelude.{◌≡◌, ◌⊎◌, ◌+◌, ◌≤◌, ◌<◌, ℕ, IsTrue, [], Option, Some, length};
 ghost use Rattle.std.specs.Vec.{vec_capacity};
 ghost use Rattle.rbc_spec.specs.Line.{is_linked};
-ghost use Rattle.rbc_spec.specs.Step.{numbered};
+ghost use Rattle.rbc_spec.specs.Step.{last_stamp, numbered};
 ghost use Rattle.rbc_link.specs.Links.{has_link, sent_to};
 ghost use Rattle.rbc_link.specs.Posted.{HasPosted};
 ghost use Rattle.rbc_linkmsg.specs.Bodies.{body_of};
@@ -41,7 +41,7 @@ pub(crate) fn post(
     mail: &Mail,
     frames: &mut Frames,
 )
-    requires stamp { (1 ≤ stamp) × (stamp ≤ 1073741823) }
+    requires stamp { (1 ≤ stamp) × (stamp ≤ last_stamp) }
     requires linked { (d : ℕ) → has_link links.old d ≡ is_linked line.now centre d }
     requires may { (d : ℕ)
         → MayPost links.old d (mail_to line.now centre nid_engine (expected_from expectations.now) mail.now d) }
@@ -98,7 +98,7 @@ fn post_all(
     mail: &Mail,
     frames: &mut Frames,
 )
-    requires stamp { (1 ≤ stamp) × (stamp ≤ 1073741823) }
+    requires stamp { (1 ≤ stamp) × (stamp ≤ last_stamp) }
     requires linked { (d : ℕ) → has_link links.old d ≡ is_linked line.now centre d }
     requires may { (d : ℕ)
         → MayPost links.old d (mail_to line.now centre nid_engine (expected_from expectations.now) mail.now d) }
@@ -150,7 +150,7 @@ impl Dispatch<'_> {
     // Sends one centre its part of the mail.
     #[inline(always)]
     fn post_to(&self, links: &mut Links<Body>, list: &mut Vec<SentFrame>, to: u8)
-        requires stamp { (1 ≤ self.now.stamp) × (self.now.stamp ≤ 1073741823) }
+        requires stamp { (1 ≤ self.now.stamp) × (self.now.stamp ≤ last_stamp) }
         requires may { MayPost links.old to (bodies_to self.now to) }
         requires room { (bodies_to self.now to ≡ []) ⊎ (length list.old.items + 4 ≤ vec_capacity list.old) }
         ensures sent { HasSent self.now.stamp (only to (bodies_to self.now to))
@@ -181,7 +181,7 @@ pub(crate) fn post_to_others(
     body: Body,
     frames: &mut Frames,
 )
-    requires stamp { (1 ≤ stamp) × (stamp ≤ 1073741823) }
+    requires stamp { (1 ≤ stamp) × (stamp ≤ last_stamp) }
     requires linked { (d : ℕ) → has_link links.old d ≡ is_linked line.now centre d }
     requires may { (d : ℕ) → MayPost links.old d (to_others line.now centre (body_of body) d) }
     requires room { HasFrameRoom room.old }
@@ -218,7 +218,7 @@ fn post_one(
     to: u8,
     body: Option<Body>,
 )
-    requires stamp { (1 ≤ stamp) × (stamp ≤ 1073741823) }
+    requires stamp { (1 ≤ stamp) × (stamp ≤ last_stamp) }
     requires may { MayPost links.old to (bodies_in body) }
     requires room { (b : BodyCode) → body ≡ Some b → length list.old.items < vec_capacity list.old }
     ensures sent { HasSent stamp (only to (bodies_in body)) links.old links.new list.old.items list.new.items }

@@ -1,5 +1,6 @@
-use Rattle.std.proofs.Common.{◌≡◌, ◌⊎◌, ◌+◌, ◌∙◌, ap, sym, refl, set, Some, None, Err, arith, subst, ℕ, [], map}
-use Rattle.std.proofs.Math.ListN.{length-set}
+use Rattle.std.proofs.Common.{slice_get, ◌≡◌, ◌≤◌, ◌⊎◌, ◌+◌, ◌∙◌, ap, sym, refl, set, Some, None, Err, arith, subst, ℕ, [], map}
+use Rattle.std.proofs.Math.Logic.{∥∥₁_elim}
+use Rattle.std.specs.Coded.{le_prop}
 use Rattle.std.proofs.lemmas.Option.{slice_get_read}
 use Rattle.rbc_spec.specs.Message.{is_stale}
 use Rattle.rbc_spec.specs.Outcome.{Outcome, Told}
@@ -13,80 +14,75 @@ use Rattle.rbc_train.specs.Reasons.{reason_of}
 use Rattle.rbc_handover.specs.Expectations.{expected_from}
 use Rattle.rbc_train.specs.Sayings.{told_train}
 use Rattle.rbc_train.specs.SessionStates.{Enters}
-use Rattle.rbc_train.proofs.SessionStates.{stands_for_train}
-use Rattle.rbc_centre.specs.State.{stands_for}
+use Rattle.rbc_train.proofs.SessionStates.{stands_for_train, stands_with_train}
+use Rattle.rbc_centre.specs.Kept.{AreTrains}
+use Rattle.rbc_centre.specs.State.{stands_for, IsOfTrain}
 use Rattle.rbc_centre.specs.Posts.{MayPost}
 use Rattle.rbc_centre.specs.Rooms.{HasFrameRoom}
 use Rattle.rbc_centre.specs.Sent.{frames_to}
-use Rattle.rbc_centre.proofs.States.{number_within, each_of_train_after}
+use Rattle.rbc_centre.proofs.Kept.{trains_set}
+use Rattle.rbc_centre.proofs.States.{number_within, stands_beside}
 use Rattle.rbc_centre.proofs.Trains.{heard_of}
-use Rattle.rbc_centre.proofs.Turns.{within, of_train, kept_train, has_number, has_count, each_counted, takes, hears, turns, stays, heard_stamp, heard_allowed, heard_may, heard_frames, on_track, may_be_sent, sent_by}
+use Rattle.rbc_centre.proofs.Turns.{of_train, kept_train, has_number, has_count, takes, hears, turns, stays, heard_stamp, heard_allowed, heard_may, heard_frames, on_track, may_be_sent, sent_by}
+use Rattle.rbc_centre.proofs.centre.Centre.hear_train.Goals.{After-index_mut-train, After-take-taken}
 use Rattle.rbc_centre.proofs.centre.Centre.hear_train.Goals as goal
 
 -- ## The train that the message is from, in the list of trains
 
-pub take-taken-requires-clause-engine : goal.take-taken-requires-clause-engine
-take-taken-requires-clause-engine c =
+place : (c : After-index_mut-train) → slice_get c.args.self.now.trains.items c.args.i ≡ Some c.index_mut-train.result.now
+place c =
     let k = c.args.self.now in
-    let at = slice_get_read _ _ _ _ refl (number_within k.line k.trains.items _ c.args.i c.requires.number k.train_count) c.index_mut-train.ensures.value in
-    sym (of_train k _ c.args.i c.index_mut-train.result.now c.requires.number at).engine
+    slice_get_read _ _ _ _ refl (number_within k.line k.trains.items _ c.args.i c.requires.number k.rules.all_trains.count) c.index_mut-train.ensures.value
+
+train : (c : After-index_mut-train) → IsOfTrain c.args.self.now.line c.args.self.now.number c.args.self.now.sessions c.args.message.now.nid_engine c.args.i c.index_mut-train.result.now
+train c = of_train c.args.self.now c.args.message.now.nid_engine c.args.i c.index_mut-train.result.now c.requires.number (place c)
+
+pub take-taken-requires-clause-engine : goal.take-taken-requires-clause-engine
+take-taken-requires-clause-engine c = sym (train (goal.at.take-taken-requires-clause-engine c).After-index_mut-train).engine
 
 pub take-taken-requires-clause-number : goal.take-taken-requires-clause-number
-take-taken-requires-clause-number c =
-    let k = c.args.self.now in
-    let at = slice_get_read _ _ _ _ refl (number_within k.line k.trains.items _ c.args.i c.requires.number k.train_count) c.index_mut-train.ensures.value in
-    has_number k _ c.args.i c.index_mut-train.result.now c.requires.number at
+take-taken-requires-clause-number c = has_number c.args.self.now _ c.args.i c.index_mut-train.result.now c.requires.number (place (goal.at.take-taken-requires-clause-number c).After-index_mut-train)
 
 pub take-taken-requires-clause-stands : goal.take-taken-requires-clause-stands
 take-taken-requires-clause-stands c =
     let k = c.args.self.now in
     let old = c.index_mut-train.result.now in
-    let at = slice_get_read _ _ _ _ refl (number_within k.line k.trains.items _ c.args.i c.requires.number k.train_count) c.index_mut-train.ensures.value in
-    let is = of_train k _ c.args.i old c.requires.number at in
+    let is = train (goal.at.take-taken-requires-clause-stands c).After-index_mut-train in
     subst (λ (n : ℕ). StandsFor k.sessions old.session_state n) (sym is.engine) (stands_for_train k.sessions old.session_state _ is.session)
 
 pub take-taken-requires-clause-room : goal.take-taken-requires-clause-room
 take-taken-requires-clause-room c = λ opens timely.
     let k = c.args.self.now in
     let m = step_message c.args.message.now in
-    let at = slice_get_read _ _ _ _ refl (number_within k.line k.trains.items _ c.args.i c.requires.number k.train_count) c.index_mut-train.ensures.value in
+    let at = place (goal.at.take-taken-requires-clause-room c).After-index_mut-train in
     c.requires.session opens (ap (is_stale m.t_train) (heard_of k.line k.number k.clock m.nid_engine c.args.i k.book k.desk k.links k.trains.items c.index_mut-train.result.now c.requires.number at) ∙ timely)
 
 pub take-taken-requires-clause-count : goal.take-taken-requires-clause-count
-take-taken-requires-clause-count c =
-    let k = c.args.self.now in
-    let at = slice_get_read _ _ _ _ refl (number_within k.line k.trains.items _ c.args.i c.requires.number k.train_count) c.index_mut-train.ensures.value in
-    has_count k _ c.args.i c.index_mut-train.result.now c.requires.number at c.requires.time
+take-taken-requires-clause-count c = has_count c.args.self.now _ c.args.i c.index_mut-train.result.now c.requires.number (place (goal.at.take-taken-requires-clause-count c).After-index_mut-train) c.requires.time
 
 pub take-taken-requires-clause-kept : goal.take-taken-requires-clause-kept
-take-taken-requires-clause-kept c =
-    let k = c.args.self.now in
-    let at = slice_get_read _ _ _ _ refl (number_within k.line k.trains.items _ c.args.i c.requires.number k.train_count) c.index_mut-train.ensures.value in
-    kept_train k _ c.args.i c.index_mut-train.result.now c.requires.number at
+take-taken-requires-clause-kept c = kept_train c.args.self.now _ c.args.i c.index_mut-train.result.now c.requires.number (place (goal.at.take-taken-requires-clause-kept c).After-index_mut-train)
 
 pub take-taken-requires-clause-held : goal.take-taken-requires-clause-held
-take-taken-requires-clause-held c =
-    let k = c.args.self.now in
-    let at = slice_get_read _ _ _ _ refl (number_within k.line k.trains.items _ c.args.i c.requires.number k.train_count) c.index_mut-train.ensures.value in
-    (of_train k _ c.args.i c.index_mut-train.result.now c.requires.number at).held
+take-taken-requires-clause-held c = (train (goal.at.take-taken-requires-clause-held c).After-index_mut-train).held
 
 pub take-taken-requires-clause-book : goal.take-taken-requires-clause-book
-take-taken-requires-clause-book c = c.args.self.now.own_sections
+take-taken-requires-clause-book c = c.args.self.now.rules.own_sections
 
 pub take-taken-requires-clause-on : goal.take-taken-requires-clause-on
 take-taken-requires-clause-on c m stands s inside =
-    let k = c.args.self.now in
-    let old = c.index_mut-train.result.now in
-    let at = slice_get_read _ _ _ _ refl (number_within k.line k.trains.items _ c.args.i c.requires.number k.train_count) c.index_mut-train.ensures.value in
-    on_track k _ c.args.i old c.requires.number at m stands s inside
+    on_track c.args.self.now _ c.args.i c.index_mut-train.result.now c.requires.number (place (goal.at.take-taken-requires-clause-on c).After-index_mut-train) m stands s inside
 
 pub take-taken-requires-clause-announced : goal.take-taken-requires-clause-announced
-take-taken-requires-clause-announced c = let few = c.args.self.now.announced in omega (arith, few, c.requires.time)
+unfolding stands_for
+take-taken-requires-clause-announced c =
+    let few : c.args.self.now.desk.handovers ≤ c.args.self.now.clock = ∥∥₁_elim c.args.self.now.rules.ranged le_prop (λ r. r.announced) in
+    omega (arith, few, c.requires.time)
 
 -- ## What goes to other centres
 
 pub post-requires-clause-linked : goal.post-requires-clause-linked
-post-requires-clause-linked c = c.args.self.now.each_link
+post-requires-clause-linked c = c.args.self.now.rules.all_links.linked
 
 pub post-requires-clause-may : goal.post-requires-clause-may
 post-requires-clause-may c =
@@ -95,7 +91,7 @@ post-requires-clause-may c =
     let i = c.args.i in
     let number = c.requires.number in
     let old = c.index_mut-train.result.now in
-    let at = slice_get_read _ _ _ _ refl (number_within k.line k.trains.items _ i number k.train_count) c.index_mut-train.ensures.value in
+    let at = place (goal.at.post-requires-clause-may c).After-index_mut-train in
     let heard = c.take-taken.new.out in
     let engine = c.nid_engine.ensures.value ∙ sym (of_train k _ i old number at).engine in
     subst (λ (t : ℕ). (d : ℕ) → MayPost k.links d (mail_to k.line k.number t (expected_from c.take-taken.new.self.expectations) heard.mail d)) (sym engine)
@@ -109,13 +105,39 @@ post-requires-clause-room c =
     let i = c.args.i in
     let number = c.requires.number in
     let old = c.index_mut-train.result.now in
-    let at = slice_get_read _ _ _ _ refl (number_within k.line k.trains.items _ i number k.train_count) c.index_mut-train.ensures.value in
+    let at = place (goal.at.post-requires-clause-room c).After-index_mut-train in
     let heard = c.take-taken.new.out in
     let engine = c.nid_engine.ensures.value ∙ sym (of_train k _ i old number at).engine in
     subst (λ (t : ℕ). (d : ℕ) → (mail_to k.line k.number t (expected_from c.take-taken.new.self.expectations) heard.mail d ≡ []) ⊎ HasFrameRoom k.room) (sym engine)
     (heard_frames k m _ i old number at c.take-taken.new.self c.take-taken.new.book c.take-taken.new.registrar c.take-taken.new.count c.take-taken.ensures.kept c.take-taken.ensures.desk heard c.in-Ok.ensures.exact c.requires.room)
 
 -- ## The centre that is left
+
+-- the train that took the message is the one that it was
+trains : (c : After-take-taken) → slice_get c.args.self.now.trains.items c.args.i ≡ Some c.index_mut-train.result.now → AreTrains c.args.self.now.line c.args.self.now.number (c.args.self.now.clock + 1) c.take-taken.new.sessions (set c.args.self.now.trains.items c.args.i c.take-taken.new.self)
+trains c at =
+    let k = c.args.self.now in
+    let t = c.args.message.now.nid_engine in
+    let i = c.args.i in
+    let number = c.requires.number in
+    let old = c.index_mut-train.result.now in
+    let new = c.take-taken.new.self in
+    let sessions = c.take-taken.new.sessions in
+    let kept = c.take-taken.ensures.kept in
+    let is = of_train k t i old number at in
+    let enters : Enters k.sessions sessions new.session_state t (session_phase new.session_state) =
+    subst (λ (n : ℕ). Enters k.sessions sessions new.session_state n (session_phase new.session_state)) is.engine c.take-taken.ensures.stands in
+    trains_set k.line k.number k.clock (k.clock + 1) k.sessions sessions k.trains.items t i old new (omega arith) number at kept.said
+    (record {
+      number = kept.number ∙ is.number;
+      engine = kept.engine ∙ is.engine;
+      waiting = kept.waiting ∙ is.waiting;
+      covers = c.take-taken.ensures.covers is.covers;
+      held = c.take-taken.ensures.held;
+      expected = c.take-taken.ensures.expected ∙ is.expected;
+      session = stands_with_train sessions new.session_state t enters.stands;
+    })
+    (λ u j p apart same. stands_beside k.line k.number k.sessions sessions new.session_state t u j p (session_phase new.session_state) enters apart same) k.rules.all_trains
 
 pub invariant_of-self : goal.invariant_of-self
 invariant_of-self c =
@@ -125,37 +147,20 @@ invariant_of-self c =
     let i = c.args.i in
     let number = c.requires.number in
     let old = c.index_mut-train.result.now in
-    let at = slice_get_read _ _ _ _ refl (number_within k.line k.trains.items t i number k.train_count) c.index_mut-train.ensures.value in
+    let at = place (goal.at.invariant_of-self c).After-index_mut-train in
     let now = k.clock + 1 in
     let new = c.take-taken.new.self in
     let heard = c.take-taken.new.out in
     let kept = c.take-taken.ensures.kept in
     let desk = c.take-taken.ensures.desk in
-    let is = of_train k t i old number at in
     let effect = hears k (Train m) t i old number at now new c.take-taken.new.book c.take-taken.new.registrar c.take-taken.new.count kept desk heard c.in-Ok.ensures.exact in
-    let sent = sent_by k.line k.number c.nid_engine.result old.supervision.engine now (expected_from new.expectations) heard.mail k.links c.post.new.links (frames_to c.post.new.frames) (c.nid_engine.ensures.value ∙ sym is.engine) c.post.ensures.posted c.post.ensures.frames in
-    let s = stays k (Train m) now k.links c.post.new.links c.take-taken.new.book (record { registrar = c.take-taken.new.registrar; handovers = c.take-taken.new.count }) (set k.trains.items i new) (mail_to k.line k.number old.supervision.engine (expected_from new.expectations) heard.mail) (told_train heard.saying heard.order) (map (λ s. Told s) heard.told) None None
-    (heard_stamp k m) (λ d. refl) sent.links effect (frames_to c.post.new.frames) sent.each
-    (omega arith) (omega (arith, c.requires.time)) tt (heard_allowed k c.requires.time c.requires.numbers m) (k.of_line, c.requires.ranges)
-    (heard_may k m t i old number at new c.take-taken.new.book c.take-taken.new.registrar c.take-taken.new.count kept desk heard c.in-Ok.ensures.exact c.requires.time c.requires.numbers c.requires.ranges c.requires.frames) desk.homes desk.rights.count (length-set k.trains.items i new) refl (λ d. refl) in
-    let enters : Enters k.sessions c.take-taken.new.sessions new.session_state t (session_phase new.session_state) =
-    subst (λ (n : ℕ). Enters k.sessions c.take-taken.new.sessions new.session_state n (session_phase new.session_state)) is.engine c.take-taken.ensures.stands in
+    let sent = sent_by k.line k.number c.nid_engine.result old.supervision.engine now (expected_from new.expectations) heard.mail k.links c.post.new.links (frames_to c.post.new.frames) (c.nid_engine.ensures.value ∙ sym (of_train k t i old number at).engine) c.post.ensures.posted c.post.ensures.frames in
     record {
-      line_rules = k.line_rules;
-      of_line = k.of_line;
-      in_time = omega (arith, c.requires.time);
-      own_sections = s.own_sections;
-      each_right = s.each_right;
-      link_count = s.link_count;
-      each_link = s.each_link;
-      each_frame = ∣ s.each_frame ∣₁;
-      train_count = s.train_count;
-      each_train = each_of_train_after k.line k.number k.sessions c.take-taken.new.sessions k.trains.items t i new (session_phase new.session_state) (within k t i old number at) number enters
-          (kept.number ∙ is.number) (kept.engine ∙ is.engine) (kept.waiting ∙ is.waiting) (c.take-taken.ensures.covers is.covers) c.take-taken.ensures.held (c.take-taken.ensures.expected ∙ is.expected) k.each_train;
-      counted = each_counted k t i old number at now k.links new c.take-taken.new.book c.take-taken.new.registrar c.take-taken.new.count kept desk (omega arith);
-      announced = let few = k.announced in let more = c.take-taken.ensures.announced in omega (arith, few, more);
-      sound = s.sound;
-      ranged = s.ranged;
+      rules = stays k (Train m) now k.links c.post.new.links c.take-taken.new.book (record { registrar = c.take-taken.new.registrar; handovers = c.take-taken.new.count }) (set k.trains.items i new) (mail_to k.line k.number old.supervision.engine (expected_from new.expectations) heard.mail) (told_train heard.saying heard.order) (map (λ s. Told s) heard.told) None None
+          (heard_stamp k m) (λ d. refl) sent.links effect (frames_to c.post.new.frames) sent.each
+          c.take-taken.new.sessions (omega arith) (heard_allowed k c.requires.time c.requires.numbers m) (k.rules.of_line, c.requires.ranges)
+          (heard_may k m t i old number at new c.take-taken.new.book c.take-taken.new.registrar c.take-taken.new.count kept desk heard c.in-Ok.ensures.exact c.requires.time c.requires.numbers c.requires.ranges c.requires.frames)
+          desk.homes desk.rights.count k.rules.all_links (trains (goal.at.invariant_of-self c).After-take-taken at);
     }
 
 pub invariant_of-self-in-Err-1 : goal.invariant_of-self-in-Err-1
@@ -166,36 +171,18 @@ invariant_of-self-in-Err-1 c =
     let i = c.args.i in
     let number = c.requires.number in
     let old = c.index_mut-train.result.now in
-    let at = slice_get_read _ _ _ _ refl (number_within k.line k.trains.items t i number k.train_count) c.index_mut-train.ensures.value in
+    let at = place (goal.at.invariant_of-self-in-Err-1 c).After-index_mut-train in
     let now = k.clock + 1 in
     let new = c.take-taken.new.self in
-    let kept = c.take-taken.ensures.kept in
     let desk = c.take-taken.ensures.desk in
-    let is = of_train k t i old number at in
-    let effect = takes k (Train m) t i old number at now new c.take-taken.new.book c.take-taken.new.registrar c.take-taken.new.count kept desk (Err c.in-Err.why) c.in-Err.ensures.exact in
-    let s = stays k (Train m) now k.links k.links c.take-taken.new.book (record { registrar = c.take-taken.new.registrar; handovers = c.take-taken.new.count }) (set k.trains.items i new) (λ d. []) [] [] None (Some (reason_of c.in-Err.why))
-    (heard_stamp k m) (λ d. refl) (posted_none body_of now k.links) effect (λ d. []) (λ d. refl)
-    (omega arith) (omega (arith, c.requires.time)) tt (heard_allowed k c.requires.time c.requires.numbers m) (k.of_line, c.requires.ranges)
-    (may_be_sent k (Train m) now k.links _ (λ d. []) [] [] None (Some (reason_of c.in-Err.why)) (heard_stamp k m) (λ d. refl) effect (heard_allowed k c.requires.time c.requires.numbers m) (k.of_line, c.requires.ranges)
-    k.each_link (λ d. omega arith) (λ d has. omega arith)) desk.homes desk.rights.count (length-set k.trains.items i new) refl (λ d. refl) in
-    let enters : Enters k.sessions c.take-taken.new.sessions new.session_state t (session_phase new.session_state) =
-    subst (λ (n : ℕ). Enters k.sessions c.take-taken.new.sessions new.session_state n (session_phase new.session_state)) is.engine c.take-taken.ensures.stands in
+    let effect = takes k (Train m) t i old number at now new c.take-taken.new.book c.take-taken.new.registrar c.take-taken.new.count c.take-taken.ensures.kept desk (Err c.in-Err.why) c.in-Err.ensures.exact in
     record {
-      line_rules = k.line_rules;
-      of_line = k.of_line;
-      in_time = omega (arith, c.requires.time);
-      own_sections = s.own_sections;
-      each_right = s.each_right;
-      link_count = s.link_count;
-      each_link = s.each_link;
-      each_frame = ∣ s.each_frame ∣₁;
-      train_count = s.train_count;
-      each_train = each_of_train_after k.line k.number k.sessions c.take-taken.new.sessions k.trains.items t i new (session_phase new.session_state) (within k t i old number at) number enters
-          (kept.number ∙ is.number) (kept.engine ∙ is.engine) (kept.waiting ∙ is.waiting) (c.take-taken.ensures.covers is.covers) c.take-taken.ensures.held (c.take-taken.ensures.expected ∙ is.expected) k.each_train;
-      counted = each_counted k t i old number at now k.links new c.take-taken.new.book c.take-taken.new.registrar c.take-taken.new.count kept desk (omega arith);
-      announced = let few = k.announced in let more = c.take-taken.ensures.announced in omega (arith, few, more);
-      sound = s.sound;
-      ranged = s.ranged;
+      rules = stays k (Train m) now k.links k.links c.take-taken.new.book (record { registrar = c.take-taken.new.registrar; handovers = c.take-taken.new.count }) (set k.trains.items i new) (λ d. []) [] [] None (Some (reason_of c.in-Err.why))
+          (heard_stamp k m) (λ d. refl) (posted_none body_of now k.links) effect (λ d. []) (λ d. refl)
+          c.take-taken.new.sessions (omega arith) (heard_allowed k c.requires.time c.requires.numbers m) (k.rules.of_line, c.requires.ranges)
+          (may_be_sent k (Train m) now k.links _ (λ d. []) [] [] None (Some (reason_of c.in-Err.why)) (heard_stamp k m) (λ d. refl) effect (heard_allowed k c.requires.time c.requires.numbers m) (k.rules.of_line, c.requires.ranges)
+          k.rules.all_links.linked (λ d. omega arith) (λ d has. omega arith))
+          desk.homes desk.rights.count k.rules.all_links (trains (goal.at.invariant_of-self-in-Err-1 c).After-take-taken at);
     }
 
 -- ## The answer
@@ -208,7 +195,7 @@ returns-in-Ok-clause-exact c =
     let i = c.args.i in
     let number = c.requires.number in
     let old = c.index_mut-train.result.now in
-    let at = slice_get_read _ _ _ _ refl (number_within k.line k.trains.items t i number k.train_count) c.index_mut-train.ensures.value in
+    let at = place (goal.at.returns-in-Ok-clause-exact c).After-index_mut-train in
     let now = k.clock + 1 in
     let new = c.take-taken.new.self in
     let heard = c.take-taken.new.out in
@@ -228,7 +215,7 @@ returns-in-Err-clause-exact c =
     let i = c.args.i in
     let number = c.requires.number in
     let old = c.index_mut-train.result.now in
-    let at = slice_get_read _ _ _ _ refl (number_within k.line k.trains.items t i number k.train_count) c.index_mut-train.ensures.value in
+    let at = place (goal.at.returns-in-Err-clause-exact c).After-index_mut-train in
     let now = k.clock + 1 in
     let new = c.take-taken.new.self in
     let effect = takes k (Train m) t i old number at now new c.take-taken.new.book c.take-taken.new.registrar c.take-taken.new.count c.take-taken.ensures.kept c.take-taken.ensures.desk (Err c.in-Err.why) c.in-Err.ensures.exact in

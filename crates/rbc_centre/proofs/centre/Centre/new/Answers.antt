@@ -1,4 +1,4 @@
-use Rattle.std.proofs.Common.{◌≡◌, ◌∙◌, ap, sym, arith, subst, true}
+use Rattle.std.proofs.Common.{◌≡◌, ◌∙◌, ap, sym, subst, true}
 use Rattle.rbc_spec.specs.Line.{is_centre}
 use Rattle.rbc_spec.specs.Centre.{beginning}
 use Rattle.law_network.specs.Sound.{IsCentreSound}
@@ -9,7 +9,7 @@ use Rattle.rbc_book.specs.Book.{Pages, is_own}
 use Rattle.rbc_session.specs.Sessions.{phase_at}
 use Rattle.rbc_centre.specs.declared.desk.Desk.{Desk}
 use Rattle.rbc_centre.specs.State.{stands_for}
-use Rattle.rbc_centre.proofs.Begins.{stands_at_beginning, none_said, each_begins, none_in_range}
+use Rattle.rbc_centre.proofs.Begins.{stands_at_beginning, trains_begin, none_in_range}
 use Rattle.rbc_centre.proofs.centre.Centre.new.Goals.{In_ok-trains}
 use Rattle.rbc_centre.proofs.centre.Centre.new.Goals as goal
 
@@ -31,18 +31,14 @@ pub invariant_of-result : goal.invariant_of-result
 invariant_of-result c =
     let is = begins (goal.at.invariant_of-result c).In_ok-trains in
     record {
-      line_rules = ∣ c.in_ok-line.ensures.line ∣₁;
-      of_line = subst (λ l. is_centre l c.args.number ≡ true) (sym c.in_ok-line.ensures.value) c.requires;
-      in_time = omega arith;
-      own_sections = λ s. ap (λ (b : Pages). is_own b s) c.in_ok-trains.ensures.book ∙ c.in_ok-book.ensures.homes s;
-      each_right = c.in_ok-registrar.ensures.count;
-      link_count = c.in_ok-links.ensures.count;
-      each_link = c.in_ok-links.ensures.linked;
-      each_frame = ∣ none_in_range c.in_ok-links.links c.in_ok-links.ensures.sent ∣₁;
-      train_count = c.in_ok-trains.ensures.count;
-      each_train = each_begins c.in_ok-line.line c.in_ok-trains.trains.items c.in_ok-trains.ensures.each c.args.number _ (λ u. ap (λ r. phase_at r u) c.in_ok-trains.ensures.sessions ∙ c.new-sessions.ensures.phases u);
-      counted = none_said c.in_ok-line.line c.in_ok-trains.trains.items c.in_ok-trains.ensures.each;
-      announced = omega (arith, c.new-handovers.ensures);
-      sound = subst (IsCentreSound c.in_ok-line.line c.args.number) (sym is) (centre_begins c.in_ok-line.line c.args.number);
-      ranged = ∣ subst (HasStateRanges c.in_ok-line.line c.args.number) (sym is) (begins_in_range c.in_ok-line.line c.args.number) ∣₁;
+      rules = record {
+        line_rules = ∣ c.in_ok-line.ensures.line ∣₁;
+        of_line = subst (λ l. is_centre l c.args.number ≡ true) (sym c.in_ok-line.ensures.value) c.requires;
+        own_sections = λ s. ap (λ (b : Pages). is_own b s) c.in_ok-trains.ensures.book ∙ c.in_ok-book.ensures.homes s;
+        each_right = c.in_ok-registrar.ensures.count;
+        all_links = record { count = c.in_ok-links.ensures.count; linked = c.in_ok-links.ensures.linked; frames = ∣ none_in_range c.in_ok-links.links c.in_ok-links.ensures.sent ∣₁ };
+        all_trains = trains_begin c.in_ok-line.line c.in_ok-trains.trains.items c.in_ok-trains.ensures.each c.args.number _ (λ u. ap (λ r. phase_at r u) c.in_ok-trains.ensures.sessions ∙ c.new-sessions.ensures.phases u) c.in_ok-trains.ensures.count;
+        sound = subst (IsCentreSound c.in_ok-line.line c.args.number) (sym is) (centre_begins c.in_ok-line.line c.args.number);
+        ranged = ∣ subst (HasStateRanges c.in_ok-line.line c.args.number) (sym is) (begins_in_range c.in_ok-line.line c.args.number) ∣₁;
+      };
     }

@@ -1,11 +1,9 @@
-use Rattle.std.proofs.Common.{◌∙◌, ◌+◌, arith, true, false, if◌then◌else◌, [], ◌∷◌, None, refl}
+use Rattle.std.proofs.Common.{◌+◌, arith, true, false, if◌then◌else◌, [], ◌∷◌, None, refl}
 use Rattle.rbc_spec.specs.Outcome.{Done, NotHome}
 use Rattle.rbc_spec.specs.Centre.{is_unused}
 use Rattle.rbc_spec.specs.Step.{Set}
 use Rattle.rbc_book.specs.Book.{is_own, entry_at}
-use Rattle.rbc_centre.specs.States.{state_of}
-use Rattle.rbc_centre.proofs.Kept.{sound_left, ranged_left}
-use Rattle.rbc_centre.proofs.States.{counted_later}
+use Rattle.rbc_centre.proofs.Kept.{left_by, trains_still}
 use Rattle.rbc_centre.proofs.Steps.{outcome_with, set_stands}
 use Rattle.rbc_centre.proofs.Turns.{set_allowed}
 use Rattle.rbc_centre.proofs.Wishes.{set_turns}
@@ -18,23 +16,11 @@ invariant_of-self c =
     let words = (if is_own k.book s then Done s else NotHome s) ∷ [] in
     let is = set_stands k.line k.number k.clock k.book c.set.new.self k.desk k.links k.trains.items k.trains.items [] words
     (outcome_with (k.clock + 1) (λ d. []) [] words None None) s refl
-    (set_turns k.line k.number (k.clock + 1) k.book c.set.new.self k.desk k.links k.trains.items s (k.own_sections s) c.set.ensures.entry c.set.ensures.wish
+    (set_turns k.line k.number (k.clock + 1) k.book c.set.new.self k.desk k.links k.trains.items s (k.rules.own_sections s) c.set.ensures.entry c.set.ensures.wish
     (is_own k.book s) (is_unused (entry_at k.book s)) refl refl) in
     record {
-      line_rules = k.line_rules;
-      of_line = k.of_line;
-      in_time = omega (arith, c.requires.time);
-      own_sections = λ n. c.set.ensures.homes n ∙ k.own_sections n;
-      each_right = k.each_right;
-      link_count = k.link_count;
-      each_link = k.each_link;
-      each_frame = k.each_frame;
-      train_count = k.train_count;
-      each_train = k.each_train;
-      counted = counted_later k.trains.items k.clock (k.clock + 1) (omega arith) k.counted;
-      announced = let few = k.announced in omega (arith, few);
-      sound = sound_left k.line k.number (state_of k) _ (Set s) _ k.line_rules tt is k.sound;
-      ranged = ranged_left k.line k.number (state_of k) _ (Set s) _ k.line_rules tt is (set_allowed k c.requires.time c.requires.numbers s) tt k.ranged;
+      rules = left_by k (Set s) (k.clock + 1) c.set.new.self k.desk k.sessions k.links k.trains.items _ is (set_allowed k c.requires.time c.requires.numbers s) tt
+          c.set.ensures.homes refl k.rules.all_links (trains_still k.line k.number k.clock (k.clock + 1) k.sessions k.trains.items (omega arith) k.rules.all_trains);
     }
 
 pub returns-in-Ok-clause-exact : goal.returns-in-Ok-clause-exact
@@ -42,11 +28,11 @@ returns-in-Ok-clause-exact c =
     let k = c.args.self.now in
     let s = c.args.s in
     set_stands k.line k.number k.clock k.book c.set.new.self k.desk k.links k.trains.items k.trains.items _ _ _ s c.write_told.ensures
-    (set_turns k.line k.number (k.clock + 1) k.book c.set.new.self k.desk k.links k.trains.items s (k.own_sections s) c.set.ensures.entry c.set.ensures.wish true (is_unused (entry_at k.book s)) c.in-Ok.ensures.own refl)
+    (set_turns k.line k.number (k.clock + 1) k.book c.set.new.self k.desk k.links k.trains.items s (k.rules.own_sections s) c.set.ensures.entry c.set.ensures.wish true (is_unused (entry_at k.book s)) c.in-Ok.ensures.own refl)
 
 pub returns-in-Err-clause-exact : goal.returns-in-Err-clause-exact
 returns-in-Err-clause-exact c =
     let k = c.args.self.now in
     let s = c.args.s in
     set_stands k.line k.number k.clock k.book c.set.new.self k.desk k.links k.trains.items k.trains.items _ _ _ s c.write_told-in-Err.ensures
-    (set_turns k.line k.number (k.clock + 1) k.book c.set.new.self k.desk k.links k.trains.items s (k.own_sections s) c.set.ensures.entry c.set.ensures.wish false (is_unused (entry_at k.book s)) c.in-Err.ensures.own refl)
+    (set_turns k.line k.number (k.clock + 1) k.book c.set.new.self k.desk k.links k.trains.items s (k.rules.own_sections s) c.set.ensures.entry c.set.ensures.wish false (is_unused (entry_at k.book s)) c.in-Err.ensures.own refl)

@@ -8,8 +8,7 @@ use Rattle.rbc_train.proofs.Desk.{silent_effect}
 use Rattle.rbc_train.proofs.Takes.{foreign_silence}
 use Rattle.rbc_centre.specs.State.{stands_for}
 use Rattle.rbc_centre.specs.States.{state_of}
-use Rattle.rbc_centre.proofs.Kept.{sound_left, ranged_left}
-use Rattle.rbc_centre.proofs.States.{counted_later}
+use Rattle.rbc_centre.proofs.Kept.{left_by, trains_still}
 use Rattle.rbc_centre.proofs.Steps.{ticked_is, says, replied, effect_of, outcome_with}
 use Rattle.rbc_centre.proofs.Turns.{heard_stamp, heard_allowed}
 use Rattle.rbc_centre.proofs.centre.Centre.take.Goals.{In_default}
@@ -37,20 +36,9 @@ invariant_of-self c =
     let k = c.args.self.now in
     let m = step_message c.args.message.now in
     record {
-      line_rules = k.line_rules;
-      of_line = k.of_line;
-      in_time = omega (arith, c.requires.time);
-      own_sections = k.own_sections;
-      each_right = k.each_right;
-      link_count = k.link_count;
-      each_link = k.each_link;
-      each_frame = k.each_frame;
-      train_count = k.train_count;
-      each_train = k.each_train;
-      counted = counted_later k.trains.items k.clock (k.clock + 1) (omega arith) k.counted;
-      announced = let few = k.announced in omega (arith, few);
-      sound = sound_left k.line k.number (state_of k) _ (Train m) _ k.line_rules tt (foreign (goal.at.invariant_of-self c).In_default) k.sound;
-      ranged = ranged_left k.line k.number (state_of k) _ (Train m) _ k.line_rules tt (foreign (goal.at.invariant_of-self c).In_default) (heard_allowed k c.requires.time c.requires.numbers m) (k.of_line, c.look_at_ranges.ensures) k.ranged;
+      rules = left_by k (Train m) (k.clock + 1) k.book k.desk k.sessions k.links k.trains.items _ (foreign (goal.at.invariant_of-self c).In_default)
+          (heard_allowed k c.requires.time c.requires.numbers m) (k.rules.of_line, c.look_at_ranges.ensures) (λ s. refl) refl k.rules.all_links
+          (trains_still k.line k.number k.clock (k.clock + 1) k.sessions k.trains.items (omega arith) k.rules.all_trains);
     }
 
 pub returns-in_default-clause-exact : goal.returns-in_default-clause-exact

@@ -12,7 +12,7 @@ pub returns-in-Some-clause-phase : goal.returns-in-Some-clause-phase
 unfolding stands_for
 returns-in-Some-clause-phase c =
     let number = sym c.train_number.ensures.value ∙ c.in-Some.is in
-    let within = number_within c.args.self.now.line c.args.self.now.trains.items c.args.nid_engine _ number c.args.self.now.train_count in
+    let within = number_within c.args.self.now.line c.args.self.now.trains.items c.args.nid_engine _ number c.args.self.now.rules.all_trains.count in
     c.page.ensures.phase ∙ part_of_train (λ p. session_phase p.session_state) Closed c.args.self.now.line c.args.self.now.trains.items c.args.nid_engine _ c.index.result.now number (slice_get_read _ _ _ _ refl within c.index.ensures)
 
 pub returns-in-None-clause-phase : goal.returns-in-None-clause-phase
@@ -24,7 +24,7 @@ pub returns-in-Some-clause-heard : goal.returns-in-Some-clause-heard
 unfolding stands_for
 returns-in-Some-clause-heard c =
     let number = sym c.train_number.ensures.value ∙ c.in-Some.is in
-    let within = number_within c.args.self.now.line c.args.self.now.trains.items c.args.nid_engine _ number c.args.self.now.train_count in
+    let within = number_within c.args.self.now.line c.args.self.now.trains.items c.args.nid_engine _ number c.args.self.now.rules.all_trains.count in
     c.page.ensures.heard ∙ part_of_train (λ p. p.heard) None c.args.self.now.line c.args.self.now.trains.items c.args.nid_engine _ c.index.result.now number (slice_get_read _ _ _ _ refl within c.index.ensures)
 
 pub returns-in-None-clause-heard : goal.returns-in-None-clause-heard
@@ -36,7 +36,7 @@ pub returns-in-Some-clause-said : goal.returns-in-Some-clause-said
 unfolding stands_for
 returns-in-Some-clause-said c =
     let number = sym c.train_number.ensures.value ∙ c.in-Some.is in
-    let within = number_within c.args.self.now.line c.args.self.now.trains.items c.args.nid_engine _ number c.args.self.now.train_count in
+    let within = number_within c.args.self.now.line c.args.self.now.trains.items c.args.nid_engine _ number c.args.self.now.rules.all_trains.count in
     c.page.ensures.said ∙ part_of_train (λ p. p.said) 0 c.args.self.now.line c.args.self.now.trains.items c.args.nid_engine _ c.index.result.now number (slice_get_read _ _ _ _ refl within c.index.ensures)
 
 pub returns-in-None-clause-said : goal.returns-in-None-clause-said
@@ -48,7 +48,7 @@ pub returns-in-Some-clause-mission : goal.returns-in-Some-clause-mission
 unfolding stands_for
 returns-in-Some-clause-mission c =
     let number = sym c.train_number.ensures.value ∙ c.in-Some.is in
-    let within = number_within c.args.self.now.line c.args.self.now.trains.items c.args.nid_engine _ number c.args.self.now.train_count in
+    let within = number_within c.args.self.now.line c.args.self.now.trains.items c.args.nid_engine _ number c.args.self.now.rules.all_trains.count in
     let is = part_of_train (λ p. p.supervision.mission) None c.args.self.now.line c.args.self.now.trains.items c.args.nid_engine _ c.index.result.now number (slice_get_read _ _ _ _ refl within c.index.ensures) in
     ap (λ (m : Option Mission). mission_by c.page.result.mission c.page.result.hand c.page.result.pool (handing_at m)) (sym is) ∙ c.page.ensures.mission ∙ is
 
@@ -61,7 +61,7 @@ pub returns-in-Some-clause-waiting : goal.returns-in-Some-clause-waiting
 unfolding stands_for
 returns-in-Some-clause-waiting c =
     let number = sym c.train_number.ensures.value ∙ c.in-Some.is in
-    let within = number_within c.args.self.now.line c.args.self.now.trains.items c.args.nid_engine _ number c.args.self.now.train_count in
+    let within = number_within c.args.self.now.line c.args.self.now.trains.items c.args.nid_engine _ number c.args.self.now.rules.all_trains.count in
     c.page.ensures.waiting ∙ part_of_train (λ p. p.waiting.wait) None c.args.self.now.line c.args.self.now.trains.items c.args.nid_engine _ c.index.result.now number (slice_get_read _ _ _ _ refl within c.index.ensures)
 
 pub returns-in-None-clause-waiting : goal.returns-in-None-clause-waiting

@@ -1,5 +1,4 @@
-use Rattle.std.proofs.Common.{◌≡◌, ◌∙◌, ◌+◌, ◌*◌, ◌≤◌, sym, arith, true, false, refl, subst, ℕ, List, None, set, [], ◌∷◌}
-use Rattle.std.proofs.Math.ListN.{length-set}
+use Rattle.std.proofs.Common.{◌≡◌, ◌∙◌, ◌+◌, sym, arith, true, false, refl, subst, ℕ, List, None, set, [], ◌∷◌}
 use Rattle.std.proofs.lemmas.Option.{slice_get_read}
 use Rattle.rbc_spec.specs.Centre as centre
 use Rattle.rbc_spec.specs.Acts.{propose_if_so}
@@ -10,8 +9,8 @@ use Rattle.rbc_train.specs.Trains.{asked, HasTrain}
 use Rattle.rbc_train.specs.Sayings.{sayings_of}
 use Rattle.rbc_centre.specs.States.{state_of}
 use Rattle.rbc_centre.specs.Views.{outcome_of}
-use Rattle.rbc_centre.proofs.Kept.{sound_left, ranged_left}
-use Rattle.rbc_centre.proofs.States.{counted_later, counted_after, each_of_train_still, asked_train}
+use Rattle.rbc_centre.proofs.Kept.{left_by, trains_still, trains_set}
+use Rattle.rbc_centre.proofs.States.{asked_train}
 use Rattle.rbc_centre.proofs.Steps.{outcome_with, unset_stands}
 use Rattle.rbc_centre.proofs.Turns.{unset_allowed}
 use Rattle.rbc_centre.proofs.Wishes.{unset_turns, asked_turns, user_of, user_at, no_user, done_unused}
@@ -25,23 +24,11 @@ invariant_of-self c =
     let words : List Word = Done s ∷ [] in
     let is = unset_stands k.line k.number k.clock k.book c.unset.new.self k.desk k.links k.trains.items k.trains.items [] words
     (outcome_with (k.clock + 1) (λ d. []) [] words None None) s refl
-    (unset_turns k.line k.number (k.clock + 1) k.book c.unset.new.self k.desk k.links k.trains.items s (k.own_sections s) c.unset.ensures.entry c.unset.ensures.wish true c.in-Ok-Done.ensures.own
+    (unset_turns k.line k.number (k.clock + 1) k.book c.unset.new.self k.desk k.links k.trains.items s (k.rules.own_sections s) c.unset.ensures.entry c.unset.ensures.wish true c.in-Ok-Done.ensures.own
     (λ _. done_unused (entry_at k.book s) (sym c.in-Ok-Done.field-0-is ∙ c.in-Ok-Done.ensures.answer))) in
     record {
-      line_rules = k.line_rules;
-      of_line = k.of_line;
-      in_time = omega (arith, c.requires.time);
-      own_sections = λ n. c.unset.ensures.homes n ∙ k.own_sections n;
-      each_right = k.each_right;
-      link_count = k.link_count;
-      each_link = k.each_link;
-      each_frame = k.each_frame;
-      train_count = k.train_count;
-      each_train = k.each_train;
-      counted = counted_later k.trains.items k.clock (k.clock + 1) (omega arith) k.counted;
-      announced = let few = k.announced in omega (arith, few);
-      sound = sound_left k.line k.number (state_of k) _ (Unset s) _ k.line_rules tt is k.sound;
-      ranged = ranged_left k.line k.number (state_of k) _ (Unset s) _ k.line_rules tt is (unset_allowed k c.requires.time c.requires.numbers s) tt k.ranged;
+      rules = left_by k (Unset s) (k.clock + 1) c.unset.new.self k.desk k.sessions k.links k.trains.items _ is (unset_allowed k c.requires.time c.requires.numbers s) tt
+          c.unset.ensures.homes refl k.rules.all_links (trains_still k.line k.number k.clock (k.clock + 1) k.sessions k.trains.items (omega arith) k.rules.all_trains);
     }
 
 pub invariant_of-self-in-Err : goal.invariant_of-self-in-Err
@@ -51,22 +38,10 @@ invariant_of-self-in-Err c =
     let words : List Word = NotHome s ∷ [] in
     let is = unset_stands k.line k.number k.clock k.book c.unset.new.self k.desk k.links k.trains.items k.trains.items [] words
     (outcome_with (k.clock + 1) (λ d. []) [] words None None) s refl
-    (unset_turns k.line k.number (k.clock + 1) k.book c.unset.new.self k.desk k.links k.trains.items s (k.own_sections s) c.unset.ensures.entry c.unset.ensures.wish false c.in-Err.ensures.own (λ e. cc)) in
+    (unset_turns k.line k.number (k.clock + 1) k.book c.unset.new.self k.desk k.links k.trains.items s (k.rules.own_sections s) c.unset.ensures.entry c.unset.ensures.wish false c.in-Err.ensures.own (λ e. cc)) in
     record {
-      line_rules = k.line_rules;
-      of_line = k.of_line;
-      in_time = omega (arith, c.requires.time);
-      own_sections = λ n. c.unset.ensures.homes n ∙ k.own_sections n;
-      each_right = k.each_right;
-      link_count = k.link_count;
-      each_link = k.each_link;
-      each_frame = k.each_frame;
-      train_count = k.train_count;
-      each_train = k.each_train;
-      counted = counted_later k.trains.items k.clock (k.clock + 1) (omega arith) k.counted;
-      announced = let few = k.announced in omega (arith, few);
-      sound = sound_left k.line k.number (state_of k) _ (Unset s) _ k.line_rules tt is k.sound;
-      ranged = ranged_left k.line k.number (state_of k) _ (Unset s) _ k.line_rules tt is (unset_allowed k c.requires.time c.requires.numbers s) tt k.ranged;
+      rules = left_by k (Unset s) (k.clock + 1) c.unset.new.self k.desk k.sessions k.links k.trains.items _ is (unset_allowed k c.requires.time c.requires.numbers s) tt
+          c.unset.ensures.homes refl k.rules.all_links (trains_still k.line k.number k.clock (k.clock + 1) k.sessions k.trains.items (omega arith) k.rules.all_trains);
     }
 
 pub returns-in-Ok-Done-clause-exact : goal.returns-in-Ok-Done-clause-exact
@@ -74,7 +49,7 @@ returns-in-Ok-Done-clause-exact c =
     let k = c.args.self.now in
     let s = c.args.s in
     unset_stands k.line k.number k.clock k.book c.unset.new.self k.desk k.links k.trains.items k.trains.items _ _ _ s c.write_told.ensures
-    (unset_turns k.line k.number (k.clock + 1) k.book c.unset.new.self k.desk k.links k.trains.items s (k.own_sections s) c.unset.ensures.entry c.unset.ensures.wish true c.in-Ok-Done.ensures.own
+    (unset_turns k.line k.number (k.clock + 1) k.book c.unset.new.self k.desk k.links k.trains.items s (k.rules.own_sections s) c.unset.ensures.entry c.unset.ensures.wish true c.in-Ok-Done.ensures.own
     (λ _. done_unused (entry_at k.book s) (sym c.in-Ok-Done.field-0-is ∙ c.in-Ok-Done.ensures.answer)))
 
 pub returns-in-Err-clause-exact : goal.returns-in-Err-clause-exact
@@ -82,7 +57,7 @@ returns-in-Err-clause-exact c =
     let k = c.args.self.now in
     let s = c.args.s in
     unset_stands k.line k.number k.clock k.book c.unset.new.self k.desk k.links k.trains.items k.trains.items _ _ _ s c.write_told-in-Err.ensures
-    (unset_turns k.line k.number (k.clock + 1) k.book c.unset.new.self k.desk k.links k.trains.items s (k.own_sections s) c.unset.ensures.entry c.unset.ensures.wish false c.in-Err.ensures.own (λ e. cc))
+    (unset_turns k.line k.number (k.clock + 1) k.book c.unset.new.self k.desk k.links k.trains.items s (k.rules.own_sections s) c.unset.ensures.entry c.unset.ensures.wish false c.in-Err.ensures.own (λ e. cc))
 
 -- ## A section in use
 
@@ -91,7 +66,7 @@ ask_back-request-requires c =
     let k = c.args.self.now in
     let user = user_at k c.args.s c.in-Some.i c.index_mut.result.now c.requires.here (sym c.in-Ok-Asked.field-0-is ∙ c.in-Ok-Asked.ensures.answer) (λ t taken. sym (c.user_of-user.ensures.value t taken) ∙ c.in-Some.is)
     (λ within. slice_get_read _ _ _ _ refl within c.index_mut.ensures.value) in
-    let few = k.counted c.in-Some.i c.index_mut.result.now user.at in
+    let few = k.rules.all_trains.said c.in-Some.i c.index_mut.result.now user.at in
     record { count = omega (arith, few, c.requires.time) }
 
 pub invariant_of-self-in-Some : goal.invariant_of-self-in-Some
@@ -113,27 +88,15 @@ invariant_of-self-in-Some c =
     let words : List Word = Asked s ∷ [] in
     let is = unset_stands k.line k.number k.clock k.book c.unset.new.self k.desk k.links states (set states i after) sayings words
     (outcome_with (k.clock + 1) (λ d. []) sayings words None None) s refl
-    (asked_turns k.line k.number (k.clock + 1) k.book c.unset.new.self k.desk k.links states s (k.own_sections s) c.unset.ensures.entry c.unset.ensures.wish
+    (asked_turns k.line k.number (k.clock + 1) k.book c.unset.new.self k.desk k.links states s (k.rules.own_sections s) c.unset.ensures.entry c.unset.ensures.wish
     t i before after sayings c.in-Ok-Asked.ensures.own user.taken user.number user.at user.within ask.session_state ask.heard ask.question ask.waiting ask.expectations asks) in
-    let few : before.said ≤ 2 * k.clock = k.counted i before user.at in
-    let said : after.said ≤ before.said + 1 = ask.said in
-    let was = k.each_train t i before user.number user.at in
+    let said = ask.said in
     record {
-      line_rules = k.line_rules;
-      of_line = k.of_line;
-      in_time = omega (arith, c.requires.time);
-      own_sections = λ n. c.unset.ensures.homes n ∙ k.own_sections n;
-      each_right = k.each_right;
-      link_count = k.link_count;
-      each_link = k.each_link;
-      each_frame = k.each_frame;
-      train_count = length-set states i after ∙ k.train_count;
-      each_train = each_of_train_still k.line k.number k.sessions states t i after user.within user.number
-          (asked_train k.line k.number k.sessions t i before after was ask.number ask.engine ask.waiting ask.session_state ask.hand ask.expectations) k.each_train;
-      counted = counted_after states i k.clock (k.clock + 1) after user.within (omega (arith, few, said)) (omega arith) k.counted;
-      announced = let few = k.announced in omega (arith, few);
-      sound = sound_left k.line k.number (state_of k) _ (Unset s) _ k.line_rules tt is k.sound;
-      ranged = ranged_left k.line k.number (state_of k) _ (Unset s) _ k.line_rules tt is (unset_allowed k c.requires.time c.requires.numbers s) tt k.ranged;
+      rules = left_by k (Unset s) (k.clock + 1) c.unset.new.self k.desk k.sessions k.links (set states i after) _ is (unset_allowed k c.requires.time c.requires.numbers s) tt
+          c.unset.ensures.homes refl k.rules.all_links
+          (trains_set k.line k.number k.clock (k.clock + 1) k.sessions k.sessions states t i before after (omega arith) user.number user.at (omega (arith, said))
+          (asked_train k.line k.number k.sessions t i before after (k.rules.all_trains.each t i before user.number user.at) ask.number ask.engine ask.waiting ask.session_state ask.hand ask.expectations)
+          (λ u j p apart same. same) k.rules.all_trains);
     }
 
 pub invariant_of-self-in-None : goal.invariant_of-self-in-None
@@ -159,7 +122,7 @@ returns-after-user-clause-exact c = elim c.match-user.branch [
       (λ i. (outcome_of c.write_told-in-Ok-Asked.new.self, state_of (w.self-is i)))
       ∙ unset_stands k.line k.number k.clock k.book c.unset.new.self k.desk k.links states (set states w.in-Some.i after) sayings (Asked s ∷ []) _ s
       (c.write_told-in-Ok-Asked.ensures ∙ (λ i. outcome_with ((w.self-is i).clock) (λ d. []) (sayings_of (w.request-is i)) (Asked s ∷ []) None None))
-      (asked_turns k.line k.number (k.clock + 1) k.book c.unset.new.self k.desk k.links states s (k.own_sections s) c.unset.ensures.entry c.unset.ensures.wish
+      (asked_turns k.line k.number (k.clock + 1) k.book c.unset.new.self k.desk k.links states s (k.rules.own_sections s) c.unset.ensures.entry c.unset.ensures.wish
       t w.in-Some.i before after sayings c.in-Ok-Asked.ensures.own user.taken user.number user.at user.within ask.session_state ask.heard ask.question ask.waiting ask.expectations asks)
   | in-None w ↦ absurd (no_user c.args.self.now c.args.s c.requires.here (sym c.in-Ok-Asked.field-0-is ∙ c.in-Ok-Asked.ensures.answer) (λ t taken. sym (c.user_of-user.ensures.value t taken) ∙ w.in-None.is))
 ]

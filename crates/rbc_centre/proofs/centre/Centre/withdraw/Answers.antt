@@ -5,7 +5,7 @@ use Rattle.rbc_spec.specs.Step.{Unset}
 use Rattle.rbc_centre.specs.Posts.{to_others}
 use Rattle.rbc_centre.specs.Sent.{frames_to}
 use Rattle.rbc_centre.specs.State.{stands_for}
-use Rattle.rbc_centre.proofs.States.{counted_later}
+use Rattle.rbc_centre.proofs.Kept.{trains_still}
 use Rattle.rbc_centre.proofs.Turns.{turns, stays, unset_allowed, unset_stamp}
 use Rattle.rbc_centre.proofs.Withdrawn.{withdraws, may_withdraw}
 use Rattle.rbc_centre.proofs.centre.Centre.withdraw.Goals as goal
@@ -16,33 +16,20 @@ post_to_others-requires-clause-may c =
     c.requires.time c.requires.numbers c.requires.frames
 
 pub post_to_others-requires-clause-linked : goal.post_to_others-requires-clause-linked
-post_to_others-requires-clause-linked c = c.args.self.now.each_link
+post_to_others-requires-clause-linked c = c.args.self.now.rules.all_links.linked
 
 pub invariant_of-self : goal.invariant_of-self
 invariant_of-self c =
     let k = c.args.self.now in
-    let s = stays k (Unset c.args.s) (k.clock + 1) k.links c.post_to_others.new.links c.unset-asked.new.self k.desk k.trains.items (to_others k.line k.number (RouteWithdraw c.args.nid_engine c.args.s)) [] (Asked c.args.s ∷ []) None None
-    (unset_stamp k c.args.s) (λ d. refl) c.post_to_others.ensures.posted
-    (withdraws k c.args.s c.args.nid_engine c.unset-asked.new.self c.requires.out c.unset-asked.ensures.entry c.unset-asked.ensures.wish)
-    (frames_to c.post_to_others.new.frames) c.post_to_others.ensures.frames
-    (omega arith) (omega (arith, c.requires.time)) tt (unset_allowed k c.requires.time c.requires.numbers c.args.s) tt
-    (may_withdraw k c.args.s c.args.nid_engine c.unset-asked.new.self c.requires.out c.unset-asked.ensures.entry c.unset-asked.ensures.wish
-    c.requires.time c.requires.numbers c.requires.frames) c.unset-asked.ensures.homes refl refl refl (λ d. refl) in
     record {
-      line_rules = k.line_rules;
-      of_line = k.of_line;
-      in_time = omega (arith, c.requires.time);
-      own_sections = s.own_sections;
-      each_right = s.each_right;
-      link_count = s.link_count;
-      each_link = s.each_link;
-      each_frame = ∣ s.each_frame ∣₁;
-      train_count = s.train_count;
-      each_train = k.each_train;
-      counted = counted_later k.trains.items k.clock (k.clock + 1) (omega arith) k.counted;
-      announced = let few = k.announced in omega (arith, few);
-      sound = s.sound;
-      ranged = s.ranged;
+      rules = stays k (Unset c.args.s) (k.clock + 1) k.links c.post_to_others.new.links c.unset-asked.new.self k.desk k.trains.items (to_others k.line k.number (RouteWithdraw c.args.nid_engine c.args.s)) [] (Asked c.args.s ∷ []) None None
+          (unset_stamp k c.args.s) (λ d. refl) c.post_to_others.ensures.posted
+          (withdraws k c.args.s c.args.nid_engine c.unset-asked.new.self c.requires.out c.unset-asked.ensures.entry c.unset-asked.ensures.wish)
+          (frames_to c.post_to_others.new.frames) c.post_to_others.ensures.frames
+          k.sessions (omega arith) (unset_allowed k c.requires.time c.requires.numbers c.args.s) tt
+          (may_withdraw k c.args.s c.args.nid_engine c.unset-asked.new.self c.requires.out c.unset-asked.ensures.entry c.unset-asked.ensures.wish
+          c.requires.time c.requires.numbers c.requires.frames) c.unset-asked.ensures.homes refl k.rules.all_links
+          (trains_still k.line k.number k.clock (k.clock + 1) k.sessions k.trains.items (omega arith) k.rules.all_trains);
     }
 
 pub returns-clause-exact : goal.returns-clause-exact
