@@ -5,7 +5,7 @@ use Rattle.std.proofs.Math.Logic.{∥∥₁_elim, ∥∥₁_map, ∥∥₁_map�
 use Rattle.std.proofs.Props.{props}
 use Rattle.std.specs.Coded.{le_prop}
 use Rattle.rbc_spec.specs.Line.{Line, IsLine, train_number}
-use Rattle.rbc_spec.specs.Frame.{HasFrameRanges, Body as BodySent}
+use Rattle.rbc_spec.specs.Frame.{HasFrameRanges, Body as BodySent, last_stamp}
 use Rattle.rbc_spec.specs.Outcome.{Outcome}
 use Rattle.rbc_spec.specs.Centre as centre
 use Rattle.rbc_spec.specs.Centre.{Mission}
@@ -81,7 +81,7 @@ links_still line c old new count linked same are = record {
 }
 
 -- links on which bodies went that may be posted
-pub links_posted : (line : Line) (c stamp : ℕ) (bodies : ℕ → List BodySent) (old new : List (Link Body)) → 1 ≤ stamp → stamp ≤ step.last_stamp → ((d : ℕ) → MayPost old d (bodies d))
+pub links_posted : (line : Line) (c stamp : ℕ) (bodies : ℕ → List BodySent) (old new : List (Link Body)) → 1 ≤ stamp → stamp ≤ last_stamp → ((d : ℕ) → MayPost old d (bodies d))
     → HasPosted body_of stamp bodies old new → AreLinks line c old → AreLinks line c new
 links_posted line c stamp bodies old new low high may posted are = record {
   count = posted.count ∙ are.count;

@@ -2,8 +2,8 @@
 use Rattle.std.proofs.Common.{◌≡◌, ℕ, ◌+◌, ◌-◌, ◌≤◌, ◌==◌, if◌then◌else◌, Bool, true, false, List, [], ◌∷◌, length, map, Some, None, slice_get, zero, suc, option_map, refl, sym, ap, ◌∙◌, subst, arith, All}
 use Rattle.std.proofs.lemmas.List.Elements.{All-nil, All-cons, All-append, All-head, All-tail, All-weaker}
 use Rattle.rbc_spec.specs.Frame as spec
-use Rattle.rbc_spec.specs.Frame.{HasBodyRange, HasFrameRanges}
-use Rattle.rbc_spec.specs.Step.{last_stamp, numbered}
+use Rattle.rbc_spec.specs.Frame.{HasBodyRange, HasFrameRanges, last_stamp}
+use Rattle.rbc_spec.specs.Step.{numbered}
 use Rattle.law_base.proofs.Lists.{each_at}
 use Rattle.rbc_link.specs.declared.link.Link.{Link}
 use Rattle.rbc_link.specs.declared.sent.Sent.{Sent}

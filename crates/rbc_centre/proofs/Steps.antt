@@ -5,7 +5,7 @@ use Rattle.std.proofs.lemmas.Bool.{ltb-false}
 use Rattle.std.proofs.lemmas.Bool.Decides.{nat_tests}
 use Rattle.std.proofs.lemmas.List.{length-map}
 use Rattle.rbc_spec.specs.Line.{Line}
-use Rattle.rbc_spec.specs.Frame.{Frame, Body as BodySent}
+use Rattle.rbc_spec.specs.Frame.{Frame, Body as BodySent, last_stamp}
 use Rattle.rbc_spec.specs.Outcome.{Reason, Saying, Word, Outcome, Taken}
 use Rattle.rbc_spec.specs.Centre as centre
 use Rattle.rbc_spec.specs.Acts.{Reply}
@@ -138,21 +138,21 @@ tests_of false false h = (refl, refl)
 
 -- an event that is not refused has a stamp, and no link is full
 pub allowed : (line : Line) (c : ℕ) (k : centre.Centre) (event : Event) → step.refusal line c k event ≡ None
-    → (step.stamp_of k event ≤ step.last_stamp) × (step.has_full_link line c k ≡ false)
+    → (step.stamp_of k event ≤ last_stamp) × (step.has_full_link line c k ≡ false)
 allowed line c k event none =
-    let tests = tests_of (nat_lt step.last_stamp (step.stamp_of k event)) (step.has_full_link line c k) none in
-    (ltb-false step.last_stamp (step.stamp_of k event) tests.0, tests.1)
+    let tests = tests_of (nat_lt last_stamp (step.stamp_of k event)) (step.has_full_link line c k) none in
+    (ltb-false last_stamp (step.stamp_of k event) tests.0, tests.1)
 
 -- and the other way round
-pub no_refusal : (line : Line) (c : ℕ) (k : centre.Centre) (event : Event) (stamp : ℕ) → step.stamp_of k event ≡ stamp + 1 → stamp < step.last_stamp → step.has_full_link line c k ≡ false
+pub no_refusal : (line : Line) (c : ℕ) (k : centre.Centre) (event : Event) (stamp : ℕ) → step.stamp_of k event ≡ stamp + 1 → stamp < last_stamp → step.has_full_link line c k ≡ false
     → step.refusal line c k event ≡ None
 no_refusal line c k event stamp is early room =
-    let e : nat_lt step.last_stamp (stamp + 1) ≡ false = grind (arith, nat_tests) in
+    let e : nat_lt last_stamp (stamp + 1) ≡ false = grind (arith, nat_tests) in
     rw (is, e, room) refl
 
 -- the refusal of the event, by the stamp before its own
 pub refusal_by : (line : Line) (c : ℕ) (k : centre.Centre) (event : Event) (stamp : ℕ) → step.stamp_of k event ≡ stamp + 1
-    → (if nat_lt step.last_stamp (stamp + 1) then Some step.ClockEnd else (if step.has_full_link line c k then Some step.LinkFull else None)) ≡ step.refusal line c k event
+    → (if nat_lt last_stamp (stamp + 1) then Some step.ClockEnd else (if step.has_full_link line c k then Some step.LinkFull else None)) ≡ step.refusal line c k event
 refusal_by line c k event stamp is = rw is refl
 
 pub taken_step : (line : Line) (c : ℕ) (k : centre.Centre) (event : Event) → step.refusal line c k event ≡ None → step.step line c event k ≡ Ok (step.taken line c event k)
@@ -167,12 +167,12 @@ refused_step line c k event fault.ClockEnd is = rw is refl
 
 -- what a test of the stamp and the links answers, as the refusal of the event
 pub ok_allowed : {T : Type 0} (line : Line) (c : ℕ) (k : centre.Centre) (event : Event) (stamp : ℕ) → step.stamp_of k event ≡ stamp + 1 → (r : Result T StepFault)
-    → OnOk r ((stamp < step.last_stamp) × (step.has_full_link line c k ≡ false)) → OnOk r (step.refusal line c k event ≡ None)
+    → OnOk r ((stamp < last_stamp) × (step.has_full_link line c k ≡ false)) → OnOk r (step.refusal line c k event ≡ None)
 ok_allowed line c k event stamp is (Ok x) room = no_refusal line c k event stamp is room.0 room.1
 ok_allowed line c k event stamp is (Err f) room = tt
 
 pub err_refused : {T : Type 0} (line : Line) (c : ℕ) (k : centre.Centre) (event : Event) (stamp : ℕ) → step.stamp_of k event ≡ stamp + 1 → (r : Result T StepFault)
-    → IfErr r (λ f. IsRefusalOf f (if nat_lt step.last_stamp (stamp + 1) then Some step.ClockEnd else (if step.has_full_link line c k then Some step.LinkFull else None)))
+    → IfErr r (λ f. IsRefusalOf f (if nat_lt last_stamp (stamp + 1) then Some step.ClockEnd else (if step.has_full_link line c k then Some step.LinkFull else None)))
     → IfErr r (λ f. IsRefusalOf f (step.refusal line c k event))
 err_refused line c k event stamp is (Ok x) why = tt
 err_refused line c k event stamp is (Err f) why = subst (IsRefusalOf f) (refusal_by line c k event stamp is) why

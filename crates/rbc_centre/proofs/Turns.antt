@@ -5,7 +5,7 @@ use Rattle.std.specs.Result.{OnErr}
 use Rattle.rbc_spec.specs.SectionRuns.{within as within_run}
 use Rattle.rbc_spec.specs.Sections.{is_on}
 use Rattle.rbc_spec.specs.Line.{Line, is_linked, train_number}
-use Rattle.rbc_spec.specs.Frame.{Frame, HasFrameRanges, Body as BodySent}
+use Rattle.rbc_spec.specs.Frame.{Frame, HasFrameRanges, Body as BodySent, last_stamp}
 use Rattle.rbc_spec.specs.Outcome.{Saying, Word, Taken, Reason, Told}
 use Rattle.rbc_spec.specs.Centre as centre
 use Rattle.rbc_spec.specs.Centre.{Expectation}
@@ -65,7 +65,7 @@ module _ (k : CentreCode) (t i : ℕ) (old : TrainState) (number : train_number 
   pub has_number : old.supervision.number < length k.desk.registrar
   has_number = omega (arith, of_train.number, within, k.rules.all_trains.count, k.rules.each_right)
 
-  pub has_count : k.clock < step.last_stamp → old.said < 4294967293
+  pub has_count : k.clock < last_stamp → old.said < 4294967293
   has_count early = let few = k.rules.all_trains.said i old at in omega (arith, few, early)
 
   pub kept_train : IsKeptAt k.line k.number old
@@ -192,7 +192,7 @@ on_err (Err e) h = h
 
 -- ## What is not refused
 
-module _ (k : CentreCode) (early : k.clock < step.last_stamp) (room : step.has_full_link k.line k.number (state_of k) ≡ false) where
+module _ (k : CentreCode) (early : k.clock < last_stamp) (room : step.has_full_link k.line k.number (state_of k) ≡ false) where
   pub heard_allowed : (m : TrainMessage) → step.refusal k.line k.number (state_of k) (Train m) ≡ None
   heard_allowed m = no_refusal k.line k.number (state_of k) (Train m) k.clock (heard_stamp k m) early room
 
@@ -223,7 +223,7 @@ pub heard_may : (k : CentreCode) (m : TrainMessage) (t i : ℕ) (old : TrainStat
     (new : TrainState) (book : Pages) (rights : Rights) (n : ℕ) (kept : KeepsTrain old new) (desk : KeepsDesk old.supervision.number k.book book k.desk.registrar rights) (heard : Heard)
     → ((x : centre.Centre) → HasParts k.line k.number x old k.book k.desk.registrar → is_none (train_number k.line old.supervision.engine) ≡ false → x.announced ≡ k.desk.handovers
     → step.effect k.line k.number x (Train m) ≡ effect_left k.line k.number old.supervision.engine (with_count n (with_parts new book rights x)) (Ok heard))
-    → k.clock < step.last_stamp → step.has_full_link k.line k.number (state_of k) ≡ false → HasMessageRanges m → (tells_others m.body ≡ true → HasRoom k.links 4)
+    → k.clock < last_stamp → step.has_full_link k.line k.number (state_of k) ≡ false → HasMessageRanges m → (tells_others m.body ≡ true → HasRoom k.links 4)
     → (d : ℕ) → MayPost k.links d (mail_to k.line k.number old.supervision.engine (expected_from new.expectations) heard.mail d)
 heard_may k m t i old number at new book rights n kept desk heard exact early none ranges room =
     let bodies = mail_to k.line k.number old.supervision.engine (expected_from new.expectations) heard.mail in

@@ -2,7 +2,8 @@ ghost use Rattle.std.specs.Prelude.{◌≡◌, ◌<◌, ◌+◌, true, false, le
 ghost use Rattle.rbc_spec.specs.Line.{is_centre};
 ghost use Rattle.rbc_spec.specs.Centre.{beginning};
 ghost use Rattle.rbc_spec.specs.Step as spec;
-ghost use Rattle.rbc_spec.specs.Step.{refusal, has_full_link, last_stamp};
+ghost use Rattle.rbc_spec.specs.Step.{refusal, has_full_link};
+ghost use Rattle.rbc_spec.specs.Frame.{last_stamp};
 ghost use Rattle.rbc_book.specs.Entries.{entry_of};
 ghost use Rattle.rbc_link.specs.Links as links;
 ghost use Rattle.rbc_place.specs.Places.{place_of};

@@ -3,7 +3,8 @@
 
 ghost use Rattle.std.specs.Prelude.{◌≡◌, ◌<◌, OnOk, OnErr, false, max};
 ghost use Rattle.rbc_spec.specs.Step as spec;
-ghost use Rattle.rbc_spec.specs.Step.{has_full_link, last_stamp};
+ghost use Rattle.rbc_spec.specs.Step.{has_full_link};
+ghost use Rattle.rbc_spec.specs.Frame.{last_stamp};
 ghost use Rattle.rbc_link.specs.Links as links;
 ghost use Rattle.rbc_centre.specs.Answer.{TakesMemory};
 ghost use Rattle.rbc_centre.specs.Rooms.{HasFrameRoom};

@@ -4,7 +4,8 @@ ghost use Rattle.std.specs.Prelude.{◌≡◌, ◌<◌, ℕ, IfSome, OnOk, OnErr
 ghost use Rattle.rbc_spec.specs.Centre as spec;
 ghost use Rattle.rbc_spec.specs.Line.{train_number};
 ghost use Rattle.rbc_spec.specs.Step as step;
-ghost use Rattle.rbc_spec.specs.Step.{has_full_link, last_stamp};
+ghost use Rattle.rbc_spec.specs.Step.{has_full_link};
+ghost use Rattle.rbc_spec.specs.Frame.{last_stamp};
 ghost use Rattle.rbc_book.specs.Book.{entry_at};
 ghost use Rattle.rbc_link.specs.Links as links;
 ghost use Rattle.rbc_centre.specs.Answer.{Steps, IsWantedBy, TakesMemory};

@@ -3,12 +3,13 @@
 ghost use Rattle.std.specs.Prelude.{◌≡◌, ◌⊎◌, ◌+◌, ◌≤◌, ◌<◌, ℕ, IsTrue, [], Option, Some, length};
 ghost use Rattle.std.specs.Vec.{vec_capacity};
 ghost use Rattle.rbc_spec.specs.Line.{is_linked};
-ghost use Rattle.rbc_spec.specs.Step.{last_stamp, numbered};
+ghost use Rattle.rbc_spec.specs.Step.{numbered};
 ghost use Rattle.rbc_link.specs.Links.{has_link, sent_to};
 ghost use Rattle.rbc_link.specs.Posted.{HasPosted};
 ghost use Rattle.rbc_linkmsg.specs.Bodies.{body_of};
 ghost use Rattle.rbc_handover.specs.Expectations.{expected_from};
 ghost use Rattle.rbc_spec.specs.Centre.{Expectation};
+ghost use Rattle.rbc_spec.specs.Frame.{last_stamp};
 ghost use Rattle.rbc_linkmsg.specs.declared.body.Body.{Body as BodyCode};
 ghost use Rattle.rbc_train.specs.Letters.{bodies_in, mail_to};
 ghost use Rattle.rbc_centre.specs.Posts.{MayPost, HasSent, only, to_others};

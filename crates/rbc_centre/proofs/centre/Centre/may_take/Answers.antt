@@ -1,6 +1,7 @@
 use Rattle.std.proofs.Common.{◌≡◌, ◌+◌, ◌∙◌, true, false, nat_lt, sym, refl, arith}
 use Rattle.std.proofs.lemmas.Bool.Decides.{nat_tests}
-use Rattle.rbc_spec.specs.Step.{has_full_link, last_stamp}
+use Rattle.rbc_spec.specs.Step.{has_full_link}
+use Rattle.rbc_spec.specs.Frame.{last_stamp}
 use Rattle.rbc_link.proofs.Full.{is_full_link}
 use Rattle.rbc_linkmsg.specs.Bodies.{body_of}
 use Rattle.rbc_centre.specs.State.{stands_for}
