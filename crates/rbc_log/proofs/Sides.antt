@@ -184,7 +184,7 @@ module _ (line : Line) where
       elim (eqb_tells (number_of l.core) c) [
         | inl t ↦
             let same_centre : is_centre line c ≡ is_centre (line_of l.core) (number_of l.core) = λ i. is_centre (sym here i) (sym t.1 i) in
-            let there : is_centre line c ≡ true = same_centre ∙ l.core.of_line in absurd cc
+            let there : is_centre line c ≡ true = same_centre ∙ l.core.rules.of_line in absurd cc
         | inr f ↦ ap (λ b. option_map_or (λ (m : LogValue). map entry_of m.entries) (if b then Some l else log_of c ls) []) f.0
             ∙ no_other ls (All-tail (λ (m : LogValue). line_of m.core ≡ line) l ls same) c none
       ]
