@@ -5,7 +5,7 @@ use Rattle.std.proofs.lemmas.Bool.{cases_Bool, both_ways}
 use Rattle.std.proofs.lemmas.Bool.Decides.{eqb_tells, nat_tests}
 use Rattle.rbc_spec.specs.Maps.{put}
 use Rattle.rbc_spec.specs.Centre.{Entry, Shut, Taken, is_open}
-use Rattle.rbc_spec.specs.SectionRuns.{SectionRun, within}
+use Rattle.rbc_spec.specs.SectionRuns.{within}
 use Rattle.law_base.proofs.Runs.{within_true, within_from}
 use Rattle.rbc_book.specs.Entries.{entry_of}
 use Rattle.rbc_book.specs.Sheet.{Sheet, page_in, page_on, pages_on}
@@ -19,7 +19,7 @@ use Rattle.rbc_book.specs.declared.page.Page.{Page}
 use Rattle.rbc_book.specs.declared.run.Run.{Run}
 use Rattle.rbc_book.proofs.Rows.{sheet_says, spot_of_run}
 use Rattle.rbc_book.proofs.Sheets.{written_pages}
-use Rattle.rbc_book.proofs.Pages.{page_of_sheet, of_page}
+use Rattle.rbc_book.proofs.Pages.{page_of_sheet}
 
 -- ## A part of a run is written
 

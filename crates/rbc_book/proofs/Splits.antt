@@ -1,12 +1,12 @@
 -- Laws of runs that are divided.
-use Rattle.std.proofs.Common.{◌⊎◌, ◌&&◌, if◌then◌else◌, subst, ◌≡◌, ℕ, zero, suc, ◌+◌, ◌-◌, ◌<◌, ◌≤◌, ◌||◌, nat_lt, inl, inr, Bool, true, false, cond, List, [], ◌∷◌, Some, refl, ap, sym, ◌∙◌, arith}
-use Rattle.std.proofs.lemmas.Bool.{cases_lt, cases_Bool, and_parts, and_from, and_left, ltb-true, lt-ltb, le-ltb, or_left, or_right, or_cases, both_ways}
+use Rattle.std.proofs.Common.{◌⊎◌, ◌&&◌, if◌then◌else◌, subst, ◌≡◌, ℕ, zero, suc, ◌+◌, ◌-◌, ◌<◌, ◌≤◌, ◌||◌, nat_lt, inl, inr, Bool, true, false, cond, List, [], ◌∷◌, Some, refl, ap, ◌∙◌, arith}
+use Rattle.std.proofs.lemmas.Bool.{cases_lt, cases_Bool, and_parts, and_from, ltb-true, lt-ltb, or_left, or_right, or_cases, both_ways}
 use Rattle.rbc_spec.specs.SectionRuns.{within}
 use Rattle.law_base.proofs.Runs.{within_true, within_from, same_tests}
 use Rattle.rbc_book.specs.Runs.{At, AreInOrder, AreApart, GoesOn, IsFollowed, GoesOnAt, sections_of, sections_in, spot_of, spot_at}
 use Rattle.rbc_book.specs.Edits.{IsWhole}
 use Rattle.rbc_book.specs.declared.run.Run.{Run}
-use Rattle.rbc_book.proofs.Rows.{at_from, order_at}
+use Rattle.rbc_book.proofs.Rows.{at_from}
 
 -- ## The definitions
 

@@ -1,7 +1,6 @@
-use Rattle.std.proofs.Common.{◌≡◌, ◌+◌, ◌-◌, ap, subst, ◌∙◌, arith}
+use Rattle.std.proofs.Common.{◌+◌, ap, ◌∙◌, arith}
 use Rattle.rbc_spec.specs.Centre.{is_open}
 use Rattle.law_base.proofs.Runs.{within_from}
-use Rattle.rbc_book.specs.Changes.{IsTaken}
 use Rattle.rbc_book.proofs.Changed.{taken_nothing, taken_more, behind_taken}
 use Rattle.rbc_book.proofs.book.Book.take_run.Goals as goal
 
