@@ -104,3 +104,17 @@ bytes_high_first-fit (suc k) n = (byte_at-fits k n, bytes_high_first-fit k n)
 pub bits_of-made : (bits : List Bool) (k : ℕ) → length bits ≡ 8 * k → bits_of (bytes_high_first k (value_of bits)) ≡ bits
 bits_of-made bits k len =
     bits_of-bytes_high_first k (value_of bits) ∙ ap (λ n. field n (value_of bits)) (sym len) ∙ field-value_of bits
+
+-- ---- a number of 16 bytes as two of 8
+
+all-fit : (xs ys : List ℕ) → AllByRecursion (λ b. b < 256) xs → AllByRecursion (λ b. b < 256) ys → AllByRecursion (λ b. b < 256) (xs ++ ys)
+all-fit [] ys xs-fit ys-fit = ys-fit
+all-fit (x ∷ xs) ys xs-fit ys-fit = (xs-fit.0, all-fit xs ys xs-fit.1 ys-fit)
+
+pub halves-bytes : (n : ℕ) → bytes_high_first 8 (n / 2 ^ 64) ++ bytes_high_first 8 (n % 2 ^ 64) ≡ bytes_high_first 16 n
+halves-bytes n =
+    let high = bytes_high_first 8 (n / 2 ^ 64) in
+    let low = bytes_high_first 8 (n % 2 ^ 64) in
+    bits_of-injective (high ++ low) (bytes_high_first 16 n) (all-fit high low (bytes_high_first-fit 8 (n / 2 ^ 64)) (bytes_high_first-fit 8 (n % 2 ^ 64))) (bytes_high_first-fit 16 n)
+    (bits_of-append high low ∙ ap (λ t. t ++ bits_of low) (bits_of-bytes_high_first 8 (n / 2 ^ 64))
+    ∙ ap (λ t. field 64 (n / 2 ^ 64) ++ t) (bits_of-bytes_high_first 8 (n % 2 ^ 64) ∙ field-mod 64 n) ∙ sym (field-add 64 64 n) ∙ sym (bits_of-bytes_high_first 16 n))

@@ -1,7 +1,9 @@
-ghost use Rattle.std.specs.Prelude.{◌≡◌, ◌+◌, ◌^◌, ◌<◌, ◌≤◌, ◌++◌, [], length, IfOk, OnOk, IsOkUnless};
+ghost use Rattle.std.specs.Prelude.{◌≡◌, ◌+◌, ◌/◌, ◌%◌, ◌^◌, ◌<◌, ◌≤◌, ◌++◌, [], length, IfOk, OnOk, IsOkUnless};
+ghost use Rattle.std.specs.Int.{w64, to_be_bytes};
 ghost use Rattle.rbc_bits.specs.Bits.{field, bits_of, filled};
 
 use crate::fault::BitFault;
+use crate::writer::BitWriter;
 use std::alloc::Global;
 use std::marker::Model;
 
@@ -81,6 +83,18 @@ impl BitRow {
         push(&mut bytes, self.back, self.second)?;
         Ok(bytes)
     }
+
+    /// A writer that has written these bits, with memory for so many bytes.
+    #[inline(always)]
+    pub fn writer(self, alloc: Global, bytes: usize) -> Result<BitWriter, BitFault>
+        ensures ok { IfOk result (λ w. w ≡ self) }
+        ensures memory { IsOkUnless result BitFault.Memory }
+    {
+        let mut writer = BitWriter::with_capacity(alloc, bytes)?;
+        write(&mut writer, self.front, self.first)?;
+        write(&mut writer, self.back, self.second)?;
+        Ok(writer)
+    }
 }
 
 // The bits that a word holds, in bytes behind others.
@@ -92,8 +106,46 @@ fn push(bytes: &mut Vec<u8>, held: u128, count: u32) -> Result<(), BitFault>
     ensures memory { IsOkUnless result BitFault.Memory }
 {
     if count > 0 {
-        let word = (held << (128 - count)).to_be_bytes();
+        let (high, low) = halves(held << (128 - count));
+        let word = bytes_of(high, low);
         bytes.extend_from_slice(&word[..((count + 7) / 8) as usize])?;
     }
     Ok(())
+}
+
+// The bits that a word holds, behind those of a writer.
+fn write(writer: &mut BitWriter, held: u128, count: u32) -> Result<(), BitFault>
+    requires count { count ≤ 128 }
+    requires held { held < 2 ^ count }
+    ensures ok { OnOk result (writer.new ≡ writer.old ++ field count held) }
+    ensures memory { IsOkUnless result BitFault.Memory }
+{
+    let (high, low) = halves(held);
+    if count <= 64 {
+        return writer.put(low, count);
+    }
+    writer.put(high, count - 64)?;
+    writer.put(low, 64)
+}
+
+// The halves of a word.
+#[inline(always)]
+fn halves(word: u128) -> (u64, u64)
+    ensures high { result.0 ≡ word / 2 ^ 64 }
+    ensures low { result.1 ≡ word % 2 ^ 64 }
+{
+    let low = word & ((1 << 64) - 1);
+    ((word >> 64) as u64, low as u64)
+}
+
+// The bytes of two words, the highest first. It is a call, so that each is a word that the processor turns at once, and
+// not bytes of the fields that are in it.
+#[inline(never)]
+fn bytes_of(high: u64, low: u64) -> [u8; 16]
+    ensures { result ≡ to_be_bytes w64 high ++ to_be_bytes w64 low }
+{
+    let mut bytes = [0; 16];
+    bytes[..8].copy_from_slice(&high.to_be_bytes());
+    bytes[8..].copy_from_slice(&low.to_be_bytes());
+    bytes
 }

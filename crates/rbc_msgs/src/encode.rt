@@ -25,10 +25,8 @@ fn train_bytes(alloc: Global, l_message: u64, message: &TrainMsg) -> Result<Vec<
     ensures spelled { IfOk result (λ bytes. SpellsTrain bytes.items message.now) }
     ensures memory { IsOkUnless result EncodeFault.Memory }
 {
-    let writer = train_writing::header(alloc, l_message, message)?;
-    let writer = train_writing::body(writer, message.body())?;
-    let writer = train_writing::further(writer, message.further())?;
-    Ok(writer.finish()?)
+    let row = train_writing::header(l_message, message);
+    train_writing::bytes(alloc, l_message, row, message.body(), message.further())
 }
 
 /// The bytes that spell the message of a centre. None is too long.

@@ -1,19 +1,21 @@
 //! The parts of a train's message, written one behind the other, and how long they are.
 
-ghost use Rattle.std.specs.Prelude.{◌≡◌, ◌≢◌, ◌+◌, ◌<◌, ◌++◌, ◌^◌, length, All, IfOk, IfErr, OnOk, IsOkUnless};
+ghost use Rattle.std.specs.Prelude.{◌≡◌, ◌≢◌, ◌+◌, ◌<◌, ◌≤◌, ◌++◌, ◌^◌, length, All, IfOk, IfErr, OnOk, IsOkUnless};
 ghost use Rattle.std.specs.List.{flat_map, AllByRecursion};
+ghost use Rattle.rbc_bits.specs.Bits.{bits_of, filled};
 ghost use Rattle.rbc_packets.specs.Layout.{joined};
+ghost use Rattle.rbc_packets.specs.PositionSpelling.{PositionFits};
 ghost use Rattle.rbc_spec.specs.Message.{unknown_time};
 ghost use Rattle.rbc_msgs.specs.Layout.{length_limit};
 ghost use Rattle.rbc_msgs.specs.TrainView.{HasItsPackets};
-ghost use Rattle.rbc_msgs.specs.TrainSpelling.{train_number, train_header, train_body_bits, packet_bits, train_length, TrainBodyFits, IsFurther};
+ghost use Rattle.rbc_msgs.specs.TrainSpelling.{train_number, train_header, position_packet, train_body_bits, packet_bits, train_length, TrainBodyFits, IsFurther};
 
 use crate::fault::EncodeFault;
 use crate::number::TrainNumber;
 use crate::train::TrainMsg;
 use crate::train_body::TrainBody;
-use rbc_bits::BitWriter;
-use rbc_packets::Opaque;
+use rbc_bits::{BitRow, BitWriter};
+use rbc_packets::{Opaque, Position};
 use std::alloc::Global;
 
 // NID_MESSAGE, L_MESSAGE, T_TRAIN and NID_ENGINE.
@@ -108,71 +110,122 @@ fn number_of(body: &TrainBody) -> u64
 /// The header.
 #[tactic(auto, unfolding(rbc_packets::specs::Layout::joined))]
 #[inline(always)]
-pub(crate) fn header(
-    alloc: Global,
-    l_message: u64,
-    message: &TrainMsg,
-) -> Result<BitWriter, EncodeFault>
+pub(crate) fn header(l_message: u64, message: &TrainMsg) -> BitRow
     requires { l_message < length_limit }
-    ensures ok { IfOk result (λ w. w ≡ joined (train_header l_message message.now)) }
-    ensures fits { OnOk result ((message.now.t_train < unknown_time) × (message.now.nid_engine < 2 ^ 24)) }
-    ensures memory { IsOkUnless result EncodeFault.Memory }
+    ensures ok { result ≡ joined (train_header l_message message.now) }
+    ensures length { length result ≡ 74 }
+    ensures fits { (message.now.t_train < unknown_time) × (message.now.nid_engine < 2 ^ 24) }
 {
-    let mut writer = BitWriter::with_capacity(alloc, l_message as usize)?;
-    writer.put(number_of(message.body()), 8)?;
-    writer.put(l_message, 10)?;
-    writer.put(message.t_train().into(), 32)?;
-    writer.put(message.nid_engine().into(), 24)?;
-    Ok(writer)
+    let mut row = BitRow::new();
+    row.put(number_of(message.body()), 8);
+    row.put(l_message, 10);
+    row.put(message.t_train().into(), 32);
+    row.put(message.nid_engine().into(), 24);
+    row
 }
 
-/// The fixed fields and the packets that have to stand behind the header.
+/// The bytes of a message of this header, this body and these further packets. Each body is finished by itself: so the
+/// places of its fields are known before they are written.
 #[tactic(auto, unfolding(rbc_packets::specs::Layout::joined))]
-pub(crate) fn body(mut writer: BitWriter, body: &TrainBody) -> Result<BitWriter, EncodeFault>
-    requires { HasItsPackets body.now }
-    ensures ok { IfOk result (λ w. w ≡ writer ++ train_body_bits body.now) }
-    ensures fits { OnOk result (TrainBodyFits body.now) }
+#[inline(always)]
+pub(crate) fn bytes(
+    alloc: Global,
+    l_message: u64,
+    mut row: BitRow,
+    body: &TrainBody,
+    further: &[Opaque],
+) -> Result<Vec<u8>, EncodeFault>
+    requires header { length row ≡ 74 }
+    requires body { HasItsPackets body.now }
+    requires further { All (λ p. p.nid_packet ≢ 0) further.now }
+    ensures ok { IfOk result
+        (λ bytes. bits_of bytes.items
+        ≡ filled ((row ++ train_body_bits body.now) ++ flat_map packet_bits further.now)) }
+    ensures fits { OnOk result (TrainBodyFits body.now × AllByRecursion IsFurther further.now) }
     ensures memory { IsOkUnless result EncodeFault.Memory }
 {
     match body {
         TrainBody::TrainData { position, packet } => {
-            let writer = position.write_packet(writer)?;
-            Ok(packet.write_packet(writer)?)
+            position.write_packet(&mut row);
+            let writer = row.writer(alloc, l_message as usize)?;
+            let writer = packet.write_packet(writer)?;
+            with_packets(writer, further)
         }
         TrainBody::Request {
             q_marqstreason,
             position,
         } => {
-            writer.put(q_marqstreason.value(), 5)?;
-            Ok(position.write_packet(writer)?)
+            row.put(q_marqstreason.value(), 5);
+            with_position(alloc, l_message, row, position, further)
         }
         TrainBody::Report { position } | TrainBody::EndOfMission { position } => {
-            Ok(position.write_packet(writer)?)
+            with_position(alloc, l_message, row, position, further)
         }
         TrainBody::ShorteningGranted { request, position }
         | TrainBody::ShorteningRejected { request, position } => {
-            writer.put(request.value(), 32)?;
-            Ok(position.write_packet(writer)?)
+            row.put(request.value(), 32);
+            with_position(alloc, l_message, row, position, further)
         }
         TrainBody::StartOfMission { q_status, position } => {
-            writer.put(q_status.value(), 2)?;
-            Ok(position.write_packet(writer)?)
+            row.put(q_status.value(), 2);
+            with_position(alloc, l_message, row, position, further)
         }
         TrainBody::InitiationOfSession
         | TrainBody::TerminationOfSession
-        | TrainBody::SessionEstablished => Ok(writer),
+        | TrainBody::SessionEstablished => finish(alloc, l_message, row, further),
     }
 }
 
-/// The further packets, in their order.
-pub(crate) fn further(mut writer: BitWriter, packets: &[Opaque]) -> Result<BitWriter, EncodeFault>
+// The bytes of bits, of a position report behind them, and of further packets.
+#[inline(always)]
+fn with_position(
+    alloc: Global,
+    l_message: u64,
+    mut row: BitRow,
+    position: &Position,
+    further: &[Opaque],
+) -> Result<Vec<u8>, EncodeFault>
+    requires room { length row + 137 ≤ 256 }
+    requires further { All (λ p. p.nid_packet ≢ 0) further.now }
+    ensures ok { IfOk result
+        (λ bytes. bits_of bytes.items
+        ≡ filled ((row ++ joined (position_packet position.now)) ++ flat_map packet_bits further.now)) }
+    ensures fits { OnOk result (PositionFits position.now × AllByRecursion IsFurther further.now) }
+    ensures memory { IsOkUnless result EncodeFault.Memory }
+{
+    position.write_packet(&mut row);
+    finish(alloc, l_message, row, further)
+}
+
+// The bytes of bits, and of further packets behind them.
+#[inline(always)]
+fn finish(
+    alloc: Global,
+    l_message: u64,
+    row: BitRow,
+    further: &[Opaque],
+) -> Result<Vec<u8>, EncodeFault>
+    requires { All (λ p. p.nid_packet ≢ 0) further.now }
+    ensures ok { IfOk result (λ bytes. bits_of bytes.items ≡ filled (row ++ flat_map packet_bits further.now)) }
+    ensures fits { OnOk result (AllByRecursion IsFurther further.now) }
+    ensures memory { IsOkUnless result EncodeFault.Memory }
+{
+    if further.is_empty() {
+        return Ok(row.finish(alloc)?);
+    }
+    let writer = row.writer(alloc, l_message as usize)?;
+    with_packets(writer, further)
+}
+
+// The bytes of what is written, and of further packets behind it, in their order.
+fn with_packets(mut writer: BitWriter, packets: &[Opaque]) -> Result<Vec<u8>, EncodeFault>
     requires { All (λ p. p.nid_packet ≢ 0) packets.now }
-    ensures ok { IfOk result (λ w. w ≡ writer ++ flat_map packet_bits packets.now) }
+    ensures ok { IfOk result (λ bytes. bits_of bytes.items ≡ filled (writer ++ flat_map packet_bits packets.now)) }
     ensures fits { OnOk result (AllByRecursion IsFurther packets.now) }
     ensures memory { IsOkUnless result EncodeFault.Memory }
 {
     for packet in packets {
         writer = packet.write_packet(writer)?;
     }
-    Ok(writer)
+    Ok(writer.finish()?)
 }

@@ -1,4 +1,4 @@
-ghost use Rattle.std.specs.Prelude.{◌≡◌, ◌+◌, ◌≤◌, ◌++◌, length, IfOk, IfSome, OnOk, OnSome, IsOkUnless};
+ghost use Rattle.std.specs.Prelude.{◌≡◌, ◌+◌, ◌≤◌, ◌++◌, length, IfOk, IfSome, OnSome};
 ghost use Rattle.rbc_packets.specs.Layout.{joined, widths};
 ghost use Rattle.rbc_packets.specs.Steps.{Takes};
 ghost use Rattle.rbc_packets.specs.PositionSpelling.{level_fields, LevelFits};
@@ -6,7 +6,7 @@ ghost use Rattle.rbc_packets.specs.PositionReading.{level_at};
 
 use crate::fault::PacketFault;
 use crate::reading::{m_level, take};
-use rbc_bits::{BitPart, BitWord, BitWriter};
+use rbc_bits::{BitPart, BitRow, BitWord};
 use rbc_vars::{MLevel, NidNtc};
 
 /// M_LEVEL and NID_NTC: the level under which the train runs, and the national system where it is level NTC.
@@ -76,25 +76,24 @@ impl Level {
 
     #[tactic(auto, unfolding(crate::specs::Layout::joined))]
     #[inline(always)]
-    pub(crate) fn write(&self, writer: &mut BitWriter) -> Result<(), PacketFault>
-        ensures ok { OnOk result (writer.new ≡ writer.old ++ joined (level_fields self.now)) }
-        ensures fits { OnOk result (LevelFits self.now) }
-        ensures memory { IsOkUnless result PacketFault.Memory }
+    pub(crate) fn write(&self, row: &mut BitRow)
+        requires room { length row.old + 11 ≤ 256 }
+        ensures ok { row.new ≡ row.old ++ joined (level_fields self.now) }
+        ensures fits { LevelFits self.now }
     {
         match self {
-            Level::Level0 => writer.put(0, 3)?,
+            Level::Level0 => row.put(0, 3),
             Level::Ntc(nid_ntc) => {
-                writer.put(1, 3)?;
-                writer.put(nid_ntc.value(), 8)?;
+                row.put(1, 3);
+                row.put(nid_ntc.value(), 8);
             }
-            Level::Level1 => writer.put(2, 3)?,
-            Level::Level2 => writer.put(3, 3)?,
-            Level::Level3 => writer.put(4, 3)?,
-            Level::Spare5 => writer.put(5, 3)?,
-            Level::Spare6 => writer.put(6, 3)?,
-            Level::Spare7 => writer.put(7, 3)?,
+            Level::Level1 => row.put(2, 3),
+            Level::Level2 => row.put(3, 3),
+            Level::Level3 => row.put(4, 3),
+            Level::Spare5 => row.put(5, 3),
+            Level::Spare6 => row.put(6, 3),
+            Level::Spare7 => row.put(7, 3),
         }
-        Ok(())
     }
 
     /// How many bits its fields have.

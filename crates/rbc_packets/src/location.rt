@@ -1,4 +1,4 @@
-ghost use Rattle.std.specs.Prelude.{◌≡◌, ◌+◌, ◌≤◌, ◌++◌, length, IfOk, IfSome, OnOk, OnSome, IsOkUnless};
+ghost use Rattle.std.specs.Prelude.{◌≡◌, ◌+◌, ◌≤◌, ◌++◌, length, IfOk, IfSome, OnSome};
 ghost use Rattle.rbc_packets.specs.Layout.{joined};
 ghost use Rattle.rbc_packets.specs.Steps.{Takes};
 ghost use Rattle.rbc_packets.specs.PositionSpelling.{location_fields, LocationFits};
@@ -6,7 +6,7 @@ ghost use Rattle.rbc_packets.specs.PositionReading.{location_at};
 
 use crate::fault::PacketFault;
 use crate::reading::{direction, q_scale, take};
-use rbc_bits::{BitPart, BitWord, BitWriter};
+use rbc_bits::{BitPart, BitRow, BitWord};
 use rbc_vars::{DLrbg, Direction, LDoubtover, LDoubtunder, NidLrbg, QScale};
 
 /// Where the train is: its estimated front end from a balise group, and how far it may be behind and ahead of it.
@@ -83,18 +83,18 @@ impl Location {
 
     #[tactic(auto, unfolding(crate::specs::Layout::joined))]
     #[inline(always)]
-    pub(crate) fn write(&self, writer: &mut BitWriter) -> Result<(), PacketFault>
-        ensures ok { OnOk result (writer.new ≡ writer.old ++ joined (location_fields self.now)) }
-        ensures fits { OnOk result (LocationFits self.now) }
-        ensures memory { IsOkUnless result PacketFault.Memory }
+    pub(crate) fn write(&self, row: &mut BitRow)
+        requires room { length row.old + 75 ≤ 256 }
+        ensures ok { row.new ≡ row.old ++ joined (location_fields self.now) }
+        ensures length { length row.new ≡ length row.old + 75 }
+        ensures fits { LocationFits self.now }
     {
-        writer.put(self.q_scale.value(), 2)?;
-        writer.put(self.nid_lrbg.value(), 24)?;
-        writer.put(self.d_lrbg.value(), 15)?;
-        writer.put(self.q_dirlrbg.value(), 2)?;
-        writer.put(self.q_dlrbg.value(), 2)?;
-        writer.put(self.l_doubtover.value(), 15)?;
-        writer.put(self.l_doubtunder.value(), 15)?;
-        Ok(())
+        row.put(self.q_scale.value(), 2);
+        row.put(self.nid_lrbg.value(), 24);
+        row.put(self.d_lrbg.value(), 15);
+        row.put(self.q_dirlrbg.value(), 2);
+        row.put(self.q_dlrbg.value(), 2);
+        row.put(self.l_doubtover.value(), 15);
+        row.put(self.l_doubtunder.value(), 15);
     }
 }

@@ -1,4 +1,4 @@
-ghost use Rattle.std.specs.Prelude.{◌≡◌, ◌+◌, ◌≤◌, ◌++◌, ◌∷◌, length, IfOk, IfSome, OnOk, IsOkUnless, Bool, List, Ok};
+ghost use Rattle.std.specs.Prelude.{◌≡◌, ◌+◌, ◌^◌, ◌<◌, ◌≤◌, ◌++◌, ◌∷◌, [], length, IfOk, IfSome, Bool, List, Ok};
 ghost use Rattle.rbc_bits.specs.Bits.{field};
 ghost use Rattle.rbc_packets.specs.Layout.{joined, widths, train_packet};
 ghost use Rattle.rbc_packets.specs.Steps.{Takes};
@@ -10,8 +10,7 @@ use crate::level::Level;
 use crate::location::Location;
 use crate::reading::{direction, end, take, train_part};
 use crate::train_length::TrainLength;
-use crate::writing::put_train_header;
-use rbc_bits::{BitPart, BitReader, BitWord, BitWriter};
+use rbc_bits::{BitPart, BitReader, BitRow, BitWord};
 use rbc_vars::{Direction, MMode, VTrain};
 
 /// Packet 0, position report (7.4.3.1).
@@ -161,19 +160,18 @@ impl Position {
         })
     }
 
-    /// Writes the packet. A refusal leaves nothing of the writer.
+    /// Writes the packet.
     #[inline(always)]
-    pub fn write_packet(&self, mut writer: BitWriter) -> Result<BitWriter, PacketFault>
-        ensures ok { IfOk result (λ w. w ≡ writer ++ joined ((8, 0) ∷ train_packet (position_fields self.now))) }
-        ensures fits { OnOk result (PositionFits self.now) }
-        ensures memory { IsOkUnless result PacketFault.Memory }
+    pub fn write_packet(&self, row: &mut BitRow)
+        requires room { length row.old + 137 ≤ 256 }
+        ensures ok { row.new ≡ row.old ++ joined ((8, 0) ∷ train_packet (position_fields self.now)) }
+        ensures fits { PositionFits self.now }
     {
-        put_train_header(&mut writer, Position::NID_PACKET, self.l_packet())?;
-        self.location.write(&mut writer)?;
-        self.train_length.write(&mut writer)?;
-        self.write_running(&mut writer)?;
-        self.level.write(&mut writer)?;
-        Ok(writer)
+        put_header(row, self.l_packet());
+        self.location.write(row);
+        self.train_length.write(row);
+        self.write_running(row);
+        self.level.write(row);
     }
 
     /// L_PACKET: how many bits the packet has.
@@ -187,16 +185,29 @@ impl Position {
 
     #[tactic(auto, unfolding(crate::specs::Layout::joined))]
     #[inline(always)]
-    fn write_running(&self, writer: &mut BitWriter) -> Result<(), PacketFault>
-        ensures ok { OnOk result (writer.new ≡ writer.old ++ joined (running_fields self.now)) }
-        ensures fits { OnOk result (RunningFits self.now) }
-        ensures memory { IsOkUnless result PacketFault.Memory }
+    fn write_running(&self, row: &mut BitRow)
+        requires room { length row.old + 13 ≤ 256 }
+        ensures ok { row.new ≡ row.old ++ joined (running_fields self.now) }
+        ensures length { length row.new ≡ length row.old + 13 }
+        ensures fits { RunningFits self.now }
     {
-        writer.put(self.v_train.value(), 7)?;
-        writer.put(self.q_dirtrain.value(), 2)?;
-        writer.put(self.m_mode.value(), 4)?;
-        Ok(())
+        row.put(self.v_train.value(), 7);
+        row.put(self.q_dirtrain.value(), 2);
+        row.put(self.m_mode.value(), 4);
     }
+}
+
+// NID_PACKET and L_PACKET.
+#[tactic(auto, unfolding(crate::specs::Layout::joined))]
+#[inline(always)]
+fn put_header(row: &mut BitRow, l_packet: u64)
+    requires length { l_packet < 2 ^ 13 }
+    requires room { length row.old + 21 ≤ 256 }
+    ensures ok { row.new ≡ row.old ++ joined ((8, 0) ∷ (13, l_packet) ∷ []) }
+    ensures length { length row.new ≡ length row.old + 21 }
+{
+    row.put(Position::NID_PACKET, 8);
+    row.put(l_packet, 13);
 }
 
 // All bits behind the header in one word, where they may be enough.

@@ -1,4 +1,4 @@
-ghost use Rattle.std.specs.Prelude.{◌≡◌, ◌+◌, ◌≤◌, ◌++◌, length, IfOk, IfSome, OnOk, OnSome, IsOkUnless};
+ghost use Rattle.std.specs.Prelude.{◌≡◌, ◌+◌, ◌≤◌, ◌++◌, length, IfOk, IfSome, OnSome};
 ghost use Rattle.rbc_packets.specs.Layout.{joined, widths};
 ghost use Rattle.rbc_packets.specs.Steps.{Takes};
 ghost use Rattle.rbc_packets.specs.PositionSpelling.{train_length_fields, TrainLengthFits};
@@ -6,7 +6,7 @@ ghost use Rattle.rbc_packets.specs.PositionReading.{train_length_at};
 
 use crate::fault::PacketFault;
 use crate::reading::{q_length, take};
-use rbc_bits::{BitPart, BitWord, BitWriter};
+use rbc_bits::{BitPart, BitRow, BitWord};
 use rbc_vars::{LTrainint, QLength};
 
 /// Q_LENGTH and L_TRAININT: what is known of the train's integrity, and its length where it is confirmed.
@@ -68,24 +68,24 @@ impl TrainLength {
 
     #[tactic(auto, unfolding(crate::specs::Layout::joined))]
     #[inline(always)]
-    pub(crate) fn write(&self, writer: &mut BitWriter) -> Result<(), PacketFault>
-        ensures ok { OnOk result (writer.new ≡ writer.old ++ joined (train_length_fields self.now)) }
-        ensures fits { OnOk result (TrainLengthFits self.now) }
-        ensures memory { IsOkUnless result PacketFault.Memory }
+    pub(crate) fn write(&self, row: &mut BitRow)
+        requires room { length row.old + 17 ≤ 256 }
+        ensures ok { row.new ≡ row.old ++ joined (train_length_fields self.now) }
+        ensures length { length row.new ≤ length row.old + 17 }
+        ensures fits { TrainLengthFits self.now }
     {
         match self {
-            TrainLength::NoInformation => writer.put(0, 2)?,
+            TrainLength::NoInformation => row.put(0, 2),
             TrainLength::ConfirmedByDevice(l_trainint) => {
-                writer.put(1, 2)?;
-                writer.put(l_trainint.value(), 15)?;
+                row.put(1, 2);
+                row.put(l_trainint.value(), 15);
             }
             TrainLength::ConfirmedByDriver(l_trainint) => {
-                writer.put(2, 2)?;
-                writer.put(l_trainint.value(), 15)?;
+                row.put(2, 2);
+                row.put(l_trainint.value(), 15);
             }
-            TrainLength::Lost => writer.put(3, 2)?,
+            TrainLength::Lost => row.put(3, 2),
         }
-        Ok(())
     }
 
     /// How many bits its fields have.

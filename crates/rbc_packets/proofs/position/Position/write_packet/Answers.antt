@@ -6,10 +6,10 @@ use Rattle.rbc_packets.proofs.position.Position.write_packet.Goals as goal
 
 pub returns-clause-ok : goal.returns-clause-ok
 returns-clause-ok c =
-    let w = c.args.writer in
+    let w = c.args.row.now in
     let p = c.args.self.now in
-    let header = c.in_ok-put_train_header.ensures.ok ∙ ap (λ n. w ++ joined ((8, 0) ∷ (13, n) ∷ [])) c.l_packet.ensures.value in
-    let running = written-then c.write-2.new.writer c.write_running.new.writer c.write-3.new.writer (running_fields p) (level_fields p.level) c.in_ok-write_running.ensures.ok c.in_ok-write-3.ensures.ok in
-    let length = written-then c.write.new.writer c.write-2.new.writer c.write-3.new.writer (train_length_fields p.train_length) (running_fields p ++ level_fields p.level) c.in_ok-write-2.ensures.ok running in
-    let location = written-then c.put_train_header.new.writer c.write.new.writer c.write-3.new.writer (location_fields p.location) (train_length_fields p.train_length ++ (running_fields p ++ level_fields p.level)) c.in_ok-write.ensures.ok length in
-    written-then w c.put_train_header.new.writer c.write-3.new.writer _ _ header location
+    let header = c.put_header.ensures.ok ∙ ap (λ n. w ++ joined ((8, 0) ∷ (13, n) ∷ [])) c.l_packet.ensures.value in
+    let running = written-then c.write-2.new.row c.write_running.new.row c.write-3.new.row (running_fields p) (level_fields p.level) c.write_running.ensures.ok c.write-3.ensures.ok in
+    let length = written-then c.write.new.row c.write-2.new.row c.write-3.new.row (train_length_fields p.train_length) (running_fields p ++ level_fields p.level) c.write-2.ensures.ok running in
+    let location = written-then c.put_header.new.row c.write.new.row c.write-3.new.row (location_fields p.location) (train_length_fields p.train_length ++ (running_fields p ++ level_fields p.level)) c.write.ensures.ok length in
+    written-then w c.put_header.new.row c.write-3.new.row _ _ header location
