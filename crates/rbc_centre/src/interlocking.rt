@@ -7,6 +7,7 @@ ghost use Rattle.rbc_spec.specs.Step as step;
 ghost use Rattle.rbc_spec.specs.Step.{has_full_link};
 ghost use Rattle.rbc_spec.specs.Frame.{last_stamp};
 ghost use Rattle.rbc_book.specs.Book.{entry_at};
+ghost use Rattle.rbc_book.specs.Entries.{entry_of};
 ghost use Rattle.rbc_link.specs.Links as links;
 ghost use Rattle.rbc_centre.specs.Answer.{Steps, IsWantedBy, TakesMemory};
 ghost use Rattle.rbc_centre.specs.Rooms.{HasFrameRoom};
@@ -79,8 +80,9 @@ impl Centre {
         ensures memory { OnErr result (TakesMemory (state_of self.old) (step.Unset s)) }
         ensures err { OnErr result (state_of self.new ≡ state_of self.old) }
     {
-        let Entry::Out { nid_engine } = self.book.page(s).entry else {
-            self.unset_here(s, out);
+        let entry = self.book.page(s).entry;
+        let Entry::Out { nid_engine } = entry else {
+            self.unset_here(s, entry, out);
             return Ok(());
         };
         self.reserve_frames()?;
@@ -119,9 +121,10 @@ impl Centre {
         out.write_sent(self.clock, Word::Asked(s));
     }
 
-    // A section is taken back that is not out.
-    fn unset_here(&mut self, s: u16, out: &mut Outcome)
+    // A section is taken back that is not out, but used so.
+    fn unset_here(&mut self, s: u16, entry: Entry, out: &mut Outcome)
         requires time { self.old.clock < last_stamp }
+        requires entry { entry_of entry ≡ entry_at self.old.book s }
         requires here { (t : ℕ) → entry_at self.old.book s ≡ spec.Out t → ⊥ }
         requires numbers { has_full_link (line_of self.old) (number_of self.old) (state_of self.old) ≡ false }
         ensures line { line_of self.new ≡ line_of self.old }
@@ -129,7 +132,7 @@ impl Centre {
         ensures exact { (outcome_of out.new, state_of self.new)
             ≡ step.taken (line_of self.old) (number_of self.old) (step.Unset s) (state_of self.old) }
     {
-        let user = self.user_of(s);
+        let user = self.user_of(entry);
         self.clock += 1;
         match self.book.unset(s) {
             Ok(Unset::Done) => out.write_told(self.clock, Word::Done(s), None),
@@ -145,11 +148,11 @@ impl Centre {
     }
 
     // The number in the line file of the train that a section is in use for.
-    fn user_of(&self, s: u16) -> Option<u8>
-        ensures value { (t : ℕ) → entry_at self.now.book s ≡ spec.Taken t → result ≡ train_number self.now.line t }
+    fn user_of(&self, entry: Entry) -> Option<u8>
+        ensures value { (t : ℕ) → entry_of entry ≡ spec.Taken t → result ≡ train_number self.now.line t }
         ensures bound { IfSome result (λ i. i < length self.now.trains.items) }
     {
-        match self.book.page(s).entry {
+        match entry {
             Entry::Taken { nid_engine } => self.line.train_number(nid_engine),
             Entry::Shut | Entry::Open | Entry::Out { .. } => None,
         }

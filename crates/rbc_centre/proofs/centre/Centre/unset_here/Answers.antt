@@ -64,7 +64,7 @@ returns-in-Err-clause-exact c =
 pub ask_back-request-requires : goal.ask_back-request-requires
 ask_back-request-requires c =
     let k = c.args.self.now in
-    let user = user_at k c.args.s c.in-Some.i c.index_mut.result.now c.requires.here (sym c.in-Ok-Asked.field-0-is ∙ c.in-Ok-Asked.ensures.answer) (λ t taken. sym (c.user_of-user.ensures.value t taken) ∙ c.in-Some.is)
+    let user = user_at k c.args.s c.in-Some.i c.index_mut.result.now c.requires.here (sym c.in-Ok-Asked.field-0-is ∙ c.in-Ok-Asked.ensures.answer) (λ t taken. sym (c.user_of-user.ensures.value t (c.requires.entry ∙ taken)) ∙ c.in-Some.is)
     (λ within. slice_get_read _ _ _ _ refl within c.index_mut.ensures.value) in
     let few = k.rules.all_trains.said c.in-Some.i c.index_mut.result.now user.at in
     record { count = omega (arith, few, c.requires.time) }
@@ -79,7 +79,7 @@ invariant_of-self-in-Some c =
     let after = c.ask_back-request.new.self in
     let ask = c.ask_back-request.ensures in
     let asked_for = sym c.in-Ok-Asked.field-0-is ∙ c.in-Ok-Asked.ensures.answer in
-    let user = user_at k s i before c.requires.here asked_for (λ t taken. sym (c.user_of-user.ensures.value t taken) ∙ c.in-Some.is) (λ within. slice_get_read _ _ _ _ refl within c.index_mut.ensures.value) in
+    let user = user_at k s i before c.requires.here asked_for (λ t taken. sym (c.user_of-user.ensures.value t (c.requires.entry ∙ taken)) ∙ c.in-Some.is) (λ within. slice_get_read _ _ _ _ refl within c.index_mut.ensures.value) in
     let t = (user_of k s c.requires.here asked_for).0 in
     let sayings = sayings_of c.ask_back-request.result in
     let asks : (j : centre.Centre) → HasTrain j t before → propose_if_so k.line t s j ≡ asked t after sayings j =
@@ -101,7 +101,7 @@ invariant_of-self-in-Some c =
 
 pub invariant_of-self-in-None : goal.invariant_of-self-in-None
 invariant_of-self-in-None c =
-    absurd (no_user c.args.self.now c.args.s c.requires.here (sym c.in-Ok-Asked.field-0-is ∙ c.in-Ok-Asked.ensures.answer) (λ t taken. sym (c.user_of-user.ensures.value t taken) ∙ c.in-None.is))
+    absurd (no_user c.args.self.now c.args.s c.requires.here (sym c.in-Ok-Asked.field-0-is ∙ c.in-Ok-Asked.ensures.answer) (λ t taken. sym (c.user_of-user.ensures.value t (c.requires.entry ∙ taken)) ∙ c.in-None.is))
 
 pub returns-after-user-clause-exact : goal.returns-after-user-clause-exact
 returns-after-user-clause-exact c = elim c.match-user.branch [
@@ -112,7 +112,7 @@ returns-after-user-clause-exact c = elim c.match-user.branch [
       let before = w.index_mut.result.now in
       let after = w.ask_back-request.new.self in
       let asked_for = sym c.in-Ok-Asked.field-0-is ∙ c.in-Ok-Asked.ensures.answer in
-      let user = user_at k s w.in-Some.i before c.requires.here asked_for (λ t taken. sym (c.user_of-user.ensures.value t taken) ∙ w.in-Some.is) (λ within. slice_get_read _ _ _ _ refl within w.index_mut.ensures.value) in
+      let user = user_at k s w.in-Some.i before c.requires.here asked_for (λ t taken. sym (c.user_of-user.ensures.value t (c.requires.entry ∙ taken)) ∙ w.in-Some.is) (λ within. slice_get_read _ _ _ _ refl within w.index_mut.ensures.value) in
       let t = (user_of k s c.requires.here asked_for).0 in
       let ask = w.ask_back-request.ensures in
       let sayings = sayings_of w.ask_back-request.result in
@@ -124,5 +124,5 @@ returns-after-user-clause-exact c = elim c.match-user.branch [
       (c.write_told-in-Ok-Asked.ensures ∙ (λ i. outcome_with ((w.self-is i).clock) (λ d. []) (sayings_of (w.request-is i)) (Asked s ∷ []) None None))
       (asked_turns k.line k.number (k.clock + 1) k.book c.unset.new.self k.desk k.links states s (k.rules.own_sections s) c.unset.ensures.entry c.unset.ensures.wish
       t w.in-Some.i before after sayings c.in-Ok-Asked.ensures.own user.taken user.number user.at user.within ask.session_state ask.heard ask.question ask.waiting ask.expectations asks)
-  | in-None w ↦ absurd (no_user c.args.self.now c.args.s c.requires.here (sym c.in-Ok-Asked.field-0-is ∙ c.in-Ok-Asked.ensures.answer) (λ t taken. sym (c.user_of-user.ensures.value t taken) ∙ w.in-None.is))
+  | in-None w ↦ absurd (no_user c.args.self.now c.args.s c.requires.here (sym c.in-Ok-Asked.field-0-is ∙ c.in-Ok-Asked.ensures.answer) (λ t taken. sym (c.user_of-user.ensures.value t (c.requires.entry ∙ taken)) ∙ w.in-None.is))
 ]
