@@ -53,6 +53,7 @@ impl Centre {
     }
 
     /// The interlocking releases a section.
+    #[inline(always)]
     pub(crate) fn set(&mut self, s: u16, out: &mut Outcome)
         requires time { self.old.clock < last_stamp }
         requires numbers { has_full_link (line_of self.old) (number_of self.old) (state_of self.old) ≡ false }
@@ -70,6 +71,7 @@ impl Centre {
 
     /// The interlocking takes a section back. A train that has it in its movement authority is asked for it, and where
     /// it is lent each other centre. Room for the frames is made first.
+    #[inline(always)]
     pub(crate) fn unset(&mut self, s: u16, out: &mut Outcome) -> Result<(), AllocError>
         requires time { self.old.clock < last_stamp }
         requires numbers { has_full_link (line_of self.old) (number_of self.old) (state_of self.old) ≡ false }
@@ -122,6 +124,7 @@ impl Centre {
     }
 
     // A section is taken back that is not out, but used so.
+    #[inline(always)]
     fn unset_here(&mut self, s: u16, entry: Entry, out: &mut Outcome)
         requires time { self.old.clock < last_stamp }
         requires entry { entry_of entry ≡ entry_at self.old.book s }
