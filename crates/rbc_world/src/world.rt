@@ -232,10 +232,9 @@ impl World {
         if c as usize >= self.centres.len() {
             return Ok(Reply::NoCentre);
         }
-        let decoded = decode_train(self.alloc, bytes);
-        match &decoded {
-            Ok(message) => self.hear(c as usize, message, out),
-            Err(fault) => unread(*fault),
+        match decode_train(self.alloc, bytes) {
+            Ok(message) => self.hear(c as usize, &message, out),
+            Err(fault) => unread(fault),
         }
     }
 }
