@@ -13,6 +13,7 @@ pub struct HandoverCount {
 
 impl Model for HandoverCount {
     ghost use Rattle.std.specs.Prelude.{ℕ, ◌≤◌};
+    ghost use Rattle.rbc_spec.specs.Frame.{last_stamp};
 
     ghost Value = { ℕ };
 
