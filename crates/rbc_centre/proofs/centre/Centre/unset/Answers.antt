@@ -8,17 +8,17 @@ use Rattle.rbc_centre.proofs.Wishes.{shown_out}
 use Rattle.rbc_centre.proofs.centre.Centre.unset.Goals as goal
 
 pub unset_here-requires-clause-here : goal.unset_here-requires-clause-here
-unset_here-requires-clause-here c = λ t out. shown_out c.page.result.entry c.in_default.not-Out t (c.page.ensures.entry ∙ out)
+unset_here-requires-clause-here c = λ t out. shown_out c.page-entry.result.entry c.in_default.not-Out t (c.page-entry.ensures.entry ∙ out)
 
 pub returns-in_err-reserve_frames-clause-err : goal.returns-in_err-reserve_frames-clause-err
 returns-in_err-reserve_frames-clause-err c = on_err c.from_residual.result (state_same c.args.self.now c.reserve_frames.new.self c.in_err-reserve_frames.ensures.same)
 
 pub returns-in_err-reserve_frames-clause-memory : goal.returns-in_err-reserve_frames-clause-memory
 unfolding stands_for
-returns-in_err-reserve_frames-clause-memory c = on_err c.from_residual.result (c.in-Out.nid_engine, sym c.page.ensures.entry ∙ ap entry_of c.in-Out.is)
+returns-in_err-reserve_frames-clause-memory c = on_err c.from_residual.result (c.in-Out.nid_engine, sym c.page-entry.ensures.entry ∙ ap entry_of c.in-Out.is)
 
 pub withdraw-requires-clause-out : goal.withdraw-requires-clause-out
-withdraw-requires-clause-out c = ap (λ (pages : Pages). entry_at pages c.args.s) c.in_ok-reserve_frames.ensures.same.book ∙ sym c.page.ensures.entry ∙ ap entry_of c.in-Out.is
+withdraw-requires-clause-out c = ap (λ (pages : Pages). entry_at pages c.args.s) c.in_ok-reserve_frames.ensures.same.book ∙ sym c.page-entry.ensures.entry ∙ ap entry_of c.in-Out.is
 
 pub withdraw-requires-clause-numbers : goal.withdraw-requires-clause-numbers
 withdraw-requires-clause-numbers c =
