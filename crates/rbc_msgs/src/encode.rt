@@ -25,8 +25,7 @@ fn train_bytes(alloc: Global, l_message: u64, message: &TrainMsg) -> Result<Vec<
     ensures spelled { IfOk result (λ bytes. SpellsTrain bytes.items message.now) }
     ensures memory { IsOkUnless result EncodeFault.Memory }
 {
-    let row = train_writing::header(l_message, message);
-    train_writing::bytes(alloc, l_message, row, message.body(), message.further())
+    train_writing::bytes(alloc, l_message, message)
 }
 
 /// The bytes that spell the message of a centre. None is too long.

@@ -7,8 +7,7 @@ ghost use Rattle.rbc_packets.specs.Layout.{joined};
 ghost use Rattle.rbc_packets.specs.PositionSpelling.{PositionFits};
 ghost use Rattle.rbc_spec.specs.Message.{unknown_time};
 ghost use Rattle.rbc_msgs.specs.Layout.{length_limit};
-ghost use Rattle.rbc_msgs.specs.TrainView.{HasItsPackets};
-ghost use Rattle.rbc_msgs.specs.TrainSpelling.{train_number, train_header, position_packet, train_body_bits, packet_bits, train_length, TrainBodyFits, IsFurther};
+ghost use Rattle.rbc_msgs.specs.TrainSpelling.{train_number, train_header, position_packet, train_body_bits, packet_bits, train_length, TrainFits, IsFurther};
 
 use crate::fault::EncodeFault;
 use crate::number::TrainNumber;
@@ -107,10 +106,10 @@ fn number_of(body: &TrainBody) -> u64
     number as u64
 }
 
-/// The header.
+// The header.
 #[tactic(auto, unfolding(rbc_packets::specs::Layout::joined))]
 #[inline(always)]
-pub(crate) fn header(l_message: u64, message: &TrainMsg) -> BitRow
+fn header(l_message: u64, message: &TrainMsg) -> BitRow
     requires { l_message < length_limit }
     ensures ok { result ≡ joined (train_header l_message message.now) }
     ensures length { length result ≡ 74 }
@@ -124,27 +123,25 @@ pub(crate) fn header(l_message: u64, message: &TrainMsg) -> BitRow
     row
 }
 
-/// The bytes of a message of this header, this body and these further packets. Each body is finished by itself: so the
-/// places of its fields are known before they are written.
+/// The bytes of a message that has room for L_MESSAGE. Each body is finished by itself: so the places of its fields are
+/// known before they are written.
 #[tactic(auto, unfolding(rbc_packets::specs::Layout::joined))]
-#[inline(always)]
 pub(crate) fn bytes(
     alloc: Global,
     l_message: u64,
-    mut row: BitRow,
-    body: &TrainBody,
-    further: &[Opaque],
+    message: &TrainMsg,
 ) -> Result<Vec<u8>, EncodeFault>
-    requires header { length row ≡ 74 }
-    requires body { HasItsPackets body.now }
-    requires further { All (λ p. p.nid_packet ≢ 0) further.now }
+    requires { l_message < length_limit }
     ensures ok { IfOk result
         (λ bytes. bits_of bytes.items
-        ≡ filled ((row ++ train_body_bits body.now) ++ flat_map packet_bits further.now)) }
-    ensures fits { OnOk result (TrainBodyFits body.now × AllByRecursion IsFurther further.now) }
+        ≡ filled ((joined (train_header l_message message.now) ++ train_body_bits message.now.body)
+        ++ flat_map packet_bits message.now.further)) }
+    ensures fits { OnOk result (TrainFits message.now) }
     ensures memory { IsOkUnless result EncodeFault.Memory }
 {
-    match body {
+    let mut row = header(l_message, message);
+    let further = message.further();
+    match message.body() {
         TrainBody::TrainData { position, packet } => {
             position.write_packet(&mut row);
             let writer = row.writer(alloc, l_message as usize)?;
