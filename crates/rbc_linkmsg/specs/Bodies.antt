@@ -29,8 +29,8 @@ body_of (code.RouteReturn t run) = said.RouteReturn t (run_of run)
 body_of (code.Announce number t track) = said.Announce number t track
 body_of (code.Cancel number t) = said.Cancel number t
 body_of (code.TakingOver number t) = said.TakingOver number t
-body_of (code.Yield number t heard has_data is_ended place hand) =
-    said.Yield number t heard has_data is_ended (place_of place) (run_of hand)
+body_of (code.Yield number t y) =
+    said.Yield number t y.heard y.has_data y.is_ended (place_of y.place) (run_of y.hand)
 
 -- and back
 abbrev pub body_back : said.Body → Body
@@ -46,7 +46,14 @@ body_back (said.Announce number t track) = code.Announce number t track
 body_back (said.Cancel number t) = code.Cancel number t
 body_back (said.TakingOver number t) = code.TakingOver number t
 body_back (said.Yield number t heard has_data is_ended place hand) =
-    code.Yield number t heard has_data is_ended (place_back place) (run_back hand)
+    code.Yield number t
+    (record {
+      heard = heard;
+      has_data = has_data;
+      is_ended = is_ended;
+      place = place_back place;
+      hand = run_back hand;
+    })
 
 -- the train that a body names
 abbrev pub engine_in : said.Body → ℕ

@@ -30,7 +30,7 @@ body_again (code.RouteReturn t run) = refl
 body_again (code.Announce number t track) = refl
 body_again (code.Cancel number t) = refl
 body_again (code.TakingOver number t) = refl
-body_again (code.Yield number t heard has_data is_ended place hand) = refl
+body_again (code.Yield number t yielding) = refl
 
 -- back from the frame to its fields
 pub frame_back : (f : Inside) → IsInRange f → frame_inside (frame_of f) ≡ f

@@ -15,6 +15,21 @@ pub struct YieldedPlace {
     pub rear: Option<i32>,
 }
 
+/// What goes over with the supervision of a train.
+#[derive(Clone, Copy, Debug, PartialEq, Eq)]
+pub struct Yielding {
+    /// T_TRAIN of the message that was heard last.
+    pub heard: u32,
+    /// Whether the data of the train are known.
+    pub has_data: bool,
+    /// Whether its mission has ended.
+    pub is_ended: bool,
+    /// The place of the train.
+    pub place: YieldedPlace,
+    /// The sections of its movement authority.
+    pub hand: SectionRun,
+}
+
 /// What a centre says to another (profile; the words for a handover are those of SUBSET-039).
 #[derive(Clone, Copy, Debug, PartialEq, Eq)]
 pub enum Body {
@@ -71,15 +86,11 @@ pub enum Body {
         handover: u32,
         engine: u32,
     },
-    /// The supervision is handed over, with T_TRAIN of the message that was heard last.
+    /// The supervision is handed over.
     Yield {
         handover: u32,
         engine: u32,
-        heard: u32,
-        has_data: bool,
-        is_ended: bool,
-        place: YieldedPlace,
-        hand: SectionRun,
+        yielding: Yielding,
     },
 }
 

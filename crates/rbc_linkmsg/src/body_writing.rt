@@ -6,7 +6,7 @@ ghost use Rattle.rbc_spec.specs.Frame.{HasBodyRange};
 ghost use Rattle.rbc_linkmsg.specs.Bodies.{body_of, place_of};
 ghost use Rattle.rbc_linkmsg.specs.Spelling as spelling;
 
-use crate::body::{Body, YieldedPlace};
+use crate::body::{Body, YieldedPlace, Yielding};
 use crate::kind::FrameKind;
 use byteorder::{BigEndian, ByteOrder};
 use rbc_hand::SectionRun;
@@ -68,14 +68,8 @@ pub(crate) fn put_body(bytes: &mut Vec<u8>, body: Body) -> Result<(), AllocError
         Body::Yield {
             handover,
             engine,
-            heard,
-            has_data,
-            is_ended,
-            place,
-            hand,
-        } => bytes.extend_from_slice(&yield_bytes(
-            handover, engine, heard, has_data, is_ended, place, hand,
-        )),
+            yielding,
+        } => bytes.extend_from_slice(&yield_bytes(handover, engine, yielding)),
     }
 }
 
@@ -143,25 +137,23 @@ fn announced_bytes(handover: u32, engine: u32, track: u8) -> [u8; 9]
 // The fields of a Yield.
 #[inline(always)]
 #[tactic(auto, unfolding(crate::specs::Spelling::spelled))]
-fn yield_bytes(
-    handover: u32,
-    engine: u32,
-    heard: u32,
-    has_data: bool,
-    is_ended: bool,
-    place: YieldedPlace,
-    hand: SectionRun,
-) -> [u8; 29]
-    requires { hand.count < 256 }
-    ensures { result ≡ spelling.spelled ((4, handover) ∷ (4, engine) ∷ (4, heard)
-        ∷ (spelling.place_fields has_data is_ended (place_of place) ++ spelling.run_fields (run_of hand))) }
+fn yield_bytes(handover: u32, engine: u32, yielding: Yielding) -> [u8; 29]
+    requires { yielding.hand.count < 256 }
+    ensures { result ≡ spelling.spelled ((4, handover) ∷ (4, engine) ∷ (4, yielding.heard)
+        ∷ (spelling.place_fields yielding.has_data yielding.is_ended (place_of yielding.place)
+        ++ spelling.run_fields (run_of yielding.hand))) }
 {
     let mut bytes = [0; 29];
     BigEndian::write_u32(&mut bytes, handover);
     BigEndian::write_u32(&mut bytes[4..], engine);
-    BigEndian::write_u32(&mut bytes[8..], heard);
-    write_place(&mut bytes[12..], has_data, is_ended, place);
-    write_run(&mut bytes[26..], hand);
+    BigEndian::write_u32(&mut bytes[8..], yielding.heard);
+    write_place(
+        &mut bytes[12..],
+        yielding.has_data,
+        yielding.is_ended,
+        yielding.place,
+    );
+    write_run(&mut bytes[26..], yielding.hand);
     bytes
 }
 

@@ -18,7 +18,7 @@ mod ranges;
 mod reading;
 mod yield_reading;
 
-pub use body::{Body, YieldedPlace};
+pub use body::{Body, YieldedPlace, Yielding};
 pub use decode::decode_frame;
 pub use encode::encode_frame;
 pub use fault::FrameFault;

@@ -2,10 +2,11 @@
 
 ghost use Rattle.std.specs.Prelude.{◌≤◌, ◌↔◌, IsTrue};
 ghost use Rattle.rbc_spec.specs.Frame.{HasBodyRange, HasRunRange, HasPlaceRange, IsEngine, last_stamp};
+ghost use Rattle.rbc_spec.specs.SectionRuns.{most_in_hand};
 ghost use Rattle.rbc_hand.specs.SectionRuns.{run_of};
 ghost use Rattle.rbc_linkmsg.specs.Bodies.{body_of, place_of};
 
-use crate::body::{Body, YieldedPlace};
+use crate::body::{Body, YieldedPlace, Yielding};
 use rbc_hand::SectionRun;
 
 /// Whether a link's frame may have this number, stamp and body.
@@ -43,16 +44,8 @@ pub(crate) fn is_in_range(body: Body) -> bool
         Body::Yield {
             handover,
             engine,
-            heard,
-            has_data: _,
-            is_ended: _,
-            place,
-            hand,
-        } => handover >= 1
-            && is_engine(engine)
-            && heard <= 4_294_967_294
-            && is_place(place)
-            && is_run(hand, 1, 32),
+            yielding,
+        } => handover >= 1 && is_engine(engine) && is_yielding(yielding),
     }
 }
 
@@ -67,6 +60,13 @@ fn is_run(run: SectionRun, least: u16, most: u16) -> bool
     ensures { IsTrue result ↔ HasRunRange least most (run_of run) }
 {
     run.first <= 511 && run.count >= least && run.count <= most && run.first + run.count <= 512
+}
+
+fn is_yielding(yielding: Yielding) -> bool
+    ensures { IsTrue result ↔ ((yielding.heard ≤ 4294967294)
+        × (HasPlaceRange (place_of yielding.place) × HasRunRange 1 most_in_hand (run_of yielding.hand))) }
+{
+    yielding.heard <= 4_294_967_294 && is_place(yielding.place) && is_run(yielding.hand, 1, 32)
 }
 
 fn is_place(place: YieldedPlace) -> bool

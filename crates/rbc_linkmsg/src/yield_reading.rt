@@ -7,7 +7,7 @@ ghost use Rattle.rbc_linkmsg.specs.Raw as readings;
 ghost use Rattle.rbc_linkmsg.specs.Spelling as spelling;
 ghost use Rattle.rbc_linkmsg.specs.declared.kind.FrameKind.TheVariants as kinds;
 
-use crate::body::{Body, YieldedPlace};
+use crate::body::{Body, YieldedPlace, Yielding};
 use crate::body_writing::{flags, rear_distance};
 use crate::reading::{read_run, take_u8, take_u32};
 use rbc_hand::SectionRun;
@@ -68,14 +68,17 @@ fn yield_of(raw: RawYield) -> Option<Body>
         front: seen.front.cast_signed(),
         rear,
     };
-    Some(Body::Yield {
-        handover: raw.handover,
-        engine: raw.engine,
+    let yielding = Yielding {
         heard: raw.heard,
         has_data,
         is_ended,
         place,
         hand: raw.hand,
+    };
+    Some(Body::Yield {
+        handover: raw.handover,
+        engine: raw.engine,
+        yielding,
     })
 }
 
