@@ -118,11 +118,7 @@ fn handed_over(nid_engine: u32, body: Body) -> Option<MissionView>
 {
     let Body::Yield {
         engine,
-        heard,
-        has_data,
-        is_ended,
-        place,
-        hand,
+        yielding,
         ..
     } = body
     else {
@@ -132,15 +128,17 @@ fn handed_over(nid_engine: u32, body: Body) -> Option<MissionView>
         return None;
     }
     let facts = MissionFacts {
-        place: carried_place(place)?,
-        has_data,
-        is_ended,
+        place: carried_place(yielding.place)?,
+        has_data: yielding.has_data,
+        is_ended: yielding.is_ended,
         proposal: None,
     };
     Some(MissionView {
-        supervisor: Supervisor::Parted { heard },
+        supervisor: Supervisor::Parted {
+            heard: yielding.heard,
+        },
         facts,
-        hand,
+        hand: yielding.hand,
     })
 }
 
