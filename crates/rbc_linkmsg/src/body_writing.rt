@@ -196,8 +196,8 @@ fn write_run(bytes: &mut [u8], run: SectionRun)
     bytes[2] = run.count as u8;
 }
 
-/// The flags of a Yield.
-pub(crate) fn flags(has_data: bool, is_ended: bool, has_rear: bool) -> u8
+// The flags of a Yield.
+fn flags(has_data: bool, is_ended: bool, has_rear: bool) -> u8
     ensures { result ≡ spelling.bit 1 has_data + spelling.bit 2 is_ended + spelling.bit 4 has_rear }
 {
     let data = if has_data { 1 } else { 0 };

@@ -8,7 +8,7 @@ ghost use Rattle.rbc_linkmsg.specs.Spelling as spelling;
 ghost use Rattle.rbc_linkmsg.specs.declared.kind.FrameKind.TheVariants as kinds;
 
 use crate::body::{Body, YieldedPlace, Yielding};
-use crate::body_writing::{flags, rear_distance};
+use crate::body_writing::rear_distance;
 use crate::reading::{read_run, take_u8, take_u32};
 use rbc_hand::SectionRun;
 
@@ -53,12 +53,10 @@ fn yield_of(raw: RawYield) -> Option<Body>
         → spelling.body_fields f ≡ readings.raw_fields raw → result ≡ Some (body_back f) }
 {
     let seen = raw.place;
-    let has_data = seen.flags % 2 == 1;
-    let is_ended = seen.flags / 2 % 2 == 1;
-    let rear = rear_from(seen.flags, seen.rear);
-    if flags(has_data, is_ended, rear.is_some()) != seen.flags {
+    if seen.flags > 7 {
         return None;
     }
+    let rear = rear_from(seen.flags, seen.rear);
     if rear_distance(rear) != seen.rear {
         return None;
     }
@@ -70,8 +68,8 @@ fn yield_of(raw: RawYield) -> Option<Body>
     };
     let yielding = Yielding {
         heard: raw.heard,
-        has_data,
-        is_ended,
+        has_data: seen.flags % 2 == 1,
+        is_ended: seen.flags / 2 % 2 == 1,
         place,
         hand: raw.hand,
     };
