@@ -1,4 +1,5 @@
-//! Bytes as a frame: the kind is told first, and each kind's frame is read by code of its own.
+//! Bytes as a frame: the kind is told first, and each kind's frame is read by code of its own. The choice is inlined,
+//! so that a caller finds the frame where that code wrote it, and no copy is made on the way.
 
 ghost use Rattle.std.specs.Prelude.{◌≡◌, ◌≢◌, ◌≤◌, Ok, length, slice_index, IfOk, OnOk, IfErr};
 ghost use Rattle.rbc_spec.specs.Frame as spec;
@@ -13,6 +14,7 @@ use crate::frame_reading::{frame_of, frame_of_yield};
 use crate::kind::FrameKind;
 
 /// The frame that the bytes spell, all of the bytes. It takes no memory.
+#[inline(always)]
 pub fn decode_frame(bytes: &[u8]) -> Result<Frame, FrameFault>
     ensures found { (f : spec.Frame) → Spells bytes.now f → result ≡ Ok f }
     ensures only { IfOk result (λ f. Spells bytes.now f) }
