@@ -21,6 +21,7 @@ use Rattle.rbc_book.specs.Book.{Pages, is_own, entry_at}
 use Rattle.rbc_right.specs.Rights.{Rights, is_here}
 use Rattle.rbc_hand.specs.Hands.{Holding}
 use Rattle.rbc_hand.specs.SectionRuns.{run_of}
+use Rattle.rbc_linkmsg.specs.declared.body.Yielding.{Yielding}
 use Rattle.rbc_handover.specs.Expectations.{expected_from, is_taking_under}
 use Rattle.rbc_handover.proofs.Expects.{expects_now}
 use Rattle.rbc_mission.specs.Supervisions.{HasRouteForm}
@@ -28,7 +29,6 @@ use Rattle.rbc_mission.specs.Passing.{IsBooked}
 use Rattle.rbc_train.specs.Arriving.{coming_mission, taken_up}
 use Rattle.rbc_train.specs.Desk.{HasParts, IsKeptAt, with_parts, replied}
 use Rattle.rbc_train.specs.Trains.{HasTrain, asked}
-use Rattle.rbc_train.specs.declared.taking_up.Coming.{Coming}
 use Rattle.rbc_train.specs.declared.train.TrainState.{TrainState}
 use Rattle.rbc_train.proofs.Desk.{same_state, has_expectations, has_train, asked_is}
 use Rattle.rbc_train.proofs.Turns.{in_turn, parts_over, has_left}
@@ -91,9 +91,9 @@ nothing_within s = grind (arith, nat_tests)
 
 -- ## It is taken
 
-module _ (line : Line) (c : ℕ) (k : Centre) (p : TrainState) (book : Pages) (rights : Rights) (has_it : HasParts line c k p book rights) (y : Coming) (place : Place) (hand : Holding) (e : List (Option Expectation)) (book' : Pages)
+module _ (line : Line) (c : ℕ) (k : Centre) (p : TrainState) (book : Pages) (rights : Rights) (has_it : HasParts line c k p book rights) (from : ℕ) (y : Yielding) (place : Place) (hand : Holding) (e : List (Option Expectation)) (book' : Pages)
     (books : IsBooked (is_out_for p.supervision.engine) (Taken p.supervision.engine) (run_of y.hand) book book')
-    (ends : (d : ℕ) → expected_from e d ≡ put (expected_from p.expectations) y.from None d) where
+    (ends : (d : ℕ) → expected_from e d ≡ put (expected_from p.expectations) from None d) where
   abbrev u : ℕ
   u = p.supervision.engine
 
@@ -108,19 +108,19 @@ module _ (line : Line) (c : ℕ) (k : Centre) (p : TrainState) (book : Pages) (r
 
   abbrev coming : Act
   coming = (booked (is_out_for u) (Taken u) m.hand >> set_mission u (Some m))
-      >> (become (λ j. record j { heard = put j.heard u (Some (option_map_or (max y.heard) (j.heard u) y.heard)) }) >> expect y.from u None)
+      >> (become (λ j. record j { heard = put j.heard u (Some (option_map_or (max y.heard) (j.heard u) y.heard)) }) >> expect from u None)
 
   comes : coming k ≡ replied (record k {
     book = λ s. if within m.hand s && is_out_for u (k.book s) then Taken u else k.book s;
     mission = put k.mission u (Some m);
     heard = put k.heard u (Some (option_map_or (max y.heard) (k.heard u) y.heard));
-    expects = put_pair k.expects y.from u None;
+    expects = put_pair k.expects from u None;
   }) [] []
   unfolding ◌>>◌
   comes = refl
 
-  expects_are : put_pair k.expects y.from u None ≡ (λ d. put (k.expects d) u (expected_from e d))
-  expects_are = ap (λ (r : Reply). r.state.expects) (expects_now line u k p.expectations e (has_expectations line c k p book rights has_it) y.from None ends)
+  expects_are : put_pair k.expects from u None ≡ (λ d. put (k.expects d) u (expected_from e d))
+  expects_are = ap (λ (r : Reply). r.state.expects) (expects_now line u k p.expectations e (has_expectations line c k p book rights has_it) from None ends)
 
   comes_so : coming k ≡ replied at [] []
   comes_so =
@@ -165,13 +165,13 @@ module _ (line : Line) (c : ℕ) (k : Centre) (p : TrainState) (book : Pages) (r
     wishes s = is_home line c s && at.wish s
 
     taken_then : (o : Option ℕ) (r : Reply) → find wishes (range_with_len m.hand.first m.hand.count) ≡ o → option_map_or (λ s. propose_if_so line u s at) o (rest at) ≡ r
-        → take_mission line c y.from u y.heard m k ≡ record { state = r.state; frames = λ d. r.frames d; sayings = r.sayings; words = r.words }
+        → take_mission line c from u y.heard m k ≡ record { state = r.state; frames = λ d. r.frames d; sayings = r.sayings; words = r.words }
     taken_then o r found next =
         in_turn coming (with_some (λ j. find (λ s. is_home line c s && j.wish s) (range_with_len m.hand.first m.hand.count)) (propose_if_so line u)) k (replied at [] []) r comes_so
         (ap (λ x. option_map_or (λ s. propose_if_so line u s at) x (rest at)) found ∙ next)
 
     -- none of its own sections is wished back
-    pub unwished : find wishes (range_with_len m.hand.first m.hand.count) ≡ None → take_mission line c y.from u y.heard m k ≡ replied at [] []
+    pub unwished : find wishes (range_with_len m.hand.first m.hand.count) ≡ None → take_mission line c from u y.heard m k ≡ replied at [] []
     unwished none = taken_then None (rest at) none refl
 
     -- or this is the first
@@ -179,7 +179,7 @@ module _ (line : Line) (c : ℕ) (k : Centre) (p : TrainState) (book : Pages) (r
         → ((j : Centre) → HasTrain j u mid → propose_if_so line u s j ≡ asked u q sayings j)
         → q.supervision.engine ≡ u → q.supervision.number ≡ p.supervision.number → q.supervision.asked ≡ p.supervision.asked → q.session_state ≡ p.session_state
         → q.heard ≡ mid.heard → q.waiting ≡ p.waiting → q.expectations ≡ e
-        → take_mission line c y.from u y.heard m k ≡ replied (with_parts q book' rights k) sayings []
+        → take_mission line c from u y.heard m k ≡ replied (with_parts q book' rights k) sayings []
     wished_first s q sayings found asks engine number question session heard waiting expectations =
         taken_then (Some s) (replied (with_parts q book' rights at) sayings []) found
         (asks at (has_train line c at mid book' rights has_mid) ∙ asked_is line c at mid book' rights has_mid q sayings engine number question session heard waiting expectations)

@@ -1,5 +1,5 @@
 -- The body of a frame that is the next of its link comes to what its definition says.
-use Rattle.std.proofs.Common.{◌≡◌, ℕ, true, false, Bool, length, nat_lt, Option, Some, None, is_some, is_none, if◌then◌else◌, refl, sym, ap, subst, ◌∙◌}
+use Rattle.std.proofs.Common.{◌≡◌, ℕ, true, false, length, nat_lt, Option, Some, None, is_some, is_none, if◌then◌else◌, refl, sym, ap, subst, ◌∙◌}
 use Rattle.std.specs.Option.{option_map_or}
 use Rattle.rbc_spec.specs.SectionRuns.{all_of}
 use Rattle.rbc_spec.specs.Line.{Line, section, train_number}
@@ -10,7 +10,7 @@ use Rattle.rbc_spec.specs.Links.{of_train, right_asked, right_given, right_refus
 use Rattle.rbc_hand.specs.SectionRuns.{run_of}
 use Rattle.rbc_hand.specs.declared.section_run.SectionRun.{SectionRun as SectionRunCode}
 use Rattle.rbc_linkmsg.specs.Bodies.{body_of, place_of, engine_in}
-use Rattle.rbc_linkmsg.specs.declared.body.YieldedPlace.{YieldedPlace}
+use Rattle.rbc_linkmsg.specs.declared.body.Yielding.{Yielding}
 use Rattle.rbc_linkmsg.specs.declared.body.Body.{Body}
 use Rattle.rbc_linkmsg.specs.declared.body.Body.TheVariants.{AskRight, GiveRight, RefuseRight, ReturnRight, RouteAsk, RouteInfo, RouteWithdraw, RouteReturn, Announce, Cancel, TakingOver, Yield}
 
@@ -63,11 +63,11 @@ module _ (line : Line) (c d t : ℕ) (k : Centre) (body : Body) (reply : Reply) 
   pub takes_claim : (number u : ℕ) → body ≡ TakingOver number u → taking_over line c d number t k ≡ reply → received line c d (body_of body) k ≡ reply
   takes_claim number u same is = taken_as (TakingOver number u) same (of_this (taking_over line c d number) u (ap (λ (x : Body). engine_in (body_of x)) (sym same) ∙ of) is)
 
-  pub takes_yield : (number u heard : ℕ) (has_data is_ended : Bool) (place : YieldedPlace) (hand : SectionRunCode) → body ≡ Yield number u heard has_data is_ended place hand
-      → option_map_or (yielded line c d number t (run_of hand) heard has_data is_ended) (carried_place (place_of place)) rest k ≡ reply → received line c d (body_of body) k ≡ reply
-  takes_yield number u heard has_data is_ended place hand same is =
-      taken_as (Yield number u heard has_data is_ended place hand) same
-      (of_this (λ v. option_map_or (yielded line c d number v (run_of hand) heard has_data is_ended) (carried_place (place_of place)) rest) u (ap (λ (x : Body). engine_in (body_of x)) (sym same) ∙ of) is)
+  pub takes_yield : (number u : ℕ) (y : Yielding) → body ≡ Yield number u y
+      → option_map_or (yielded line c d number t (run_of y.hand) y.heard y.has_data y.is_ended) (carried_place (place_of y.place)) rest k ≡ reply → received line c d (body_of body) k ≡ reply
+  takes_yield number u y same is =
+      taken_as (Yield number u y) same
+      (of_this (λ v. option_map_or (yielded line c d number v (run_of y.hand) y.heard y.has_data y.is_ended) (carried_place (place_of y.place)) rest) u (ap (λ (x : Body). engine_in (body_of x)) (sym same) ∙ of) is)
 
 -- what the ranges of a body say of the sections that it names
 pub told_range : (body : Body) (u : ℕ) (run : SectionRunCode) → body ≡ RouteInfo u run → HasBodyRange (body_of body) → HasRunRange 0 31 (run_of run)
@@ -76,6 +76,5 @@ told_range body u run is range = (subst (λ (x : Body). HasBodyRange (body_of x)
 pub returned_range : (body : Body) (u : ℕ) (run : SectionRunCode) → body ≡ RouteReturn u run → HasBodyRange (body_of body) → HasRunRange 1 63 (run_of run)
 returned_range body u run is range = (subst (λ (x : Body). HasBodyRange (body_of x)) is range).1
 
-pub yielded_range : (body : Body) (number u heard : ℕ) (has_data is_ended : Bool) (place : YieldedPlace) (hand : SectionRunCode) → body ≡ Yield number u heard has_data is_ended place hand → HasBodyRange (body_of body)
-    → HasPlaceRange (place_of place) × HasRunRange 1 32 (run_of hand)
-yielded_range body number u heard has_data is_ended place hand is range = let r = subst (λ (x : Body). HasBodyRange (body_of x)) is range in (r.3, r.4)
+pub yielded_range : (body : Body) (number u : ℕ) (y : Yielding) → body ≡ Yield number u y → HasBodyRange (body_of body) → HasPlaceRange (place_of y.place) × HasRunRange 1 32 (run_of y.hand)
+yielded_range body number u y is range = let r = subst (λ (x : Body). HasBodyRange (body_of x)) is range in (r.3, r.4)

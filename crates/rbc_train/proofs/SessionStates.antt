@@ -38,6 +38,20 @@ module _ (old mid : Records) (ended : SessionState) (t : ℕ) (stood : StandsFor
     others = λ other u apart s. stands_beside_opened mid new (key_of session) t opens new_keys fresh other u apart (stands_beside_ended old mid ended t stood phases keys other u apart s);
   }
 
+-- what entered stays so where no session changes any more
+pub still_entered : (old mid new : Records) (s : SessionState) (t : ℕ) (phase : Phase) → Enters old mid s t phase
+    → ((u : ℕ) → phase_at new u ≡ phase_at mid u) → ((k : ℕ) → train_at new k ≡ train_at mid k) → Enters old new s t phase
+still_entered old mid new s t phase e phases keys = record {
+  phases = λ u. phases u ∙ e.phases u;
+  stands = still s t e.stands;
+  others = λ other u apart stood. still other u (e.others other u apart stood);
+}
+  where
+    still : (x : SessionState) (u : ℕ) → StandsFor mid x u → StandsFor new x u
+    still session_state.Closed u stands = phases u ∙ stands
+    still (session_state.Opened session) u stands = record { is_with = keys (key_of session) ∙ stands.is_with; is_so_far = phases u ∙ stands.is_so_far }
+    still (session_state.Up session) u stands = record { is_with = keys (key_of session) ∙ stands.is_with; is_so_far = phases u ∙ stands.is_so_far }
+
 -- what stands with a train, in either form
 pub stands_for_train : (sessions : Records) (s : SessionState) (t : ℕ) → Stands sessions s t → StandsFor sessions s t
 stands_for_train sessions session_state.Closed t stands = stands.0

@@ -8,8 +8,8 @@ use Rattle.rbc_spec.specs.Centre.{Mission, Expectation, is_out_for}
 use Rattle.rbc_book.specs.Book.{Pages, is_own, entry_at}
 use Rattle.rbc_hand.specs.Hands.{Holding}
 use Rattle.rbc_hand.specs.SectionRuns.{run_of}
+use Rattle.rbc_linkmsg.specs.declared.body.Yielding.{Yielding}
 use Rattle.rbc_mission.specs.Supervisions.{SupervisionState}
-use Rattle.rbc_train.specs.declared.taking_up.Coming.{Coming}
 use Rattle.rbc_train.specs.declared.train.TrainState.{TrainState}
 
 -- a mission with this hand may go on with the train: none stands here, the sections are of the line, and those of the
@@ -20,7 +20,7 @@ pub record MayGoOn (line : Line) (p : SupervisionState) (hand : SectionRun) (boo
   pub own : (s : ℕ) → within hand s ≡ true → is_own book s ≡ true → is_out_for p.engine (entry_at book s) ≡ true
 
 -- the mission, at this place
-abbrev pub coming_mission : Coming → Place → Mission
+abbrev pub coming_mission : Yielding → Place → Mission
 coming_mission y place = record {
   place = place;
   hand = run_of y.hand;
@@ -32,7 +32,7 @@ coming_mission y place = record {
 }
 
 -- the train with it, with the later of both stamps, where this is held of the hand, and this is expected from then on
-abbrev pub taken_up : Coming → Place → Holding → List (Option Expectation) → TrainState → TrainState
+abbrev pub taken_up : Yielding → Place → Holding → List (Option Expectation) → TrainState → TrainState
 taken_up y place hand e p = record p {
   heard = Some (option_map_or (max y.heard) p.heard y.heard);
   supervision = record p.supervision { mission = Some (coming_mission y place); hand = hand };

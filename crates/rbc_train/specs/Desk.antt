@@ -5,12 +5,12 @@ use Rattle.rbc_spec.specs.Maps.{put}
 use Rattle.rbc_spec.specs.SectionRuns.{within, behind, is_empty}
 use Rattle.rbc_spec.specs.Line.{Line, is_home, train_number}
 use Rattle.rbc_spec.specs.Sections.{is_on}
-use Rattle.rbc_spec.specs.Message.{is_stale}
+use Rattle.rbc_spec.specs.Message.{TrainBody, is_stale}
 use Rattle.rbc_spec.specs.Frame.{Body}
 use Rattle.rbc_spec.specs.Outcome.{Saying, Told}
 use Rattle.rbc_spec.specs.Centre.{Centre, Mission}
 use Rattle.rbc_spec.specs.Acts.{Act, Reply}
-use Rattle.rbc_spec.specs.Step.{Effect}
+use Rattle.rbc_spec.specs.Step.{Effect, Train, effect}
 use Rattle.law_local.specs.Local.{IsOrdered}
 use Rattle.rbc_book.specs.Book.{Pages, is_own, entry_at, wish_at}
 use Rattle.rbc_right.specs.Rights.{Rights, is_here}
@@ -57,12 +57,6 @@ IsHeld line c p = IsHeldAt p.supervision.engine (is_home line c) p.supervision.h
 
 -- the book is that of centre c, and the train's hand is held there
 pub record IsAtBook (line : Line) (c : ℕ) (p : TrainState) (pages : Pages) : Type 0 where
-  pub book : IsBookOf line c pages
-  pub held : IsHeld line c p
-
--- and the train has its place in these rights
-pub record IsAtDesk (line : Line) (c : ℕ) (p : TrainState) (pages : Pages) (rights : Rights) : Type 0 where
-  pub number : p.supervision.number < length rights
   pub book : IsBookOf line c pages
   pub held : IsHeld line c p
 
@@ -136,6 +130,19 @@ unsaid mail told = record { saying = None; order = None; mail = mail; told = tol
 abbrev pub nothing : Heard
 nothing = unsaid (mail_of None) []
 
+-- nothing is written yet of what is said, sent or told, and one message more may be said to the train
+pub record IsReady (p : TrainState) (h : Heard) : Type 0 where
+  pub out : h ≡ nothing
+  pub count : p.said < last_said
+
+-- the train is at the book of centre c, it has its place in these rights, and nothing is written yet
+pub record IsAtDesk (line : Line) (c : ℕ) (p : TrainState) (pages : Pages) (rights : Rights)
+    (h : Heard) : Type 0 where
+  pub number : p.supervision.number < length rights
+  pub book : IsBookOf line c pages
+  pub held : IsHeld line c p
+  pub out : h ≡ nothing
+
 -- what a frame of train t came to at centre c, or a message that was answered, where it is left as k
 abbrev pub reply_left : Line → ℕ → ℕ → Centre → Heard → Reply
 reply_left line c t k h =
@@ -151,6 +158,15 @@ Does line c act old book rights new book' rights' h =
 abbrev pub effect_left : Line → ℕ → ℕ → Centre → Result Heard Reason → Effect
 effect_left line c t k (Ok h) = record { reply = reply_left line c t k h; link = None; silence = None }
 effect_left line c t k (Err why) = record { reply = replied k [] []; link = None; silence = Some (reason_of why) }
+
+-- wherever centre c hears the train with this stamp and has the old parts, the message of this body leaves the new
+-- ones, and comes to this
+abbrev pub DoesMessage : Line → ℕ → ℕ → TrainBody → TrainState → Pages → Rights → TrainState → Pages → Rights
+    → Result Heard Reason → Type 0
+DoesMessage line c stamp body old book rights new book' rights' h =
+    (k : Centre) → HearsTrain line c k stamp old book rights
+    → effect line c k (Train (record { t_train = stamp; nid_engine = old.supervision.engine; body = body }))
+    ≡ effect_left line c old.supervision.engine (with_parts new book' rights' k) h
 
 -- ## What stays
 
@@ -178,3 +194,22 @@ pub record KeepsState (line : Line) (c : ℕ) (old new : TrainState) : Type 0 wh
   pub held : IsHeld line c new
   pub covers : IsCovered line old.waiting → IsCovered line new.waiting
   pub expected : length new.expectations ≡ length old.expectations
+
+-- and of its desk what KeepsDesk says
+pub record KeepsAtDesk (line : Line) (c : ℕ) (old new : TrainState) (book book' : Pages)
+    (from to : Rights) : Type 0 where
+  pub state : KeepsState line c old new
+  pub desk : KeepsDesk old.supervision.number book book' from to
+
+-- it is the same train on any line and at any centre: its hand is held, and what is claimed for a start that waits is
+-- what its place covers, where they were; and as much is known of whether it is expected
+pub record KeepsItself (old new : TrainState) : Type 0 where
+  pub train : KeepsTrain old new
+  pub held : (line : Line) (c : ℕ) → IsHeld line c old → IsHeld line c new
+  pub covers : (line : Line) → IsCovered line old.waiting → IsCovered line new.waiting
+  pub expected : length new.expectations ≡ length old.expectations
+
+-- no more has changed than one message changes that may have been said
+pub record SaysOnce (old new : TrainState) : Type 0 where
+  pub left : new ≡ record old { said = new.said }
+  pub counted : (old.said ≤ new.said) × (new.said ≤ old.said + 1)

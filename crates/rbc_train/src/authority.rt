@@ -9,7 +9,7 @@ ghost use Rattle.rbc_spec.specs.Step as step;
 ghost use Rattle.rbc_spec.specs.Frame.{last_stamp};
 ghost use Rattle.rbc_book.specs.Book.{Pages, is_own};
 ghost use Rattle.rbc_right.specs.Rights.{Rights};
-ghost use Rattle.rbc_train.specs.Desk.{HearsTrain, IsAtBook, IsKeptAt, IsOnTrack, KeepsState, last_said, nothing, with_parts, effect_left};
+ghost use Rattle.rbc_train.specs.Desk.{HearsTrain, IsAtBook, IsKeptAt, IsOnTrack, KeepsState, last_said, nothing, with_parts, effect_left, DoesMessage, IsReady};
 ghost use Rattle.rbc_msgs.specs.StepMessage.{position_of};
 ghost use Rattle.rbc_handover.specs.Giving.{with_count};
 ghost use Rattle.rbc_train.specs.Written.{written};
@@ -30,19 +30,10 @@ impl TrainState {
     /// Message 129: the train data of a mission that goes on are known, and acknowledged.
     #[inline(never)]
     pub(crate) fn train_data(&mut self, t_train: u32, out: &mut Heard) -> Result<(), Reason>
-        requires out { out.old ≡ nothing }
-        requires count { self.old.said < last_said }
-        ensures exact { (line : track.Line) (c : ℕ) (book : Pages) (rights : Rights) (k : spec.Centre)
-            (position : place.Position)
-            → HearsTrain line c k t_train self.old book rights
-            → step.effect line c k
-            (step.Train (record {
-              t_train = t_train;
-              nid_engine = self.old.supervision.engine;
-              body = TrainData position;
-            }))
-            ≡ effect_left line c self.old.supervision.engine (with_parts self.new book rights k)
-            (written result out.new) }
+        requires ready { IsReady self.old out.old }
+        ensures exact { (line : track.Line) (c : ℕ) (book : Pages) (rights : Rights) (position : place.Position)
+            → DoesMessage line c t_train
+            (TrainData position) self.old book rights self.new book rights (written result out.new) }
         ensures left { self.new ≡ record self.old {
           heard = self.new.heard;
           said = self.new.said;

@@ -6,12 +6,11 @@ ghost use Rattle.rbc_spec.specs.Line as track;
 ghost use Rattle.rbc_spec.specs.Message.{Report};
 ghost use Rattle.rbc_spec.specs.Acts.{rest};
 ghost use Rattle.rbc_spec.specs.Links as links;
-ghost use Rattle.rbc_spec.specs.Step as step;
 ghost use Rattle.rbc_msgs.specs.StepMessage.{position_of};
 ghost use Rattle.rbc_book.specs.Book.{Pages};
 ghost use Rattle.rbc_right.specs.Rights.{Rights};
 ghost use Rattle.rbc_session.specs.SessionStates.{session_phase};
-ghost use Rattle.rbc_train.specs.Desk.{HasParts, HearsTrain, nothing, with_parts, reply_left, effect_left};
+ghost use Rattle.rbc_train.specs.Desk.{DoesMessage, nothing, Does};
 ghost use Rattle.rbc_train.specs.Written.{written};
 
 use crate::front::is_in_area;
@@ -27,11 +26,9 @@ impl TrainState {
     /// already.
     pub(crate) fn announced(&mut self, line: &Line, from: u8, number: u32, track: u8)
         requires { from < length self.old.expectations }
-        ensures exact { (c : ℕ) (book : Pages) (rights : Rights) (k : spec.Centre)
-            → HasParts line.now c k self.old book rights
-            → (if nat_lt track (length line.now.tracks) then links.announced from number self.old.supervision.engine
-            else rest) k
-            ≡ reply_left line.now c self.old.supervision.engine (with_parts self.new book rights k) nothing }
+        ensures exact { (c : ℕ) (book : Pages) (rights : Rights) → Does line.now c
+            (if nat_lt track (length line.now.tracks) then links.announced from number self.old.supervision.engine
+            else rest) self.old book rights self.new book rights nothing }
         ensures same { self.new ≡ record self.old { expectations = self.new.expectations } }
         ensures count { length self.new.expectations ≡ length self.old.expectations }
     {
@@ -43,10 +40,9 @@ impl TrainState {
 
     /// Cancel of a centre: the train is not expected from there any more, where it was under this number.
     pub(crate) fn cancelled(&mut self, from: u8, number: u32)
-        ensures exact { (line : track.Line) (c : ℕ) (book : Pages) (rights : Rights) (k : spec.Centre)
-            → HasParts line c k self.old book rights
-            → links.cancelled from number self.old.supervision.engine k
-            ≡ reply_left line c self.old.supervision.engine (with_parts self.new book rights k) nothing }
+        ensures exact { (line : track.Line) (c : ℕ) (book : Pages) (rights : Rights) → Does line c
+            (links.cancelled from number self.old.supervision.engine)
+            self.old book rights self.new book rights nothing }
         ensures same { self.new ≡ record self.old { expectations = self.new.expectations } }
         ensures count { length self.new.expectations ≡ length self.old.expectations }
     {
@@ -67,16 +63,8 @@ impl TrainState {
         requires out { out.old ≡ nothing }
         requires up { session_phase self.old.session_state ≡ spec.Up }
         requires none { self.old.supervision.mission ≡ None }
-        ensures exact { (book : Pages) (rights : Rights) (k : spec.Centre)
-            → HearsTrain line.now centre k t_train self.old book rights
-            → step.effect line.now centre k
-            (step.Train (record {
-              t_train = t_train;
-              nid_engine = self.old.supervision.engine;
-              body = Report (position_of position.now);
-            }))
-            ≡ effect_left line.now centre self.old.supervision.engine (with_parts self.new book rights k)
-            (written result out.new) }
+        ensures exact { (book : Pages) (rights : Rights) → DoesMessage line.now centre t_train
+            (Report (position_of position.now)) self.old book rights self.new book rights (written result out.new) }
         ensures same { self.new ≡ record self.old { heard = self.new.heard; expectations = self.new.expectations } }
         ensures count { length self.new.expectations ≡ length self.old.expectations }
     {

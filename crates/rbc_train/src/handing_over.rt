@@ -1,6 +1,6 @@
 //! A mission goes on at the next centre (3.15.1).
 
-ghost use Rattle.std.specs.Prelude.{◌≡◌, ◌<◌, ◌≤◌, ◌+◌, ℕ, [], Some, if◌then◌else◌};
+ghost use Rattle.std.specs.Prelude.{◌≡◌, ◌<◌, ℕ, [], Some, if◌then◌else◌};
 ghost use Rattle.std.specs.Option.{option_map_or};
 ghost use Rattle.rbc_spec.specs.Centre as spec;
 ghost use Rattle.rbc_spec.specs.Frame.{Yield, yielded_place};
@@ -13,7 +13,7 @@ ghost use Rattle.rbc_linkmsg.specs.Bodies.{body_of};
 ghost use Rattle.rbc_linkmsg.specs.Bodies as bodies;
 ghost use Rattle.rbc_place.specs.Places.{place_of};
 ghost use Rattle.rbc_session.specs.SessionStates.{session_phase};
-ghost use Rattle.rbc_train.specs.Desk.{HasParts, IsAtBook, KeepsState, last_said, nothing, with_parts, counted_to, replied, reply_left};
+ghost use Rattle.rbc_train.specs.Desk.{IsAtBook, KeepsState, last_said, counted_to, replied, IsReady, SaysOnce, Does};
 ghost use Rattle.rbc_train.specs.Sayings.{sayings_of};
 
 use crate::asking::is_up;
@@ -25,7 +25,7 @@ use crate::saying::Saying;
 use crate::train::TrainState;
 use rbc_book::Book;
 use rbc_line::Line;
-use rbc_linkmsg::{Body, YieldedPlace};
+use rbc_linkmsg::{Body, YieldedPlace, Yielding};
 use rbc_mission::Yielded;
 use rbc_msgs::{NID_LRBG_UNKNOWN, TrackBody};
 use rbc_place::Place;
@@ -43,12 +43,11 @@ impl TrainState {
         number: u32,
         out: &mut Heard,
     )
-        requires out { out.old ≡ nothing }
-        requires count { self.old.said < last_said }
+        requires ready { IsReady self.old out.old }
         requires at { IsAtBook line.now centre self.old book.old }
-        ensures exact { (rights : Rights) (k : spec.Centre) → HasParts line.now centre k self.old book.old rights
-            → links.taking_over line.now centre from number self.old.supervision.engine k
-            ≡ reply_left line.now centre self.old.supervision.engine (with_parts self.new book.new rights k) out.new }
+        ensures exact { (rights : Rights) → Does line.now centre
+            (links.taking_over line.now centre from number self.old.supervision.engine)
+            self.old book.old rights self.new book.new rights out.new }
         ensures left { self.new ≡ record self.old { said = self.new.said; supervision = self.new.supervision } }
         ensures keeps { KeepsState line.now centre self.old self.new }
         ensures homes { (s : ℕ) → is_own book.new s ≡ is_own book.old s }
@@ -75,8 +74,7 @@ impl TrainState {
             → k.said self.old.supervision.engine ≡ self.old.said
             → (if is_gone then acts.end_order line.now centre self.old.supervision.engine else acts.rest) k
             ≡ replied (counted_to self.old.supervision.engine self.new.said k) (sayings_of result) [] }
-        ensures said { self.new ≡ record self.old { said = self.new.said } }
-        ensures counted { (self.old.said ≤ self.new.said) × (self.new.said ≤ self.old.said + 1) }
+        ensures says { SaysOnce self.old self.new }
     {
         if !is_gone {
             return None;
@@ -91,8 +89,7 @@ impl TrainState {
             → k.said self.old.supervision.engine ≡ self.old.said
             → acts.end_order line.now centre self.old.supervision.engine k
             ≡ replied (counted_to self.old.supervision.engine self.new.said k) (sayings_of result) [] }
-        ensures said { self.new ≡ record self.old { said = self.new.said } }
-        ensures counted { (self.old.said ≤ self.new.said) × (self.new.said ≤ self.old.said + 1) }
+        ensures says { SaysOnce self.old self.new }
     {
         if !is_up(self.session_state.phase()) {
             return None;
@@ -116,11 +113,13 @@ fn yield_letter(nid_engine: u32, heard: Option<u32>, yielded: Yielded) -> Letter
         body: Body::Yield {
             handover: yielded.handover.number,
             engine: nid_engine,
-            heard: heard.unwrap_or(0),
-            has_data: mission.has_data,
-            is_ended: mission.is_ended,
-            place: place_to_yield(mission.place),
-            hand: yielded.hand,
+            yielding: Yielding {
+                heard: heard.unwrap_or(0),
+                has_data: mission.has_data,
+                is_ended: mission.is_ended,
+                place: place_to_yield(mission.place),
+                hand: yielded.hand,
+            },
         },
     }
 }

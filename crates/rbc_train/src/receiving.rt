@@ -11,7 +11,6 @@ ghost use Rattle.rbc_train.specs.Desks.{IsBookOf};
 ghost use Rattle.rbc_train.specs.Desk.{HasParts, IsHeld, KeepsTrain, KeepsDesk, last_said, with_parts, reply_left};
 
 use crate::heard::Heard;
-use crate::taking_up::Coming;
 use crate::train::TrainState;
 use rbc_book::Book;
 use rbc_line::Line;
@@ -75,24 +74,9 @@ impl TrainState {
             }
             Body::Yield {
                 handover,
-                heard,
-                has_data,
-                is_ended,
-                place,
-                hand,
+                yielding,
                 ..
-            } => {
-                let coming = Coming {
-                    from,
-                    number: handover,
-                    heard,
-                    has_data,
-                    is_ended,
-                    place,
-                    hand,
-                };
-                self.yielded(line, centre, book, registrar, coming, out)
-            }
+            } => self.yielded(line, centre, book, registrar, from, handover, yielding, out),
         }
     }
 }

@@ -5,9 +5,8 @@ ghost use Rattle.rbc_spec.specs.SectionRuns.{no_run};
 ghost use Rattle.rbc_spec.specs.Place as spec_place;
 ghost use Rattle.rbc_spec.specs.Centre as spec;
 ghost use Rattle.rbc_spec.specs.Message.{Report, EndOfMission};
-ghost use Rattle.rbc_spec.specs.Step as step;
 ghost use Rattle.rbc_msgs.specs.StepMessage.{position_of};
-ghost use Rattle.rbc_train.specs.Desk.{HearsTrain, IsAtDesk, IsKeptAt, KeepsState, KeepsDesk, with_parts, nothing, unsaid, effect_left, Does};
+ghost use Rattle.rbc_train.specs.Desk.{IsAtDesk, IsKeptAt, nothing, unsaid, Does, DoesMessage, KeepsAtDesk};
 ghost use Rattle.rbc_spec.specs.Rules as rules;
 ghost use Rattle.rbc_train.specs.Letters.{mail_home};
 ghost use Rattle.rbc_place.specs.Places.{place_of};
@@ -51,24 +50,15 @@ impl TrainState {
         position: &Position,
         out: &mut Heard,
     ) -> Result<(), Reason>
-        requires out { out.old ≡ nothing }
-        requires at { IsAtDesk line.now centre self.old book.old registrar.old }
-        ensures exact { (k : spec.Centre) → HearsTrain line.now centre k t_train self.old book.old registrar.old
-            → step.effect line.now centre k
-            (step.Train (record {
-              t_train = t_train;
-              nid_engine = self.old.supervision.engine;
-              body = Report (position_of position.now);
-            }))
-            ≡ effect_left line.now centre self.old.supervision.engine
-            (with_parts self.new book.new registrar.new k) (written result out.new) }
+        requires at { IsAtDesk line.now centre self.old book.old registrar.old out.old }
+        ensures exact { DoesMessage line.now centre t_train (Report (position_of position.now))
+            self.old book.old registrar.old self.new book.new registrar.new (written result out.new) }
         ensures left { self.new ≡ record self.old {
           heard = self.new.heard;
           supervision = self.new.supervision;
           expectations = self.new.expectations;
         } }
-        ensures keeps { KeepsState line.now centre self.old self.new }
-        ensures desk { KeepsDesk self.old.supervision.number book.old book.new registrar.old registrar.new }
+        ensures keeps { KeepsAtDesk line.now centre self.old self.new book.old book.new registrar.old registrar.new }
     {
         self.up()?;
         let Some(mission) = self.supervision.mission() else {
@@ -95,20 +85,11 @@ impl TrainState {
         position: &Position,
         out: &mut Heard,
     ) -> Result<(), Reason>
-        requires out { out.old ≡ nothing }
-        requires at { IsAtDesk line.now centre self.old book.old registrar.old }
-        ensures exact { (k : spec.Centre) → HearsTrain line.now centre k t_train self.old book.old registrar.old
-            → step.effect line.now centre k
-            (step.Train (record {
-              t_train = t_train;
-              nid_engine = self.old.supervision.engine;
-              body = EndOfMission (position_of position.now);
-            }))
-            ≡ effect_left line.now centre self.old.supervision.engine
-            (with_parts self.new book.new registrar.new k) (written result out.new) }
+        requires at { IsAtDesk line.now centre self.old book.old registrar.old out.old }
+        ensures exact { DoesMessage line.now centre t_train (EndOfMission (position_of position.now))
+            self.old book.old registrar.old self.new book.new registrar.new (written result out.new) }
         ensures left { self.new ≡ record self.old { heard = self.new.heard; supervision = self.new.supervision } }
-        ensures keeps { KeepsState line.now centre self.old self.new }
-        ensures desk { KeepsDesk self.old.supervision.number book.old book.new registrar.old registrar.new }
+        ensures keeps { KeepsAtDesk line.now centre self.old self.new book.old book.new registrar.old registrar.new }
     {
         self.up()?;
         let mission = self.supervised()?;
@@ -177,8 +158,7 @@ impl TrainState {
         keep: u16,
         out: &mut Heard,
     )
-        requires out { out.old ≡ nothing }
-        requires at { IsAtDesk line.now centre self.old book.old registrar.old }
+        requires at { IsAtDesk line.now centre self.old book.old registrar.old out.old }
         requires some { 1 ≤ keep }
         requires keep { keep ≤ (hand_of self.old.supervision).count }
         ensures exact { (m : spec.Mission) → self.old.supervision.mission ≡ Some m → m.place.track ≡ track
@@ -190,8 +170,7 @@ impl TrainState {
             (wished self.old.supervision.engine (rest_of keep (hand_of self.old.supervision)) book.old) }
         ensures pool { pool_of self.new.supervision ≡ no_run }
         ensures left { self.new ≡ record self.old { supervision = self.new.supervision } }
-        ensures keeps { KeepsState line.now centre self.old self.new }
-        ensures desk { KeepsDesk self.old.supervision.number book.old book.new registrar.old registrar.new }
+        ensures keeps { KeepsAtDesk line.now centre self.old self.new book.old book.new registrar.old registrar.new }
     {
         let released = self.supervision.shorten(line, keep, book);
         self.released(line, centre, registrar, track, released, out);
@@ -209,8 +188,7 @@ impl TrainState {
         position: &Position,
         out: &mut Heard,
     )
-        requires out { out.old ≡ nothing }
-        requires at { IsAtDesk line.now centre self.old book.old registrar.old }
+        requires at { IsAtDesk line.now centre self.old book.old registrar.old out.old }
         ensures exact { (m : spec.Mission) → self.old.supervision.mission ≡ Some m → m.place.track ≡ track
             → Does line.now centre
             (rules.report_here line.now centre self.old.supervision.engine
@@ -222,8 +200,7 @@ impl TrainState {
         ensures front { (p : spec_place.Place) → spec_place.place_on line.now track (position_of position.now) ≡ Some p
             → LeavesFront line.now p self.old.supervision self.new.supervision out.new.told book.old book.new }
         ensures left { self.new ≡ record self.old { supervision = self.new.supervision } }
-        ensures keeps { KeepsState line.now centre self.old self.new }
-        ensures desk { KeepsDesk self.old.supervision.number book.old book.new registrar.old registrar.new }
+        ensures keeps { KeepsAtDesk line.now centre self.old self.new book.old book.new registrar.old registrar.new }
     {
         match place_on(line, track, position) {
             Some(place) => self.clear(line, centre, book, registrar, place, out),
@@ -243,8 +220,7 @@ impl TrainState {
         place: Place,
         out: &mut Heard,
     )
-        requires out { out.old ≡ nothing }
-        requires at { IsAtDesk line.now centre self.old book.old registrar.old }
+        requires at { IsAtDesk line.now centre self.old book.old registrar.old out.old }
         ensures exact { (m : spec.Mission) → self.old.supervision.mission ≡ Some m → m.place.track ≡ place.track
             → Does line.now centre
             (rules.clear line.now centre self.old.supervision.engine m
@@ -255,8 +231,7 @@ impl TrainState {
         ensures front { LeavesFront line.now
             (place_of place) self.old.supervision self.new.supervision out.new.told book.old book.new }
         ensures left { self.new ≡ record self.old { supervision = self.new.supervision } }
-        ensures keeps { KeepsState line.now centre self.old self.new }
-        ensures desk { KeepsDesk self.old.supervision.number book.old book.new registrar.old registrar.new }
+        ensures keeps { KeepsAtDesk line.now centre self.old self.new book.old book.new registrar.old registrar.new }
     {
         let count = cleared(line, self.hand(), &place);
         let released = self.supervision.clear_front(place, count, book);

@@ -6,8 +6,7 @@ ghost use Rattle.rbc_spec.specs.Line as track;
 ghost use Rattle.rbc_spec.specs.Links as links;
 ghost use Rattle.rbc_book.specs.Book.{Pages, is_own};
 ghost use Rattle.rbc_right.specs.Rights.{Rights};
-ghost use Rattle.rbc_pending_start.specs.Waits.{IsCovered};
-ghost use Rattle.rbc_train.specs.Desk.{HasParts, IsHeld, KeepsTrain, KeepsRights, last_said, nothing, unsaid, with_parts, reply_left};
+ghost use Rattle.rbc_train.specs.Desk.{KeepsRights, nothing, unsaid, IsReady, KeepsItself, Does, HasParts, last_said, with_parts, reply_left};
 ghost use Rattle.rbc_train.specs.Homes.{GoesHome};
 ghost use Rattle.rbc_train.specs.Letters.{cancel_of, mail_home};
 
@@ -33,10 +32,9 @@ impl TrainState {
         out: &mut Heard,
     )
         requires out { out.old ≡ nothing }
-        ensures exact { (book : Pages) (k : spec.Centre) → HasParts line.now centre k self.old book registrar.old
-            → links.right_asked line.now centre from self.old.supervision.engine k
-            ≡ reply_left line.now centre self.old.supervision.engine (with_parts self.new book registrar.new k)
-            out.new }
+        ensures exact { (book : Pages) → Does line.now centre
+            (links.right_asked line.now centre from self.old.supervision.engine)
+            self.old book registrar.old self.new book registrar.new out.new }
         ensures same { self.new ≡ self.old }
         ensures rights { KeepsRights self.old.supervision.number registrar.old registrar.new }
     {
@@ -63,22 +61,18 @@ impl TrainState {
         registrar: &mut Registrar,
         out: &mut Heard,
     )
-        requires out { out.old ≡ nothing }
-        requires count { self.old.said < last_said }
+        requires ready { IsReady self.old out.old }
         requires train { self.old.waiting.engine ≡ self.old.supervision.engine }
         requires number { self.old.supervision.number < length registrar.old }
-        ensures exact { (book : Pages) (k : spec.Centre) → HasParts line.now centre k self.old book registrar.old
-            → links.right_given line.now centre self.old.supervision.engine k
-            ≡ reply_left line.now centre self.old.supervision.engine (with_parts self.new book registrar.new k)
-            out.new }
+        ensures exact { (book : Pages) → Does line.now centre
+            (links.right_given line.now centre self.old.supervision.engine)
+            self.old book registrar.old self.new book registrar.new out.new }
         ensures left { self.new ≡ record self.old {
           said = self.new.said;
           supervision = self.new.supervision;
           waiting = self.new.waiting;
         } }
-        ensures kept { KeepsTrain self.old self.new }
-        ensures held { (line : track.Line) (c : ℕ) → IsHeld line c self.old → IsHeld line c self.new }
-        ensures covers { (line : track.Line) → IsCovered line self.old.waiting → IsCovered line self.new.waiting }
+        ensures keeps { KeepsItself self.old self.new }
         ensures rights { KeepsRights self.old.supervision.number registrar.old registrar.new }
     {
         if !self.waiting.has_asked() {
@@ -108,9 +102,8 @@ impl TrainState {
             → HasParts line c k self.old book.old rights
             → links.right_refused line c self.old.supervision.engine k
             ≡ reply_left line c self.old.supervision.engine (with_parts self.new book.new rights k) out.new }
-        ensures kept { KeepsTrain self.old self.new }
         ensures left { self.new ≡ record self.old { said = self.new.said; waiting = self.new.waiting } }
-        ensures covers { (line : track.Line) → IsCovered line self.old.waiting → IsCovered line self.new.waiting }
+        ensures keeps { KeepsItself self.old self.new }
         ensures homes { (s : ℕ) → is_own book.new s ≡ is_own book.old s }
     {
         let Some(told) = self.waiting.give_up(book) else {
@@ -123,10 +116,9 @@ impl TrainState {
     /// ReturnRight: the right is at its registrar again, where it is not in a mission of the registrar's own.
     pub(crate) fn right_returned(&mut self, line: &Line, centre: u8, registrar: &mut Registrar)
         requires number { self.old.supervision.number < length registrar.old }
-        ensures exact { (book : Pages) (k : spec.Centre) → HasParts line.now centre k self.old book registrar.old
-            → links.right_returned line.now centre self.old.supervision.engine k
-            ≡ reply_left line.now centre self.old.supervision.engine (with_parts self.new book registrar.new k)
-            nothing }
+        ensures exact { (book : Pages) → Does line.now centre
+            (links.right_returned line.now centre self.old.supervision.engine)
+            self.old book registrar.old self.new book registrar.new nothing }
         ensures same { self.new ≡ self.old }
         ensures rights { KeepsRights self.old.supervision.number registrar.old registrar.new }
     {

@@ -16,7 +16,7 @@ ghost use Rattle.rbc_hand.specs.SectionRuns.{run_of};
 ghost use Rattle.rbc_msgs.specs.Bodies.{track_body};
 ghost use Rattle.rbc_msgs.specs.declared.track.TrackBody.TheVariants as code;
 ghost use Rattle.rbc_right.specs.Rights.{Rights};
-ghost use Rattle.rbc_train.specs.Desk.{HasParts, last_said, nothing, with_parts, replied, reply_left};
+ghost use Rattle.rbc_train.specs.Desk.{HasParts, last_said, nothing, with_parts, replied, IsReady, SaysOnce, Does};
 ghost use Rattle.rbc_train.specs.Sayings.{sayings_of};
 
 use crate::heard::Heard;
@@ -45,9 +45,9 @@ impl TrainState {
         out: &mut Heard,
     )
         requires { out.old ≡ nothing }
-        ensures exact { (rights : Rights) (k : spec.Centre) → HasParts line.now centre k self.now book.old rights
-            → links.route_asked line.now centre from self.now.supervision.engine first most k
-            ≡ reply_left line.now centre self.now.supervision.engine (with_parts self.now book.new rights k) out.new }
+        ensures exact { (rights : Rights) → Does line.now centre
+            (links.route_asked line.now centre from self.now.supervision.engine first most)
+            self.now book.old rights self.now book.new rights out.new }
         ensures homes { (s : ℕ) → is_own book.new s ≡ is_own book.old s }
     {
         let engine = self.nid_engine();
@@ -72,10 +72,9 @@ impl TrainState {
     )
         requires out { out.old ≡ nothing }
         requires few { sections.count ≤ 31 }
-        ensures exact { (c : ℕ) (book : Pages) (rights : Rights) (k : spec.Centre)
-            → HasParts line.now c k self.old book rights
-            → links.route_told line.now c from self.old.supervision.engine (run_of sections) k
-            ≡ reply_left line.now c self.old.supervision.engine (with_parts self.new book rights k) out.new }
+        ensures exact { (c : ℕ) (book : Pages) (rights : Rights) → Does line.now c
+            (links.route_told line.now c from self.old.supervision.engine (run_of sections))
+            self.old book rights self.new book rights out.new }
         ensures left { self.new ≡ record self.old {
           supervision = record self.old.supervision {
             mission = self.new.supervision.mission;
@@ -98,13 +97,10 @@ impl TrainState {
     /// RouteWithdraw: a section of the pool goes home with all behind it. The train is asked to end its authority
     /// before one of its hand (3.8.6), where that may be asked.
     pub(crate) fn route_withdrawn(&mut self, line: &Line, s: u16, out: &mut Heard)
-        requires out { out.old ≡ nothing }
-        requires count { self.old.said < last_said }
-        ensures exact { (c : ℕ) (book : Pages) (rights : Rights) (k : spec.Centre)
-            → HasParts line.now c k self.old book rights
-            → (if is_some (section line.now s) then links.route_withdrawn line.now c self.old.supervision.engine s
-            else rest) k
-            ≡ reply_left line.now c self.old.supervision.engine (with_parts self.new book rights k) out.new }
+        requires ready { IsReady self.old out.old }
+        ensures exact { (c : ℕ) (book : Pages) (rights : Rights) → Does line.now c
+            (if is_some (section line.now s) then links.route_withdrawn line.now c self.old.supervision.engine s else
+            rest) self.old book rights self.new book rights out.new }
         ensures left { self.new ≡ record self.old {
           said = self.new.said;
           supervision = record self.old.supervision { mission = self.new.supervision.mission };
@@ -136,15 +132,13 @@ impl TrainState {
         sections: SectionRun,
         out: &mut Heard,
     )
-        requires out { out.old ≡ nothing }
-        requires count { self.old.said < last_said }
+        requires ready { IsReady self.old out.old }
         requires range { HasRunRange 1 63 (run_of sections) }
-        ensures exact { (rights : Rights) (k : spec.Centre) → HasParts line.now centre k self.old book.old rights
-            → (if all_of (λ s. is_some (section line.now s)) (run_of sections)
-            then links.route_returned line.now centre self.old.supervision.engine (run_of sections) else rest) k
-            ≡ reply_left line.now centre self.old.supervision.engine (with_parts self.new book.new rights k) out.new }
-        ensures left { self.new ≡ record self.old { said = self.new.said } }
-        ensures counted { self.new.said ≤ self.old.said + 1 }
+        ensures exact { (rights : Rights) → Does line.now centre
+            (if all_of (λ s. is_some (section line.now s)) (run_of sections) then links.route_returned line.now centre
+            self.old.supervision.engine (run_of sections) else rest)
+            self.old book.old rights self.new book.new rights out.new }
+        ensures says { SaysOnce self.old self.new }
         ensures homes { (s : ℕ) → is_own book.new s ≡ is_own book.old s }
     {
         if sections.behind() > u32::from(line.section_count()) {
@@ -165,8 +159,7 @@ impl TrainState {
             && not (spec.is_expected line.now j self.old.supervision.engine)))
             (end_order line.now centre self.old.supervision.engine) k
             ≡ replied (with_parts self.new book.now rights k) (sayings_of result) [] }
-        ensures said { self.new ≡ record self.old { said = self.new.said } }
-        ensures counted { self.new.said ≤ self.old.said + 1 }
+        ensures says { SaysOnce self.old self.new }
     {
         if !self.is_gone() {
             return None;

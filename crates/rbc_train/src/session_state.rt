@@ -9,22 +9,8 @@ ghost use Rattle.rbc_train.specs.SessionStates.{Enters};
 use rbc_session::{SessionState, Sessions};
 use std::mem;
 
-/// It is closed, and another is opened.
-pub(crate) fn opened(
-    sessions: &mut Sessions,
-    session_state: SessionState,
-    nid_engine: u32,
-) -> SessionState
-    requires stands { StandsFor sessions.old session_state nid_engine }
-    requires room { HasRoom sessions.old }
-    ensures { Enters sessions.old sessions.new result nid_engine spec.Opened }
-{
-    sessions.end(session_state);
-    SessionState::Opened(sessions.open_reserved(nid_engine))
-}
-
-/// It is up, if it was opened.
-pub(crate) fn established(
+// It is up, if it was opened.
+fn established(
     sessions: &mut Sessions,
     session_state: SessionState,
     nid_engine: u32,
@@ -40,19 +26,6 @@ pub(crate) fn established(
     }
 }
 
-/// It is closed.
-pub(crate) fn closed(
-    sessions: &mut Sessions,
-    session_state: SessionState,
-    nid_engine: u32,
-) -> SessionState
-    requires stands { StandsFor sessions.old session_state nid_engine }
-    ensures { Enters sessions.old sessions.new result nid_engine spec.Closed }
-{
-    sessions.end(session_state);
-    SessionState::Closed
-}
-
 /// The session that stands with the train is closed, and another is opened.
 pub(crate) fn open(session_state: &mut SessionState, sessions: &mut Sessions, nid_engine: u32)
     requires stands { StandsFor sessions.old session_state.old nid_engine }
@@ -60,9 +33,10 @@ pub(crate) fn open(session_state: &mut SessionState, sessions: &mut Sessions, ni
     ensures { Enters sessions.old sessions.new session_state.new nid_engine spec.Opened }
 {
     let stood = mem::replace(session_state, SessionState::Closed);
-    let stands = opened(sessions, stood, nid_engine);
-    let left = mem::replace(session_state, stands);
-    sessions.end(left);
+    sessions.end(stood);
+    let opened = SessionState::Opened(sessions.open_reserved(nid_engine));
+    let closed = mem::replace(session_state, opened);
+    sessions.end(closed);
 }
 
 /// The session that was opened with the train is up.
@@ -83,7 +57,5 @@ pub(crate) fn close(session_state: &mut SessionState, sessions: &mut Sessions, n
     ensures { Enters sessions.old sessions.new session_state.new nid_engine spec.Closed }
 {
     let stood = mem::replace(session_state, SessionState::Closed);
-    let stands = closed(sessions, stood, nid_engine);
-    let left = mem::replace(session_state, stands);
-    sessions.end(left);
+    sessions.end(stood);
 }

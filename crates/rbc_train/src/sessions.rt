@@ -1,16 +1,13 @@
 //! The train opens, confirms and closes its communication session (3.5.3, 3.5.5).
 
 ghost use Rattle.std.specs.Prelude.{◌≡◌, ◌<◌, ℕ};
-ghost use Rattle.rbc_spec.specs.Centre as spec;
 ghost use Rattle.rbc_spec.specs.Line as track;
 ghost use Rattle.rbc_spec.specs.Message.{InitiationOfSession, SessionEstablished, TerminationOfSession};
-ghost use Rattle.rbc_spec.specs.Step as step;
 ghost use Rattle.rbc_book.specs.Book.{Pages, is_own};
 ghost use Rattle.rbc_right.specs.Rights.{Rights};
-ghost use Rattle.rbc_pending_start.specs.Waits.{IsCovered};
 ghost use Rattle.rbc_session.specs.Sessions.{HasRoom};
 ghost use Rattle.rbc_session.specs.SessionStates.{session_phase, StandsFor};
-ghost use Rattle.rbc_train.specs.Desk.{HearsTrain, KeepsTrain, last_said, nothing, with_parts, effect_left};
+ghost use Rattle.rbc_train.specs.Desk.{nothing, DoesMessage, IsReady, KeepsItself};
 ghost use Rattle.rbc_train.specs.SessionStates.{Enters};
 ghost use Rattle.rbc_train.specs.Written.{written};
 
@@ -33,21 +30,11 @@ impl TrainState {
         t_train: u32,
         out: &mut Heard,
     ) -> Result<(), Reason>
-        requires out { out.old ≡ nothing }
+        requires ready { IsReady self.old out.old }
         requires stands { StandsFor sessions.old self.old.session_state self.old.supervision.engine }
         requires room { HasRoom sessions.old }
-        requires count { self.old.said < last_said }
-        ensures exact { (line : track.Line) (c : ℕ) (rights : Rights) (k : spec.Centre)
-            → HearsTrain line c k t_train self.old book.old rights
-            → step.effect line c k
-            (step.Train (record {
-              t_train = t_train;
-              nid_engine = self.old.supervision.engine;
-              body = InitiationOfSession;
-            }))
-            ≡ effect_left line c self.old.supervision.engine (with_parts self.new book.new rights k)
-            (written result out.new) }
-        ensures kept { KeepsTrain self.old self.new }
+        ensures exact { (line : track.Line) (c : ℕ) (rights : Rights) → DoesMessage line c t_train InitiationOfSession
+            self.old book.old rights self.new book.new rights (written result out.new) }
         ensures left { self.new ≡ record self.old {
           session_state = self.new.session_state;
           heard = self.new.heard;
@@ -55,7 +42,7 @@ impl TrainState {
           supervision = record self.old.supervision { mission = self.new.supervision.mission };
           waiting = self.new.waiting;
         } }
-        ensures covers { (line : track.Line) → IsCovered line self.old.waiting → IsCovered line self.new.waiting }
+        ensures keeps { KeepsItself self.old self.new }
         ensures homes { (s : ℕ) → is_own book.new s ≡ is_own book.old s }
         ensures stands { Enters sessions.old sessions.new self.new.session_state self.old.supervision.engine
             (session_phase self.new.session_state) }
@@ -79,16 +66,8 @@ impl TrainState {
         t_train: u32,
     ) -> Result<(), Reason>
         requires stands { StandsFor sessions.old self.old.session_state self.old.supervision.engine }
-        ensures exact { (line : track.Line) (c : ℕ) (book : Pages) (rights : Rights) (k : spec.Centre)
-            → HearsTrain line c k t_train self.old book rights
-            → step.effect line c k
-            (step.Train (record {
-              t_train = t_train;
-              nid_engine = self.old.supervision.engine;
-              body = SessionEstablished;
-            }))
-            ≡ effect_left line c self.old.supervision.engine (with_parts self.new book rights k)
-            (written result nothing) }
+        ensures exact { (line : track.Line) (c : ℕ) (book : Pages) (rights : Rights) → DoesMessage line c t_train
+            SessionEstablished self.old book rights self.new book rights (written result nothing) }
         ensures left { self.new
             ≡ record self.old { session_state = self.new.session_state; heard = self.new.heard } }
         ensures stands { Enters sessions.old sessions.new self.new.session_state self.old.supervision.engine
@@ -115,20 +94,10 @@ impl TrainState {
         t_train: u32,
         out: &mut Heard,
     ) -> Result<(), Reason>
-        requires out { out.old ≡ nothing }
+        requires ready { IsReady self.old out.old }
         requires stands { StandsFor sessions.old self.old.session_state self.old.supervision.engine }
-        requires count { self.old.said < last_said }
-        ensures exact { (line : track.Line) (c : ℕ) (rights : Rights) (k : spec.Centre)
-            → HearsTrain line c k t_train self.old book.old rights
-            → step.effect line c k
-            (step.Train (record {
-              t_train = t_train;
-              nid_engine = self.old.supervision.engine;
-              body = TerminationOfSession;
-            }))
-            ≡ effect_left line c self.old.supervision.engine (with_parts self.new book.new rights k)
-            (written result out.new) }
-        ensures kept { KeepsTrain self.old self.new }
+        ensures exact { (line : track.Line) (c : ℕ) (rights : Rights) → DoesMessage line c t_train TerminationOfSession
+            self.old book.old rights self.new book.new rights (written result out.new) }
         ensures left { self.new ≡ record self.old {
           session_state = self.new.session_state;
           heard = self.new.heard;
@@ -136,7 +105,7 @@ impl TrainState {
           supervision = record self.old.supervision { mission = self.new.supervision.mission };
           waiting = self.new.waiting;
         } }
-        ensures covers { (line : track.Line) → IsCovered line self.old.waiting → IsCovered line self.new.waiting }
+        ensures keeps { KeepsItself self.old self.new }
         ensures homes { (s : ℕ) → is_own book.new s ≡ is_own book.old s }
         ensures stands { Enters sessions.old sessions.new self.new.session_state self.old.supervision.engine
             (session_phase self.new.session_state) }

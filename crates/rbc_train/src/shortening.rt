@@ -1,12 +1,10 @@
 //! The train answers the request to shorten its movement authority (3.8.6).
 
 ghost use Rattle.std.specs.Prelude.{◌≡◌, ℕ, option_map};
-ghost use Rattle.rbc_spec.specs.Centre as spec;
 ghost use Rattle.rbc_spec.specs.Message.{ShorteningGranted, ShorteningRejected};
 ghost use Rattle.rbc_spec.specs.Place as place;
-ghost use Rattle.rbc_spec.specs.Step as step;
 ghost use Rattle.rbc_msgs.specs.StepMessage.{position_of};
-ghost use Rattle.rbc_train.specs.Desk.{HearsTrain, IsAtDesk, KeepsState, KeepsDesk, nothing, with_parts, effect_left};
+ghost use Rattle.rbc_train.specs.Desk.{IsAtDesk, nothing, DoesMessage, KeepsAtDesk};
 ghost use Rattle.rbc_spec.specs.Line as track;
 ghost use Rattle.rbc_book.specs.Book.{Pages};
 ghost use Rattle.rbc_right.specs.Rights.{Rights};
@@ -38,20 +36,11 @@ impl TrainState {
         position: &Position,
         out: &mut Heard,
     ) -> Result<(), Reason>
-        requires out { out.old ≡ nothing }
-        requires at { IsAtDesk line.now centre self.old book.old registrar.old }
-        ensures exact { (k : spec.Centre) → HearsTrain line.now centre k t_train self.old book.old registrar.old
-            → step.effect line.now centre k
-            (step.Train (record {
-              t_train = t_train;
-              nid_engine = self.old.supervision.engine;
-              body = ShorteningGranted request (position_of position.now);
-            }))
-            ≡ effect_left line.now centre self.old.supervision.engine
-            (with_parts self.new book.new registrar.new k) (written result out.new) }
+        requires at { IsAtDesk line.now centre self.old book.old registrar.old out.old }
+        ensures exact { DoesMessage line.now centre t_train (ShorteningGranted request (position_of position.now))
+            self.old book.old registrar.old self.new book.new registrar.new (written result out.new) }
         ensures left { self.new ≡ record self.old { heard = self.new.heard; supervision = self.new.supervision } }
-        ensures keeps { KeepsState line.now centre self.old self.new }
-        ensures desk { KeepsDesk self.old.supervision.number book.old book.new registrar.old registrar.new }
+        ensures keeps { KeepsAtDesk line.now centre self.old self.new book.old book.new registrar.old registrar.new }
     {
         self.up()?;
         let mission = self.supervised()?;
@@ -86,17 +75,9 @@ impl TrainState {
         t_train: u32,
         request: TTrain,
     ) -> Result<(), Reason>
-        ensures exact { (line : track.Line) (c : ℕ) (book : Pages) (rights : Rights) (k : spec.Centre)
-            (position : place.Position)
-            → HearsTrain line c k t_train self.old book rights
-            → step.effect line c k
-            (step.Train (record {
-              t_train = t_train;
-              nid_engine = self.old.supervision.engine;
-              body = ShorteningRejected request position;
-            }))
-            ≡ effect_left line c self.old.supervision.engine (with_parts self.new book rights k)
-            (written result nothing) }
+        ensures exact { (line : track.Line) (c : ℕ) (book : Pages) (rights : Rights) (position : place.Position)
+            → DoesMessage line c t_train
+            (ShorteningRejected request position) self.old book rights self.new book rights (written result nothing) }
         ensures left { self.new ≡ record self.old {
           heard = self.new.heard;
           supervision = record self.old.supervision { mission = self.new.supervision.mission };

@@ -6,7 +6,6 @@ ghost use Rattle.rbc_spec.specs.Line as track;
 ghost use Rattle.rbc_spec.specs.Message.{StartOfMission};
 ghost use Rattle.rbc_spec.specs.Place.{covered, is_fit};
 ghost use Rattle.rbc_spec.specs.Rules as rules;
-ghost use Rattle.rbc_spec.specs.Step as step;
 ghost use Rattle.rbc_msgs.specs.StepMessage.{position_of, is_valid};
 ghost use Rattle.rbc_book.specs.Book.{is_own};
 ghost use Rattle.rbc_hand.specs.SectionRuns.{run_of};
@@ -14,7 +13,7 @@ ghost use Rattle.rbc_right.specs.Rights.{Rights};
 ghost use Rattle.rbc_place.specs.Places.{place_of};
 ghost use Rattle.rbc_pending_start.specs.Waits.{IsCovered};
 ghost use Rattle.rbc_allocation.specs.Sections.{IsAllOpen};
-ghost use Rattle.rbc_train.specs.Desk.{HasParts, HearsTrain, IsAtBook, IsHeld, KeepsTrain, KeepsState, KeepsDesk, last_said, nothing, with_parts, effect_left};
+ghost use Rattle.rbc_train.specs.Desk.{HasParts, IsAtBook, KeepsTrain, KeepsDesk, with_parts, DoesMessage, IsReady, KeepsAtDesk, KeepsItself};
 ghost use Rattle.rbc_train.specs.Starts.{started};
 ghost use Rattle.rbc_train.specs.Written.{written};
 
@@ -47,26 +46,18 @@ impl TrainState {
         position: &Position,
         out: &mut Heard,
     ) -> Result<(), Reason>
-        requires out { out.old ≡ nothing }
-        requires count { self.old.said < last_said }
+        requires ready { IsReady self.old out.old }
         requires at { IsAtBook line.now centre self.old book.old }
-        ensures exact { (k : spec.Centre) → HearsTrain line.now centre k t_train self.old book.old registrar.old
-            → step.effect line.now centre k
-            (step.Train (record {
-              t_train = t_train;
-              nid_engine = self.old.supervision.engine;
-              body = StartOfMission (is_valid q_status) (position_of position.now);
-            }))
-            ≡ effect_left line.now centre self.old.supervision.engine
-            (with_parts self.new book.new registrar.new k) (written result out.new) }
+        ensures exact { DoesMessage line.now centre t_train
+            (StartOfMission (is_valid q_status) (position_of position.now)) self.old book.old registrar.old
+            self.new book.new registrar.new (written result out.new) }
         ensures left { self.new ≡ record self.old {
           heard = self.new.heard;
           said = self.new.said;
           supervision = self.new.supervision;
           waiting = self.new.waiting;
         } }
-        ensures keeps { KeepsState line.now centre self.old self.new }
-        ensures desk { KeepsDesk self.old.supervision.number book.old book.new registrar.old registrar.new }
+        ensures keeps { KeepsAtDesk line.now centre self.old self.new book.old book.new registrar.old registrar.new }
     {
         self.up()?;
         if self.waiting.place().is_some() {
@@ -99,8 +90,7 @@ impl TrainState {
             (position_of position.now) k
             ≡ started self.old.supervision.engine result (with_parts self.new book.new registrar.new k) }
         ensures same { self.new ≡ record self.old { supervision = self.new.supervision; waiting = self.new.waiting } }
-        ensures keeps { KeepsState line.now centre self.old self.new }
-        ensures desk { KeepsDesk self.old.supervision.number book.old book.new registrar.old registrar.new }
+        ensures keeps { KeepsAtDesk line.now centre self.old self.new book.old book.new registrar.old registrar.new }
     {
         let Some(place) = place_of_start(line, q_status, position) else {
             return Start::Rejected;
@@ -141,8 +131,7 @@ impl TrainState {
             → rules.start_here line self.old.supervision.engine (place_of place) k
             ≡ started self.old.supervision.engine result (with_parts self.new book.new registrar.new k) }
         ensures same { self.new ≡ record self.old { supervision = self.new.supervision } }
-        ensures kept { KeepsTrain self.old self.new }
-        ensures held { (line : track.Line) (c : ℕ) → IsHeld line c self.old → IsHeld line c self.new }
+        ensures keeps { KeepsItself self.old self.new }
         ensures desk { KeepsDesk self.old.supervision.number book.old book.new registrar.old registrar.new }
     {
         match registrar.ask(self.supervision.number()) {

@@ -20,7 +20,7 @@ ghost use Rattle.rbc_hand.specs.SectionRuns.{run_of};
 ghost use Rattle.rbc_linkmsg.specs.Bodies as bodies;
 ghost use Rattle.rbc_place.specs.Places.{place_of};
 ghost use Rattle.rbc_train.specs.Arriving.{MayGoOn, taken_up};
-ghost use Rattle.rbc_train.specs.Desk.{HasParts, IsAtBook, KeepsState, last_said, nothing, with_parts, reply_left};
+ghost use Rattle.rbc_train.specs.Desk.{HasParts, IsAtBook, KeepsState, IsReady, Does};
 ghost use Rattle.rbc_train.specs.Desks.{IsBookOf};
 
 use crate::front::{has_group_on_track, is_on_track};
@@ -30,27 +30,11 @@ use rbc_book::Book;
 use rbc_border::{Arrival, may_arrive};
 use rbc_hand::SectionRun;
 use rbc_line::Line;
-use rbc_linkmsg::YieldedPlace;
+use rbc_linkmsg::{YieldedPlace, Yielding};
 use rbc_mission::MissionFacts;
 use rbc_place::{Place, group_start};
 use rbc_right::{Registrar, Right};
 use std::cmp::max;
-
-/// A mission that another centre yields.
-#[derive(Clone, Copy, Debug, PartialEq, Eq)]
-pub(crate) struct Coming {
-    /// The centre that yields it.
-    pub(crate) from: u8,
-    /// The handover's number there.
-    pub(crate) number: u32,
-    /// The last T_TRAIN that was heard there.
-    pub(crate) heard: u32,
-    pub(crate) has_data: bool,
-    pub(crate) is_ended: bool,
-    pub(crate) place: YieldedPlace,
-    /// The sections of its movement authority.
-    pub(crate) hand: SectionRun,
-}
 
 impl TrainState {
     /// Yield of a centre: where it is expected, and this centre has said that it takes over, the mission goes on here,
@@ -62,20 +46,19 @@ impl TrainState {
         centre: u8,
         book: &mut Book,
         registrar: &Registrar,
-        coming: Coming,
+        from: u8,
+        number: u32,
+        yielding: Yielding,
         out: &mut Heard,
     )
-        requires out { out.old ≡ nothing }
-        requires count { self.old.said < last_said }
+        requires ready { IsReady self.old out.old }
         requires at { IsAtBook line.now centre self.old book.old }
-        requires place { HasPlaceRange (bodies.place_of coming.place) }
-        requires hand { HasRunRange 1 32 (run_of coming.hand) }
-        ensures exact { (k : spec.Centre) → HasParts line.now centre k self.old book.old registrar.now
-            → option_map_or (links.yielded line.now centre coming.from coming.number self.old.supervision.engine
-            (run_of coming.hand) coming.heard coming.has_data coming.is_ended) (carried_place
-            (bodies.place_of coming.place)) rest k
-            ≡ reply_left line.now centre self.old.supervision.engine
-            (with_parts self.new book.new registrar.now k) out.new }
+        requires place { HasPlaceRange (bodies.place_of yielding.place) }
+        requires hand { HasRunRange 1 32 (run_of yielding.hand) }
+        ensures exact { Does line.now centre
+            (option_map_or (links.yielded line.now centre from number self.old.supervision.engine (run_of
+            yielding.hand) yielding.heard yielding.has_data yielding.is_ended) (carried_place (bodies.place_of
+            yielding.place)) rest) self.old book.old registrar.now self.new book.new registrar.now out.new }
         ensures left { self.new ≡ record self.old {
           heard = self.new.heard;
           said = self.new.said;
@@ -85,14 +68,23 @@ impl TrainState {
         ensures keeps { KeepsState line.now centre self.old self.new }
         ensures homes { (s : ℕ) → is_own book.new s ≡ is_own book.old s }
     {
-        let Some(place) = arriving_place(coming.place) else {
+        let Some(place) = arriving_place(yielding.place) else {
             return;
         };
-        if !self.may_take(line, centre, book, registrar, &coming, &place) {
+        if !self.may_take(
+            line,
+            centre,
+            book,
+            registrar,
+            from,
+            number,
+            yielding.hand,
+            &place,
+        ) {
             return;
         }
-        self.take_mission(line, book, coming, place);
-        match first_wished(line, centre, book, coming.hand) {
+        self.take_mission(line, book, from, yielding, place);
+        match first_wished(line, centre, book, yielding.hand) {
             Some(s) => out.saying = self.ask_back(line, s),
             None => {}
         }
@@ -107,27 +99,29 @@ impl TrainState {
         centre: u8,
         book: &Book,
         registrar: &Registrar,
-        coming: &Coming,
+        from: u8,
+        number: u32,
+        hand: SectionRun,
         place: &Place,
     ) -> bool
         requires book { IsBookOf line.now centre book.now }
-        requires some { 1 ≤ coming.now.hand.count }
+        requires some { 1 ≤ hand.count }
         ensures exact { (k : spec.Centre) → HasParts line.now centre k self.now book.now registrar.now
-            → result ≡ links.may_take line.now centre k coming.now.from coming.now.number self.now.supervision.engine
-            (place_of place.now) (run_of coming.now.hand) }
-        ensures may { result ≡ true → MayGoOn line.now self.now.supervision (run_of coming.now.hand) book.now }
+            → result ≡ links.may_take line.now centre k from number self.now.supervision.engine (place_of place.now)
+            (run_of hand) }
+        ensures may { result ≡ true → MayGoOn line.now self.now.supervision (run_of hand) book.now }
     {
-        if !self.awaits(registrar, coming.from, coming.number) {
+        if !self.awaits(registrar, from, number) {
             return false;
         }
-        if !is_placed(line, place, coming.hand) {
+        if !is_placed(line, place, hand) {
             return false;
         }
         let train = Arrival {
             nid_engine: self.nid_engine(),
             track: place.track,
         };
-        may_arrive(line, centre, book, train, coming.hand)
+        may_arrive(line, centre, book, train, hand)
     }
 
     // Whether the train is expected from that centre under this number, and it was told that this one is taking over;
@@ -141,28 +135,35 @@ impl TrainState {
     }
 
     // The mission goes on here.
-    fn take_mission(&mut self, line: &Line, book: &mut Book, coming: Coming, place: Place)
-        requires hand { HasRunRange 1 32 (run_of coming.hand) }
-        requires may { MayGoOn line.now self.old.supervision (run_of coming.hand) book.old }
+    fn take_mission(
+        &mut self,
+        line: &Line,
+        book: &mut Book,
+        from: u8,
+        yielding: Yielding,
+        place: Place,
+    )
+        requires hand { HasRunRange 1 32 (run_of yielding.hand) }
+        requires may { MayGoOn line.now self.old.supervision (run_of yielding.hand) book.old }
         ensures left { self.new
-            ≡ taken_up coming (place_of place) self.new.supervision.hand self.new.expectations self.old }
+            ≡ taken_up yielding (place_of place) self.new.supervision.hand self.new.expectations self.old }
         ensures expected { (d : ℕ)
-            → expected_from self.new.expectations d ≡ put (expected_from self.old.expectations) coming.from None d }
+            → expected_from self.new.expectations d ≡ put (expected_from self.old.expectations) from None d }
         ensures count { length self.new.expectations ≡ length self.old.expectations }
         ensures held { IsHeldBy self.old.supervision.engine self.new.supervision.hand book.new }
         ensures book { IsBooked (spec.is_out_for self.old.supervision.engine) (spec.Taken self.old.supervision.engine)
-            (run_of coming.hand) book.old book.new }
+            (run_of yielding.hand) book.old book.new }
     {
         let mission = MissionFacts {
-            has_data: coming.has_data,
-            is_ended: coming.is_ended,
+            has_data: yielding.has_data,
+            is_ended: yielding.is_ended,
             ..MissionFacts::at(place)
         };
         let right = Right::arrive(self.supervision.number());
         self.supervision
-            .take_up(line, mission, coming.hand, book, right);
-        self.heard = Some(later(self.heard, coming.heard));
-        self.expectations.taken(coming.from);
+            .take_up(line, mission, yielding.hand, book, right);
+        self.heard = Some(later(self.heard, yielding.heard));
+        self.expectations.taken(from);
     }
 }
 

@@ -1,4 +1,4 @@
-use Rattle.std.proofs.Common.{◌≡◌, ℕ, ◌≤◌, ◌∙◌, is_some, option_and_then, ap, sym, refl, subst}
+use Rattle.std.proofs.Common.{rules, ◌≡◌, ℕ, ◌≤◌, ◌∙◌, is_some, option_and_then, ap, sym, refl, subst}
 use Rattle.rbc_spec.specs.SectionRuns.{SectionRun, passing}
 use Rattle.rbc_spec.specs.Line.{is_home}
 use Rattle.rbc_spec.specs.Place.{is_cleared}
@@ -76,9 +76,12 @@ returns-clause-keeps c =
     let old = c.args.self.now in
     let left = c.clear_front-released.new.self in
     let engine = ap (λ (x : SupervisionState). x.engine) c.clear_front-released.ensures.supervision in
-    keeps_state c.args.line.now c.args.centre old old.heard left (ap (λ (x : SupervisionState). x.number) c.clear_front-released.ensures.supervision) engine
-    (held_as old.supervision.engine left.engine (is_own c.clear_front-released.new.book) (is_home c.args.line.now c.args.centre) left.hand (sym engine)
-    (λ s. sym (c.clear_front-released.ensures.book.homes s ∙ c.requires.at.book s)) c.clear_front-released.ensures.held)
+    record {
+      state = keeps_state c.args.line.now c.args.centre old old.heard left (ap (λ (x : SupervisionState). x.number) c.clear_front-released.ensures.supervision) engine
+          (held_as old.supervision.engine left.engine (is_own c.clear_front-released.new.book) (is_home c.args.line.now c.args.centre) left.hand (sym engine)
+          (λ s. sym (c.clear_front-released.ensures.book.homes s ∙ c.requires.at.book s)) c.clear_front-released.ensures.held);
+      desk = search rules;
+    }
 
 pub returns-clause-front : goal.returns-clause-front
 returns-clause-front c =

@@ -36,10 +36,10 @@ returns-in-Some-clause-exact c = λ k h.
     ends_ahead line n k c.args.t_train old c.args.book.now c.args.registrar.now (position_of c.args.position.now) h
     m report.new.self report.new.book report.new.registrar report.new.out
     c.in_ok-up.ensures at c.if-mission.false
-    report.ensures.keeps.train.engine report.ensures.desk.homes kept (report.ensures.exact m at refl) report.ensures.sends.order report.ensures.sends.mail report.ensures.sends.letter (λ x stands. report.ensures.track m x at refl stands) report.ensures.front
+    report.ensures.keeps.state.train.engine report.ensures.keeps.desk.homes kept (report.ensures.exact m at refl) report.ensures.sends.order report.ensures.sends.mail report.ensures.sends.letter (λ x stands. report.ensures.track m x at refl stands) report.ensures.front
     c.in-Some.field-0.keep c.in-Some.field-0.told c.in-Some.ensures.some cut.new.self cut.new.book cut.new.registrar cut.new.out
     cut.ensures.exact cut.ensures.stays (ap (λ (x : Heard). x.saying) cut.ensures.heard) (ap (λ (x : Heard). x.order) cut.ensures.heard) (ap (λ (x : Heard). x.told) cut.ensures.heard) (ap (λ (x : Heard). x.mail) cut.ensures.heard)
-    cut.ensures.pool cut.ensures.left cut.ensures.keeps.train.engine cut.ensures.desk.homes
+    cut.ensures.pool cut.ensures.left cut.ensures.keeps.state.train.engine cut.ensures.keeps.desk.homes
     ∙ (λ i. by_reply (reply_left line n old.supervision.engine (with_parts (record cut.new.self { supervision = sym c.end_mission.ensures i }) cut.new.book cut.new.registrar k) (record report.new.out { mail = record report.new.out.mail { second = cut.new.out.mail.first; notice = cut.new.out.mail.notice }; told = c.in-Some.field-0.told })))
 
 pub returns-in-None-clause-exact : goal.returns-in-None-clause-exact
@@ -57,7 +57,7 @@ returns-in-None-clause-exact c = λ k h.
     ends line n k c.args.t_train old c.args.book.now c.args.registrar.now (position_of c.args.position.now) h
     m mid report.new.book report.new.registrar report.new.out
     c.in_ok-up.ensures at c.if-mission.false
-    report.ensures.keeps.train.engine report.ensures.desk.homes kept (report.ensures.exact m at refl) report.ensures.sends.order report.ensures.sends.mail report.ensures.sends.letter (λ x stands. report.ensures.track m x at refl stands) report.ensures.front
+    report.ensures.keeps.state.train.engine report.ensures.keeps.desk.homes kept (report.ensures.exact m at refl) report.ensures.sends.order report.ensures.sends.mail report.ensures.sends.letter (λ x stands. report.ensures.track m x at refl stands) report.ensures.front
     c.return_pool-pool.result c.return_pool-pool.ensures.run
     ((λ i. left_ahead line m.place.track (position_of c.args.position.now) (hand_of (record old.supervision { mission = sym at i }))) ∙ c.ahead-ahead.ensures.none c.in-None.is)
     ∙ (λ i. by_reply (reply_left line n old.supervision.engine (with_parts (record mid { supervision = sym done i }) report.new.book report.new.registrar k) (record report.new.out { mail = record report.new.out.mail { second = c.return_pool-pool.result } })))

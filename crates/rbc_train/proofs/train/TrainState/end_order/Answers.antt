@@ -20,4 +20,4 @@ returns-clause-exact c = λ rights k has.
     let p = c.args.self.now in
     is_ordered line c.args.centre k p c.args.book.now rights has (sym c.is_gone.ensures ∙ c.if-not-is_gone.false)
     (same_use line c.args.centre k c.nid_engine.result p.supervision.engine c.uses_some.result c.nid_engine.ensures (c.uses_some.ensures c.args.centre k (has_pages line c.args.centre k p c.args.book.now rights has)) ∙ c.if-uses_some.false)
-    c.order_end.new.self c.order_end.result c.order_end.ensures.said c.order_end.ensures.exact
+    c.order_end.new.self c.order_end.result c.order_end.ensures.says.left c.order_end.ensures.exact

@@ -21,4 +21,4 @@ returns-clause-exact c = λ line n rights k h.
     (c.answer-saying.ensures.counted ∙ ap (λ (x : SupervisionState). record { session_state = session; heard = Some c.args.t_train; said = old.said + 1; supervision = x; waiting = waiting; expectations = old.expectations }) c.forget_proposal.ensures)
     (ap (λ x. x ∷ []) (c.answer-saying.ensures.saying ∙ ap (λ (x : SupervisionState). record { nid_engine = x.engine; message = record { t_train = old.said + 1; nid_lrbg = unknown_group; body = SystemVersion } }) c.forget_proposal.ensures))
     refl)
-    ∙ ap (λ (x : Heard). effect_left line n old.supervision.engine (with_parts c.answer-saying.new.self c.drop_start-told.new.book rights k) (Ok (record x { saying = Some c.answer-saying.result; told = told }))) (sym c.requires.out)
+    ∙ ap (λ (x : Heard). effect_left line n old.supervision.engine (with_parts c.answer-saying.new.self c.drop_start-told.new.book rights k) (Ok (record x { saying = Some c.answer-saying.result; told = told }))) (sym c.requires.ready.out)

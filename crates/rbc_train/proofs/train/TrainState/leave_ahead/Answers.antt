@@ -1,4 +1,4 @@
-use Rattle.std.proofs.Common.{ℕ, ◌+◌, ◌-◌, ◌≤◌, ◌∙◌, ap, sym, refl, subst, Option, option_and_then}
+use Rattle.std.proofs.Common.{rules, ℕ, ◌+◌, ◌-◌, ◌≤◌, ◌∙◌, ap, sym, refl, subst, Option, option_and_then}
 use Rattle.std.specs.Option.{option_map_or}
 use Rattle.rbc_spec.specs.SectionRuns.{SectionRun, no_run}
 use Rattle.rbc_spec.specs.Line.{is_home}
@@ -76,6 +76,9 @@ returns-clause-keeps c =
     let old = c.args.self.now in
     let left = c.shorten-released.new.self in
     let engine = ap (λ (x : SupervisionState). x.engine) c.shorten-released.ensures.supervision in
-    keeps_state c.args.line.now c.args.centre old old.heard left (ap (λ (x : SupervisionState). x.number) c.shorten-released.ensures.supervision) engine
-    (held_as old.supervision.engine left.engine (is_own c.shorten-released.new.book) (is_home c.args.line.now c.args.centre) left.hand (sym engine)
-    (λ s. sym (c.shorten-released.ensures.book.homes s ∙ c.requires.at.book s)) c.shorten-released.ensures.held)
+    record {
+      state = keeps_state c.args.line.now c.args.centre old old.heard left (ap (λ (x : SupervisionState). x.number) c.shorten-released.ensures.supervision) engine
+          (held_as old.supervision.engine left.engine (is_own c.shorten-released.new.book) (is_home c.args.line.now c.args.centre) left.hand (sym engine)
+          (λ s. sym (c.shorten-released.ensures.book.homes s ∙ c.requires.at.book s)) c.shorten-released.ensures.held);
+      desk = search rules;
+    }

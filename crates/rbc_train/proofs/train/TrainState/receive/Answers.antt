@@ -50,10 +50,10 @@ pub announced-requires : goal.announced-requires
 announced-requires c = let count = c.requires.expected in let within = ltb-true c.args.from (length c.args.line.now.centres) c.requires.from in omega (arith, count, within)
 
 pub yielded-requires-clause-place : goal.yielded-requires-clause-place
-yielded-requires-clause-place c = (yielded_range c.args.body _ _ _ _ _ c.in-Yield.place c.in-Yield.hand c.in-Yield.is c.requires.range).0
+yielded-requires-clause-place c = (yielded_range c.args.body _ _ c.in-Yield.yielding c.in-Yield.is c.requires.range).0
 
 pub yielded-requires-clause-hand : goal.yielded-requires-clause-hand
-yielded-requires-clause-hand c = (yielded_range c.args.body _ _ _ _ _ c.in-Yield.place c.in-Yield.hand c.in-Yield.is c.requires.range).1
+yielded-requires-clause-hand c = (yielded_range c.args.body _ _ c.in-Yield.yielding c.in-Yield.is c.requires.range).1
 
 pub returns-in-Announce-clause-exact : goal.returns-in-Announce-clause-exact
 returns-in-Announce-clause-exact c = λ k has known.
@@ -72,7 +72,7 @@ returns-in-TakingOver-clause-exact c = λ k has known.
 
 pub returns-in-Yield-clause-exact : goal.returns-in-Yield-clause-exact
 returns-in-Yield-clause-exact c = λ k has known.
-    takes_yield c.args.line.now c.args.centre c.args.from c.args.self.now.supervision.engine k c.args.body _ c.requires.engine known c.in-Yield.handover _ c.in-Yield.heard c.in-Yield.has_data c.in-Yield.is_ended c.in-Yield.place c.in-Yield.hand c.in-Yield.is
+    takes_yield c.args.line.now c.args.centre c.args.from c.args.self.now.supervision.engine k c.args.body _ c.requires.engine known c.in-Yield.handover _ c.in-Yield.yielding c.in-Yield.is
     (c.yielded.ensures.exact k has)
 
 pub returns-in-Announce-clause-held : goal.returns-in-Announce-clause-held
@@ -97,4 +97,4 @@ pub returns-in-RouteWithdraw-clause-held : goal.returns-in-RouteWithdraw-clause-
 returns-in-RouteWithdraw-clause-held c = still_held c.args.line.now c.args.centre c.args.self.now c.route_withdrawn.new.self (ap (λ (p : TrainState). p.supervision.engine) c.route_withdrawn.ensures.left) (ap (λ (p : TrainState). p.supervision.hand) c.route_withdrawn.ensures.left) c.requires.held
 
 pub returns-in-RouteReturn-clause-held : goal.returns-in-RouteReturn-clause-held
-returns-in-RouteReturn-clause-held c = still_held c.args.line.now c.args.centre c.args.self.now c.route_returned.new.self (ap (λ (p : TrainState). p.supervision.engine) c.route_returned.ensures.left) (ap (λ (p : TrainState). p.supervision.hand) c.route_returned.ensures.left) c.requires.held
+returns-in-RouteReturn-clause-held c = still_held c.args.line.now c.args.centre c.args.self.now c.route_returned.new.self (ap (λ (p : TrainState). p.supervision.engine) c.route_returned.ensures.says.left) (ap (λ (p : TrainState). p.supervision.hand) c.route_returned.ensures.says.left) c.requires.held

@@ -23,7 +23,7 @@ returns-clause-exact c = λ k h.
     let on = sym c.place_on.ensures.value ∙ ap (option_map place_of) c.in-Some-place_on.is in
     reports line c.args.centre k c.args.t_train old c.args.book.now c.args.registrar.now (position_of c.args.position.now) h
     m (place_of c.in-Some-place_on.place) c.clear.new.self c.clear.new.book c.clear.new.registrar c.clear.new.out
-    c.in_ok-up.ensures there on c.clear.ensures.keeps.train.engine
+    c.in_ok-up.ensures there on c.clear.ensures.keeps.state.train.engine
     (c.clear.ensures.exact m there (sym (on_track line m.place.track (position_of c.args.position.now) (place_of c.in-Some-place_on.place) on)))
 
 pub returns-in_err-up-clause-exact : goal.returns-in_err-up-clause-exact

@@ -26,7 +26,7 @@ returns-then-is_none-clause-exact c = λ book k has.
     (ap is_some (sym c.place.ensures) ∙ some_mapped place_of c.place.result ∙ sym c.is_some.ensures ∙ c.if-is_some.true)
     c.admit.ensures.supervision c.admit.ensures.waits
     ∙ sym (heard_said c.args.line.now c.args.centre p.supervision.engine k c.answered.new.self new book c.args.registrar.now (record c.args.out.now { saying = Some c.answered.result }) (answer_to p.supervision.engine (p.said + 1) TrainAccepted) c.answered.ensures.counted
-    (c.answered.ensures.said ∙ (λ i. answer_to (c.admit.ensures.supervision i).engine (p.said + 1) TrainAccepted)) (ap (λ (x : Heard). record x { saying = Some c.answered.result }) c.requires.out))
+    (c.answered.ensures.said ∙ (λ i. answer_to (c.admit.ensures.supervision i).engine (p.said + 1) TrainAccepted)) (ap (λ (x : Heard). record x { saying = Some c.answered.result }) c.requires.ready.out))
 
 pub returns-clause-exact : goal.returns-clause-exact
 returns-clause-exact c = λ book k has.

@@ -19,7 +19,7 @@ returns-then-behind-from-clause-exact c = λ rights k has.
     let last = c.behind.ensures in
     let count = c.from.ensures ∙ c.section_count.ensures.value in
     ap (λ b. (if b then route_returned line c.args.centre p.supervision.engine (run_of c.args.sections) else rest) k) (not_all_sections line (run_of c.args.sections) c.requires.range.count.0 (grind (arith, nat_tests)))
-    ∙ same_parts line c.args.centre k p c.args.book.now rights has ∙ ap (reply_left line c.args.centre p.supervision.engine (with_parts p c.args.book.now rights k)) (sym c.requires.out)
+    ∙ same_parts line c.args.centre k p c.args.book.now rights has ∙ ap (reply_left line c.args.centre p.supervision.engine (with_parts p c.args.book.now rights k)) (sym c.requires.ready.out)
 
 pub returns-clause-exact : goal.returns-clause-exact
 returns-clause-exact c = λ rights k has.
@@ -34,6 +34,6 @@ returns-clause-exact c = λ rights k has.
     let count = c.from.ensures ∙ c.section_count.ensures.value in
     ap (λ b. (if b then route_returned line c.args.centre t (run_of c.args.sections) else rest) k) (all_sections line (run_of c.args.sections) (grind (arith, nat_tests)))
     ∙ comes_home line c.args.centre k p c.args.book.now rights has c.nid_engine.result (run_of c.args.sections) book told _ q (sayings_of c.end_order-saying.result) c.nid_engine.ensures
-    (c.bring_back-told.ensures.exact line c.args.centre k (has_pages line c.args.centre k p c.args.book.now rights has)) c.bring_back-told.ensures.book.homes (ap (λ (x : TrainState). x.supervision.engine) c.end_order-saying.ensures.said)
+    (c.bring_back-told.ensures.exact line c.args.centre k (has_pages line c.args.centre k p c.args.book.now rights has)) c.bring_back-told.ensures.book.homes (ap (λ (x : TrainState). x.supervision.engine) c.end_order-saying.ensures.says.left)
     (λ j there. c.end_order-saying.ensures.exact rights j there)
-    ∙ ap (λ (x : Heard). reply_left line c.args.centre t (with_parts q book rights k) (record x { saying = c.end_order-saying.result; told = told })) (sym c.requires.out)
+    ∙ ap (λ (x : Heard). reply_left line c.args.centre t (with_parts q book rights k) (record x { saying = c.end_order-saying.result; told = told })) (sym c.requires.ready.out)

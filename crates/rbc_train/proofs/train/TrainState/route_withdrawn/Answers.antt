@@ -20,14 +20,14 @@ returns-then-s-section_count-clause-exact c = λ n book rights k has.
     let past = c.if-s-section_count.true in
     let count = c.section_count.ensures.value in
     ap (λ b. (if b then route_withdrawn line n p.supervision.engine c.args.s else rest) k) (no_section line c.args.s (grind (arith, nat_tests)))
-    ∙ same_parts line n k p book rights has ∙ ap (reply_left line n p.supervision.engine (with_parts p book rights k)) (sym c.requires.out)
+    ∙ same_parts line n k p book rights has ∙ ap (reply_left line n p.supervision.engine (with_parts p book rights k)) (sym c.requires.ready.out)
 
 pub returns-in_default-clause-exact : goal.returns-in_default-clause-exact
 returns-in_default-clause-exact c = λ n book rights k has.
     let line = c.args.line.now in
     let p = c.args.self.now in
     unsupervised line n k p book rights has c.args.s (is_some (section line c.args.s)) (sym c.mission.ensures.value ∙ ap (option_map (mission_of (hand_of p.supervision) (pool_of p.supervision) (handing_in p.supervision))) c.in_default.is)
-    ∙ ap (reply_left line n p.supervision.engine (with_parts p book rights k)) (sym c.requires.out)
+    ∙ ap (reply_left line n p.supervision.engine (with_parts p book rights k)) (sym c.requires.ready.out)
 
 pub returns-in-Some-withdraw-clause-exact : goal.returns-in-Some-withdraw-clause-exact
 returns-in-Some-withdraw-clause-exact c = λ n book rights k has.
@@ -42,7 +42,7 @@ returns-in-Some-withdraw-clause-exact c = λ n book rights k has.
     ∙ c.withdraw.ensures.exact line n k m (has_supervision line n k p book rights has) there
     ∙ (λ i. option_map_or (λ run. returned line n t m.place.track (run_of run)) (c.in-Some-withdraw.is i) (propose_if_so line t c.args.s) (supervision_left line n k p book rights has left same.0 same.1 i))
     ∙ goes_back line n t m.place.track c.in-Some-withdraw.sections (with_parts (record p { supervision = left }) book rights k) (record c.args.out.now { mail = record c.args.out.now.mail { track = m.place.track; first = c.in-Some-withdraw.sections } })
-    (ap (λ (x : Heard). record x { mail = record x.mail { track = m.place.track; first = c.in-Some-withdraw.sections } }) c.requires.out)
+    (ap (λ (x : Heard). record x { mail = record x.mail { track = m.place.track; first = c.in-Some-withdraw.sections } }) c.requires.ready.out)
 
 pub returns-in-None-clause-exact : goal.returns-in-None-clause-exact
 returns-in-None-clause-exact c = λ n book rights k has.
@@ -58,4 +58,4 @@ returns-in-None-clause-exact c = λ n book rights k has.
     (c.withdraw.ensures.exact line n k m (has_supervision line n k p book rights has) there
     ∙ ap (λ o. option_map_or (λ run. returned line n t m.place.track (run_of run)) o (propose_if_so line t c.args.s) (with_supervision left k)) c.in-None.is)
     asked.exact asked.engine asked.number asked.question asked.session_state asked.heard asked.waiting asked.expectations
-    ∙ ap (λ (x : Heard). reply_left line n t (with_parts c.ask_back-out.new.self book rights k) (record x { saying = c.ask_back-out.result })) (sym c.requires.out)
+    ∙ ap (λ (x : Heard). reply_left line n t (with_parts c.ask_back-out.new.self book rights k) (record x { saying = c.ask_back-out.result })) (sym c.requires.ready.out)

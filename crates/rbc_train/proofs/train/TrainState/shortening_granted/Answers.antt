@@ -1,4 +1,4 @@
-use Rattle.std.proofs.Common.{◌≡◌, ◌∙◌, ap, sym, refl, Some, ℕ, option_map}
+use Rattle.std.proofs.Common.{rules, ◌≡◌, ◌∙◌, ap, sym, refl, Some, ℕ, option_map}
 use Rattle.std.proofs.lemmas.Result.{err_from_is_err_and}
 use Rattle.rbc_spec.specs.Message.{ShorteningGranted}
 use Rattle.rbc_spec.specs.Line.{is_home}
@@ -68,24 +68,30 @@ returns-in-Ok-Nothing-clause-exact c = λ k h.
     (ap (λ (s : ℕ). is_unasked (Some m) (ShorteningGranted s position)) (sym c.value.ensures.value) ∙ sym (c.in-Ok-Nothing.ensures.reason m position refl))
     (c.in-Ok-Nothing.ensures.rules c.args.centre old.supervision.engine position m p (record { proposal = standing; place = c.front_on-front.ensures })
     ∙ ap (act_of line c.args.centre old.supervision.engine m p) c.in-Ok-Nothing.field-0-is)
-    ∙ (λ i. by_reply (reply_left line c.args.centre old.supervision.engine (with_parts (record heard { supervision = sym c.forget_proposal.ensures i }) c.args.book.now c.args.registrar.now k) (sym c.requires.out i)))
+    ∙ (λ i. by_reply (reply_left line c.args.centre old.supervision.engine (with_parts (record heard { supervision = sym c.forget_proposal.ensures i }) c.args.book.now c.args.registrar.now k) (sym c.requires.at.out i)))
 
 pub returns-in-Ok-Keep-clause-keeps : goal.returns-in-Ok-Keep-clause-keeps
 returns-in-Ok-Keep-clause-keeps c =
     let old = c.args.self.now in
     let left = c.shorten-released.new.self in
     let engine = ap (λ (x : SupervisionState). x.engine) c.shorten-released.ensures.supervision in
-    keeps_state c.args.line.now c.args.centre old (Some c.args.t_train) left (ap (λ (x : SupervisionState). x.number) c.shorten-released.ensures.supervision) engine
-    (held_as old.supervision.engine left.engine (is_own c.shorten-released.new.book) (is_home c.args.line.now c.args.centre) left.hand (sym engine)
-    (λ s. sym (c.shorten-released.ensures.book.homes s ∙ c.requires.at.book s)) c.shorten-released.ensures.held)
+    record {
+      state = keeps_state c.args.line.now c.args.centre old (Some c.args.t_train) left (ap (λ (x : SupervisionState). x.number) c.shorten-released.ensures.supervision) engine
+          (held_as old.supervision.engine left.engine (is_own c.shorten-released.new.book) (is_home c.args.line.now c.args.centre) left.hand (sym engine)
+          (λ s. sym (c.shorten-released.ensures.book.homes s ∙ c.requires.at.book s)) c.shorten-released.ensures.held);
+      desk = search rules;
+    }
 
 pub returns-in-Ok-Nothing-clause-keeps : goal.returns-in-Ok-Nothing-clause-keeps
 returns-in-Ok-Nothing-clause-keeps c =
     let old = c.args.self.now in
     let left = c.forget_proposal.new.self in
     let engine = ap (λ (x : SupervisionState). x.engine) c.forget_proposal.ensures in
-    keeps_state c.args.line.now c.args.centre old (Some c.args.t_train) left (ap (λ (x : SupervisionState). x.number) c.forget_proposal.ensures) engine
-    (still_held c.args.line.now c.args.centre old (record old { supervision = left }) engine (ap (λ (x : SupervisionState). x.hand) c.forget_proposal.ensures) c.requires.at.held)
+    record {
+      state = keeps_state c.args.line.now c.args.centre old (Some c.args.t_train) left (ap (λ (x : SupervisionState). x.number) c.forget_proposal.ensures) engine
+          (still_held c.args.line.now c.args.centre old (record old { supervision = left }) engine (ap (λ (x : SupervisionState). x.hand) c.forget_proposal.ensures) c.requires.at.held);
+      desk = search rules;
+    }
 
 pub returns-in_err-up-clause-exact : goal.returns-in_err-up-clause-exact
 returns-in_err-up-clause-exact c = λ k h.

@@ -1,4 +1,4 @@
-use Rattle.std.proofs.Common.{◌≡◌, ◌∙◌, ap, sym, refl, subst, length, option_map, is_some}
+use Rattle.std.proofs.Common.{rules, ◌≡◌, ◌∙◌, ap, sym, refl, subst, length, option_map, is_some}
 use Rattle.std.specs.Option.{option_map_or}
 use Rattle.rbc_spec.specs.SectionRuns.{SectionRun, no_run, within, all_of}
 use Rattle.rbc_spec.specs.Place.{covered}
@@ -10,7 +10,6 @@ use Rattle.rbc_hand.specs.SectionRuns.{run_of}
 use Rattle.rbc_place.specs.Places.{place_of}
 use Rattle.rbc_allocation.specs.Sections.{IsAllOpen}
 use Rattle.rbc_mission.specs.Supervisions.{SupervisionState, mission_of, hand_of, pool_of, handing_in}
-use Rattle.rbc_pending_start.specs.Waits.{IsCovered}
 use Rattle.rbc_train.specs.Desk.{with_parts}
 use Rattle.rbc_train.specs.declared.train.TrainState.{TrainState}
 use Rattle.rbc_train.proofs.Fits.{all_open, a_centre_of}
@@ -92,26 +91,34 @@ returns-then-is_some-clause-keeps c =
     let old = c.args.self.now in
     let left = c.begin_again.new.self in
     let engine = ap (λ (x : SupervisionState). x.engine) c.begin_again.ensures in
-    keeps_state c.args.line.now c.args.centre old old.heard left (ap (λ (x : SupervisionState). x.number) c.begin_again.ensures) engine
-    (still_held c.args.line.now c.args.centre old (record old { supervision = left }) engine (ap (λ (x : SupervisionState). x.hand) c.begin_again.ensures) c.requires.at.held)
+    record {
+      state = keeps_state c.args.line.now c.args.centre old old.heard left (ap (λ (x : SupervisionState). x.number) c.begin_again.ensures) engine
+          (still_held c.args.line.now c.args.centre old (record old { supervision = left }) engine (ap (λ (x : SupervisionState). x.hand) c.begin_again.ensures) c.requires.at.held);
+      desk = search rules;
+    }
 
 pub returns-then-eq-clause-keeps : goal.returns-then-eq-clause-keeps
 returns-then-eq-clause-keeps c =
-    let line = c.args.line.now in
-    let same = c.start_here.ensures.same in
+    let keeps = c.start_here.ensures.keeps in
     record {
-      train = c.start_here.ensures.kept;
-      held = c.start_here.ensures.held line c.args.centre c.requires.at.held;
-      covers = λ covers. subst (IsCovered line) (sym (ap (λ (p : TrainState). p.waiting) same)) covers;
-      expected = ap (λ (p : TrainState). length p.expectations) same;
+      state = record {
+        train = keeps.train;
+        held = keeps.held c.args.line.now c.args.centre c.requires.at.held;
+        covers = keeps.covers c.args.line.now;
+        expected = keeps.expected;
+      };
+      desk = c.start_here.ensures.desk;
     }
 
 pub returns-else-eq-clause-keeps : goal.returns-else-eq-clause-keeps
 returns-else-eq-clause-keeps c =
     let same = c.start_waiting.ensures.same in
     record {
-      train = c.start_waiting.ensures.kept;
-      held = still_held c.args.line.now c.args.centre c.args.self.now c.start_waiting.new.self (ap (λ (p : TrainState). p.supervision.engine) same) (ap (λ (p : TrainState). p.supervision.hand) same) c.requires.at.held;
-      covers = c.start_waiting.ensures.covers;
-      expected = ap (λ (p : TrainState). length p.expectations) same;
+      state = record {
+        train = c.start_waiting.ensures.kept;
+        held = still_held c.args.line.now c.args.centre c.args.self.now c.start_waiting.new.self (ap (λ (p : TrainState). p.supervision.engine) same) (ap (λ (p : TrainState). p.supervision.hand) same) c.requires.at.held;
+        covers = c.start_waiting.ensures.covers;
+        expected = ap (λ (p : TrainState). length p.expectations) same;
+      };
+      desk = search rules;
     }

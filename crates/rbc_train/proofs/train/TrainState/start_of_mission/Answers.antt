@@ -20,27 +20,27 @@ returns-in-Accepted-clause-exact c = λ k h.
     let old = c.args.self.now in
     starts_answered c.args.line.now c.args.centre k c.args.t_train old c.args.book.now c.args.registrar.now h (is_valid c.args.q_status) (position_of c.args.position.now)
     c.start.result c.start.new.self c.start.new.book c.start.new.registrar c.in_ok-up.ensures
-    (sym c.place.ensures ∙ none_there place_of c.place.result (sym c.is_some.ensures ∙ c.if-is_some.false)) c.start.ensures.keeps.train.engine c.start.ensures.exact
+    (sym c.place.ensures ∙ none_there place_of c.place.result (sym c.is_some.ensures ∙ c.if-is_some.false)) c.start.ensures.keeps.state.train.engine c.start.ensures.exact
     TrainAccepted c.answered.new.self (record c.args.out.now { saying = Some c.answered.result }) (λ (j : Centre). ap (λ (s : Start). started old.supervision.engine s j) c.in-Accepted.is)
-    c.answered.ensures.counted c.answered.ensures.said (ap (λ (x : Heard). record x { saying = Some c.answered.result }) c.requires.out)
+    c.answered.ensures.counted c.answered.ensures.said (ap (λ (x : Heard). record x { saying = Some c.answered.result }) c.requires.ready.out)
 
 pub returns-in-Rejected-clause-exact : goal.returns-in-Rejected-clause-exact
 returns-in-Rejected-clause-exact c = λ k h.
     let old = c.args.self.now in
     starts_answered c.args.line.now c.args.centre k c.args.t_train old c.args.book.now c.args.registrar.now h (is_valid c.args.q_status) (position_of c.args.position.now)
     c.start.result c.start.new.self c.start.new.book c.start.new.registrar c.in_ok-up.ensures
-    (sym c.place.ensures ∙ none_there place_of c.place.result (sym c.is_some.ensures ∙ c.if-is_some.false)) c.start.ensures.keeps.train.engine c.start.ensures.exact
+    (sym c.place.ensures ∙ none_there place_of c.place.result (sym c.is_some.ensures ∙ c.if-is_some.false)) c.start.ensures.keeps.state.train.engine c.start.ensures.exact
     TrainRejected c.answered-in-Rejected.new.self (record c.args.out.now { saying = Some c.answered-in-Rejected.result }) (λ (j : Centre). ap (λ (s : Start). started old.supervision.engine s j) c.in-Rejected.is)
-    c.answered-in-Rejected.ensures.counted c.answered-in-Rejected.ensures.said (ap (λ (x : Heard). record x { saying = Some c.answered-in-Rejected.result }) c.requires.out)
+    c.answered-in-Rejected.ensures.counted c.answered-in-Rejected.ensures.said (ap (λ (x : Heard). record x { saying = Some c.answered-in-Rejected.result }) c.requires.ready.out)
 
 pub returns-in-Waiting-clause-exact : goal.returns-in-Waiting-clause-exact
 returns-in-Waiting-clause-exact c = λ k h.
     let old = c.args.self.now in
     starts_waiting c.args.line.now c.args.centre k c.args.t_train old c.args.book.now c.args.registrar.now h (is_valid c.args.q_status) (position_of c.args.position.now)
     c.start.result c.start.new.self c.start.new.book c.start.new.registrar c.in_ok-up.ensures
-    (sym c.place.ensures ∙ none_there place_of c.place.result (sym c.is_some.ensures ∙ c.if-is_some.false)) c.start.ensures.keeps.train.engine c.start.ensures.exact
+    (sym c.place.ensures ∙ none_there place_of c.place.result (sym c.is_some.ensures ∙ c.if-is_some.false)) c.start.ensures.keeps.state.train.engine c.start.ensures.exact
     c.in-Waiting.letter c.in-Waiting.is
-    ∙ ap (λ (x : Heard). effect_left c.args.line.now c.args.centre old.supervision.engine (with_parts c.start.new.self c.start.new.book c.start.new.registrar k) (Ok (record x { mail = record x.mail { letter = c.in-Waiting.letter } }))) (sym c.requires.out)
+    ∙ ap (λ (x : Heard). effect_left c.args.line.now c.args.centre old.supervision.engine (with_parts c.start.new.self c.start.new.book c.start.new.registrar k) (Ok (record x { mail = record x.mail { letter = c.in-Waiting.letter } }))) (sym c.requires.ready.out)
 
 pub returns-in_err-up-clause-exact : goal.returns-in_err-up-clause-exact
 returns-in_err-up-clause-exact c = λ k h.

@@ -48,7 +48,7 @@ returns-in-StartOfMission-clause-exact c = λ k has known counts.
 pub returns-in-TrainData-clause-exact : goal.returns-in-TrainData-clause-exact
 returns-in-TrainData-clause-exact c = λ k has known counts.
     heard_as c.args.line.now c.args.centre k (step_message c.args.message.now) _ c.args.self.now.supervision.engine (with_parts c.train_data.new.self c.args.book.now c.args.registrar.now k) (written c.train_data.result c.train_data.new.out) c.args.count.now
-    (c.train_data.ensures.exact c.args.line.now c.args.centre c.args.book.now c.args.registrar.now k (position_of c.in-TrainData.position) (record { parts = has; known = known; timely = sym c.is_stale.ensures ∙ c.if-is_stale.false }))
+    (c.train_data.ensures.exact c.args.line.now c.args.centre c.args.book.now c.args.registrar.now (position_of c.in-TrainData.position) k (record { parts = has; known = known; timely = sym c.is_stale.ensures ∙ c.if-is_stale.false }))
     (λ i. record { t_train = sym c.t_train-t_train.ensures.value i; nid_engine = c.requires.engine i; body = step_body ((sym c.body.ensures.value ∙ c.in-TrainData.is) i) }) counts
 
 pub returns-in-Request-clause-exact : goal.returns-in-Request-clause-exact
@@ -71,7 +71,7 @@ returns-in-ShorteningGranted-clause-exact c = λ k has known counts.
 pub returns-in-ShorteningRejected-clause-exact : goal.returns-in-ShorteningRejected-clause-exact
 returns-in-ShorteningRejected-clause-exact c = λ k has known counts.
     heard_as c.args.line.now c.args.centre k (step_message c.args.message.now) _ c.args.self.now.supervision.engine (with_parts c.shortening_rejected.new.self c.args.book.now c.args.registrar.now k) (written c.shortening_rejected.result c.nothing.result) c.args.count.now
-    (c.shortening_rejected.ensures.exact c.args.line.now c.args.centre c.args.book.now c.args.registrar.now k (position_of c.in-ShorteningRejected.position) (record { parts = has; known = known; timely = sym c.is_stale.ensures ∙ c.if-is_stale.false })
+    (c.shortening_rejected.ensures.exact c.args.line.now c.args.centre c.args.book.now c.args.registrar.now (position_of c.in-ShorteningRejected.position) k (record { parts = has; known = known; timely = sym c.is_stale.ensures ∙ c.if-is_stale.false })
     ∙ ap (λ (h : Heard). effect_left c.args.line.now c.args.centre c.args.self.now.supervision.engine (with_parts c.shortening_rejected.new.self c.args.book.now c.args.registrar.now k) (written c.shortening_rejected.result h)) (sym c.nothing.ensures))
     (λ i. record { t_train = sym c.t_train-t_train.ensures.value i; nid_engine = c.requires.engine i; body = step_body ((sym c.body.ensures.value ∙ c.in-ShorteningRejected.is) i) }) counts
 

@@ -45,7 +45,7 @@ returns-in_default-clause-exact c = λ rights k has.
     stays line n c.args.from c.args.number k old c.args.book.now rights has left book' same.0 same.1
     (c.yield_to.ensures.exact k (has_supervision line n k old c.args.book.now rights has) (has_pages line n k old c.args.book.now rights has)
     ∙ ap (λ o. option_map_or (sends_off line n t) o rest (with_supervision left (with_book book' k))) c.in_default.is)
-    ∙ ap (reply_left line n t (with_parts (record old { supervision = left }) book' rights k)) (sym c.requires.out)
+    ∙ ap (reply_left line n t (with_parts (record old { supervision = left }) book' rights k)) (sym c.requires.ready.out)
 
 pub returns-in_default-clause-keeps : goal.returns-in_default-clause-keeps
 returns-in_default-clause-keeps c =
@@ -59,7 +59,7 @@ returns-in_default-clause-keeps c =
 -- the mission has gone, and the train may have been told so
 turned : (c : After-order_if_gone-order) → c.order_if_gone-order.new.self
     ≡ record c.args.self.now { said = c.order_if_gone-order.new.self.said; supervision = record c.args.self.now.supervision { mission = None; hand = c.yield_to.new.self.hand } }
-turned c = c.order_if_gone-order.ensures.said ∙ (λ i. record c.args.self.now { said = c.order_if_gone-order.new.self.said; supervision = c.in-Some.ensures.gone i })
+turned c = c.order_if_gone-order.ensures.says.left ∙ (λ i. record c.args.self.now { said = c.order_if_gone-order.new.self.said; supervision = c.in-Some.ensures.gone i })
 
 pub returns-clause-exact : goal.returns-clause-exact
 returns-clause-exact c = λ rights k has.
@@ -84,7 +84,7 @@ returns-clause-exact c = λ rights k has.
     ∙ (λ i. sends_off line n t y (with_supervision (gone i) (with_book book' k))))
     (subst (λ (u : ℕ). (j : Centre) → j.phase u ≡ session_phase old.session_state → j.said u ≡ old.said → (if y.is_gone then end_order line n u else rest) j ≡ replied (counted_to u new.said j) (sayings_of order) [])
     (ap (λ (x : SupervisionState). x.engine) gone) c.order_if_gone-order.ensures.exact at has.has_phase has.has_said)
-    ∙ ap (λ (x : Heard). reply_left line n t (with_parts new book' rights k) (record x { order = order; mail = mail_home y.mission.place.track y.pool notice.Nothing (Some c.yield_letter-letter.result) })) (sym c.requires.out)
+    ∙ ap (λ (x : Heard). reply_left line n t (with_parts new book' rights k) (record x { order = order; mail = mail_home y.mission.place.track y.pool notice.Nothing (Some c.yield_letter-letter.result) })) (sym c.requires.ready.out)
     ∙ ap (λ (m : Mail). reply_left line n t (with_parts new book' rights k) (record c.args.out.now { order = order; mail = m })) (sym c.home-out.ensures)
 
 pub returns-clause-keeps : goal.returns-clause-keeps
@@ -94,7 +94,7 @@ returns-clause-keeps c =
     let new = c.order_if_gone-order.new.self in
     let is = turned (goal.at.returns-clause-keeps c).After-order_if_gone-order in
     let engine = ap (λ (p : TrainState). p.supervision.engine) is in
-    let once = c.order_if_gone-order.ensures.counted.1 in
+    let once = c.order_if_gone-order.ensures.says.counted.1 in
     keeps_by line c.args.centre old new (ap (λ (p : TrainState). p.supervision.number) is) engine (ap (λ (p : TrainState). p.waiting) is) (omega (arith, once))
     (ap (λ (p : TrainState). length p.expectations) is)
     (held_again line c.args.centre old.supervision.engine new c.yield_to.new.book (sym engine) (λ s. c.yield_to.ensures.homes s ∙ c.requires.at.book s)

@@ -19,19 +19,19 @@ returns-in_default-clause-exact c = λ k has.
     let line = c.args.line.now in
     let n = c.args.centre in
     let p = c.args.self.now in
-    let y = c.args.coming in
-    ap (λ o. option_map_or (yielded line n y.from y.number p.supervision.engine (run_of y.hand) y.heard y.has_data y.is_ended) o rest k) (sym c.arriving_place.ensures ∙ ap (option_map place_of) c.in_default.is)
-    ∙ same_parts line n k p c.args.book.now c.args.registrar.now has ∙ ap (reply_left line n p.supervision.engine (with_parts p c.args.book.now c.args.registrar.now k)) (sym c.requires.out)
+    let y = c.args.yielding in
+    ap (λ o. option_map_or (yielded line n c.args.from c.args.number p.supervision.engine (run_of y.hand) y.heard y.has_data y.is_ended) o rest k) (sym c.arriving_place.ensures ∙ ap (option_map place_of) c.in_default.is)
+    ∙ same_parts line n k p c.args.book.now c.args.registrar.now has ∙ ap (reply_left line n p.supervision.engine (with_parts p c.args.book.now c.args.registrar.now k)) (sym c.requires.ready.out)
 
 pub returns-then-not-may_take-clause-exact : goal.returns-then-not-may_take-clause-exact
 returns-then-not-may_take-clause-exact c = λ k has.
     let line = c.args.line.now in
     let n = c.args.centre in
     let p = c.args.self.now in
-    let y = c.args.coming in
-    ap (λ o. option_map_or (yielded line n y.from y.number p.supervision.engine (run_of y.hand) y.heard y.has_data y.is_ended) o rest k) (sym c.arriving_place.ensures ∙ ap (option_map place_of) c.in-Some.is)
+    let y = c.args.yielding in
+    ap (λ o. option_map_or (yielded line n c.args.from c.args.number p.supervision.engine (run_of y.hand) y.heard y.has_data y.is_ended) o rest k) (sym c.arriving_place.ensures ∙ ap (option_map place_of) c.in-Some.is)
     ∙ rw (sym (c.may_take.ensures.exact k has) ∙ c.if-not-may_take.true) (same_parts line n k p c.args.book.now c.args.registrar.now has)
-    ∙ ap (reply_left line n p.supervision.engine (with_parts p c.args.book.now c.args.registrar.now k)) (sym c.requires.out)
+    ∙ ap (reply_left line n p.supervision.engine (with_parts p c.args.book.now c.args.registrar.now k)) (sym c.requires.ready.out)
 
 pub may_take-requires-clause-some : goal.may_take-requires-clause-some
 may_take-requires-clause-some c = c.requires.hand.count.0
@@ -48,20 +48,20 @@ returns-in-Some-first_wished-clause-exact c = λ k has.
     let n = c.args.centre in
     let p = c.args.self.now in
     let t = p.supervision.engine in
-    let y = c.args.coming in
+    let y = c.args.yielding in
     let place = place_of c.in-Some.place in
     let taken = c.take_mission.ensures in
     let x = c.take_mission.new.self in
     let asked = c.ask_back-out.ensures in
-    ap (λ o. option_map_or (yielded line n y.from y.number t (run_of y.hand) y.heard y.has_data y.is_ended) o rest k) (sym c.arriving_place.ensures ∙ ap (option_map place_of) c.in-Some.is)
+    ap (λ o. option_map_or (yielded line n c.args.from c.args.number t (run_of y.hand) y.heard y.has_data y.is_ended) o rest k) (sym c.arriving_place.ensures ∙ ap (option_map place_of) c.in-Some.is)
     ∙ rw (sym (c.may_take.ensures.exact k has) ∙ c.if-not-may_take.false)
-    (wished_first line n k p c.args.book.now c.args.registrar.now has y place x.supervision.hand x.expectations c.take_mission.new.book taken.book taken.expected c.requires.hand taken.count
+    (wished_first line n k p c.args.book.now c.args.registrar.now has c.args.from y place x.supervision.hand x.expectations c.take_mission.new.book taken.book taken.expected c.requires.hand taken.count
     c.in-Some-first_wished.s c.ask_back-out.new.self (sayings_of c.ask_back-out.result) (sym c.first_wished.ensures ∙ c.in-Some-first_wished.is)
     (asked_so line c.in-Some-first_wished.s x (taken_up y place x.supervision.hand x.expectations p) c.ask_back-out.new.self (sayings_of c.ask_back-out.result) taken.left asked.exact)
     (asked.engine ∙ ap (λ (q : TrainState). q.supervision.engine) taken.left) (asked.number ∙ ap (λ (q : TrainState). q.supervision.number) taken.left)
     (asked.question ∙ ap (λ (q : TrainState). q.supervision.asked) taken.left) (asked.session_state ∙ ap (λ (q : TrainState). q.session_state) taken.left)
     (asked.heard ∙ ap (λ (q : TrainState). q.heard) taken.left) (asked.waiting ∙ ap (λ (q : TrainState). q.waiting) taken.left) asked.expectations)
-    ∙ ap (λ (x : Heard). reply_left line n t (with_parts c.ask_back-out.new.self c.take_mission.new.book c.args.registrar.now k) (record x { saying = c.ask_back-out.result })) (sym c.requires.out)
+    ∙ ap (λ (x : Heard). reply_left line n t (with_parts c.ask_back-out.new.self c.take_mission.new.book c.args.registrar.now k) (record x { saying = c.ask_back-out.result })) (sym c.requires.ready.out)
 
 pub returns-in-None-clause-exact : goal.returns-in-None-clause-exact
 returns-in-None-clause-exact c = λ k has.
@@ -69,16 +69,16 @@ returns-in-None-clause-exact c = λ k has.
     let n = c.args.centre in
     let p = c.args.self.now in
     let t = p.supervision.engine in
-    let y = c.args.coming in
+    let y = c.args.yielding in
     let place = place_of c.in-Some.place in
     let taken = c.take_mission.ensures in
     let x = c.take_mission.new.self in
     let book' = c.take_mission.new.book in
-    ap (λ o. option_map_or (yielded line n y.from y.number t (run_of y.hand) y.heard y.has_data y.is_ended) o rest k) (sym c.arriving_place.ensures ∙ ap (option_map place_of) c.in-Some.is)
+    ap (λ o. option_map_or (yielded line n c.args.from c.args.number t (run_of y.hand) y.heard y.has_data y.is_ended) o rest k) (sym c.arriving_place.ensures ∙ ap (option_map place_of) c.in-Some.is)
     ∙ rw (sym (c.may_take.ensures.exact k has) ∙ c.if-not-may_take.false)
-    (unwished line n k p c.args.book.now c.args.registrar.now has y place x.supervision.hand x.expectations book' taken.book taken.expected c.requires.hand taken.count
+    (unwished line n k p c.args.book.now c.args.registrar.now has c.args.from y place x.supervision.hand x.expectations book' taken.book taken.expected c.requires.hand taken.count
     (sym c.first_wished.ensures ∙ c.in-None.is))
-    ∙ (λ i. reply_left line n t (with_parts (sym taken.left i) book' c.args.registrar.now k) (sym c.requires.out i))
+    ∙ (λ i. reply_left line n t (with_parts (sym taken.left i) book' c.args.registrar.now k) (sym c.requires.ready.out i))
 
 pub returns-in-Some-first_wished-clause-keeps : goal.returns-in-Some-first_wished-clause-keeps
 returns-in-Some-first_wished-clause-keeps c =
