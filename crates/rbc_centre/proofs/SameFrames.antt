@@ -10,7 +10,9 @@ use Rattle.rbc_linkmsg.specs.Bodies.{body_of, body_back}
 use Rattle.rbc_linkmsg.specs.declared.body.Body.{Body}
 use Rattle.rbc_linkmsg.specs.declared.body.Body.TheVariants.{AskRight, GiveRight, RefuseRight, ReturnRight, RouteAsk, RouteInfo, RouteWithdraw, RouteReturn, Announce, Cancel, TakingOver, Yield}
 use Rattle.rbc_linkmsg.specs.declared.body.YieldedPlace.{YieldedPlace}
+use Rattle.rbc_linkmsg.specs.declared.body.Yielding.{Yielding}
 use Rattle.rbc_linkmsg.specs.contracts.body.YieldedPlacePartialEq.TheImpl as places
+use Rattle.rbc_linkmsg.specs.contracts.body.YieldingPartialEq.TheImpl as yieldings
 use Rattle.rbc_linkmsg.specs.contracts.body.BodyPartialEq.TheImpl as bodies
 use Rattle.rbc_linkmsg.specs.contracts.frame.FramePartialEq.TheImpl as frames
 
@@ -19,6 +21,22 @@ same_places a b = search rules
 
 same_runs : (a b : SectionRun) → Decides (runs.eq-value.it a b) (a ≡ b)
 same_runs a b = search rules
+
+one_yielding : (a b : Yielding) → yieldings.eq-value.it a b ≡ true → a ≡ b
+one_yielding a b e =
+    let one = and_parts _ _ e in
+    let two = and_parts _ _ one.1 in
+    let three = and_parts _ _ two.1 in
+    let four = and_parts _ _ three.1 in
+    let heard : a.heard ≡ b.heard = eqb-true a.heard b.heard one.0 in
+    let has_data : a.has_data ≡ b.has_data = (booleans_Decides a.has_data b.has_data).0 two.0 in
+    let is_ended : a.is_ended ≡ b.is_ended = (booleans_Decides a.is_ended b.is_ended).0 three.0 in
+    let place : a.place ≡ b.place = (same_places a.place b.place).0 four.0 in
+    let hand : a.hand ≡ b.hand = (same_runs a.hand b.hand).0 four.1 in
+    λ i. record { heard = heard i; has_data = has_data i; is_ended = is_ended i; place = place i; hand = hand i }
+
+yielding_itself : (a : Yielding) → yieldings.eq-value.it a a ≡ true
+yielding_itself a = search (rules, same_places, same_runs)
 
 one_body : (a b : Body) → bodies.eq-value.it a b ≡ true → a ≡ b
 one_body (AskRight t) (AskRight u) e = search rules
@@ -43,22 +61,14 @@ one_body (Cancel number t) (Cancel number' u) e = search rules
 one_body (Cancel number t) b e = cc
 one_body (TakingOver number t) (TakingOver number' u) e = search rules
 one_body (TakingOver number t) b e = cc
-one_body (Yield number t heard has_data is_ended place hand) (Yield number' u heard' has_data' is_ended' place' hand') e =
+one_body (Yield number t yielding) (Yield number' u yielding') e =
     let one = and_parts _ _ e in
     let two = and_parts _ _ one.1 in
-    let three = and_parts _ _ two.1 in
-    let four = and_parts _ _ three.1 in
-    let five = and_parts _ _ four.1 in
-    let six = and_parts _ _ five.1 in
     let a : number ≡ number' = eqb-true number number' one.0 in
     let b : t ≡ u = eqb-true t u two.0 in
-    let c : heard ≡ heard' = eqb-true heard heard' three.0 in
-    let d : has_data ≡ has_data' = (booleans_Decides has_data has_data').0 four.0 in
-    let f : is_ended ≡ is_ended' = (booleans_Decides is_ended is_ended').0 five.0 in
-    let g : place ≡ place' = (same_places place place').0 six.0 in
-    let h : hand ≡ hand' = (same_runs hand hand').0 six.1 in
-    λ i. Yield (a i) (b i) (c i) (d i) (f i) (g i) (h i)
-one_body (Yield number t heard has_data is_ended place hand) b e = cc
+    let c : yielding ≡ yielding' = one_yielding yielding yielding' two.1 in
+    λ i. Yield (a i) (b i) (c i)
+one_body (Yield number t yielding) b e = cc
 
 itself : (a : Body) → bodies.eq-value.it a a ≡ true
 itself (AskRight t) = search rules
@@ -72,7 +82,7 @@ itself (RouteReturn t run) = search (rules, same_runs)
 itself (Announce number t track) = search rules
 itself (Cancel number t) = search rules
 itself (TakingOver number t) = search rules
-itself (Yield number t heard has_data is_ended place hand) = search (rules, same_places, same_runs)
+itself (Yield number t yielding) = search (rules, yielding_itself)
 
 -- a frame shows its body as the rules have it, and goes back to the one in memory
 body_there : (b : spec.Body) → body_of (body_back b) ≡ b
