@@ -111,10 +111,14 @@ all-fit : (xs ys : List ℕ) → AllByRecursion (λ b. b < 256) xs → AllByRecu
 all-fit [] ys xs-fit ys-fit = ys-fit
 all-fit (x ∷ xs) ys xs-fit ys-fit = (xs-fit.0, all-fit xs ys xs-fit.1 ys-fit)
 
-pub halves-bytes : (n : ℕ) → bytes_high_first 8 (n / 2 ^ 64) ++ bytes_high_first 8 (n % 2 ^ 64) ≡ bytes_high_first 16 n
+halves-bytes : (n : ℕ) → bytes_high_first 8 (n / 2 ^ 64) ++ bytes_high_first 8 (n % 2 ^ 64) ≡ bytes_high_first 16 n
 halves-bytes n =
     let high = bytes_high_first 8 (n / 2 ^ 64) in
     let low = bytes_high_first 8 (n % 2 ^ 64) in
     bits_of-injective (high ++ low) (bytes_high_first 16 n) (all-fit high low (bytes_high_first-fit 8 (n / 2 ^ 64)) (bytes_high_first-fit 8 (n % 2 ^ 64))) (bytes_high_first-fit 16 n)
     (bits_of-append high low ∙ ap (λ t. t ++ bits_of low) (bits_of-bytes_high_first 8 (n / 2 ^ 64))
     ∙ ap (λ t. field 64 (n / 2 ^ 64) ++ t) (bits_of-bytes_high_first 8 (n % 2 ^ 64) ∙ field-mod 64 n) ∙ sym (field-add 64 64 n) ∙ sym (bits_of-bytes_high_first 16 n))
+
+pub words-bytes : (n high low : ℕ) → high ≡ n / 2 ^ 64 → low ≡ n % 2 ^ 64 → bytes_high_first 8 high ++ bytes_high_first 8 low ≡ bytes_high_first 16 n
+words-bytes n high low high-is low-is =
+    ap (λ x. bytes_high_first 8 x ++ bytes_high_first 8 low) high-is ∙ ap (λ x. bytes_high_first 8 (n / 2 ^ 64) ++ bytes_high_first 8 x) low-is ∙ halves-bytes n

@@ -1,12 +1,14 @@
 -- What a row has: up to 128 bits in a word, and up to 128 behind them in another.
-use Rattle.std.proofs.Common.{◌≡◌, ◌⊎◌, inl, inr, ℕ, ◌+◌, ◌-◌, ◌*◌, ◌/◌, ◌%◌, ◌^◌, ◌<◌, ◌≤◌, Bool, List, [], ◌++◌, length, refl, sym, ap, subst, ◌∙◌, append_assoc, length-append, arith}
+use Rattle.std.proofs.Common.{◌≡◌, ◌⊎◌, inl, inr, ℕ, ◌+◌, ◌-◌, ◌*◌, ◌/◌, ◌%◌, ◌^◌, ◌<◌, ◌≤◌, Bool, false, List, [], ◌++◌, length, take, replicate, refl, sym, ap, subst, ◌∙◌, append_assoc, length-append, arith}
 use Rattle.std.specs.Prelude.{bit_and, bit_or}
-use Rattle.std.proofs.lemmas.List.{append-nil}
-use Rattle.std.proofs.lemmas.Nat.{pow_pos, mod_below, shr_below}
-use Rattle.rbc_bits.specs.Bits.{field, bits_of, filled}
+use Rattle.std.specs.Int.{bytes_high_first}
+use Rattle.std.proofs.lemmas.List.{append-nil, take_at, length-replicate, replicate-append-replicate}
+use Rattle.std.proofs.lemmas.Nat.{pow_pos, mod_below, shr_below, shl_whole}
+use Rattle.rbc_bits.specs.Bits.{field, bits_of, filling, filled}
 use Rattle.rbc_bits.specs.RowView.{IsRow}
-use Rattle.rbc_bits.proofs.Fields.{length-field, field-none, field-add, field-mod, field-append}
-use Rattle.rbc_bits.proofs.Written.{masked, joined, joined_fits, filled-whole}
+use Rattle.rbc_bits.proofs.Fields.{length-field, field-none, field-zero, field-add, field-mod, field-append}
+use Rattle.rbc_bits.proofs.Bytes.{bits_of-append, bits_of-bytes_high_first, length-bytes_high_first, take-bits_of}
+use Rattle.rbc_bits.proofs.Written.{masked, joined, joined_fits}
 
 module _ (front back first second : ℕ) (row : IsRow front back first second) where
   pub length-row : length (field first front ++ field second back) ≡ first + second
@@ -98,14 +100,42 @@ module _ (front back first second : ℕ) (row : IsRow front back first second) w
 
   -- ---- the bytes
 
-  filled-full : first ≡ 128 → filled (field first front) ≡ field first front
-  unfolding filled
-  filled-full full = rw (length-field first front, full) (append-nil (field 128 front))
+  -- the zero bits behind both words
+  behind : (field first front ++ field (128 - first) 0) ++ (field second back ++ field (128 - second) 0) ≡ (field first front ++ field second back) ++ replicate (256 - (first + second)) false
+  behind =
+      let a = 128 - first in
+      let b = 128 - second in
+      let count : a + b ≡ 256 - (first + second) = omega (arith, row.first-few, row.second-few) in
+      let zeros : field a 0 ++ field b 0 ≡ replicate (256 - (first + second)) false =
+      ap (λ t. t ++ field b 0) (field-zero a) ∙ ap (λ t. replicate a false ++ t) (field-zero b) ∙ replicate-append-replicate a b false ∙ ap (λ n. replicate n false) count in
+      swapped (field first front) (field a 0) (field second back) (field b 0) (one_empty a 0 (omega (arith, row.first-few)) row.full) ∙ ap (λ t. (field first front ++ field second back) ++ t) zeros
 
-  -- the bytes of both words, one behind the other
-  pub row-filled : (bytes new : List ℕ) → bits_of bytes ≡ filled (field first front) → bits_of new ≡ filled (bits_of bytes ++ field second back) → (second ≡ 0) ⊎ (first ≡ 128)
-      → bits_of new ≡ filled (field first front ++ field second back)
-  row-filled bytes new one two (inl none) =
-      let e : field second back ≡ [] = ap (λ k. field k back) none ∙ field-none back in
-      two ∙ sym (filled-whole bytes back second (omega (arith, none))) ∙ one ∙ ap filled (sym (append-nil (field first front)) ∙ ap (λ t. field first front ++ t) (sym e))
-  row-filled bytes new one two (inr full) = two ∙ ap (λ t. filled (t ++ field second back)) (one ∙ filled-full full)
+  -- the first bytes of both words, each moved to its top
+  pub row-filled : (bytes : List ℕ) (one two k : ℕ) → field 128 one ≡ field first front ++ field (128 - first) 0 → field 128 two ≡ field second back ++ field (128 - second) 0
+      → k ≡ (first + second + 7) / 8 → bytes ≡ take k (bytes_high_first 16 one ++ bytes_high_first 16 two) → bits_of bytes ≡ filled (field first front ++ field second back)
+  unfolding filled
+  row-filled bytes one two k one-is two-is k-is bytes-are =
+      let bits = field first front ++ field second back in
+      let all = bytes_high_first 16 one ++ bytes_high_first 16 two in
+      let fill = filling (length bits) in
+      let rest = 256 - (first + second) - fill in
+      let l = length-row in
+      let size : length all ≡ 32 = omega (arith, length-append (bytes_high_first 16 one) (bytes_high_first 16 two), length-bytes_high_first 16 one, length-bytes_high_first 16 two) in
+      let zeros : replicate (256 - (first + second)) false ≡ replicate fill false ++ replicate rest false =
+      ap (λ n. replicate n false) (let e : 256 - (first + second) ≡ fill + rest = omega (arith, row.first-few, row.second-few, l) in e) ∙ sym (replicate-append-replicate fill rest false) in
+      let text : bits_of all ≡ (bits ++ replicate fill false) ++ replicate rest false =
+      bits_of-append (bytes_high_first 16 one) (bytes_high_first 16 two) ∙ ap (λ t. t ++ bits_of (bytes_high_first 16 two)) (bits_of-bytes_high_first 16 one ∙ one-is)
+      ∙ ap (λ t. (field first front ++ field (128 - first) 0) ++ t) (bits_of-bytes_high_first 16 two ∙ two-is) ∙ behind ∙ ap (λ t. bits ++ t) zeros ∙ sym (append_assoc bits (replicate fill false) (replicate rest false)) in
+      ap bits_of bytes-are ∙ sym (take-bits_of k all (omega (arith, k-is, size, row.first-few, row.second-few))) ∙ ap (take (8 * k)) text
+      ∙ take_at (bits ++ replicate fill false) (replicate rest false) (8 * k) (omega (arith, k-is, l, length-append bits (replicate fill false), length-replicate fill false))
+
+-- the bits of a number at the top of a word
+pub topped : (held count : ℕ) → held < 2 ^ count → count ≤ 128 → field 128 (held * 2 ^ (128 - count) % 2 ^ 128) ≡ field count held ++ field (128 - count) 0
+topped held count fits few =
+    let r = 128 - count in
+    let kept : held * 2 ^ r % 2 ^ 128 ≡ held * 2 ^ r + 0 = shl_whole held count r 128 fits (omega arith) ∙ (omega arith) in
+    let whole : 128 ≡ count + r = omega arith in
+    ap (field 128) kept ∙ ap (λ w. field w (held * 2 ^ r + 0)) whole ∙ sym (field-append count r held 0 (pow_pos r))
+
+pub topped-none : (held count : ℕ) → count ≡ 0 → field 128 0 ≡ field count held ++ field (128 - count) 0
+topped-none held count none = rw (none, field-none held) refl

@@ -1,4 +1,4 @@
-ghost use Rattle.std.specs.Prelude.{◌≡◌, ◌+◌, ◌/◌, ◌%◌, ◌^◌, ◌<◌, ◌≤◌, ◌++◌, [], length, IfOk, OnOk, IsOkUnless};
+ghost use Rattle.std.specs.Prelude.{◌≡◌, ◌+◌, ◌-◌, ◌/◌, ◌%◌, ◌^◌, ◌<◌, ◌≤◌, ◌++◌, [], length, take, IfOk, OnOk, IsOkUnless};
 ghost use Rattle.std.specs.Int.{w64, to_be_bytes};
 ghost use Rattle.rbc_bits.specs.Bits.{field, bits_of, filled};
 
@@ -6,6 +6,9 @@ use crate::fault::BitFault;
 use crate::writer::BitWriter;
 use std::alloc::Global;
 use std::marker::Model;
+
+// What 256 bits have.
+const MOST_BYTES: usize = 32;
 
 /// The bits that were written so far, 256 at most. They stand in two words, and no call takes the address of these: so
 /// they stay in registers, and the place of each field is known where those before it are.
@@ -22,7 +25,7 @@ pub struct BitRow {
 }
 
 impl Model for BitRow {
-    ghost use Rattle.std.specs.Prelude.{◌≡◌, ◌⊎◌, ◌^◌, ◌<◌, ◌≤◌, ◌++◌, Bool, List};
+    ghost use Rattle.std.specs.Prelude.{◌≡◌, ◌^◌, ◌<◌, ◌≤◌, ◌++◌, Bool, List};
     ghost use Rattle.rbc_bits.specs.Bits.{field};
 
     ghost Value = { List Bool };
@@ -77,11 +80,10 @@ impl BitRow {
         ensures ok { IfOk result (λ bytes. bits_of bytes.items ≡ filled self) }
         ensures memory { IsOkUnless result BitFault.Memory }
     {
+        let (first, second) = halves(at_top(self.front, self.first));
+        let (third, fourth) = halves(at_top(self.back, self.second));
         let count = (self.first + self.second + 7) / 8;
-        let mut bytes = Vec::with_capacity(alloc, count as usize)?;
-        push(&mut bytes, self.front, self.first)?;
-        push(&mut bytes, self.back, self.second)?;
-        Ok(bytes)
+        bytes_of(alloc, first, second, third, fourth, count as usize)
     }
 
     /// A writer that has written these bits, with memory for so many bytes.
@@ -97,20 +99,17 @@ impl BitRow {
     }
 }
 
-// The bits that a word holds, in bytes behind others.
+// The bits that a word holds, with zero bits behind them.
 #[inline(always)]
-fn push(bytes: &mut Vec<u8>, held: u128, count: u32) -> Result<(), BitFault>
+fn at_top(held: u128, count: u32) -> u128
     requires count { count ≤ 128 }
     requires held { held < 2 ^ count }
-    ensures ok { OnOk result (bits_of bytes.new.items ≡ filled (bits_of bytes.old.items ++ field count held)) }
-    ensures memory { IsOkUnless result BitFault.Memory }
+    ensures { field 128 result ≡ field count held ++ field (128 - count) 0 }
 {
-    if count > 0 {
-        let (high, low) = halves(held << (128 - count));
-        let word = bytes_of(high, low);
-        bytes.extend_from_slice(&word[..((count + 7) / 8) as usize])?;
+    if count == 0 {
+        return 0;
     }
-    Ok(())
+    held << (128 - count)
 }
 
 // The bits that a word holds, behind those of a writer.
@@ -138,10 +137,33 @@ fn halves(word: u128) -> (u64, u64)
     ((word >> 64) as u64, low as u64)
 }
 
-// The bytes of two words, the highest first. It is a call, so that each is a word that the processor turns at once, and
-// not bytes of the fields that are in it.
+// The first bytes of four words, the highest first. It is a call, so that each is a word that the processor turns at
+// once, and not bytes of the fields that are in it. Each is written where it stays: a copy would wait for all of them.
 #[inline(never)]
-fn bytes_of(high: u64, low: u64) -> [u8; 16]
+fn bytes_of(
+    alloc: Global,
+    first: u64,
+    second: u64,
+    third: u64,
+    fourth: u64,
+    count: usize,
+) -> Result<Vec<u8>, BitFault>
+    ensures ok { IfOk result
+        (λ bytes. bytes.items
+        ≡ take count ((to_be_bytes w64 first ++ to_be_bytes w64 second)
+        ++ (to_be_bytes w64 third ++ to_be_bytes w64 fourth))) }
+    ensures memory { IsOkUnless result BitFault.Memory }
+{
+    let mut bytes = Vec::with_capacity(alloc, MOST_BYTES)?;
+    bytes.extend_from_slice(&sixteen(first, second))?;
+    bytes.extend_from_slice(&sixteen(third, fourth))?;
+    bytes.truncate(count);
+    Ok(bytes)
+}
+
+// The bytes of two words, the highest first.
+#[inline(always)]
+fn sixteen(high: u64, low: u64) -> [u8; 16]
     ensures { result ≡ to_be_bytes w64 high ++ to_be_bytes w64 low }
 {
     let mut bytes = [0; 16];

@@ -1,12 +1,22 @@
-use Rattle.std.proofs.Common.{◌∙◌, ◌++◌, ap}
+use Rattle.std.proofs.Common.{◌≡◌, ◌∙◌, ◌+◌, ◌/◌, ◌++◌, take, refl, ap}
+use Rattle.std.specs.Int.{bytes_high_first}
+use Rattle.std.proofs.lemmas.Result.{IfOk-weaker}
 use Rattle.rbc_bits.specs.Bits.{field, bits_of, filled}
-use Rattle.rbc_bits.proofs.Bytes.{bits_of-nil}
+use Rattle.rbc_bits.proofs.Bytes.{words-bytes}
 use Rattle.rbc_bits.proofs.Rows.{row-filled}
 use Rattle.rbc_bits.proofs.row.BitRow.finish.Goals as goal
 
 pub returns-clause-ok : goal.returns-clause-ok
 returns-clause-ok c =
     let r = c.self.inside in
+    let one = c.at_top.result in
+    let two = c.at_top-2.result in
+    let count = (r.first + r.second + 7) / 8 in
+    let third = c.halves-third.result in
+    let front = words-bytes one c.halves-first.result.0 c.halves-first.result.1 c.halves-first.ensures.high c.halves-first.ensures.low in
+    let back = words-bytes two third.0 third.1 c.halves-third.ensures.high c.halves-third.ensures.low in
     rw (← c.self.view_is)
-    (row-filled r.front r.back r.first r.second c.self.invariant c.push.new.bytes.items c.push-2.new.bytes.items
-    (c.in_ok-push.ensures.ok ∙ ap (λ t. filled (t ++ field r.first r.front)) (ap bits_of c.in_ok-bytes.ensures.items ∙ bits_of-nil)) c.in_ok-push-2.ensures.ok c.self.invariant.full)
+    (IfOk-weaker c.bytes_of.result _ (λ bytes. bits_of bytes.items ≡ filled (field r.first r.front ++ field r.second r.back))
+    (λ bytes are. row-filled r.front r.back r.first r.second c.self.invariant bytes.items one two count c.at_top.ensures c.at_top-2.ensures refl
+    (are ∙ ap (λ t. take count (t ++ (bytes_high_first 8 third.0 ++ bytes_high_first 8 third.1))) front ∙ ap (λ t. take count (bytes_high_first 16 one ++ t)) back))
+    c.bytes_of.ensures.ok)
