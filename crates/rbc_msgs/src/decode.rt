@@ -17,11 +17,14 @@ use crate::train_reading::{read_body, read_further};
 use crate::{track_reading, usual};
 use std::alloc::Global;
 
-// How many bytes most messages with a position report have.
+// How many bytes most messages with a position report have, and a transition order.
 const USUAL_LENGTH: usize = 26;
 
 // How many bytes most answers to a request to shorten have.
 const ANSWER_LENGTH: usize = 30;
+
+// How many bytes a movement authority has.
+const AUTHORITY_LENGTH: usize = 18;
 
 // How many bytes messages have that are a header alone.
 const BARE_LENGTH: usize = 10;
@@ -61,6 +64,31 @@ pub fn decode_track(bytes: &[u8]) -> Result<TrackMsg, MsgFault>
     ensures only { (m : TrackMessage) → SpellsTrack bytes.now m → result ≡ Ok m }
     // Which fault it is.
     ensures exact { result ≡ read_track bytes.now }
+{
+    by_length(bytes)
+}
+
+// Each usual length is known before the message is read: so the places of its fields are known.
+fn by_length(bytes: &[u8]) -> Result<TrackMsg, MsgFault>
+    ensures exact { result ≡ read_track bytes.now }
+    ensures found { IfOk result (λ m. SpellsTrack bytes.now m) }
+{
+    if bytes.len() == BARE_LENGTH {
+        return track_from(bytes);
+    }
+    if bytes.len() == AUTHORITY_LENGTH {
+        return track_from(bytes);
+    }
+    if bytes.len() == USUAL_LENGTH {
+        return track_from(bytes);
+    }
+    of_other_length(bytes)
+}
+
+#[inline(never)]
+fn of_other_length(bytes: &[u8]) -> Result<TrackMsg, MsgFault>
+    ensures exact { result ≡ read_track bytes.now }
+    ensures found { IfOk result (λ m. SpellsTrack bytes.now m) }
 {
     track_from(bytes)
 }
@@ -122,6 +150,7 @@ fn train_from(alloc: Global, bytes: &[u8]) -> Result<TrainMsg, MsgFault>
 }
 
 #[tactic(auto, unfolding(crate::specs::TrackReading::read_track))]
+#[inline(always)]
 fn track_from(bytes: &[u8]) -> Result<TrackMsg, MsgFault>
     ensures exact { result ≡ read_track bytes.now }
     ensures found { IfOk result (λ m. SpellsTrack bytes.now m) }

@@ -20,6 +20,7 @@ use rbc_vars::TTrain;
 
 /// The body of the message of this NID_MESSAGE.
 #[tactic(auto, unfolding(rbc_packets::specs::Layout::joined))]
+#[inline(always)]
 pub(crate) fn read_body(number: TrackNumber, reader: &mut BitReader) -> Result<TrackBody, MsgFault>
     ensures exact { Takes track_body result reader.new (track_body_at number reader.old) }
     ensures taken { IfOk result (λ body. reader.old ≡ joined (track_body_fields (track_body body)) ++ reader.new) }
@@ -52,6 +53,7 @@ pub(crate) fn read_body(number: TrackNumber, reader: &mut BitReader) -> Result<T
 
 // Packet 15, which has to stand there.
 #[tactic(auto, unfolding(crate::specs::TrackReading::end_of_authority_at, rbc_packets::specs::Layout::joined))]
+#[inline(always)]
 fn authority(reader: &mut BitReader) -> Result<Authority, MsgFault>
     ensures exact { Takes (λ a. a.l_endsection) result reader.new (end_of_authority_at reader.old) }
     ensures taken { IfOk result (λ a. reader.old ≡ joined ((8, 15) ∷ track_packet (authority_fields a)) ++ reader.new) }
@@ -63,6 +65,7 @@ fn authority(reader: &mut BitReader) -> Result<Authority, MsgFault>
 
 // Packet 131 or packet 42, one of which has to stand there.
 #[tactic(auto, unfolding(crate::specs::TrackReading::general_at, rbc_packets::specs::Layout::joined))]
+#[inline(always)]
 fn general(reader: &mut BitReader) -> Result<TrackBody, MsgFault>
     ensures exact { Takes track_body result reader.new (general_at reader.old) }
     ensures taken { IfOk result (λ body. reader.old ≡ joined (track_body_fields (track_body body)) ++ reader.new) }
@@ -77,6 +80,7 @@ fn general(reader: &mut BitReader) -> Result<TrackBody, MsgFault>
 }
 
 #[tactic(auto, unfolding(crate::specs::TrackReading::transition_order_at, rbc_packets::specs::Layout::joined))]
+#[inline(always)]
 fn transition(reader: &mut BitReader) -> Result<TrackBody, MsgFault>
     ensures exact { Takes track_body result reader.new (transition_order_at reader.old) }
     ensures taken { IfOk result
@@ -89,6 +93,7 @@ fn transition(reader: &mut BitReader) -> Result<TrackBody, MsgFault>
 }
 
 #[tactic(auto, unfolding(crate::specs::TrackReading::end_of_session_at, rbc_packets::specs::Layout::joined))]
+#[inline(always)]
 fn end_of_session(reader: &mut BitReader) -> Result<TrackBody, MsgFault>
     ensures exact { Takes track_body result reader.new (end_of_session_at reader.old) }
     ensures taken { IfOk result

@@ -144,6 +144,9 @@ pub(crate) fn bytes(
     match message.body() {
         TrainBody::TrainData { position, packet } => {
             position.write_packet(&mut row);
+            if let Some(()) = packet.put_few(&mut row) {
+                return finish(alloc, l_message, row, further);
+            }
             let writer = row.writer(alloc, l_message as usize)?;
             let writer = packet.write_packet(writer)?;
             with_packets(writer, further)

@@ -1,4 +1,4 @@
-ghost use Rattle.std.specs.Prelude.{◌≡◌, ◌^◌, ◌<◌, ◌++◌, ◌∷◌, [], length, IfOk, OnOk, IsOkUnless, Bool, List, Ok};
+ghost use Rattle.std.specs.Prelude.{◌≡◌, ◌+◌, ◌^◌, ◌<◌, ◌≤◌, ◌++◌, ◌∷◌, [], length, IfOk, OnOk, OnSome, IfNone, IsOkUnless, Bool, List, Ok};
 ghost use Rattle.rbc_packets.specs.Layout.{joined};
 ghost use Rattle.rbc_packets.specs.Packet.{Packet, PacketFits};
 ghost use Rattle.rbc_packets.specs.Steps.{TakesUnless};
@@ -6,10 +6,13 @@ ghost use Rattle.rbc_packets.specs.OpaqueReading.{opaque_at, opaque_bits};
 
 use crate::fault::PacketFault;
 use crate::reading::train_part;
-use crate::writing::put_train_header;
-use rbc_bits::{BitReader, BitWriter};
+use crate::writing::{put_header, put_train_header};
+use rbc_bits::{BitReader, BitRow, BitWriter};
 use std::alloc::Global;
 use std::marker::Model;
+
+// How many bits a row has room for behind a header, a position report and the header of a packet.
+const MOST_FEW: u32 = 24;
 
 /// A packet of a train that is kept without being read: its NID_PACKET, and the bits behind its header. It stands
 /// behind a pointer, since few messages have one, and each is as large as the largest.
@@ -101,6 +104,26 @@ impl Opaque {
         Ok(writer)
     }
 
+    /// Writes the packet into a row. None where it has more than 24 bits behind its header: then nothing is written.
+    #[inline(always)]
+    pub fn put_few(&self, row: &mut BitRow) -> Option<()>
+        requires room { length row.old + 45 ≤ 256 }
+        ensures ok { OnSome result
+            (row.new ≡ row.old ++ (joined ((8, self.now.nid_packet) ∷ []) ++ opaque_bits self.now)) }
+        ensures none { IfNone result (row.new ≡ row.old) }
+        ensures more { IfNone result (24 < length self.now.bits) }
+        ensures fits { OnSome result (PacketFits self.now) }
+    {
+        let bits = self.bits();
+        let width = bits.remaining();
+        if width > MOST_FEW {
+            return None;
+        }
+        put_header(row, self.nid_packet().into(), 21 + u64::from(width));
+        put_bits(row, bits);
+        Some(())
+    }
+
     /// NID_PACKET.
     pub fn nid_packet(&self) -> u8
         ensures value { result ≡ self.now.nid_packet }
@@ -120,6 +143,23 @@ impl Opaque {
             Ok(bits) => bits,
             Err(_) => unreachable!(),
         }
+    }
+}
+
+// Writes all bits of a part of one field.
+#[inline(always)]
+fn put_bits(row: &mut BitRow, mut part: BitReader)
+    requires few { length part ≤ 64 }
+    requires room { length row.old + length part ≤ 256 }
+    ensures { row.new ≡ row.old ++ part.entry }
+{
+    let width = part.remaining();
+    if width == 0 {
+        return;
+    }
+    match part.take(width) {
+        Ok(value) => row.put(value, width),
+        Err(_) => unreachable!(),
     }
 }
 

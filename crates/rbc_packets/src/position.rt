@@ -10,6 +10,7 @@ use crate::level::Level;
 use crate::location::Location;
 use crate::reading::{direction, end, take, train_part};
 use crate::train_length::TrainLength;
+use crate::writing::put_header;
 use rbc_bits::{BitPart, BitReader, BitRow, BitWord};
 use rbc_vars::{Direction, MMode, VTrain};
 
@@ -165,9 +166,10 @@ impl Position {
     pub fn write_packet(&self, row: &mut BitRow)
         requires room { length row.old + 137 ≤ 256 }
         ensures ok { row.new ≡ row.old ++ joined ((8, 0) ∷ train_packet (position_fields self.now)) }
+        ensures length { length row.new ≤ length row.old + 137 }
         ensures fits { PositionFits self.now }
     {
-        put_header(row, self.l_packet());
+        put_header(row, Position::NID_PACKET, self.l_packet());
         self.location.write(row);
         self.train_length.write(row);
         self.write_running(row);
@@ -195,19 +197,6 @@ impl Position {
         row.put(self.q_dirtrain.value(), 2);
         row.put(self.m_mode.value(), 4);
     }
-}
-
-// NID_PACKET and L_PACKET.
-#[tactic(auto, unfolding(crate::specs::Layout::joined))]
-#[inline(always)]
-fn put_header(row: &mut BitRow, l_packet: u64)
-    requires length { l_packet < 2 ^ 13 }
-    requires room { length row.old + 21 ≤ 256 }
-    ensures ok { row.new ≡ row.old ++ joined ((8, 0) ∷ (13, l_packet) ∷ []) }
-    ensures length { length row.new ≡ length row.old + 21 }
-{
-    row.put(Position::NID_PACKET, 8);
-    row.put(l_packet, 13);
 }
 
 // All bits behind the header in one word, where they may be enough.

@@ -26,6 +26,20 @@ pub(crate) fn put_train_header(
     Ok(())
 }
 
+/// The same in a row.
+#[tactic(auto, unfolding(crate::specs::Layout::joined))]
+#[inline(always)]
+pub(crate) fn put_header(row: &mut BitRow, nid_packet: u64, l_packet: u64)
+    requires number { nid_packet < 2 ^ 8 }
+    requires length { l_packet < 2 ^ 13 }
+    requires room { length row.old + 21 ≤ 256 }
+    ensures ok { row.new ≡ row.old ++ joined ((8, nid_packet) ∷ (13, l_packet) ∷ []) }
+    ensures length { length row.new ≡ length row.old + 21 }
+{
+    row.put(nid_packet, 8);
+    row.put(l_packet, 13);
+}
+
 /// NID_PACKET, Q_DIR (nominal) and L_PACKET of a packet of a centre, as one field of 23 bits.
 #[tactic(auto, unfolding(crate::specs::Layout::joined))]
 #[inline(always)]
