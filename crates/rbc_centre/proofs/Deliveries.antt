@@ -4,7 +4,7 @@ use Rattle.std.proofs.Math.Nat.{le-max_left}
 use Rattle.std.proofs.lemmas.Bool.Decides.{eqb_tells}
 use Rattle.rbc_spec.specs.Maps.{put}
 use Rattle.rbc_spec.specs.Line.{Line, is_centre, train_number}
-use Rattle.rbc_spec.specs.Frame.{Frame, Body, AskRight, GiveRight, RefuseRight, ReturnRight, RouteAsk, RouteInfo, RouteWithdraw, RouteReturn, Announce, Cancel, TakingOver, Yield, HasBodyRange, last_stamp}
+use Rattle.rbc_spec.specs.Frame.{Frame, Body, AskRight, GiveRight, RefuseRight, ReturnRight, RouteAsk, RouteInfo, RouteWithdraw, RouteReturn, Announce, Cancel, TakingOver, Yield, HasBodyRange}
 use Rattle.rbc_spec.specs.Outcome.{Taken, Next, Old, Early, NoLink, Told}
 use Rattle.rbc_spec.specs.Centre as centre
 use Rattle.rbc_spec.specs.Acts.{Act, Reply, become, rest, ◌>>◌}
@@ -106,11 +106,6 @@ offered_as k d f mid a n number offer count linked taken sent room = record {
   sent = sent;
   room = room;
 }
-
--- a frame is not refused where its stamp is not the last and no link is full
-pub delivered_allowed : (k : CentreCode) (d : ℕ) (f : Frame) → max k.clock f.stamp < last_stamp → step.has_full_link k.line k.number (state_of k) ≡ false
-    → step.refusal k.line k.number (state_of k) (Deliver d f) ≡ None
-delivered_allowed k d f early room = Steps.no_refusal k.line k.number (state_of k) (Deliver d f) (max k.clock f.stamp) (deliver_stamp k d f) early room
 
 module _ (k : CentreCode) (clock d : ℕ) (f : Frame) (mid : List (Link BodyCode)) (answer : Taken) (is : IsOffered k d f mid answer) where
   abbrev old : centre.Centre

@@ -22,7 +22,7 @@ use Rattle.rbc_linkmsg.specs.Bodies.{body_of}
 use Rattle.rbc_linkmsg.specs.declared.body.Body.{Body}
 use Rattle.rbc_centre.specs.declared.desk.Desk.{Desk}
 use Rattle.rbc_train.specs.declared.train.TrainState.{TrainState}
-use Rattle.rbc_centre.specs.Answer.{IsRefusal, IsRefusalOf}
+use Rattle.rbc_centre.specs.Answer.{IsRefusal, IsRefusalOf, IsWantedBy}
 use Rattle.rbc_centre.specs.State.{stands_for}
 use Rattle.rbc_centre.specs.Views.{event_of}
 use Rattle.rbc_centre.specs.declared.event.Event.{Event as EventCode}
@@ -143,18 +143,6 @@ allowed line c k event none =
     let tests = tests_of (nat_lt last_stamp (step.stamp_of k event)) (step.has_full_link line c k) none in
     (ltb-false last_stamp (step.stamp_of k event) tests.0, tests.1)
 
--- and the other way round
-pub no_refusal : (line : Line) (c : ℕ) (k : centre.Centre) (event : Event) (stamp : ℕ) → step.stamp_of k event ≡ stamp + 1 → stamp < last_stamp → step.has_full_link line c k ≡ false
-    → step.refusal line c k event ≡ None
-no_refusal line c k event stamp is early room =
-    let e : nat_lt last_stamp (stamp + 1) ≡ false = grind (arith, nat_tests) in
-    rw (is, e, room) refl
-
--- the refusal of the event, by the stamp before its own
-pub refusal_by : (line : Line) (c : ℕ) (k : centre.Centre) (event : Event) (stamp : ℕ) → step.stamp_of k event ≡ stamp + 1
-    → (if nat_lt last_stamp (stamp + 1) then Some step.ClockEnd else (if step.has_full_link line c k then Some step.LinkFull else None)) ≡ step.refusal line c k event
-refusal_by line c k event stamp is = rw is refl
-
 pub taken_step : (line : Line) (c : ℕ) (k : centre.Centre) (event : Event) → step.refusal line c k event ≡ None → step.step line c event k ≡ Ok (step.taken line c event k)
 unfolding step.step
 taken_step line c k event none = rw none refl
@@ -165,17 +153,22 @@ refused_step line c k event fault.Memory is = absurd is
 refused_step line c k event fault.LinkFull is = rw is refl
 refused_step line c k event fault.ClockEnd is = rw is refl
 
--- what a test of the stamp and the links answers, as the refusal of the event
+-- a step that is refused wants no memory
+pub wants_none : {X : Type 0} (line : Line) (c : ℕ) (k : centre.Centre) (event : Event) (f : StepFault) (r : Result X StepFault) → r ≡ Err f → IsRefusalOf f (step.refusal line c k event) → IsWantedBy k event r
+wants_none line c k event fault.Memory r is why = absurd why
+wants_none line c k event fault.LinkFull r is why = rw is tt
+wants_none line c k event fault.ClockEnd r is why = rw is tt
+
+-- what a test of the events with this stamp answers, of one of them
 pub ok_allowed : {T : Type 0} (line : Line) (c : ℕ) (k : centre.Centre) (event : Event) (stamp : ℕ) → step.stamp_of k event ≡ stamp + 1 → (r : Result T StepFault)
-    → OnOk r ((stamp < last_stamp) × (step.has_full_link line c k ≡ false)) → OnOk r (step.refusal line c k event ≡ None)
-ok_allowed line c k event stamp is (Ok x) room = no_refusal line c k event stamp is room.0 room.1
-ok_allowed line c k event stamp is (Err f) room = tt
+    → OnOk r ((e : Event) → step.stamp_of k e ≡ stamp + 1 → step.refusal line c k e ≡ None) → OnOk r (step.refusal line c k event ≡ None)
+ok_allowed line c k event stamp is (Ok x) each = each event is
+ok_allowed line c k event stamp is (Err f) each = tt
 
 pub err_refused : {T : Type 0} (line : Line) (c : ℕ) (k : centre.Centre) (event : Event) (stamp : ℕ) → step.stamp_of k event ≡ stamp + 1 → (r : Result T StepFault)
-    → IfErr r (λ f. IsRefusalOf f (if nat_lt last_stamp (stamp + 1) then Some step.ClockEnd else (if step.has_full_link line c k then Some step.LinkFull else None)))
-    → IfErr r (λ f. IsRefusalOf f (step.refusal line c k event))
-err_refused line c k event stamp is (Ok x) why = tt
-err_refused line c k event stamp is (Err f) why = subst (IsRefusalOf f) (refusal_by line c k event stamp is) why
+    → IfErr r (λ f. (e : Event) → step.stamp_of k e ≡ stamp + 1 → IsRefusalOf f (step.refusal line c k e)) → IfErr r (λ f. IsRefusalOf f (step.refusal line c k event))
+err_refused line c k event stamp is (Ok x) each = tt
+err_refused line c k event stamp is (Err f) each = each event is
 
 -- the stamp before that of an event that brings no frame
 pub next_stamp : (k : centre.Centre) (event : EventCode)

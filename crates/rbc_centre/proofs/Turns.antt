@@ -44,7 +44,7 @@ use Rattle.rbc_centre.proofs.Posts.{mail_few, may_post}
 use Rattle.rbc_centre.proofs.Silent.{sends_nothing}
 use Rattle.rbc_centre.proofs.States.{number_within, part_of_train, slice_get-set_same}
 use Rattle.rbc_centre.proofs.Steps as Steps
-use Rattle.rbc_centre.proofs.Steps.{ticked_is, stands_kept, replied, effect_of, outcome_with, answers, no_refusal}
+use Rattle.rbc_centre.proofs.Steps.{ticked_is, stands_kept, replied, effect_of, outcome_with, answers}
 use Rattle.rbc_centre.proofs.Trains.{mission_of, announced_of, kept_at, has_train, train_left}
 
 -- the frames that were sent are in their ranges
@@ -152,6 +152,10 @@ pub unset_stamp : (k : CentreCode) (s : ℕ) → step.stamp_of (state_of k) (Uns
 unfolding stands_for
 unset_stamp k s = refl
 
+-- where an event is not refused, the stamp before its own is not the last one
+pub in_time : (k : CentreCode) (event : Event) (stamp : ℕ) → step.stamp_of (state_of k) event ≡ stamp + 1 → step.refusal k.line k.number (state_of k) event ≡ None → stamp < last_stamp
+in_time k event stamp is allowed = let low = (Steps.allowed k.line k.number (state_of k) event allowed).0 in omega (arith, is, low)
+
 -- what a message that is taken comes to, as the effect of the step
 module _ (k : CentreCode) (event : Event) (t i : ℕ) (old : TrainState) (number : train_number k.line t ≡ Some i) (at : slice_get k.trains.items i ≡ Some old) (clock : ℕ)
     (new : TrainState) (book : Pages) (rights : Rights) (n : ℕ) (kept : KeepsTrain old new) (desk : KeepsDesk old.supervision.number k.book book k.desk.registrar rights) where
@@ -190,20 +194,6 @@ pub on_err : {T E P : Type 0} (r : Result T E) → P → OnErr r P
 on_err (Ok x) h = tt
 on_err (Err e) h = h
 
--- ## What is not refused
-
-module _ (k : CentreCode) (early : k.clock < last_stamp) (room : step.has_full_link k.line k.number (state_of k) ≡ false) where
-  pub heard_allowed : (m : TrainMessage) → step.refusal k.line k.number (state_of k) (Train m) ≡ None
-  heard_allowed m = no_refusal k.line k.number (state_of k) (Train m) k.clock (heard_stamp k m) early room
-
-  pub set_allowed : (s : ℕ) → step.refusal k.line k.number (state_of k) (Set s) ≡ None
-  unfolding stands_for
-  set_allowed s = no_refusal k.line k.number (state_of k) (Set s) k.clock refl early room
-
-  pub unset_allowed : (s : ℕ) → step.refusal k.line k.number (state_of k) (Unset s) ≡ None
-  unfolding stands_for
-  unset_allowed s = no_refusal k.line k.number (state_of k) (Unset s) k.clock refl early room
-
 -- ## Room for what a message sends
 
 -- where it tells no other centre it needs none
@@ -223,15 +213,15 @@ pub heard_may : (k : CentreCode) (m : TrainMessage) (t i : ℕ) (old : TrainStat
     (new : TrainState) (book : Pages) (rights : Rights) (n : ℕ) (kept : KeepsTrain old new) (desk : KeepsDesk old.supervision.number k.book book k.desk.registrar rights) (heard : Heard)
     → ((x : centre.Centre) → HasParts k.line k.number x old k.book k.desk.registrar → is_none (train_number k.line old.supervision.engine) ≡ false → x.announced ≡ k.desk.handovers
     → step.effect k.line k.number x (Train m) ≡ effect_left k.line k.number old.supervision.engine (with_count n (with_parts new book rights x)) (Ok heard))
-    → k.clock < last_stamp → step.has_full_link k.line k.number (state_of k) ≡ false → HasMessageRanges m → (tells_others m.body ≡ true → HasRoom k.links 4)
+    → step.refusal k.line k.number (state_of k) (Train m) ≡ None → HasMessageRanges m → (tells_others m.body ≡ true → HasRoom k.links 4)
     → (d : ℕ) → MayPost k.links d (mail_to k.line k.number old.supervision.engine (expected_from new.expectations) heard.mail d)
-heard_may k m t i old number at new book rights n kept desk heard exact early none ranges room =
+heard_may k m t i old number at new book rights n kept desk heard exact allowed ranges room =
     let bodies = mail_to k.line k.number old.supervision.engine (expected_from new.expectations) heard.mail in
     let sayings = told_train heard.saying heard.order in
     let words : List Word = map (λ s. Told s) heard.told in
     let few = mail_few k.line k.number old.supervision.engine (expected_from new.expectations) heard.mail in
     let effect = hears k (Train m) t i old number at (k.clock + 1) new book rights n kept desk heard exact in
-    may_be_sent k (Train m) (k.clock + 1) k.links _ bodies sayings words None None (heard_stamp k m) (λ d. refl) effect (heard_allowed k early none m) (k.rules.of_line, ranges) k.rules.all_links.linked few
+    may_be_sent k (Train m) (k.clock + 1) k.links _ bodies sayings words None None (heard_stamp k m) (λ d. refl) effect allowed (k.rules.of_line, ranges) k.rules.all_links.linked few
     (heard_room k m (k.clock + 1) _ bodies sayings words None None effect few room)
 
 -- and there is room for its frames, where it leaves some

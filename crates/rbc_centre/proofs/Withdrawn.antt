@@ -1,7 +1,7 @@
 -- A section that is out and is taken back: each other centre is asked for it.
 use Rattle.std.proofs.Common.{◌≡◌, ℕ, ◌+◌, ◌<◌, ◌==◌, ◌&&◌, not, false, if◌then◌else◌, [], ◌∷◌, None, sym, ap, ◌∙◌, refl, arith, Bool, true, length, ◌≤◌}
 use Rattle.rbc_spec.specs.Line.{is_linked}
-use Rattle.rbc_spec.specs.Frame.{Body, RouteWithdraw, last_stamp}
+use Rattle.rbc_spec.specs.Frame.{Body, RouteWithdraw}
 use Rattle.rbc_spec.specs.Outcome.{Asked}
 use Rattle.rbc_spec.specs.Centre.{Shut, Out, is_unused}
 use Rattle.rbc_spec.specs.Acts.{Reply}
@@ -14,7 +14,7 @@ use Rattle.rbc_centre.specs.State.{stands_for}
 use Rattle.rbc_centre.specs.States.{state_of}
 use Rattle.rbc_centre.specs.declared.centre.Centre.{Centre as CentreCode}
 use Rattle.rbc_centre.proofs.Steps.{effect_of, replied, ticked_is}
-use Rattle.rbc_centre.proofs.Turns.{may_be_sent, unset_allowed, unset_stamp}
+use Rattle.rbc_centre.proofs.Turns.{may_be_sent, unset_stamp}
 use Rattle.rbc_centre.proofs.Wishes.{out_at_home, out_turns}
 
 -- each is told at most once
@@ -34,8 +34,8 @@ module _ (k : CentreCode) (s t : ℕ) (book : Pages) (out : entry_at k.book s �
       (ap (step.unset k.line k.number s) (ticked_is k.line k.number k.clock (k.clock + 1) k.book k.desk k.links k.trains.items)
       ∙ sym (out_turns k.line k.number (k.clock + 1) k.book book k.desk k.links k.trains.items s (k.rules.own_sections s) entry wish t own out))
 
-  pub may_withdraw : k.clock < last_stamp → step.has_full_link k.line k.number (state_of k) ≡ false → HasRoom k.links 4 → (d : ℕ) → MayPost k.links d (to_others k.line k.number (RouteWithdraw t s) d)
-  may_withdraw early none room d =
+  pub may_withdraw : step.refusal k.line k.number (state_of k) (Unset s) ≡ None → HasRoom k.links 4 → (d : ℕ) → MayPost k.links d (to_others k.line k.number (RouteWithdraw t s) d)
+  may_withdraw allowed room d =
       may_be_sent k (Unset s) (k.clock + 1) k.links _ (to_others k.line k.number (RouteWithdraw t s)) [] (Asked s ∷ []) None None (unset_stamp k s) (λ e. refl) withdraws
-      (unset_allowed k early none s) tt k.rules.all_links.linked (λ e. let once = told_once (is_linked k.line k.number e) (RouteWithdraw t s) in omega (arith, once))
+      allowed tt k.rules.all_links.linked (λ e. let once = told_once (is_linked k.line k.number e) (RouteWithdraw t s) in omega (arith, once))
       (λ e linked. let most = room e linked in let count = told_once (is_linked k.line k.number e) (RouteWithdraw t s) in omega (arith, most, count)) d

@@ -1,9 +1,8 @@
-ghost use Rattle.std.specs.Prelude.{◌≡◌, ◌<◌, ◌+◌, true, false, length, nat_lt, if◌then◌else◌, IfOk, IfErr, OnOk, OnErr, Some, None, option_map};
+ghost use Rattle.std.specs.Prelude.{◌≡◌, ◌+◌, true, length, IfOk, IfErr, OnOk, OnErr, Some, None, option_map};
 ghost use Rattle.rbc_spec.specs.Line.{is_centre};
 ghost use Rattle.rbc_spec.specs.Centre.{beginning};
 ghost use Rattle.rbc_spec.specs.Step as spec;
-ghost use Rattle.rbc_spec.specs.Step.{refusal, has_full_link};
-ghost use Rattle.rbc_spec.specs.Frame.{last_stamp};
+ghost use Rattle.rbc_spec.specs.Step.{refusal, stamp_of};
 ghost use Rattle.rbc_book.specs.Entries.{entry_of};
 ghost use Rattle.rbc_link.specs.Links as links;
 ghost use Rattle.rbc_place.specs.Places.{place_of};
@@ -199,15 +198,14 @@ impl Centre {
         self.room.reserve()
     }
 
-    // Whether a step may be taken whose stamp is above this.
+    // Whether an event may be taken whose stamp is one above this.
     #[inline(always)]
     pub(crate) fn may_take(&self, stamp: u32) -> Result<(), StepFault>
-        ensures ok { OnOk result
-            ((stamp < last_stamp)
-            × (has_full_link (line_of self.now) (number_of self.now) (state_of self.now) ≡ false)) }
-        ensures err { IfErr result (λ fault. IsRefusalOf fault (if nat_lt last_stamp (stamp + 1) then Some spec.ClockEnd
-            else (if has_full_link (line_of self.now) (number_of self.now) (state_of self.now)
-            then Some spec.LinkFull else None))) }
+        ensures ok { OnOk result ((event : spec.Event) → stamp_of (state_of self.now) event ≡ stamp + 1
+            → refusal (line_of self.now) (number_of self.now) (state_of self.now) event ≡ None) }
+        ensures err { IfErr result
+            (λ fault. (event : spec.Event) → stamp_of (state_of self.now) event ≡ stamp + 1
+            → IsRefusalOf fault (refusal (line_of self.now) (number_of self.now) (state_of self.now) event)) }
     {
         if stamp >= LAST_STAMP {
             return Err(StepFault::ClockEnd);

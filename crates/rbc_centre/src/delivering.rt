@@ -1,10 +1,9 @@
 //! The step of a frame of another centre: room is made where it is the next, the link says whether it is, and then its
 //! train takes it.
 
-ghost use Rattle.std.specs.Prelude.{◌≡◌, ◌<◌, OnOk, OnErr, false, max};
+ghost use Rattle.std.specs.Prelude.{◌≡◌, OnOk, OnErr, None};
 ghost use Rattle.rbc_spec.specs.Step as spec;
-ghost use Rattle.rbc_spec.specs.Step.{has_full_link};
-ghost use Rattle.rbc_spec.specs.Frame.{last_stamp};
+ghost use Rattle.rbc_spec.specs.Step.{refusal};
 ghost use Rattle.rbc_link.specs.Links as links;
 ghost use Rattle.rbc_centre.specs.Answer.{TakesMemory};
 ghost use Rattle.rbc_centre.specs.Rooms.{HasFrameRoom};
@@ -29,8 +28,8 @@ impl Centre {
         frame: &Frame,
         out: &mut Outcome,
     ) -> Result<(), AllocError>
-        requires time { max self.old.clock frame.now.stamp < last_stamp }
-        requires numbers { has_full_link (line_of self.old) (number_of self.old) (state_of self.old) ≡ false }
+        requires allowed { refusal (line_of self.old) (number_of self.old) (state_of self.old)
+            (spec.Deliver from frame.now) ≡ None }
         ensures line { line_of self.new ≡ line_of self.old }
         ensures number { number_of self.new ≡ number_of self.old }
         ensures exact { OnOk result ((outcome_of out.new, state_of self.new)
@@ -61,8 +60,8 @@ impl Centre {
 
     // The step of a frame. For what a next one is answered by there is room.
     fn take_frame(&mut self, from: u8, frame: &Frame, out: &mut Outcome)
-        requires time { max self.old.clock frame.now.stamp < last_stamp }
-        requires numbers { has_full_link (line_of self.old) (number_of self.old) (state_of self.old) ≡ false }
+        requires allowed { refusal (line_of self.old) (number_of self.old) (state_of self.old)
+            (spec.Deliver from frame.now) ≡ None }
         requires frames { TakesMemory (state_of self.old) (spec.Deliver from frame.now)
             → links.HasRoom self.old.links 4 }
         requires room { TakesMemory (state_of self.old) (spec.Deliver from frame.now) → HasFrameRoom self.old.room }

@@ -1,11 +1,10 @@
 //! The step of a train's message: room is made, then the train takes it, and what it leaves for other centres is sent.
 
-ghost use Rattle.std.specs.Prelude.{◌≡◌, ◌<◌, OnOk, OnErr, true, false, Some};
+ghost use Rattle.std.specs.Prelude.{◌≡◌, OnOk, OnErr, true, false, Some, None};
 ghost use Rattle.rbc_spec.specs.Line.{train_number};
 ghost use Rattle.rbc_spec.specs.Message.{is_stale};
 ghost use Rattle.rbc_spec.specs.Step as spec;
-ghost use Rattle.rbc_spec.specs.Step.{has_full_link};
-ghost use Rattle.rbc_spec.specs.Frame.{last_stamp};
+ghost use Rattle.rbc_spec.specs.Step.{refusal};
 ghost use Rattle.rbc_msgs.specs.StepMessage.{step_message};
 ghost use Rattle.rbc_msgs.specs.declared.train_body.TrainBody.TheVariants.{InitiationOfSession};
 ghost use Rattle.rbc_session.specs.Sessions as sessions;
@@ -30,8 +29,8 @@ impl Centre {
     /// The step of a train's message, at a centre that refuses none. Room for a session and for frames is made first.
     #[inline(always)]
     pub(crate) fn take(&mut self, message: &TrainMsg, out: &mut Outcome) -> Result<(), AllocError>
-        requires time { self.old.clock < last_stamp }
-        requires numbers { has_full_link (line_of self.old) (number_of self.old) (state_of self.old) ≡ false }
+        requires allowed { refusal (line_of self.old) (number_of self.old) (state_of self.old)
+            (spec.Train (step_message message.now)) ≡ None }
         ensures line { line_of self.new ≡ line_of self.old }
         ensures number { number_of self.new ≡ number_of self.old }
         ensures exact { OnOk result ((outcome_of out.new, state_of self.new)
@@ -73,8 +72,8 @@ impl Centre {
     // The step of a message of train number i of the line, at a centre that refuses none.
     #[inline(always)]
     fn take_from(&mut self, i: u8, message: &TrainMsg, out: &mut Outcome) -> Result<(), AllocError>
-        requires time { self.old.clock < last_stamp }
-        requires numbers { has_full_link (line_of self.old) (number_of self.old) (state_of self.old) ≡ false }
+        requires allowed { refusal (line_of self.old) (number_of self.old) (state_of self.old)
+            (spec.Train (step_message message.now)) ≡ None }
         requires number { train_number (line_of self.old) message.now.nid_engine ≡ Some i }
         ensures line { line_of self.new ≡ line_of self.old }
         ensures number { number_of self.new ≡ number_of self.old }
@@ -121,8 +120,8 @@ impl Centre {
     // The step of a message of train number i of the line, in its ranges.
     #[inline(always)]
     fn hear_train(&mut self, i: usize, message: &TrainMsg, out: &mut Outcome)
-        requires time { self.old.clock < last_stamp }
-        requires numbers { has_full_link (line_of self.old) (number_of self.old) (state_of self.old) ≡ false }
+        requires allowed { refusal (line_of self.old) (number_of self.old) (state_of self.old)
+            (spec.Train (step_message message.now)) ≡ None }
         requires number { train_number (line_of self.old) message.now.nid_engine ≡ Some i }
         requires ranges { HasMessageRanges (step_message message.now) }
         requires frames { tells_others (step_message message.now).body ≡ true → links.HasRoom self.old.links 4 }

@@ -1,11 +1,10 @@
 //! The step of what the interlocking says of a section.
 
-ghost use Rattle.std.specs.Prelude.{◌≡◌, ◌<◌, ℕ, IfSome, OnOk, OnErr, length, false};
+ghost use Rattle.std.specs.Prelude.{◌≡◌, ◌<◌, ℕ, IfSome, OnOk, OnErr, None, length};
 ghost use Rattle.rbc_spec.specs.Centre as spec;
 ghost use Rattle.rbc_spec.specs.Line.{train_number};
 ghost use Rattle.rbc_spec.specs.Step as step;
-ghost use Rattle.rbc_spec.specs.Step.{has_full_link};
-ghost use Rattle.rbc_spec.specs.Frame.{last_stamp};
+ghost use Rattle.rbc_spec.specs.Step.{refusal};
 ghost use Rattle.rbc_book.specs.Book.{entry_at};
 ghost use Rattle.rbc_book.specs.Entries.{entry_of};
 ghost use Rattle.rbc_link.specs.Links as links;
@@ -55,8 +54,7 @@ impl Centre {
     /// The interlocking releases a section.
     #[inline(always)]
     pub(crate) fn set(&mut self, s: u16, out: &mut Outcome)
-        requires time { self.old.clock < last_stamp }
-        requires numbers { has_full_link (line_of self.old) (number_of self.old) (state_of self.old) ≡ false }
+        requires allowed { refusal (line_of self.old) (number_of self.old) (state_of self.old) (step.Set s) ≡ None }
         ensures line { line_of self.new ≡ line_of self.old }
         ensures number { number_of self.new ≡ number_of self.old }
         ensures exact { (outcome_of out.new, state_of self.new)
@@ -73,8 +71,7 @@ impl Centre {
     /// it is lent each other centre. Room for the frames is made first.
     #[inline(always)]
     pub(crate) fn unset(&mut self, s: u16, out: &mut Outcome) -> Result<(), AllocError>
-        requires time { self.old.clock < last_stamp }
-        requires numbers { has_full_link (line_of self.old) (number_of self.old) (state_of self.old) ≡ false }
+        requires allowed { refusal (line_of self.old) (number_of self.old) (state_of self.old) (step.Unset s) ≡ None }
         ensures line { line_of self.new ≡ line_of self.old }
         ensures number { number_of self.new ≡ number_of self.old }
         ensures exact { OnOk result ((outcome_of out.new, state_of self.new)
@@ -95,8 +92,7 @@ impl Centre {
     // A section is taken back that is out for this train: each other centre is asked for it, as it is not known here
     // which has it.
     fn withdraw(&mut self, s: u16, nid_engine: u32, out: &mut Outcome)
-        requires time { self.old.clock < last_stamp }
-        requires numbers { has_full_link (line_of self.old) (number_of self.old) (state_of self.old) ≡ false }
+        requires allowed { refusal (line_of self.old) (number_of self.old) (state_of self.old) (step.Unset s) ≡ None }
         requires out { entry_at self.old.book s ≡ spec.Out nid_engine }
         requires frames { links.HasRoom self.old.links 4 }
         requires room { HasFrameRoom self.old.room }
@@ -126,10 +122,9 @@ impl Centre {
     // A section is taken back that is not out, but used so.
     #[inline(always)]
     fn unset_here(&mut self, s: u16, entry: Entry, out: &mut Outcome)
-        requires time { self.old.clock < last_stamp }
+        requires allowed { refusal (line_of self.old) (number_of self.old) (state_of self.old) (step.Unset s) ≡ None }
         requires entry { entry_of entry ≡ entry_at self.old.book s }
         requires here { (t : ℕ) → entry_at self.old.book s ≡ spec.Out t → ⊥ }
-        requires numbers { has_full_link (line_of self.old) (number_of self.old) (state_of self.old) ≡ false }
         ensures line { line_of self.new ≡ line_of self.old }
         ensures number { number_of self.new ≡ number_of self.old }
         ensures exact { (outcome_of out.new, state_of self.new)

@@ -1,15 +1,15 @@
 use Rattle.std.proofs.Common.{◌∙◌}
-use Rattle.rbc_spec.specs.Step.{Deliver, taken, has_full_link}
+use Rattle.rbc_spec.specs.Step.{Deliver, taken, refusal}
 use Rattle.rbc_centre.proofs.Turns.{state_same, on_err}
 use Rattle.rbc_centre.proofs.centre.Centre.deliver.Goals as goal
 
 pub returns-in_err-make_room_for-clause-err : goal.returns-in_err-make_room_for-clause-err
 returns-in_err-make_room_for-clause-err c = on_err c.from_residual.result (state_same c.args.self.now c.make_room_for.new.self c.in_err-make_room_for.ensures.same)
 
-pub take_frame-requires-clause-numbers : goal.take_frame-requires-clause-numbers
-take_frame-requires-clause-numbers c =
+pub take_frame-requires-clause-allowed : goal.take_frame-requires-clause-allowed
+take_frame-requires-clause-allowed c =
     let same = c.in_ok-make_room_for.ensures.same in
-    (λ i. has_full_link (same.line i) (same.number i) (state_same c.args.self.now c.make_room_for.new.self same i)) ∙ c.requires.numbers
+    (λ i. refusal (same.line i) (same.number i) (state_same c.args.self.now c.make_room_for.new.self same i) (Deliver c.args.from c.args.frame.now)) ∙ c.requires.allowed
 
 pub returns-clause-exact : goal.returns-clause-exact
 returns-clause-exact c =

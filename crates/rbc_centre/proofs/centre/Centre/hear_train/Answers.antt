@@ -1,4 +1,4 @@
-use Rattle.std.proofs.Common.{slice_get, ◌≡◌, ◌≤◌, ◌⊎◌, ◌+◌, ◌∙◌, ap, sym, refl, set, Some, None, Err, arith, subst, ℕ, [], map}
+use Rattle.std.proofs.Common.{rules, slice_get, ◌≡◌, ◌≤◌, ◌⊎◌, ◌+◌, ◌∙◌, ap, sym, refl, set, Some, None, Err, arith, subst, ℕ, [], map}
 use Rattle.std.proofs.Math.Logic.{∥∥₁_elim}
 use Rattle.std.specs.Coded.{le_prop}
 use Rattle.std.proofs.lemmas.Option.{slice_get_read}
@@ -23,9 +23,23 @@ use Rattle.rbc_centre.specs.Sent.{frames_to}
 use Rattle.rbc_centre.proofs.Kept.{trains_set}
 use Rattle.rbc_centre.proofs.States.{number_within, stands_beside}
 use Rattle.rbc_centre.proofs.Trains.{heard_of}
-use Rattle.rbc_centre.proofs.Turns.{of_train, kept_train, has_number, has_count, takes, hears, turns, stays, heard_stamp, heard_allowed, heard_may, heard_frames, on_track, may_be_sent, sent_by}
+use Rattle.rbc_centre.proofs.Turns.{of_train, kept_train, has_number, has_count, takes, hears, turns, stays, heard_stamp, in_time, heard_may, heard_frames, on_track, may_be_sent, sent_by}
 use Rattle.rbc_centre.proofs.centre.Centre.hear_train.Goals.{After-index_mut-train, After-take-taken}
 use Rattle.rbc_centre.proofs.centre.Centre.hear_train.Goals as goal
+
+-- ## Its stamp
+
+pub overflow_add-self : goal.overflow_add-self
+overflow_add-self c =
+    let k = c.args.self.now in
+    let early = in_time k (Train (step_message c.args.message.now)) k.clock (heard_stamp k (step_message c.args.message.now)) c.requires.allowed in
+    search (rules, early)
+
+pub post-requires-clause-stamp : goal.post-requires-clause-stamp
+post-requires-clause-stamp c =
+    let k = c.args.self.now in
+    let early = in_time k (Train (step_message c.args.message.now)) k.clock (heard_stamp k (step_message c.args.message.now)) c.requires.allowed in
+    (omega arith, omega (arith, early))
 
 -- ## The train that the message is from, in the list of trains
 
@@ -58,7 +72,8 @@ take-taken-requires-clause-room c = λ opens timely.
     c.requires.session opens (ap (is_stale m.t_train) (heard_of k.line k.number k.clock m.nid_engine c.args.i k.book k.desk k.links k.trains.items c.index_mut-train.result.now c.requires.number at) ∙ timely)
 
 pub take-taken-requires-clause-count : goal.take-taken-requires-clause-count
-take-taken-requires-clause-count c = has_count c.args.self.now _ c.args.i c.index_mut-train.result.now c.requires.number (place (goal.at.take-taken-requires-clause-count c).After-index_mut-train) c.requires.time
+take-taken-requires-clause-count c = has_count c.args.self.now _ c.args.i c.index_mut-train.result.now c.requires.number (place (goal.at.take-taken-requires-clause-count c).After-index_mut-train)
+    (in_time c.args.self.now (Train (step_message c.args.message.now)) c.args.self.now.clock (heard_stamp c.args.self.now (step_message c.args.message.now)) c.requires.allowed)
 
 pub take-taken-requires-clause-kept : goal.take-taken-requires-clause-kept
 take-taken-requires-clause-kept c = kept_train c.args.self.now _ c.args.i c.index_mut-train.result.now c.requires.number (place (goal.at.take-taken-requires-clause-kept c).After-index_mut-train)
@@ -77,7 +92,9 @@ pub take-taken-requires-clause-announced : goal.take-taken-requires-clause-annou
 unfolding stands_for
 take-taken-requires-clause-announced c =
     let few : c.args.self.now.desk.handovers ≤ c.args.self.now.clock = ∥∥₁_elim c.args.self.now.rules.ranged le_prop (λ r. r.announced) in
-    omega (arith, few, c.requires.time)
+    let k = c.args.self.now in
+    let early = in_time k (Train (step_message c.args.message.now)) k.clock (heard_stamp k (step_message c.args.message.now)) c.requires.allowed in
+    omega (arith, few, early)
 
 -- ## What goes to other centres
 
@@ -96,7 +113,7 @@ post-requires-clause-may c =
     let engine = c.nid_engine.ensures.value ∙ sym (of_train k _ i old number at).engine in
     subst (λ (t : ℕ). (d : ℕ) → MayPost k.links d (mail_to k.line k.number t (expected_from c.take-taken.new.self.expectations) heard.mail d)) (sym engine)
     (heard_may k m _ i old number at c.take-taken.new.self c.take-taken.new.book c.take-taken.new.registrar c.take-taken.new.count c.take-taken.ensures.kept c.take-taken.ensures.desk heard c.in-Ok.ensures.exact
-    c.requires.time c.requires.numbers c.requires.ranges c.requires.frames)
+    c.requires.allowed c.requires.ranges c.requires.frames)
 
 pub post-requires-clause-room : goal.post-requires-clause-room
 post-requires-clause-room c =
@@ -158,8 +175,8 @@ invariant_of-self c =
     record {
       rules = stays k (Train m) now k.links c.post.new.links c.take-taken.new.book (record { registrar = c.take-taken.new.registrar; handovers = c.take-taken.new.count }) (set k.trains.items i new) (mail_to k.line k.number old.supervision.engine (expected_from new.expectations) heard.mail) (told_train heard.saying heard.order) (map (λ s. Told s) heard.told) None None
           (heard_stamp k m) (λ d. refl) sent.links effect (frames_to c.post.new.frames) sent.each
-          c.take-taken.new.sessions (omega arith) (heard_allowed k c.requires.time c.requires.numbers m) (k.rules.of_line, c.requires.ranges)
-          (heard_may k m t i old number at new c.take-taken.new.book c.take-taken.new.registrar c.take-taken.new.count kept desk heard c.in-Ok.ensures.exact c.requires.time c.requires.numbers c.requires.ranges c.requires.frames)
+          c.take-taken.new.sessions (omega arith) c.requires.allowed (k.rules.of_line, c.requires.ranges)
+          (heard_may k m t i old number at new c.take-taken.new.book c.take-taken.new.registrar c.take-taken.new.count kept desk heard c.in-Ok.ensures.exact c.requires.allowed c.requires.ranges c.requires.frames)
           desk.homes desk.rights.count k.rules.all_links (trains (goal.at.invariant_of-self c).After-take-taken at);
     }
 
@@ -179,8 +196,8 @@ invariant_of-self-in-Err-1 c =
     record {
       rules = stays k (Train m) now k.links k.links c.take-taken.new.book (record { registrar = c.take-taken.new.registrar; handovers = c.take-taken.new.count }) (set k.trains.items i new) (λ d. []) [] [] None (Some (reason_of c.in-Err.why))
           (heard_stamp k m) (λ d. refl) (posted_none body_of now k.links) effect (λ d. []) (λ d. refl)
-          c.take-taken.new.sessions (omega arith) (heard_allowed k c.requires.time c.requires.numbers m) (k.rules.of_line, c.requires.ranges)
-          (may_be_sent k (Train m) now k.links _ (λ d. []) [] [] None (Some (reason_of c.in-Err.why)) (heard_stamp k m) (λ d. refl) effect (heard_allowed k c.requires.time c.requires.numbers m) (k.rules.of_line, c.requires.ranges)
+          c.take-taken.new.sessions (omega arith) c.requires.allowed (k.rules.of_line, c.requires.ranges)
+          (may_be_sent k (Train m) now k.links _ (λ d. []) [] [] None (Some (reason_of c.in-Err.why)) (heard_stamp k m) (λ d. refl) effect c.requires.allowed (k.rules.of_line, c.requires.ranges)
           k.rules.all_links.linked (λ d. omega arith) (λ d has. omega arith))
           desk.homes desk.rights.count k.rules.all_links (trains (goal.at.invariant_of-self-in-Err-1 c).After-take-taken at);
     }

@@ -1,13 +1,19 @@
-use Rattle.std.proofs.Common.{◌+◌, arith, true, false, if◌then◌else◌, [], ◌∷◌, None, refl}
+use Rattle.std.proofs.Common.{rules, ◌+◌, arith, true, false, if◌then◌else◌, [], ◌∷◌, None, refl}
 use Rattle.rbc_spec.specs.Outcome.{Done, NotHome}
 use Rattle.rbc_spec.specs.Centre.{is_unused}
 use Rattle.rbc_spec.specs.Step.{Set}
 use Rattle.rbc_book.specs.Book.{is_own, entry_at}
 use Rattle.rbc_centre.proofs.Kept.{left_by, trains_still}
 use Rattle.rbc_centre.proofs.Steps.{outcome_with, set_stands}
-use Rattle.rbc_centre.proofs.Turns.{set_allowed}
+use Rattle.rbc_centre.proofs.Turns.{set_stamp, in_time}
 use Rattle.rbc_centre.proofs.Wishes.{set_turns}
 use Rattle.rbc_centre.proofs.centre.Centre.set.Goals as goal
+
+pub overflow_add-self : goal.overflow_add-self
+overflow_add-self c =
+    let k = c.args.self.now in
+    let early = in_time k (Set c.args.s) k.clock (set_stamp k c.args.s) c.requires.allowed in
+    search (rules, early)
 
 pub invariant_of-self : goal.invariant_of-self
 invariant_of-self c =
@@ -19,7 +25,7 @@ invariant_of-self c =
     (set_turns k.line k.number (k.clock + 1) k.book c.set.new.self k.desk k.links k.trains.items s (k.rules.own_sections s) c.set.ensures.entry c.set.ensures.wish
     (is_own k.book s) (is_unused (entry_at k.book s)) refl refl) in
     record {
-      rules = left_by k (Set s) (k.clock + 1) c.set.new.self k.desk k.sessions k.links k.trains.items _ is (set_allowed k c.requires.time c.requires.numbers s) tt
+      rules = left_by k (Set s) (k.clock + 1) c.set.new.self k.desk k.sessions k.links k.trains.items _ is c.requires.allowed tt
           c.set.ensures.homes refl k.rules.all_links (trains_still k.line k.number k.clock (k.clock + 1) k.sessions k.trains.items (omega arith) k.rules.all_trains);
     }
 

@@ -1,12 +1,11 @@
-use Rattle.std.proofs.Common.{◌≡◌, ◌∙◌, ◌+◌, ap, sym, refl, arith, Ok, inl, inr}
+use Rattle.std.proofs.Common.{◌≡◌, ◌∙◌, ap, sym, refl, subst, Ok, None}
 use Rattle.std.proofs.lemmas.Result.{err_from_is_err_and}
-use Rattle.rbc_spec.specs.Step.{taken, stamp_of}
-use Rattle.rbc_centre.specs.State.{stands_for}
+use Rattle.rbc_spec.specs.Step.{taken, refusal}
 use Rattle.rbc_centre.specs.States.{state_of}
 use Rattle.rbc_centre.specs.Views.{event_of}
+use Rattle.rbc_centre.specs.declared.centre.Centre.{Centre}
 use Rattle.rbc_centre.specs.declared.event.Event.{Event}
-use Rattle.rbc_centre.proofs.Deliveries.{deliver_stamp}
-use Rattle.rbc_centre.proofs.Steps.{refused_step, taken_step, allowed, next_stamp}
+use Rattle.rbc_centre.proofs.Steps.{refused_step, taken_step}
 use Rattle.rbc_centre.proofs.centre.Centre.step_to.Goals as goal
 
 pub returns-in_err-may_step-clause-exact : goal.returns-in_err-may_step-clause-exact
@@ -17,56 +16,21 @@ returns-in_err-may_step-clause-exact c =
 
 -- ## What each event's step asks
 
-pub take-requires-clause-time : goal.take-requires-clause-time
-unfolding stands_for
-take-requires-clause-time c =
-    let k = c.args.self.now in
-    let stamp : stamp_of (state_of k) (event_of c.args.event.now) ≡ k.clock + 1 = next_stamp (state_of k) c.args.event.now (inl (c.in-Train.message, c.in-Train.is)) in
-    let low = (allowed k.line k.number (state_of k) (event_of c.args.event.now) c.in_ok-may_step.ensures.ok).0 in
-    omega (arith, stamp, low)
+-- what is said of the event is said of it by its kind
+not_refused : (k : Centre) {e f : Event} → e ≡ f → refusal k.line k.number (state_of k) (event_of e) ≡ None → refusal k.line k.number (state_of k) (event_of f) ≡ None
+not_refused k is none = subst (λ (x : Event). refusal k.line k.number (state_of k) (event_of x) ≡ None) is none
 
-pub take-requires-clause-numbers : goal.take-requires-clause-numbers
-take-requires-clause-numbers c =
-    let k = c.args.self.now in
-    (allowed k.line k.number (state_of k) (event_of c.args.event.now) c.in_ok-may_step.ensures.ok).1
+pub take-requires : goal.take-requires
+take-requires c = record { allowed = not_refused c.args.self.now c.in-Train.is c.in_ok-may_step.ensures.ok }
 
-pub set-requires-clause-time : goal.set-requires-clause-time
-unfolding stands_for
-set-requires-clause-time c =
-    let k = c.args.self.now in
-    let stamp : stamp_of (state_of k) (event_of c.args.event.now) ≡ k.clock + 1 = next_stamp (state_of k) c.args.event.now (inr (inl (_, c.in-Set.is))) in
-    let low = (allowed k.line k.number (state_of k) (event_of c.args.event.now) c.in_ok-may_step.ensures.ok).0 in
-    omega (arith, stamp, low)
+pub set-requires : goal.set-requires
+set-requires c = record { allowed = not_refused c.args.self.now c.in-Set.is c.in_ok-may_step.ensures.ok }
 
-pub set-requires-clause-numbers : goal.set-requires-clause-numbers
-set-requires-clause-numbers c =
-    let k = c.args.self.now in
-    (allowed k.line k.number (state_of k) (event_of c.args.event.now) c.in_ok-may_step.ensures.ok).1
+pub unset-requires : goal.unset-requires
+unset-requires c = record { allowed = not_refused c.args.self.now c.in-Unset.is c.in_ok-may_step.ensures.ok }
 
-pub unset-requires-clause-time : goal.unset-requires-clause-time
-unfolding stands_for
-unset-requires-clause-time c =
-    let k = c.args.self.now in
-    let stamp : stamp_of (state_of k) (event_of c.args.event.now) ≡ k.clock + 1 = next_stamp (state_of k) c.args.event.now (inr (inr (_, c.in-Unset.is))) in
-    let low = (allowed k.line k.number (state_of k) (event_of c.args.event.now) c.in_ok-may_step.ensures.ok).0 in
-    omega (arith, stamp, low)
-
-pub unset-requires-clause-numbers : goal.unset-requires-clause-numbers
-unset-requires-clause-numbers c =
-    let k = c.args.self.now in
-    (allowed k.line k.number (state_of k) (event_of c.args.event.now) c.in_ok-may_step.ensures.ok).1
-
-pub deliver-requires-clause-time : goal.deliver-requires-clause-time
-deliver-requires-clause-time c =
-    let k = c.args.self.now in
-    let stamp = ap (λ (e : Event). stamp_of (state_of k) (event_of e)) c.in-Deliver.is ∙ deliver_stamp k c.in-Deliver.from c.in-Deliver.frame in
-    let low = (allowed k.line k.number (state_of k) (event_of c.args.event.now) c.in_ok-may_step.ensures.ok).0 in
-    omega (arith, stamp, low)
-
-pub deliver-requires-clause-numbers : goal.deliver-requires-clause-numbers
-deliver-requires-clause-numbers c =
-    let k = c.args.self.now in
-    (allowed k.line k.number (state_of k) (event_of c.args.event.now) c.in_ok-may_step.ensures.ok).1
+pub deliver-requires : goal.deliver-requires
+deliver-requires c = record { allowed = not_refused c.args.self.now c.in-Deliver.is c.in_ok-may_step.ensures.ok }
 
 -- ## What it comes to
 

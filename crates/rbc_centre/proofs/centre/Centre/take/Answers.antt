@@ -1,4 +1,4 @@
-use Rattle.std.proofs.Common.{◌≡◌, ◌∙◌, ◌+◌, ap, sym, None, Some, is_none, arith, refl, []}
+use Rattle.std.proofs.Common.{rules, ◌≡◌, ◌∙◌, ◌+◌, ap, sym, None, Some, is_none, arith, refl, []}
 use Rattle.rbc_spec.specs.Line.{train_number}
 use Rattle.rbc_spec.specs.Outcome.{ForeignEngine, Outcome}
 use Rattle.rbc_spec.specs.Centre as centre
@@ -10,9 +10,15 @@ use Rattle.rbc_centre.specs.State.{stands_for}
 use Rattle.rbc_centre.specs.States.{state_of}
 use Rattle.rbc_centre.proofs.Kept.{left_by, trains_still}
 use Rattle.rbc_centre.proofs.Steps.{ticked_is, says, replied, effect_of, outcome_with}
-use Rattle.rbc_centre.proofs.Turns.{heard_stamp, heard_allowed}
+use Rattle.rbc_centre.proofs.Turns.{heard_stamp, in_time}
 use Rattle.rbc_centre.proofs.centre.Centre.take.Goals.{In_default}
 use Rattle.rbc_centre.proofs.centre.Centre.take.Goals as goal
+
+pub overflow_add-self : goal.overflow_add-self
+overflow_add-self c =
+    let k = c.args.self.now in
+    let early = in_time k (Train (step_message c.args.message.now)) k.clock (heard_stamp k (step_message c.args.message.now)) c.requires.allowed in
+    search (rules, early)
 
 -- a foreign engine changes nothing but the clock
 foreign : (c : In_default) → (
@@ -37,7 +43,7 @@ invariant_of-self c =
     let m = step_message c.args.message.now in
     record {
       rules = left_by k (Train m) (k.clock + 1) k.book k.desk k.sessions k.links k.trains.items _ (foreign (goal.at.invariant_of-self c).In_default)
-          (heard_allowed k c.requires.time c.requires.numbers m) (k.rules.of_line, c.look_at_ranges.ensures) (λ s. refl) refl k.rules.all_links
+          c.requires.allowed (k.rules.of_line, c.look_at_ranges.ensures) (λ s. refl) refl k.rules.all_links
           (trains_still k.line k.number k.clock (k.clock + 1) k.sessions k.trains.items (omega arith) k.rules.all_trains);
     }
 

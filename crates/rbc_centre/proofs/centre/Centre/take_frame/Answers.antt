@@ -1,4 +1,4 @@
-use Rattle.std.proofs.Common.{inr, ◌≡◌, ℕ, ◌+◌, ◌∙◌, ap, sym, refl, set, Some, None, slice_get, is_some, false, arith, subst, map, max}
+use Rattle.std.proofs.Common.{rules, inr, ◌≡◌, ℕ, ◌+◌, ◌∙◌, ap, sym, refl, set, Some, None, slice_get, is_some, false, arith, subst, map, max}
 use Rattle.std.proofs.Math.Nat.{le-max_left}
 use Rattle.std.proofs.lemmas.Option.{slice_get_read}
 use Rattle.rbc_spec.specs.Frame.{Body, HasBodyRange}
@@ -19,11 +19,11 @@ use Rattle.rbc_centre.specs.States.{state_of}
 use Rattle.rbc_centre.specs.Posts.{MayPost}
 use Rattle.rbc_centre.specs.Sent.{frames_to}
 use Rattle.rbc_centre.specs.declared.desk.Desk.{Desk}
-use Rattle.rbc_centre.proofs.Deliveries.{IsOffered, not_next, deliver_stamp, delivered_allowed, received_may, offered_as, untaken, ignored, train_takes, silent, stays_silent, next_from, next_number}
+use Rattle.rbc_centre.proofs.Deliveries.{IsOffered, not_next, deliver_stamp, received_may, offered_as, untaken, ignored, train_takes, silent, stays_silent, next_from, next_number}
 use Rattle.rbc_centre.proofs.Kept.{links_still, trains_set}
 use Rattle.rbc_centre.proofs.States.{number_within}
 use Rattle.rbc_centre.proofs.Rows.{later_of}
-use Rattle.rbc_centre.proofs.Turns.{of_train, has_number, has_count, turns, stays, sent_by}
+use Rattle.rbc_centre.proofs.Turns.{in_time, of_train, has_number, has_count, turns, stays, sent_by}
 use Rattle.rbc_centre.proofs.centre.Centre.take_frame.Goals.{After-offer-answer, In_default-train_number, After-index_mut-train}
 use Rattle.rbc_centre.proofs.centre.Centre.take_frame.Goals as goal
 
@@ -32,6 +32,19 @@ stamped : (c : After-offer-answer) → stamp_of (state_of c.args.self.now) (Deli
 stamped c =
     let k = c.args.self.now in
     deliver_stamp k c.args.from c.args.frame.now ∙ ap (λ n. max k.clock n + 1) (sym c.stamp.ensures.value) ∙ ap (λ n. n + 1) (sym (later_of k.clock c.stamp.result) ∙ sym c.max.ensures)
+
+pub overflow_add-self : goal.overflow_add-self
+overflow_add-self c =
+    let k = c.args.self.now in
+    let f = c.args.frame.now in
+    let stamp : c.max.result ≡ max k.clock f.stamp = c.max.ensures ∙ later_of k.clock c.stamp.result ∙ ap (max k.clock) c.stamp.ensures.value in
+    let early = in_time k (Deliver c.args.from f) (max k.clock f.stamp) (deliver_stamp k c.args.from f) c.requires.allowed in
+    search (rules, stamp, early)
+
+pub post-requires-clause-stamp : goal.post-requires-clause-stamp
+post-requires-clause-stamp c =
+    let early = in_time c.args.self.now (Deliver c.args.from c.args.frame.now) c.max.result (stamped (goal.at.post-requires-clause-stamp c).After-offer-answer) c.requires.allowed in
+    (omega arith, omega (arith, early))
 
 range : (c : After-offer-answer) → HasBodyRange c.args.frame.now.body
 range c = subst HasBodyRange c.body-body.ensures.value c.body-body.ensures.range
@@ -53,7 +66,7 @@ invariant_of-self c =
     let o = (goal.at.invariant_of-self c).After-offer-answer in
     record {
       rules = stays_silent k clock d f mid (answer_of c.offer-answer.result) (is_offered o) (stamped o) (range o)
-          (untaken k clock d f mid (answer_of c.offer-answer.result) (is_offered o) (not_next c.offer-answer.result c.in_default.not-Next)) (delivered_allowed k d f c.requires.time c.requires.numbers);
+          (untaken k clock d f mid (answer_of c.offer-answer.result) (is_offered o) (not_next c.offer-answer.result c.in_default.not-Next)) c.requires.allowed;
     }
 
 pub returns-in_default-clause-exact : goal.returns-in_default-clause-exact
@@ -88,7 +101,7 @@ invariant_of-self-in_default-train_number c =
     let o = at.After-offer-answer in
     record {
       rules = stays_silent k clock d f mid (answer_of c.offer-answer.result) (is_offered o) (stamped o) (range o)
-          (ignored k clock d f mid (answer_of c.offer-answer.result) (is_offered o) (ap answer_of c.in-Next.is) (foreign at.In_default-train_number)) (delivered_allowed k d f c.requires.time c.requires.numbers);
+          (ignored k clock d f mid (answer_of c.offer-answer.result) (is_offered o) (ap answer_of c.in-Next.is) (foreign at.In_default-train_number)) c.requires.allowed;
     }
 
 pub returns-in_default-train_number-clause-exact : goal.returns-in_default-train_number-clause-exact
@@ -149,7 +162,7 @@ pub receive-requires-clause-count : goal.receive-requires-clause-count
 receive-requires-clause-count c =
     let at = (goal.at.receive-requires-clause-count c).After-index_mut-train in
     let low = le-max_left c.args.self.now.clock c.args.frame.now.stamp in
-    let early = c.requires.time in
+    let early = in_time c.args.self.now (Deliver c.args.from c.args.frame.now) (max c.args.self.now.clock c.args.frame.now.stamp) (deliver_stamp c.args.self.now c.args.from c.args.frame.now) c.requires.allowed in
     let few = has_count c.args.self.now c.engine.result c.in-Some.i c.index_mut-train.result.now (number at) (place at) (omega (arith, low, early)) in
     omega (arith, few)
 
@@ -182,7 +195,7 @@ post-requires-clause-may c =
     c.receive.ensures.kept c.receive.ensures.desk heard
     (λ x has known. ap (λ (b : Body). received k.line k.number d b x) (sym c.body-body.ensures.value) ∙ c.receive.ensures.exact x has known) in
     subst (λ (u : ℕ). (e : ℕ) → MayPost c.offer-answer.new.self e (mail_to k.line k.number u (expected_from new.expectations) heard.mail e)) ((train p).engine ∙ c.engine.ensures ∙ sym c.engine-2.ensures)
-    (received_may k d f clock c.offer-answer.new.self _ old (expected_from new.expectations) heard answer (stamped o) c.offer-answer.ensures.sent effect (delivered_allowed k d f c.requires.time c.requires.numbers)
+    (received_may k d f clock c.offer-answer.new.self _ old (expected_from new.expectations) heard answer (stamped o) c.offer-answer.ensures.sent effect c.requires.allowed
     (range o) c.offer-answer.ensures.linked c.offer-answer.ensures.room (c.requires.frames (is_next p (is_offered o))))
 
 -- ## The centre that is left, and the answer
@@ -208,7 +221,6 @@ invariant_of-self-2 c =
     let effect = train_takes k clock d f mid answer (is_offered o) (ap answer_of c.in-Next.is) t i old (number p) (place p) new c.receive.new.book c.receive.new.registrar kept desk heard
     (λ x has known. ap (λ (b : Body). received k.line k.number d b x) (sym c.body-body.ensures.value) ∙ c.receive.ensures.exact x has known) in
     let was = train p in
-    let allowed = delivered_allowed k d f c.requires.time c.requires.numbers in
     let sent = sent_by k.line k.number c.engine-2.result old.supervision.engine clock (expected_from new.expectations) heard.mail mid c.post.new.links (frames_to c.post.new.frames) (c.engine-2.ensures ∙ sym c.engine.ensures ∙ sym was.engine) c.post.ensures.posted c.post.ensures.frames in
     let low = le-max_left k.clock f.stamp in
     let now = deliver_stamp k d f in
@@ -216,8 +228,8 @@ invariant_of-self-2 c =
     record {
       rules = stays k (Deliver d f) clock mid c.post.new.links c.receive.new.book (record { registrar = c.receive.new.registrar; handovers = k.desk.handovers }) (set k.trains.items i new) (mail_to k.line k.number old.supervision.engine (expected_from new.expectations) heard.mail) (told_train heard.saying heard.order) (map (λ s. Told s) heard.told) (Some answer) None
           stamp c.offer-answer.ensures.sent sent.links effect (frames_to c.post.new.frames) sent.each
-          k.sessions (omega arith) allowed (range o)
-          (received_may k d f clock mid _ old (expected_from new.expectations) heard answer stamp c.offer-answer.ensures.sent effect allowed (range o) c.offer-answer.ensures.linked c.offer-answer.ensures.room
+          k.sessions (omega arith) c.requires.allowed (range o)
+          (received_may k d f clock mid _ old (expected_from new.expectations) heard answer stamp c.offer-answer.ensures.sent effect c.requires.allowed (range o) c.offer-answer.ensures.linked c.offer-answer.ensures.room
           (c.requires.frames (is_next p (is_offered o)))) desk.homes desk.rights.count
           (links_still k.line k.number k.links mid c.offer-answer.ensures.count c.offer-answer.ensures.linked c.offer-answer.ensures.sent k.rules.all_links)
           (trains_set k.line k.number k.clock clock k.sessions k.sessions k.trains.items t i old new (omega (arith, low, now, stamp)) (number p) (place p) kept.said

@@ -1,5 +1,5 @@
 use Rattle.std.proofs.Common.{◌∙◌}
-use Rattle.rbc_spec.specs.Step.{Train, taken, has_full_link}
+use Rattle.rbc_spec.specs.Step.{Train, taken, refusal}
 use Rattle.rbc_msgs.specs.StepMessage.{step_message}
 use Rattle.rbc_centre.proofs.Turns.{state_same, on_err}
 use Rattle.rbc_centre.proofs.centre.Centre.take_from.Goals as goal
@@ -7,10 +7,10 @@ use Rattle.rbc_centre.proofs.centre.Centre.take_from.Goals as goal
 pub returns-in_err-make_room-clause-err : goal.returns-in_err-make_room-clause-err
 returns-in_err-make_room-clause-err c = on_err c.from_residual.result (state_same c.args.self.now c.make_room.new.self c.in_err-make_room.ensures.same)
 
-pub hear_train-requires-clause-numbers : goal.hear_train-requires-clause-numbers
-hear_train-requires-clause-numbers c =
+pub hear_train-requires-clause-allowed : goal.hear_train-requires-clause-allowed
+hear_train-requires-clause-allowed c =
     let same = c.in_ok-make_room.ensures.same in
-    (λ i. has_full_link (same.line i) (same.number i) (state_same c.args.self.now c.make_room.new.self same i)) ∙ c.requires.numbers
+    (λ i. refusal (same.line i) (same.number i) (state_same c.args.self.now c.make_room.new.self same i) (Train (step_message c.args.message.now))) ∙ c.requires.allowed
 
 pub returns-clause-exact : goal.returns-clause-exact
 returns-clause-exact c =

@@ -1,5 +1,5 @@
 use Rattle.std.proofs.Common.{◌∙◌, ap, sym}
-use Rattle.rbc_spec.specs.Step.{Unset, taken, has_full_link}
+use Rattle.rbc_spec.specs.Step.{Unset, taken, refusal}
 use Rattle.rbc_book.specs.Book.{Pages, entry_at}
 use Rattle.rbc_book.specs.Entries.{entry_of}
 use Rattle.rbc_centre.specs.State.{stands_for}
@@ -20,10 +20,10 @@ returns-in_err-reserve_frames-clause-memory c = on_err c.from_residual.result (c
 pub withdraw-requires-clause-out : goal.withdraw-requires-clause-out
 withdraw-requires-clause-out c = ap (λ (pages : Pages). entry_at pages c.args.s) c.in_ok-reserve_frames.ensures.same.book ∙ sym c.page-entry.ensures.entry ∙ ap entry_of c.in-Out.is
 
-pub withdraw-requires-clause-numbers : goal.withdraw-requires-clause-numbers
-withdraw-requires-clause-numbers c =
+pub withdraw-requires-clause-allowed : goal.withdraw-requires-clause-allowed
+withdraw-requires-clause-allowed c =
     let same = c.in_ok-reserve_frames.ensures.same in
-    (λ i. has_full_link (same.line i) (same.number i) (state_same c.args.self.now c.reserve_frames.new.self same i)) ∙ c.requires.numbers
+    (λ i. refusal (same.line i) (same.number i) (state_same c.args.self.now c.reserve_frames.new.self same i) (Unset c.args.s)) ∙ c.requires.allowed
 
 pub returns-clause-exact : goal.returns-clause-exact
 returns-clause-exact c =

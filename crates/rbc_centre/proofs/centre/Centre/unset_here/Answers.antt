@@ -1,4 +1,4 @@
-use Rattle.std.proofs.Common.{◌≡◌, ◌∙◌, ◌+◌, sym, arith, true, false, refl, subst, ℕ, List, None, set, [], ◌∷◌}
+use Rattle.std.proofs.Common.{rules, ◌≡◌, ◌∙◌, ◌+◌, sym, arith, true, false, refl, subst, ℕ, List, None, set, [], ◌∷◌}
 use Rattle.std.proofs.lemmas.Option.{slice_get_read}
 use Rattle.rbc_spec.specs.Centre as centre
 use Rattle.rbc_spec.specs.Acts.{propose_if_so}
@@ -12,10 +12,16 @@ use Rattle.rbc_centre.specs.Views.{outcome_of}
 use Rattle.rbc_centre.proofs.Kept.{left_by, trains_still, trains_set}
 use Rattle.rbc_centre.proofs.States.{asked_train}
 use Rattle.rbc_centre.proofs.Steps.{outcome_with, unset_stands}
-use Rattle.rbc_centre.proofs.Turns.{unset_allowed}
+use Rattle.rbc_centre.proofs.Turns.{unset_stamp, in_time}
 use Rattle.rbc_centre.proofs.Wishes.{unset_turns, asked_turns, user_of, user_at, no_user, done_unused}
 use Rattle.rbc_centre.proofs.centre.Centre.unset_here.Goals.{in-Some, in-None}
 use Rattle.rbc_centre.proofs.centre.Centre.unset_here.Goals as goal
+
+pub overflow_add-self : goal.overflow_add-self
+overflow_add-self c =
+    let k = c.args.self.now in
+    let early = in_time k (Unset c.args.s) k.clock (unset_stamp k c.args.s) c.requires.allowed in
+    search (rules, early)
 
 pub invariant_of-self : goal.invariant_of-self
 invariant_of-self c =
@@ -27,7 +33,7 @@ invariant_of-self c =
     (unset_turns k.line k.number (k.clock + 1) k.book c.unset.new.self k.desk k.links k.trains.items s (k.rules.own_sections s) c.unset.ensures.entry c.unset.ensures.wish true c.in-Ok-Done.ensures.own
     (λ _. done_unused (entry_at k.book s) (sym c.in-Ok-Done.field-0-is ∙ c.in-Ok-Done.ensures.answer))) in
     record {
-      rules = left_by k (Unset s) (k.clock + 1) c.unset.new.self k.desk k.sessions k.links k.trains.items _ is (unset_allowed k c.requires.time c.requires.numbers s) tt
+      rules = left_by k (Unset s) (k.clock + 1) c.unset.new.self k.desk k.sessions k.links k.trains.items _ is c.requires.allowed tt
           c.unset.ensures.homes refl k.rules.all_links (trains_still k.line k.number k.clock (k.clock + 1) k.sessions k.trains.items (omega arith) k.rules.all_trains);
     }
 
@@ -40,7 +46,7 @@ invariant_of-self-in-Err c =
     (outcome_with (k.clock + 1) (λ d. []) [] words None None) s refl
     (unset_turns k.line k.number (k.clock + 1) k.book c.unset.new.self k.desk k.links k.trains.items s (k.rules.own_sections s) c.unset.ensures.entry c.unset.ensures.wish false c.in-Err.ensures.own (λ e. cc)) in
     record {
-      rules = left_by k (Unset s) (k.clock + 1) c.unset.new.self k.desk k.sessions k.links k.trains.items _ is (unset_allowed k c.requires.time c.requires.numbers s) tt
+      rules = left_by k (Unset s) (k.clock + 1) c.unset.new.self k.desk k.sessions k.links k.trains.items _ is c.requires.allowed tt
           c.unset.ensures.homes refl k.rules.all_links (trains_still k.line k.number k.clock (k.clock + 1) k.sessions k.trains.items (omega arith) k.rules.all_trains);
     }
 
@@ -67,7 +73,8 @@ ask_back-request-requires c =
     let user = user_at k c.args.s c.in-Some.i c.index_mut.result.now c.requires.here (sym c.in-Ok-Asked.field-0-is ∙ c.in-Ok-Asked.ensures.answer) (λ t taken. sym (c.user_of-user.ensures.value t (c.requires.entry ∙ taken)) ∙ c.in-Some.is)
     (λ within. slice_get_read _ _ _ _ refl within c.index_mut.ensures.value) in
     let few = k.rules.all_trains.said c.in-Some.i c.index_mut.result.now user.at in
-    record { count = omega (arith, few, c.requires.time) }
+    let early = in_time k (Unset c.args.s) k.clock (unset_stamp k c.args.s) c.requires.allowed in
+    record { count = omega (arith, few, early) }
 
 pub invariant_of-self-in-Some : goal.invariant_of-self-in-Some
 invariant_of-self-in-Some c =
@@ -92,7 +99,7 @@ invariant_of-self-in-Some c =
     t i before after sayings c.in-Ok-Asked.ensures.own user.taken user.number user.at user.within ask.session_state ask.heard ask.question ask.waiting ask.expectations asks) in
     let said = ask.said in
     record {
-      rules = left_by k (Unset s) (k.clock + 1) c.unset.new.self k.desk k.sessions k.links (set states i after) _ is (unset_allowed k c.requires.time c.requires.numbers s) tt
+      rules = left_by k (Unset s) (k.clock + 1) c.unset.new.self k.desk k.sessions k.links (set states i after) _ is c.requires.allowed tt
           c.unset.ensures.homes refl k.rules.all_links
           (trains_set k.line k.number k.clock (k.clock + 1) k.sessions k.sessions states t i before after (omega arith) user.number user.at (omega (arith, said))
           (asked_train k.line k.number k.sessions t i before after (k.rules.all_trains.each t i before user.number user.at) ask.number ask.engine ask.waiting ask.session_state ask.hand ask.expectations)

@@ -1,4 +1,4 @@
-use Rattle.std.proofs.Common.{◌∙◌, ◌+◌, [], ◌∷◌, ap, refl, None, arith}
+use Rattle.std.proofs.Common.{rules, ◌∙◌, ◌+◌, [], ◌∷◌, ap, refl, None, arith}
 use Rattle.rbc_spec.specs.Frame.{RouteWithdraw}
 use Rattle.rbc_spec.specs.Outcome.{Outcome, Asked}
 use Rattle.rbc_spec.specs.Step.{Unset}
@@ -6,14 +6,25 @@ use Rattle.rbc_centre.specs.Posts.{to_others}
 use Rattle.rbc_centre.specs.Sent.{frames_to}
 use Rattle.rbc_centre.specs.State.{stands_for}
 use Rattle.rbc_centre.proofs.Kept.{trains_still}
-use Rattle.rbc_centre.proofs.Turns.{turns, stays, unset_allowed, unset_stamp}
+use Rattle.rbc_centre.proofs.Turns.{turns, stays, unset_stamp, in_time}
 use Rattle.rbc_centre.proofs.Withdrawn.{withdraws, may_withdraw}
 use Rattle.rbc_centre.proofs.centre.Centre.withdraw.Goals as goal
 
+pub overflow_add-self : goal.overflow_add-self
+overflow_add-self c =
+    let k = c.args.self.now in
+    let early = in_time k (Unset c.args.s) k.clock (unset_stamp k c.args.s) c.requires.allowed in
+    search (rules, early)
+
+pub post_to_others-requires-clause-stamp : goal.post_to_others-requires-clause-stamp
+post_to_others-requires-clause-stamp c =
+    let k = c.args.self.now in
+    let early = in_time k (Unset c.args.s) k.clock (unset_stamp k c.args.s) c.requires.allowed in
+    (omega arith, omega (arith, early))
+
 pub post_to_others-requires-clause-may : goal.post_to_others-requires-clause-may
 post_to_others-requires-clause-may c =
-    may_withdraw c.args.self.now c.args.s c.args.nid_engine c.unset-asked.new.self c.requires.out c.unset-asked.ensures.entry c.unset-asked.ensures.wish
-    c.requires.time c.requires.numbers c.requires.frames
+    may_withdraw c.args.self.now c.args.s c.args.nid_engine c.unset-asked.new.self c.requires.out c.unset-asked.ensures.entry c.unset-asked.ensures.wish c.requires.allowed c.requires.frames
 
 pub post_to_others-requires-clause-linked : goal.post_to_others-requires-clause-linked
 post_to_others-requires-clause-linked c = c.args.self.now.rules.all_links.linked
@@ -26,9 +37,8 @@ invariant_of-self c =
           (unset_stamp k c.args.s) (λ d. refl) c.post_to_others.ensures.posted
           (withdraws k c.args.s c.args.nid_engine c.unset-asked.new.self c.requires.out c.unset-asked.ensures.entry c.unset-asked.ensures.wish)
           (frames_to c.post_to_others.new.frames) c.post_to_others.ensures.frames
-          k.sessions (omega arith) (unset_allowed k c.requires.time c.requires.numbers c.args.s) tt
-          (may_withdraw k c.args.s c.args.nid_engine c.unset-asked.new.self c.requires.out c.unset-asked.ensures.entry c.unset-asked.ensures.wish
-          c.requires.time c.requires.numbers c.requires.frames) c.unset-asked.ensures.homes refl k.rules.all_links
+          k.sessions (omega arith) c.requires.allowed tt
+          (may_withdraw k c.args.s c.args.nid_engine c.unset-asked.new.self c.requires.out c.unset-asked.ensures.entry c.unset-asked.ensures.wish c.requires.allowed c.requires.frames) c.unset-asked.ensures.homes refl k.rules.all_links
           (trains_still k.line k.number k.clock (k.clock + 1) k.sessions k.trains.items (omega arith) k.rules.all_trains);
     }
 
