@@ -1,5 +1,5 @@
 -- A frame of another centre, and the links that it leaves.
-use Rattle.std.proofs.Common.{◌≡◌, ℕ, ◌+◌, ◌<◌, Bool, true, false, if◌then◌else◌, List, [], length, map, set, slice_get, Option, Some, None, is_some, is_none, nat_le, inl, inr, refl, sym, ap, ◌∙◌, subst, arith, max}
+use Rattle.std.proofs.Common.{◌≡◌, ℕ, ◌+◌, Bool, true, false, if◌then◌else◌, List, [], length, map, set, slice_get, Option, Some, None, is_some, is_none, nat_le, inl, inr, refl, sym, ap, ◌∙◌, subst, arith, max}
 use Rattle.std.proofs.Math.Nat.{le-max_left}
 use Rattle.std.proofs.lemmas.Bool.Decides.{eqb_tells}
 use Rattle.rbc_spec.specs.Maps.{put}

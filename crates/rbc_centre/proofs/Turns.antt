@@ -156,6 +156,12 @@ unset_stamp k s = refl
 pub in_time : (k : CentreCode) (event : Event) (stamp : ℕ) → step.stamp_of (state_of k) event ≡ stamp + 1 → step.refusal k.line k.number (state_of k) event ≡ None → stamp < last_stamp
 in_time k event stamp is allowed = let low = (Steps.allowed k.line k.number (state_of k) event allowed).0 in omega (arith, is, low)
 
+pub heard_early : (k : CentreCode) (m : TrainMessage) → step.refusal k.line k.number (state_of k) (Train m) ≡ None → k.clock < last_stamp
+heard_early k m = in_time k (Train m) k.clock (heard_stamp k m)
+
+pub unset_early : (k : CentreCode) (s : ℕ) → step.refusal k.line k.number (state_of k) (Unset s) ≡ None → k.clock < last_stamp
+unset_early k s = in_time k (Unset s) k.clock (unset_stamp k s)
+
 -- what a message that is taken comes to, as the effect of the step
 module _ (k : CentreCode) (event : Event) (t i : ℕ) (old : TrainState) (number : train_number k.line t ≡ Some i) (at : slice_get k.trains.items i ≡ Some old) (clock : ℕ)
     (new : TrainState) (book : Pages) (rights : Rights) (n : ℕ) (kept : KeepsTrain old new) (desk : KeepsDesk old.supervision.number k.book book k.desk.registrar rights) where

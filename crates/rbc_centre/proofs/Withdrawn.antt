@@ -1,5 +1,5 @@
 -- A section that is out and is taken back: each other centre is asked for it.
-use Rattle.std.proofs.Common.{◌≡◌, ℕ, ◌+◌, ◌<◌, ◌==◌, ◌&&◌, not, false, if◌then◌else◌, [], ◌∷◌, None, sym, ap, ◌∙◌, refl, arith, Bool, true, length, ◌≤◌}
+use Rattle.std.proofs.Common.{◌≡◌, ℕ, ◌+◌, ◌==◌, ◌&&◌, not, false, if◌then◌else◌, [], ◌∷◌, None, sym, ap, ◌∙◌, refl, arith, Bool, true, length, ◌≤◌}
 use Rattle.rbc_spec.specs.Line.{is_linked}
 use Rattle.rbc_spec.specs.Frame.{Body, RouteWithdraw}
 use Rattle.rbc_spec.specs.Outcome.{Asked}

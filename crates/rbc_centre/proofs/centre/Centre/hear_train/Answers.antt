@@ -23,23 +23,17 @@ use Rattle.rbc_centre.specs.Sent.{frames_to}
 use Rattle.rbc_centre.proofs.Kept.{trains_set}
 use Rattle.rbc_centre.proofs.States.{number_within, stands_beside}
 use Rattle.rbc_centre.proofs.Trains.{heard_of}
-use Rattle.rbc_centre.proofs.Turns.{of_train, kept_train, has_number, has_count, takes, hears, turns, stays, heard_stamp, in_time, heard_may, heard_frames, on_track, may_be_sent, sent_by}
+use Rattle.rbc_centre.proofs.Turns.{of_train, kept_train, has_number, has_count, takes, hears, turns, stays, heard_stamp, heard_early, heard_may, heard_frames, on_track, may_be_sent, sent_by}
 use Rattle.rbc_centre.proofs.centre.Centre.hear_train.Goals.{After-index_mut-train, After-take-taken}
 use Rattle.rbc_centre.proofs.centre.Centre.hear_train.Goals as goal
 
 -- ## Its stamp
 
 pub overflow_add-self : goal.overflow_add-self
-overflow_add-self c =
-    let k = c.args.self.now in
-    let early = in_time k (Train (step_message c.args.message.now)) k.clock (heard_stamp k (step_message c.args.message.now)) c.requires.allowed in
-    search (rules, early)
+overflow_add-self c = let early = heard_early c.args.self.now (step_message c.args.message.now) c.requires.allowed in search (rules, early)
 
 pub post-requires-clause-stamp : goal.post-requires-clause-stamp
-post-requires-clause-stamp c =
-    let k = c.args.self.now in
-    let early = in_time k (Train (step_message c.args.message.now)) k.clock (heard_stamp k (step_message c.args.message.now)) c.requires.allowed in
-    (omega arith, omega (arith, early))
+post-requires-clause-stamp c = let early = heard_early c.args.self.now (step_message c.args.message.now) c.requires.allowed in (omega arith, omega (arith, early))
 
 -- ## The train that the message is from, in the list of trains
 
@@ -73,7 +67,7 @@ take-taken-requires-clause-room c = λ opens timely.
 
 pub take-taken-requires-clause-count : goal.take-taken-requires-clause-count
 take-taken-requires-clause-count c = has_count c.args.self.now _ c.args.i c.index_mut-train.result.now c.requires.number (place (goal.at.take-taken-requires-clause-count c).After-index_mut-train)
-    (in_time c.args.self.now (Train (step_message c.args.message.now)) c.args.self.now.clock (heard_stamp c.args.self.now (step_message c.args.message.now)) c.requires.allowed)
+    (heard_early c.args.self.now (step_message c.args.message.now) c.requires.allowed)
 
 pub take-taken-requires-clause-kept : goal.take-taken-requires-clause-kept
 take-taken-requires-clause-kept c = kept_train c.args.self.now _ c.args.i c.index_mut-train.result.now c.requires.number (place (goal.at.take-taken-requires-clause-kept c).After-index_mut-train)
@@ -92,8 +86,7 @@ pub take-taken-requires-clause-announced : goal.take-taken-requires-clause-annou
 unfolding stands_for
 take-taken-requires-clause-announced c =
     let few : c.args.self.now.desk.handovers ≤ c.args.self.now.clock = ∥∥₁_elim c.args.self.now.rules.ranged le_prop (λ r. r.announced) in
-    let k = c.args.self.now in
-    let early = in_time k (Train (step_message c.args.message.now)) k.clock (heard_stamp k (step_message c.args.message.now)) c.requires.allowed in
+    let early = heard_early c.args.self.now (step_message c.args.message.now) c.requires.allowed in
     omega (arith, few, early)
 
 -- ## What goes to other centres

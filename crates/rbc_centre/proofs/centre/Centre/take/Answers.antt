@@ -10,15 +10,12 @@ use Rattle.rbc_centre.specs.State.{stands_for}
 use Rattle.rbc_centre.specs.States.{state_of}
 use Rattle.rbc_centre.proofs.Kept.{left_by, trains_still}
 use Rattle.rbc_centre.proofs.Steps.{ticked_is, says, replied, effect_of, outcome_with}
-use Rattle.rbc_centre.proofs.Turns.{heard_stamp, in_time}
+use Rattle.rbc_centre.proofs.Turns.{heard_stamp, heard_early}
 use Rattle.rbc_centre.proofs.centre.Centre.take.Goals.{In_default}
 use Rattle.rbc_centre.proofs.centre.Centre.take.Goals as goal
 
 pub overflow_add-self : goal.overflow_add-self
-overflow_add-self c =
-    let k = c.args.self.now in
-    let early = in_time k (Train (step_message c.args.message.now)) k.clock (heard_stamp k (step_message c.args.message.now)) c.requires.allowed in
-    search (rules, early)
+overflow_add-self c = let early = heard_early c.args.self.now (step_message c.args.message.now) c.requires.allowed in search (rules, early)
 
 -- a foreign engine changes nothing but the clock
 foreign : (c : In_default) → (

@@ -12,16 +12,13 @@ use Rattle.rbc_centre.specs.Views.{outcome_of}
 use Rattle.rbc_centre.proofs.Kept.{left_by, trains_still, trains_set}
 use Rattle.rbc_centre.proofs.States.{asked_train}
 use Rattle.rbc_centre.proofs.Steps.{outcome_with, unset_stands}
-use Rattle.rbc_centre.proofs.Turns.{unset_stamp, in_time}
+use Rattle.rbc_centre.proofs.Turns.{unset_early}
 use Rattle.rbc_centre.proofs.Wishes.{unset_turns, asked_turns, user_of, user_at, no_user, done_unused}
 use Rattle.rbc_centre.proofs.centre.Centre.unset_here.Goals.{in-Some, in-None}
 use Rattle.rbc_centre.proofs.centre.Centre.unset_here.Goals as goal
 
 pub overflow_add-self : goal.overflow_add-self
-overflow_add-self c =
-    let k = c.args.self.now in
-    let early = in_time k (Unset c.args.s) k.clock (unset_stamp k c.args.s) c.requires.allowed in
-    search (rules, early)
+overflow_add-self c = let early = unset_early c.args.self.now c.args.s c.requires.allowed in search (rules, early)
 
 pub invariant_of-self : goal.invariant_of-self
 invariant_of-self c =
@@ -73,7 +70,7 @@ ask_back-request-requires c =
     let user = user_at k c.args.s c.in-Some.i c.index_mut.result.now c.requires.here (sym c.in-Ok-Asked.field-0-is ∙ c.in-Ok-Asked.ensures.answer) (λ t taken. sym (c.user_of-user.ensures.value t (c.requires.entry ∙ taken)) ∙ c.in-Some.is)
     (λ within. slice_get_read _ _ _ _ refl within c.index_mut.ensures.value) in
     let few = k.rules.all_trains.said c.in-Some.i c.index_mut.result.now user.at in
-    let early = in_time k (Unset c.args.s) k.clock (unset_stamp k c.args.s) c.requires.allowed in
+    let early = unset_early c.args.self.now c.args.s c.requires.allowed in
     record { count = omega (arith, few, early) }
 
 pub invariant_of-self-in-Some : goal.invariant_of-self-in-Some

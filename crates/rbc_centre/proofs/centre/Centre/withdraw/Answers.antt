@@ -6,21 +6,15 @@ use Rattle.rbc_centre.specs.Posts.{to_others}
 use Rattle.rbc_centre.specs.Sent.{frames_to}
 use Rattle.rbc_centre.specs.State.{stands_for}
 use Rattle.rbc_centre.proofs.Kept.{trains_still}
-use Rattle.rbc_centre.proofs.Turns.{turns, stays, unset_stamp, in_time}
+use Rattle.rbc_centre.proofs.Turns.{turns, stays, unset_stamp, unset_early}
 use Rattle.rbc_centre.proofs.Withdrawn.{withdraws, may_withdraw}
 use Rattle.rbc_centre.proofs.centre.Centre.withdraw.Goals as goal
 
 pub overflow_add-self : goal.overflow_add-self
-overflow_add-self c =
-    let k = c.args.self.now in
-    let early = in_time k (Unset c.args.s) k.clock (unset_stamp k c.args.s) c.requires.allowed in
-    search (rules, early)
+overflow_add-self c = let early = unset_early c.args.self.now c.args.s c.requires.allowed in search (rules, early)
 
 pub post_to_others-requires-clause-stamp : goal.post_to_others-requires-clause-stamp
-post_to_others-requires-clause-stamp c =
-    let k = c.args.self.now in
-    let early = in_time k (Unset c.args.s) k.clock (unset_stamp k c.args.s) c.requires.allowed in
-    (omega arith, omega (arith, early))
+post_to_others-requires-clause-stamp c = let early = unset_early c.args.self.now c.args.s c.requires.allowed in (omega arith, omega (arith, early))
 
 pub post_to_others-requires-clause-may : goal.post_to_others-requires-clause-may
 post_to_others-requires-clause-may c =
