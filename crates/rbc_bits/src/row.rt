@@ -1,5 +1,5 @@
 ghost use Rattle.std.specs.Prelude.{◌≡◌, ◌+◌, ◌-◌, ◌/◌, ◌%◌, ◌^◌, ◌<◌, ◌≤◌, ◌++◌, [], length, take, IfOk, OnOk, IsOkUnless};
-ghost use Rattle.std.specs.Int.{w64, to_be_bytes};
+ghost use Rattle.std.specs.Int.{w64, to_be_bytes, to_le_bytes};
 ghost use Rattle.rbc_bits.specs.Bits.{field, bits_of, filled};
 
 use crate::fault::BitFault;
@@ -137,9 +137,8 @@ fn halves(word: u128) -> (u64, u64)
     ((word >> 64) as u64, low as u64)
 }
 
-// The first bytes of four words, the highest first. It is a call, so that each is a word that the processor turns at
-// once, and not bytes of the fields that are in it. Each is written where it stays: a copy would wait for all of them.
-#[inline(never)]
+// The first bytes of four words, the highest first. The list stays in registers: so it is not copied behind the call.
+#[inline(always)]
 fn bytes_of(
     alloc: Global,
     first: u64,
@@ -154,20 +153,26 @@ fn bytes_of(
         ++ (to_be_bytes w64 third ++ to_be_bytes w64 fourth))) }
     ensures memory { IsOkUnless result BitFault.Memory }
 {
-    let mut bytes = Vec::with_capacity(alloc, MOST_BYTES)?;
-    bytes.extend_from_slice(&sixteen(first, second))?;
-    bytes.extend_from_slice(&sixteen(third, fourth))?;
-    bytes.truncate(count);
-    Ok(bytes)
+    match Vec::from_array(alloc, [0; MOST_BYTES]) {
+        Ok(mut bytes) => {
+            write_words(bytes.as_mut_slice(), first, second, third, fourth);
+            bytes.truncate(count);
+            Ok(bytes)
+        }
+        Err(_) => Err(BitFault::Memory),
+    }
 }
 
-// The bytes of two words, the highest first.
-#[inline(always)]
-fn sixteen(high: u64, low: u64) -> [u8; 16]
-    ensures { result ≡ to_be_bytes w64 high ++ to_be_bytes w64 low }
+// Writes the bytes of four words, the highest first. It is a call, so that each is a word that the processor turns at
+// once, and not bytes of the fields that are in it.
+#[inline(never)]
+fn write_words(bytes: &mut [u8], first: u64, second: u64, third: u64, fourth: u64)
+    requires { length bytes.old ≡ 32 }
+    ensures { bytes.new
+        ≡ (to_be_bytes w64 first ++ to_be_bytes w64 second) ++ (to_be_bytes w64 third ++ to_be_bytes w64 fourth) }
 {
-    let mut bytes = [0; 16];
-    bytes[..8].copy_from_slice(&high.to_be_bytes());
-    bytes[8..].copy_from_slice(&low.to_be_bytes());
-    bytes
+    bytes[..8].copy_from_slice(&first.to_be_bytes());
+    bytes[8..16].copy_from_slice(&second.to_be_bytes());
+    bytes[16..24].copy_from_slice(&third.to_be_bytes());
+    bytes[24..].copy_from_slice(&fourth.to_be_bytes());
 }
