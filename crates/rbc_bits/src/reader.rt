@@ -112,14 +112,17 @@ impl<'a> BitReader<'a> {
         Some(BitPart::new(word, others))
     }
 
-    /// The bits that are left as one word, where they are few, and so many bytes stand before their end.
+    /// The bits that are left as one word, where they are none, or few, and so many bytes stand before their end.
     #[inline(always)]
     pub fn word(&self) -> Option<BitWord>
         ensures { IfSome result (λ word. word ≡ self.now) }
     {
+        if self.left == 0 {
+            return Some(BitWord::empty());
+        }
         let end = self.used + self.left;
         let last = ((end + 7) / 8) as usize;
-        if self.left == 0 || self.left > MOST_IN_A_WORD || last < 16 {
+        if self.left > MOST_IN_A_WORD || last < 16 {
             return None;
         }
         let number = number_of_sixteen(&self.bytes[last - 16..last])?;

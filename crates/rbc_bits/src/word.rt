@@ -53,6 +53,14 @@ impl BitWord {
         self.left
     }
 
+    /// Sixteen bytes that begin with them.
+    #[inline(always)]
+    pub fn to_bytes(self) -> [u8; 16]
+        ensures { take (length self) (bits_of result) ≡ self }
+    {
+        self.word.to_be_bytes()
+    }
+
     /// Reads the field of the next n bits, which are there: so nothing is tested.
     #[inline(always)]
     pub fn next(&mut self, n: u32) -> u64

@@ -21,6 +21,10 @@ use rbc_packets::{Packets, Position};
 use rbc_vars::{QMarqstreason, QStatus, TTrain};
 use std::alloc::Global;
 
+// How many bytes train data have at least behind a position report of the usual length. Where there are so many, the
+// places of the report's fields are known.
+const SHORTEST_DATA: usize = 28;
+
 // T_TRAIN, NID_ENGINE, and the bits behind the header.
 #[derive(Drop)]
 struct Header<'a> {
@@ -174,6 +178,9 @@ pub(crate) fn train_data(alloc: Global, bytes: &[u8]) -> Option<TrainMsg>
     ensures exact { IfSome result (λ m. read_train bytes.now ≡ Ok m) }
     ensures found { IfSome result (λ m. SpellsTrain bytes.now m) }
 {
+    if bytes.len() < SHORTEST_DATA {
+        return None;
+    }
     let Header {
         t_train,
         nid_engine,

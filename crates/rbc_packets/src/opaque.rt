@@ -1,4 +1,5 @@
-ghost use Rattle.std.specs.Prelude.{◌≡◌, ◌+◌, ◌^◌, ◌<◌, ◌≤◌, ◌++◌, ◌∷◌, [], length, IfOk, OnOk, OnSome, IfNone, IsOkUnless, Bool, List, Ok};
+ghost use Rattle.std.specs.Prelude.{◌≡◌, ◌+◌, ◌^◌, ◌<◌, ◌≤◌, ◌++◌, ◌∷◌, [], length, take, IfOk, OnOk, OnSome, IfNone, IsOkUnless, Bool, List, Ok};
+ghost use Rattle.rbc_bits.specs.Bits.{bits_of, filled};
 ghost use Rattle.rbc_packets.specs.Layout.{joined};
 ghost use Rattle.rbc_packets.specs.Packet.{Packet, PacketFits};
 ghost use Rattle.rbc_packets.specs.Steps.{TakesUnless};
@@ -8,11 +9,15 @@ use crate::fault::PacketFault;
 use crate::reading::train_part;
 use crate::writing::{put_header, put_train_header};
 use rbc_bits::{BitReader, BitRow, BitWriter};
+use smallvec::SmallVec;
 use std::alloc::Global;
 use std::marker::Model;
 
 // How many bits a row has room for behind a header, a position report and the header of a packet.
 const MOST_FEW: u32 = 24;
+
+// How many bytes stand in the value itself: those of a word.
+const IN_PLACE: usize = 16;
 
 /// A packet of a train that is kept without being read: its NID_PACKET, and the bits behind its header. It stands
 /// behind a pointer, since few messages have one, and each is as large as the largest.
@@ -25,7 +30,7 @@ pub struct Opaque {
 struct Kept {
     nid_packet: u8,
     count: u32,
-    bytes: Vec<u8>,
+    bytes: SmallVec<u8, IN_PLACE>,
 }
 
 impl Model for Opaque {
@@ -42,18 +47,16 @@ impl Model for Opaque {
 
 impl Opaque {
     /// A packet of these bits, which L_PACKET has room for.
+    #[inline(always)]
     pub fn new(alloc: Global, nid_packet: u8, bits: BitReader) -> Result<Self, PacketFault>
         requires { length bits < 8171 }
         ensures ok { IfOk result (λ p. p ≡ record { nid_packet = nid_packet; bits = bits.entry }) }
         ensures memory { IsOkUnless result PacketFault.Memory }
     {
-        let count = bits.remaining();
-        let mut writer = BitWriter::with_capacity(alloc, ((count + 7) / 8) as usize)?;
-        copy(bits, &mut writer)?;
         let kept = Kept {
             nid_packet,
-            count,
-            bytes: writer.finish()?,
+            count: bits.remaining(),
+            bytes: bytes_of(alloc, bits)?,
         };
         match Box::new(alloc, kept) {
             Ok(kept) => Ok(Opaque { kept }),
@@ -62,6 +65,7 @@ impl Opaque {
     }
 
     /// Reads the packet of this NID_PACKET behind it.
+    #[inline(always)]
     pub fn read_packet(
         alloc: Global,
         nid_packet: u8,
@@ -81,6 +85,7 @@ impl Opaque {
     }
 
     #[tactic(auto, unfolding(crate::specs::OpaqueReading::opaque_at))]
+    #[inline(always)]
     fn read(alloc: Global, nid_packet: u8, reader: &mut BitReader) -> Result<Self, PacketFault>
         ensures exact { TakesUnless PacketFault.Memory (λ x. x) result reader.new (opaque_at nid_packet reader.old) }
         ensures taken { IfOk result (λ p. reader.old ≡ opaque_bits p ++ reader.new) }
@@ -138,7 +143,7 @@ impl Opaque {
         ensures few { length result < 8171 }
     {
         let kept = &*self.kept;
-        let mut all = BitReader::new(&kept.bytes);
+        let mut all = BitReader::new(kept.bytes.as_slice());
         match all.cut(kept.count) {
             Ok(bits) => bits,
             Err(_) => unreachable!(),
@@ -161,6 +166,32 @@ fn put_bits(row: &mut BitRow, mut part: BitReader)
         Ok(value) => row.put(value, width),
         Err(_) => unreachable!(),
     }
+}
+
+// The bytes of the bits, where they stand in one word without memory.
+#[inline(always)]
+fn bytes_of(alloc: Global, bits: BitReader) -> Result<SmallVec<u8, IN_PLACE>, PacketFault>
+    requires { length bits < 8171 }
+    ensures ok { IfOk result (λ bytes. take (length bits.entry) (bits_of bytes.items) ≡ bits.entry) }
+    ensures few { IfOk result (λ bytes. length bytes.items ≤ 1022) }
+    ensures memory { IsOkUnless result PacketFault.Memory }
+{
+    match bits.word() {
+        Some(word) => Ok(SmallVec::from_buf(alloc, word.to_bytes())),
+        None => Ok(SmallVec::from_vec(written(alloc, bits)?)),
+    }
+}
+
+// The bytes of the bits. It is a call, since most packets stand in one word.
+#[inline(never)]
+fn written(alloc: Global, bits: BitReader) -> Result<Vec<u8>, PacketFault>
+    ensures ok { IfOk result (λ bytes. bits_of bytes.items ≡ filled bits.entry) }
+    ensures memory { IsOkUnless result PacketFault.Memory }
+{
+    let count = bits.remaining();
+    let mut writer = BitWriter::with_capacity(alloc, ((count + 7) / 8) as usize)?;
+    copy(bits, &mut writer)?;
+    Ok(writer.finish()?)
 }
 
 // Writes all bits of a part, words at a time.

@@ -9,4 +9,4 @@ pub unreachable-requires : goal.unreachable-requires
 unreachable-requires c =
     let s = c.deref-kept.result.now in
     let enough : s.count ≤ 8 * length s.bytes.items = rw c.deref-kept.ensures c.self.invariant.0 in
-    absurd (omega (arith, part_at_err bits.Short _ s.count c.new-all.result c.in-Err.ensures.next, ap length (c.new-all.ensures ∙ ap bits_of c.deref.ensures.value), length-bits_of s.bytes.items, enough))
+    absurd (omega (arith, part_at_err bits.Short _ s.count c.new-all.result c.in-Err.ensures.next, ap length (c.new-all.ensures ∙ ap bits_of c.as_slice.ensures), length-bits_of s.bytes.items, enough))
