@@ -1,5 +1,5 @@
 ghost use Rattle.std.specs.Prelude.{◌≡◌, ◌+◌, ◌-◌, ◌/◌, ◌%◌, ◌^◌, ◌<◌, ◌≤◌, ◌++◌, [], length, take, IfOk, OnOk, IsOkUnless};
-ghost use Rattle.std.specs.Int.{w64, to_be_bytes, to_le_bytes};
+ghost use Rattle.std.specs.Int.{w64, to_be_bytes};
 ghost use Rattle.rbc_bits.specs.Bits.{field, bits_of, filled};
 
 use crate::fault::BitFault;

@@ -17,9 +17,6 @@ length-filled_bits bits =
 pub length-filled : (bytes : List ℕ) (bits : List Bool) → bits_of bytes ≡ filled bits → 8 * length bytes ≡ length bits + filling (length bits)
 length-filled bytes bits e = sym (length-bits_of bytes) ∙ ap length e ∙ length-filled_bits bits
 
-pub filled-wide : (bytes : List ℕ) (bits : List Bool) → bits_of bytes ≡ filled bits → length bits ≤ 8 * length bytes
-filled-wide bytes bits e = omega (arith, length-filled bytes bits e)
-
 pub filled-narrow : (bytes : List ℕ) (bits : List Bool) → bits_of bytes ≡ filled bits → 8 * length bytes ≤ length bits + 7
 filled-narrow bytes bits e = omega (arith, length-filled bytes bits e)
 

@@ -1,4 +1,4 @@
-ghost use Rattle.std.specs.Prelude.{◌≡◌, ◌+◌, ◌^◌, ◌<◌, ◌≤◌, ◌++◌, ◌∷◌, [], length, IfOk, IfSome, Bool, List, Ok};
+ghost use Rattle.std.specs.Prelude.{◌≡◌, ◌+◌, ◌<◌, ◌≤◌, ◌++◌, ◌∷◌, [], length, IfOk, IfSome, Bool, List, Ok};
 ghost use Rattle.rbc_bits.specs.Bits.{field};
 ghost use Rattle.rbc_packets.specs.Layout.{joined, widths, train_packet};
 ghost use Rattle.rbc_packets.specs.Steps.{Takes};
