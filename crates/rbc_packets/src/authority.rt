@@ -1,11 +1,11 @@
-ghost use Rattle.std.specs.Prelude.{◌≡◌, ◌+◌, ◌≤◌, ◌++◌, ◌∷◌, [], length, IfOk, OnOk, Bool, List, Ok};
+ghost use Rattle.std.specs.Prelude.{◌≡◌, ◌+◌, ◌≤◌, ◌++◌, ◌∷◌, [], length, IfOk, OnOk, IfSome, OnSome, Bool, List, Ok};
 ghost use Rattle.rbc_packets.specs.Layout.{joined, track_packet};
 ghost use Rattle.rbc_packets.specs.Steps.{Takes};
 ghost use Rattle.rbc_packets.specs.TrackSpelling.{authority_fields, AuthorityFits};
 ghost use Rattle.rbc_packets.specs.TrackReading.{authority_at, authority_fields_at, sections_at, no_more_at};
 
 use crate::fault::PacketFault;
-use crate::reading::{end, take, take_fixed, track_part};
+use crate::reading::{end, take, take_fixed, track_part, usual_field, usual_fixed, usual_header};
 use crate::writing::put_track_header;
 use rbc_bits::{BitPart, BitReader, BitRow};
 use rbc_vars::LEndsection;
@@ -67,6 +67,22 @@ impl Authority {
         Ok(Authority { l_endsection })
     }
 
+    /// The packet with its NID_PACKET. None where it is another, or where a value is refused. All of its bits but those
+    /// of L_ENDSECTION have one value: so they are read as few fields, and nothing but values is tested.
+    #[tactic(auto, unfolding(crate::specs::Layout::joined))]
+    #[inline(always)]
+    pub fn usual(reader: &mut BitReader) -> Option<Self>
+        ensures found { IfSome result
+            (λ a. (reader.old ≡ joined ((8, 15) ∷ track_packet (authority_fields a)) ++ reader.new)
+            × AuthorityFits a) }
+    {
+        usual_header(reader, Authority::NID_PACKET, Authority::L_PACKET)?;
+        usual_sections(reader)?;
+        let l_endsection = LEndsection::new(usual_field(reader, 15)?);
+        usual_no_more(reader)?;
+        Some(Authority { l_endsection })
+    }
+
     /// Writes the packet.
     #[tactic(auto, unfolding(crate::specs::Layout::joined))]
     #[inline(always)]
@@ -108,7 +124,26 @@ fn take_no_more(part: &mut BitPart) -> Result<(), PacketFault>
     take_fixed(part, 1, 0)
 }
 
-// The four fields are one of 24 bits.
+// The four fields as one of 24 bits.
+const SECTIONS: u64 = 4_227_040;
+
+#[tactic(auto, unfolding(rbc_bits::specs::Bits::field, crate::specs::Layout::joined))]
+#[inline(always)]
+fn usual_sections(reader: &mut BitReader) -> Option<()>
+    ensures { OnSome result (reader.old ≡ joined ((2, 1) ∷ (7, 0) ∷ (10, 1023) ∷ (5, 0) ∷ []) ++ reader.new) }
+{
+    usual_fixed(reader, 24, SECTIONS)
+}
+
+// The four fields are one of 4 bits.
+#[tactic(auto, unfolding(rbc_bits::specs::Bits::field, crate::specs::Layout::joined))]
+#[inline(always)]
+fn usual_no_more(reader: &mut BitReader) -> Option<()>
+    ensures { OnSome result (reader.old ≡ joined ((1, 0) ∷ (1, 0) ∷ (1, 0) ∷ (1, 0) ∷ []) ++ reader.new) }
+{
+    usual_fixed(reader, 4, 0)
+}
+
 #[tactic(auto, unfolding(rbc_bits::specs::Bits::field, crate::specs::Layout::joined))]
 #[inline(always)]
 fn put_sections(row: &mut BitRow)
@@ -116,7 +151,7 @@ fn put_sections(row: &mut BitRow)
     ensures ok { row.new ≡ row.old ++ joined ((2, 1) ∷ (7, 0) ∷ (10, 1023) ∷ (5, 0) ∷ []) }
     ensures length { length row.new ≡ length row.old + 24 }
 {
-    row.put(4_227_040, 24);
+    row.put(SECTIONS, 24);
 }
 
 // The four fields are one of 4 bits.

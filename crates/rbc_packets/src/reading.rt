@@ -1,6 +1,7 @@
-//! The parts that packets have in common, read in the order of the tests.
+//! The parts that packets have in common, read in the order of the tests. Those of usual packets (`usual_..`) are read
+//! as few fields; where they are others, no fault is named.
 
-ghost use Rattle.std.specs.Prelude.{◌≡◌, ◌+◌, ◌^◌, ◌<◌, ◌≤◌, ◌++◌, ◌∷◌, [], length, IfOk, OnOk};
+ghost use Rattle.std.specs.Prelude.{◌≡◌, ◌+◌, ◌^◌, ◌<◌, ◌≤◌, ◌++◌, ◌∷◌, [], length, IfOk, OnOk, IfSome, OnSome};
 ghost use Rattle.rbc_bits.specs.Bits.{field};
 ghost use Rattle.rbc_vars.specs.Values.{q_scale_value, direction_value, q_length_value, m_level_value};
 ghost use Rattle.rbc_bits.specs.Reading.{field_at, part_at};
@@ -187,5 +188,61 @@ fn cut<'a>(reader: &mut BitReader<'a>, n: u32) -> Result<BitReader<'a>, PacketFa
     match reader.cut(n) {
         Ok(part) => Ok(part),
         Err(_) => Err(PacketFault::Short),
+    }
+}
+
+/// NID_PACKET, Q_DIR (nominal) and L_PACKET of a packet of a centre, as one field of 23 bits.
+#[inline(always)]
+pub(crate) fn track_header(nid_packet: u64, l_packet: u64) -> u64
+    requires number { nid_packet < 2 ^ 8 }
+    requires length { l_packet < 2 ^ 13 }
+    ensures value { field 23 result ≡ joined ((8, nid_packet) ∷ (2, 1) ∷ (13, l_packet) ∷ []) }
+    ensures range { result < 2 ^ 23 }
+{
+    32_768 * nid_packet + 8_192 + l_packet
+}
+
+/// The header of a packet of a centre, with its NID_PACKET.
+#[inline(always)]
+pub(crate) fn usual_header(reader: &mut BitReader, nid_packet: u64, l_packet: u64) -> Option<()>
+    requires number { nid_packet < 2 ^ 8 }
+    requires length { l_packet < 2 ^ 13 }
+    ensures { OnSome result (reader.old ≡ joined ((8, nid_packet) ∷ (2, 1) ∷ (13, l_packet) ∷ []) ++ reader.new) }
+{
+    usual_fixed(reader, 23, track_header(nid_packet, l_packet))
+}
+
+/// NID_RADIO, without a number, and Q_SLEEPSESSION, which is not asked for: 65 ones but for the last, which is a zero.
+#[tactic(auto, unfolding(rbc_bits::specs::Bits::field, crate::specs::Layout::joined))]
+#[inline(always)]
+pub(crate) fn usual_radio(reader: &mut BitReader) -> Option<()>
+    ensures { OnSome result (reader.old ≡ joined ((64, no_radio) ∷ (1, 0) ∷ []) ++ reader.new) }
+{
+    usual_fixed(reader, 32, 4_294_967_295)?;
+    usual_fixed(reader, 33, 8_589_934_590)
+}
+
+/// A field of n bits that is given one value.
+#[inline(always)]
+pub(crate) fn usual_fixed(reader: &mut BitReader, n: u32, value: u64) -> Option<()>
+    requires { n ≤ 64 }
+    ensures { OnSome result (reader.old ≡ field n value ++ reader.new) }
+{
+    if usual_field(reader, n)? != value {
+        return None;
+    }
+    Some(())
+}
+
+/// A field of n bits.
+#[inline(always)]
+pub(crate) fn usual_field(reader: &mut BitReader, n: u32) -> Option<u64>
+    requires { n ≤ 64 }
+    ensures taken { IfSome result (λ v. reader.old ≡ field n v ++ reader.new) }
+    ensures fits { IfSome result (λ v. v < 2 ^ n) }
+{
+    match reader.take(n) {
+        Ok(value) => Some(value),
+        Err(_) => None,
     }
 }

@@ -1,11 +1,14 @@
-ghost use Rattle.std.specs.Prelude.{◌≡◌, ◌+◌, ◌≤◌, ◌++◌, ◌∷◌, length, IfOk, Bool, List, Ok};
+ghost use Rattle.std.specs.Prelude.{◌≡◌, ◌+◌, ◌≤◌, ◌++◌, ◌∷◌, length, IfOk, IfSome, Bool, List, Ok};
 ghost use Rattle.rbc_packets.specs.Layout.{joined, track_packet};
 ghost use Rattle.rbc_packets.specs.Steps.{Takes};
 ghost use Rattle.rbc_packets.specs.TrackSpelling.{session_order_fields, SessionOrderFits};
 ghost use Rattle.rbc_packets.specs.TrackReading.{session_order_at, session_order_fields_at};
 
 use crate::fault::PacketFault;
-use crate::reading::{end, take, take_fixed, take_radio, track_part};
+use crate::reading::{
+    end, take, take_fixed, take_radio, track_part, usual_field, usual_fixed, usual_header,
+    usual_radio,
+};
 use crate::writing::{put_radio, put_track_header};
 use rbc_bits::{BitPart, BitReader, BitRow};
 use rbc_vars::{NidC, NidRbc};
@@ -69,6 +72,23 @@ impl SessionOrder {
         let nid_rbc = NidRbc::new(take(part, 14)?);
         take_radio(part)?;
         Ok(SessionOrder { nid_c, nid_rbc })
+    }
+
+    /// The packet with its NID_PACKET. None where it is another, or where a value is refused. The places of its fields
+    /// are known, so nothing but values is tested.
+    #[tactic(auto, unfolding(crate::specs::Layout::joined))]
+    #[inline(always)]
+    pub fn usual(reader: &mut BitReader) -> Option<Self>
+        ensures found { IfSome result
+            (λ s. (reader.old ≡ joined ((8, 42) ∷ track_packet (session_order_fields s)) ++ reader.new)
+            × SessionOrderFits s) }
+    {
+        usual_header(reader, SessionOrder::NID_PACKET, SessionOrder::L_PACKET)?;
+        usual_fixed(reader, 1, 0)?;
+        let nid_c = NidC::new(usual_field(reader, 10)?);
+        let nid_rbc = NidRbc::new(usual_field(reader, 14)?);
+        usual_radio(reader)?;
+        Some(SessionOrder { nid_c, nid_rbc })
     }
 
     /// Writes the packet.

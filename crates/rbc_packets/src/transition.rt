@@ -1,11 +1,14 @@
-ghost use Rattle.std.specs.Prelude.{◌≡◌, ◌+◌, ◌≤◌, ◌++◌, ◌∷◌, length, IfOk, Bool, List, Ok};
+ghost use Rattle.std.specs.Prelude.{◌≡◌, ◌+◌, ◌≤◌, ◌++◌, ◌∷◌, length, IfOk, IfSome, Bool, List, Ok};
 ghost use Rattle.rbc_packets.specs.Layout.{joined, track_packet};
 ghost use Rattle.rbc_packets.specs.Steps.{Takes};
 ghost use Rattle.rbc_packets.specs.TrackSpelling.{transition_fields, TransitionFits};
 ghost use Rattle.rbc_packets.specs.TrackReading.{transition_at, transition_fields_at};
 
 use crate::fault::PacketFault;
-use crate::reading::{end, take, take_fixed, take_radio, track_part};
+use crate::reading::{
+    end, take, take_fixed, take_radio, track_part, usual_field, usual_fixed, usual_header,
+    usual_radio,
+};
 use crate::writing::{put_radio, put_track_header};
 use rbc_bits::{BitPart, BitReader, BitRow};
 use rbc_vars::{DRbctr, NidC, NidRbc};
@@ -70,6 +73,28 @@ impl Transition {
         let nid_rbc = NidRbc::new(take(part, 14)?);
         take_radio(part)?;
         Ok(Transition {
+            d_rbctr,
+            nid_c,
+            nid_rbc,
+        })
+    }
+
+    /// The packet with its NID_PACKET. None where it is another, or where a value is refused. The places of its fields
+    /// are known, so nothing but values is tested.
+    #[tactic(auto, unfolding(crate::specs::Layout::joined))]
+    #[inline(always)]
+    pub fn usual(reader: &mut BitReader) -> Option<Self>
+        ensures found { IfSome result
+            (λ t. (reader.old ≡ joined ((8, 131) ∷ track_packet (transition_fields t)) ++ reader.new)
+            × TransitionFits t) }
+    {
+        usual_header(reader, Transition::NID_PACKET, Transition::L_PACKET)?;
+        usual_fixed(reader, 2, 1)?;
+        let d_rbctr = DRbctr::new(usual_field(reader, 15)?);
+        let nid_c = NidC::new(usual_field(reader, 10)?);
+        let nid_rbc = NidRbc::new(usual_field(reader, 14)?);
+        usual_radio(reader)?;
+        Some(Transition {
             d_rbctr,
             nid_c,
             nid_rbc,

@@ -5,7 +5,7 @@ ghost use Rattle.rbc_packets.specs.Layout.{joined};
 ghost use Rattle.rbc_packets.specs.TrackSpelling.{no_radio};
 
 use crate::fault::PacketFault;
-use crate::reading::NO_RADIO;
+use crate::reading::{NO_RADIO, track_header};
 use rbc_bits::{BitRow, BitWriter};
 
 /// NID_PACKET and L_PACKET of a train's packet.
@@ -40,8 +40,7 @@ pub(crate) fn put_header(row: &mut BitRow, nid_packet: u64, l_packet: u64)
     row.put(l_packet, 13);
 }
 
-/// NID_PACKET, Q_DIR (nominal) and L_PACKET of a packet of a centre, as one field of 23 bits.
-#[tactic(auto, unfolding(crate::specs::Layout::joined))]
+/// The header of a packet of a centre, with its NID_PACKET.
 #[inline(always)]
 pub(crate) fn put_track_header(row: &mut BitRow, nid_packet: u64, l_packet: u64)
     requires number { nid_packet < 2 ^ 8 }
@@ -50,7 +49,7 @@ pub(crate) fn put_track_header(row: &mut BitRow, nid_packet: u64, l_packet: u64)
     ensures ok { row.new ≡ row.old ++ joined ((8, nid_packet) ∷ (2, 1) ∷ (13, l_packet) ∷ []) }
     ensures length { length row.new ≡ length row.old + 23 }
 {
-    row.put(32_768 * nid_packet + 8_192 + l_packet, 23);
+    row.put(track_header(nid_packet, l_packet), 23);
 }
 
 /// NID_RADIO, without a number, and Q_SLEEPSESSION, which is not asked for.
