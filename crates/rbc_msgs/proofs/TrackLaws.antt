@@ -1,7 +1,7 @@
 -- What holds of the spellings of centres' messages: what is spelled so is read, and each has one.
-use Rattle.std.proofs.Common.{◌≡◌, ℕ, ◌+◌, ◌*◌, ◌^◌, ◌<◌, ◌≤◌, Bool, false, List, [], ◌∷◌, ◌++◌, length, take, replicate, Result, Ok, refl, sym, ap, ◌∙◌, append_assoc, arith}
+use Rattle.std.proofs.Common.{◌≡◌, ℕ, ◌+◌, ◌*◌, ◌^◌, ◌<◌, ◌≤◌, Bool, false, List, [], ◌∷◌, ◌++◌, length, take, replicate, Option, None, Some, IfSome, OnSome, Result, Ok, refl, sym, ap, ◌∙◌, append_assoc, arith}
 use Rattle.std.proofs.lemmas.List.Elements.{recursion_from_All}
-use Rattle.rbc_spec.specs.Message.{TrackBody, Authority, DataAcknowledged, ShorteningRequest, Transition, EndSession, SystemVersion, TerminationAcknowledged, TrainRejected, TrainAccepted, TrackMessage}
+use Rattle.rbc_spec.specs.Message.{TrackBody, Authority, DataAcknowledged, ShorteningRequest, Transition, EndSession, SystemVersion, TerminationAcknowledged, TrainRejected, TrainAccepted, TrackMessage, unknown_time}
 use Rattle.rbc_bits.specs.Bits.{field, bits_of, filling, filled}
 use Rattle.rbc_bits.proofs.Bytes.{bits_of-injective}
 use Rattle.rbc_bits.proofs.Taking.{field_at-field}
@@ -48,17 +48,32 @@ length-fields l_message m = omega (arith, length-joined (track_fields l_message 
 
 -- ---- what the code read is a spelling
 
+pub spells-parts : (bytes : List ℕ) (m : TrackMessage) (n : ℕ) (rest left : List Bool)
+    → n ≡ track_number m.body → bits_of bytes ≡ field 8 n ++ (field 10 (length bytes) ++ (field 32 m.t_train ++ (field 1 0 ++ (field 24 m.nid_lrbg ++ rest))))
+    → rest ≡ joined (track_body_fields m.body) ++ left → IsFilling left → length bytes < length_limit → TrackFits m → SpellsTrack bytes m
+unfolding behind
+spells-parts bytes m n rest left number-at start body fill limit fits =
+    let all : bits_of bytes ≡ joined (track_fields (length bytes) m) ++ left =
+    start ∙ ap (λ k. field 8 k ++ (field 10 (length bytes) ++ (field 32 m.t_train ++ (field 1 0 ++ (field 24 m.nid_lrbg ++ rest))))) number-at
+    ∙ ap (λ x. field 8 (track_number m.body) ++ (field 10 (length bytes) ++ (field 32 m.t_train ++ (field 1 0 ++ (field 24 m.nid_lrbg ++ x))))) body ∙ sym (parts (length bytes) m left) in
+    record { text = filled-from bytes (joined (track_fields (length bytes) m)) left all fill; l_message = limit; fits = fits }
+
 pub spells : (bytes : List ℕ) (m : TrackMessage) (n l_message start : ℕ) (b c d e f : List Bool)
     → n ≡ track_number m.body → length bytes ≡ l_message → Begins (bits_of (take 3 bytes)) (field 8 n ++ field 10 l_message) → bits_of bytes ≡ field 18 start ++ b
     → b ≡ field 32 m.t_train ++ c → c ≡ field 1 0 ++ d → d ≡ field 24 m.nid_lrbg ++ e → e ≡ joined (track_body_fields m.body) ++ f → IsFilling f
     → length bytes < length_limit → TrackFits m → SpellsTrack bytes m
-unfolding behind
 spells bytes m n l_message start b c d e f number-at len front whole t ack group body fill limit fits =
-    let tail : b ≡ behind m f =
-    t ∙ ap (λ x. field 32 m.t_train ++ x) (ack ∙ ap (λ x. field 1 0 ++ x) (group ∙ ap (λ x. field 24 m.nid_lrbg ++ x) body)) in
-    let all : bits_of bytes ≡ joined (track_fields (length bytes) m) ++ f =
-    start-found bytes n l_message start b front whole len ∙ ap (λ k. field 8 k ++ (field 10 (length bytes) ++ b)) number-at ∙ ap (λ x. field 8 (track_number m.body) ++ (field 10 (length bytes) ++ x)) tail ∙ sym (parts (length bytes) m f) in
-    record { text = filled-from bytes (joined (track_fields (length bytes) m)) f all fill; l_message = limit; fits = fits }
+    let header = t ∙ ap (λ x. field 32 m.t_train ++ x) (ack ∙ ap (λ x. field 1 0 ++ x) group) in
+    spells-parts bytes m n e f number-at (start-found bytes n l_message start b front whole len ∙ ap (λ x. field 8 n ++ (field 10 (length bytes) ++ x)) header) body fill limit fits
+
+-- the header, a body and filling bits, as the code puts them together
+pub put-together : (bytes : List ℕ) (r : Option TrackMessage) (n t g : ℕ) (b : TrackBody) (rest left : List Bool)
+    → n ≡ track_number b → bits_of bytes ≡ field 8 n ++ (field 10 (length bytes) ++ (field 32 t ++ (field 1 0 ++ (field 24 g ++ rest))))
+    → rest ≡ joined (track_body_fields b) ++ left → length bytes < length_limit → t < unknown_time → g < 2 ^ 24 → TrackBodyFits b
+    → IfSome r (λ m. m ≡ record { t_train = t; nid_lrbg = g; body = b }) → OnSome r (IsFilling left) → IfSome r (SpellsTrack bytes)
+put-together bytes None n t g b rest left number-at start body limit time group fits made fill = tt
+put-together bytes (Some m) n t g b rest left number-at start body limit time group fits made fill =
+    rw made (spells-parts bytes _ n rest left number-at start body fill limit (record { t_train = time; nid_lrbg = group; body = fits }))
 
 -- ---- what is spelled so is read
 
@@ -164,6 +179,10 @@ read_track-again bytes m s =
     let wide : 75 + widths (track_body_fields m.body) ≤ 8 * length bytes = omega (arith, length-filled bytes bits s.text, length-fields (length bytes) m) in
     let at = starts-spelled bytes m s in
     rw (start_at-again bytes (track_number m.body) _ (omega arith) s.l_message (number-fits m.body) at, number-again m.body, whole_at-again (least_track_length (kind m.body)) bytes (track_number m.body) _ (least m.body (length bytes) wide) s.l_message (number-fits m.body) at, time_at-again m.t_train _ s.fits.t_train, fixed_at-again 1 0 _ (omega arith), field_at-field Short 24 m.nid_lrbg _ s.fits.nid_lrbg, body-again m.body (fillings (length bytes) m) s.fits.body, end_at-again Length _ (is-filling bits)) refl
+
+pub some_read-again : (bytes : List ℕ) (r : Option TrackMessage) → IfSome r (SpellsTrack bytes) → IfSome r (λ m. read_track bytes ≡ Ok m)
+some_read-again bytes None s = tt
+some_read-again bytes (Some m) s = read_track-again bytes m s
 
 -- ---- what is written is a spelling
 

@@ -14,7 +14,7 @@ use crate::reading::{end, start_of, take, take_fixed, take_time, whole};
 use crate::track::TrackMsg;
 use crate::train::TrainMsg;
 use crate::train_reading::{read_body, read_further};
-use crate::{track_reading, usual};
+use crate::{track_reading, usual, usual_track};
 use std::alloc::Global;
 
 // How many bytes most messages with a position report have, and a transition order.
@@ -25,6 +25,9 @@ const ANSWER_LENGTH: usize = 30;
 
 // How many bytes a movement authority has.
 const AUTHORITY_LENGTH: usize = 18;
+
+// How many bytes a general message has that ends a session.
+const END_OF_SESSION_LENGTH: usize = 24;
 
 // How many bytes messages have that are a header alone.
 const BARE_LENGTH: usize = 10;
@@ -65,32 +68,31 @@ pub fn decode_track(bytes: &[u8]) -> Result<TrackMsg, MsgFault>
     // Which fault it is.
     ensures exact { result ≡ read_track bytes.now }
 {
-    by_length(bytes)
-}
-
-// Each usual length is known before the message is read: so the places of its fields are known.
-fn by_length(bytes: &[u8]) -> Result<TrackMsg, MsgFault>
-    ensures exact { result ≡ read_track bytes.now }
-    ensures found { IfOk result (λ m. SpellsTrack bytes.now m) }
-{
-    if bytes.len() == BARE_LENGTH {
-        return track_from(bytes);
-    }
+    // A test of the length for each: so the places of its fields are known before it is read.
     if bytes.len() == AUTHORITY_LENGTH {
-        return track_from(bytes);
+        if let Some(message) = usual_track::authority(bytes) {
+            return Ok(message);
+        }
     }
     if bytes.len() == USUAL_LENGTH {
-        return track_from(bytes);
+        if let Some(message) = usual_track::transition(bytes) {
+            return Ok(message);
+        }
     }
-    of_other_length(bytes)
-}
-
-#[inline(never)]
-fn of_other_length(bytes: &[u8]) -> Result<TrackMsg, MsgFault>
-    ensures exact { result ≡ read_track bytes.now }
-    ensures found { IfOk result (λ m. SpellsTrack bytes.now m) }
-{
-    track_from(bytes)
+    if bytes.len() == BARE_LENGTH {
+        if let Some(message) = usual_track::bare(bytes) {
+            return Ok(message);
+        }
+    }
+    if bytes.len() == END_OF_SESSION_LENGTH {
+        if let Some(message) = usual_track::end_of_session(bytes) {
+            return Ok(message);
+        }
+    }
+    match track_from(bytes) {
+        Ok(message) => Ok(message),
+        Err(fault) => Err(fault),
+    }
 }
 
 // Messages that are rarer than reports and requests. It is a call, whose result is looked at before it is handed on: so
@@ -149,8 +151,9 @@ fn train_from(alloc: Global, bytes: &[u8]) -> Result<TrainMsg, MsgFault>
     Ok(TrainMsg::new(t_train, nid_engine, body, further))
 }
 
+// Messages of other lengths, and faults.
 #[tactic(auto, unfolding(crate::specs::TrackReading::read_track))]
-#[inline(always)]
+#[inline(never)]
 fn track_from(bytes: &[u8]) -> Result<TrackMsg, MsgFault>
     ensures exact { result ≡ read_track bytes.now }
     ensures found { IfOk result (λ m. SpellsTrack bytes.now m) }

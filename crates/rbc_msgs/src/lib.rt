@@ -23,6 +23,7 @@ mod train_reading;
 mod train_same;
 mod train_writing;
 mod usual;
+mod usual_track;
 
 pub use decode::{decode_track, decode_train};
 pub use encode::{encode_track, encode_train};

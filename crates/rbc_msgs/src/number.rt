@@ -95,6 +95,14 @@ impl TrackNumber {
         }
     }
 
+    /// NID_MESSAGE.
+    #[inline(always)]
+    pub(crate) fn value(self) -> u64
+        ensures { result ≡ track_number_value self }
+    {
+        self as u64
+    }
+
     /// The least L_MESSAGE.
     #[inline(always)]
     pub(crate) fn least_length(self) -> usize

@@ -2,12 +2,14 @@
 //! length and the number are known before one is read, the places of its fields are known, and only values are tested.
 //! None where it is another message, or none: then it is read field by field.
 
-ghost use Rattle.std.specs.Prelude.{◌≡◌, ◌^◌, ◌<◌, ◌++◌, [], Ok, length, IfSome, OnSome};
+ghost use Rattle.std.specs.Prelude.{◌≡◌, ◌^◌, ◌<◌, ◌++◌, Bool, List, [], Ok, length, IfSome, OnSome};
 ghost use Rattle.rbc_spec.specs.Message.{unknown_time};
 ghost use Rattle.rbc_bits.specs.Bits.{field, bits_of};
-ghost use Rattle.rbc_msgs.specs.Layout.{length_limit};
+ghost use Rattle.rbc_packets.specs.Layout.{joined};
+ghost use Rattle.rbc_packets.specs.PositionSpelling.{PositionFits};
+ghost use Rattle.rbc_msgs.specs.Layout.{IsFilling, length_limit};
 ghost use Rattle.rbc_msgs.specs.Numbers.{train_number_value};
-ghost use Rattle.rbc_msgs.specs.TrainSpelling.{train_number, train_body_bits, TrainBodyFits, SpellsTrain};
+ghost use Rattle.rbc_msgs.specs.TrainSpelling.{position_packet, train_number, train_body_bits, TrainBodyFits, SpellsTrain};
 ghost use Rattle.rbc_msgs.specs.TrainReading.{read_train};
 
 use crate::fault::MsgFault;
@@ -39,18 +41,10 @@ pub(crate) fn report(bytes: &[u8]) -> Option<TrainMsg>
     ensures exact { IfSome result (λ m. read_train bytes.now ≡ Ok m) }
     ensures found { IfSome result (λ m. SpellsTrain bytes.now m) }
 {
-    let Header {
-        t_train,
-        nid_engine,
-        mut rest,
-    } = read_header(TrainNumber::Report, bytes)?;
-    let bits = position_bits(&mut rest)?;
-    let Ok(()) = end(rest, MsgFault::Packet) else {
-        return None;
-    };
-    let position = Position::of_usual(bits)?;
+    let header = read_header(TrainNumber::Report, bytes)?;
+    let position = last_position(header.rest)?;
     let body = TrainBody::Report { position };
-    Some(TrainMsg::new(t_train, nid_engine, body, Packets::none()))
+    Some(TrainMsg::new(header.t_train, header.nid_engine, body, Packets::none()))
 }
 
 /// Message 132.
@@ -59,25 +53,17 @@ pub(crate) fn request(bytes: &[u8]) -> Option<TrainMsg>
     ensures exact { IfSome result (λ m. read_train bytes.now ≡ Ok m) }
     ensures found { IfSome result (λ m. SpellsTrain bytes.now m) }
 {
-    let Header {
-        t_train,
-        nid_engine,
-        mut rest,
-    } = read_header(TrainNumber::Request, bytes)?;
-    let Ok(value) = take(&mut rest, 5) else {
+    let mut header = read_header(TrainNumber::Request, bytes)?;
+    let Ok(value) = take(&mut header.rest, 5) else {
         return None;
     };
     let q_marqstreason = QMarqstreason::new(value);
-    let bits = position_bits(&mut rest)?;
-    let Ok(()) = end(rest, MsgFault::Packet) else {
-        return None;
-    };
-    let position = Position::of_usual(bits)?;
+    let position = last_position(header.rest)?;
     let body = TrainBody::Request {
         q_marqstreason,
         position,
     };
-    Some(TrainMsg::new(t_train, nid_engine, body, Packets::none()))
+    Some(TrainMsg::new(header.t_train, header.nid_engine, body, Packets::none()))
 }
 
 /// Message 137.
@@ -86,22 +72,14 @@ pub(crate) fn granted(bytes: &[u8]) -> Option<TrainMsg>
     ensures exact { IfSome result (λ m. read_train bytes.now ≡ Ok m) }
     ensures found { IfSome result (λ m. SpellsTrain bytes.now m) }
 {
-    let Header {
-        t_train,
-        nid_engine,
-        mut rest,
-    } = read_header(TrainNumber::ShorteningGranted, bytes)?;
-    let Ok(value) = take(&mut rest, 32) else {
+    let mut header = read_header(TrainNumber::ShorteningGranted, bytes)?;
+    let Ok(value) = take(&mut header.rest, 32) else {
         return None;
     };
     let request = TTrain::new(value);
-    let bits = position_bits(&mut rest)?;
-    let Ok(()) = end(rest, MsgFault::Packet) else {
-        return None;
-    };
-    let position = Position::of_usual(bits)?;
+    let position = last_position(header.rest)?;
     let body = TrainBody::ShorteningGranted { request, position };
-    Some(TrainMsg::new(t_train, nid_engine, body, Packets::none()))
+    Some(TrainMsg::new(header.t_train, header.nid_engine, body, Packets::none()))
 }
 
 /// Message 138.
@@ -110,22 +88,14 @@ pub(crate) fn rejected(bytes: &[u8]) -> Option<TrainMsg>
     ensures exact { IfSome result (λ m. read_train bytes.now ≡ Ok m) }
     ensures found { IfSome result (λ m. SpellsTrain bytes.now m) }
 {
-    let Header {
-        t_train,
-        nid_engine,
-        mut rest,
-    } = read_header(TrainNumber::ShorteningRejected, bytes)?;
-    let Ok(value) = take(&mut rest, 32) else {
+    let mut header = read_header(TrainNumber::ShorteningRejected, bytes)?;
+    let Ok(value) = take(&mut header.rest, 32) else {
         return None;
     };
     let request = TTrain::new(value);
-    let bits = position_bits(&mut rest)?;
-    let Ok(()) = end(rest, MsgFault::Packet) else {
-        return None;
-    };
-    let position = Position::of_usual(bits)?;
+    let position = last_position(header.rest)?;
     let body = TrainBody::ShorteningRejected { request, position };
-    Some(TrainMsg::new(t_train, nid_engine, body, Packets::none()))
+    Some(TrainMsg::new(header.t_train, header.nid_engine, body, Packets::none()))
 }
 
 /// Message 150.
@@ -134,18 +104,10 @@ pub(crate) fn end_of_mission(bytes: &[u8]) -> Option<TrainMsg>
     ensures exact { IfSome result (λ m. read_train bytes.now ≡ Ok m) }
     ensures found { IfSome result (λ m. SpellsTrain bytes.now m) }
 {
-    let Header {
-        t_train,
-        nid_engine,
-        mut rest,
-    } = read_header(TrainNumber::EndOfMission, bytes)?;
-    let bits = position_bits(&mut rest)?;
-    let Ok(()) = end(rest, MsgFault::Packet) else {
-        return None;
-    };
-    let position = Position::of_usual(bits)?;
+    let header = read_header(TrainNumber::EndOfMission, bytes)?;
+    let position = last_position(header.rest)?;
     let body = TrainBody::EndOfMission { position };
-    Some(TrainMsg::new(t_train, nid_engine, body, Packets::none()))
+    Some(TrainMsg::new(header.t_train, header.nid_engine, body, Packets::none()))
 }
 
 /// Message 157.
@@ -154,22 +116,14 @@ pub(crate) fn start_of_mission(bytes: &[u8]) -> Option<TrainMsg>
     ensures exact { IfSome result (λ m. read_train bytes.now ≡ Ok m) }
     ensures found { IfSome result (λ m. SpellsTrain bytes.now m) }
 {
-    let Header {
-        t_train,
-        nid_engine,
-        mut rest,
-    } = read_header(TrainNumber::StartOfMission, bytes)?;
-    let Ok(value) = take(&mut rest, 2) else {
+    let mut header = read_header(TrainNumber::StartOfMission, bytes)?;
+    let Ok(value) = take(&mut header.rest, 2) else {
         return None;
     };
     let q_status = QStatus::of(value)?;
-    let bits = position_bits(&mut rest)?;
-    let Ok(()) = end(rest, MsgFault::Packet) else {
-        return None;
-    };
-    let position = Position::of_usual(bits)?;
+    let position = last_position(header.rest)?;
     let body = TrainBody::StartOfMission { q_status, position };
-    Some(TrainMsg::new(t_train, nid_engine, body, Packets::none()))
+    Some(TrainMsg::new(header.t_train, header.nid_engine, body, Packets::none()))
 }
 
 /// Message 129.
@@ -181,21 +135,17 @@ pub(crate) fn train_data(alloc: Global, bytes: &[u8]) -> Option<TrainMsg>
     if bytes.len() < SHORTEST_DATA {
         return None;
     }
-    let Header {
-        t_train,
-        nid_engine,
-        mut rest,
-    } = read_header(TrainNumber::TrainData, bytes)?;
-    let bits = position_bits(&mut rest)?;
+    let mut header = read_header(TrainNumber::TrainData, bytes)?;
+    let bits = position_bits(&mut header.rest)?;
     let position = Position::of_usual(bits)?;
-    let Ok(packet) = data_packet(alloc, &mut rest) else {
+    let Ok(packet) = data_packet(alloc, &mut header.rest) else {
         return None;
     };
-    let Ok(()) = end(rest, MsgFault::Packet) else {
+    let Ok(()) = end(header.rest, MsgFault::Packet) else {
         return None;
     };
     let body = TrainBody::TrainData { position, packet };
-    Some(TrainMsg::new(t_train, nid_engine, body, Packets::none()))
+    Some(TrainMsg::new(header.t_train, header.nid_engine, body, Packets::none()))
 }
 
 /// Messages 155, 156 and 159.
@@ -210,16 +160,12 @@ pub(crate) fn bare(bytes: &[u8]) -> Option<TrainMsg>
     let Ok(number) = TrainNumber::of(bytes[0].into()) else {
         return None;
     };
-    let Header {
-        t_train,
-        nid_engine,
-        rest,
-    } = read_header(number, bytes)?;
-    let Ok(()) = end(rest, MsgFault::Packet) else {
+    let header = read_header(number, bytes)?;
+    let Ok(()) = end(header.rest, MsgFault::Packet) else {
         return None;
     };
     let body = bare_body(number)?;
-    Some(TrainMsg::new(t_train, nid_engine, body, Packets::none()))
+    Some(TrainMsg::new(header.t_train, header.nid_engine, body, Packets::none()))
 }
 
 // The body of a message of this number, where it has no bits.
@@ -267,6 +213,21 @@ fn read_header(number: TrainNumber, bytes: &[u8]) -> Option<Header<'_>>
         nid_engine: nid_engine as u32,
         rest,
     })
+}
+
+// A position report of the usual length, behind which nothing but filling bits stands.
+#[inline(always)]
+fn last_position(mut rest: BitReader) -> Option<Position>
+    ensures taken { IfSome result
+        (λ p. (left : List Bool) × (rest.entry ≡ joined (position_packet p) ++ left) × IsFilling left) }
+    ensures fits { IfSome result PositionFits }
+{
+    let bits = position_bits(&mut rest)?;
+    let position = Position::of_usual(bits)?;
+    let Ok(()) = end(rest, MsgFault::Packet) else {
+        return None;
+    };
+    Some(position)
 }
 
 // NID_PACKET and L_PACKET of a position report of the usual length, and the bits behind them.

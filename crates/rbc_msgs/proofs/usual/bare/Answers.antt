@@ -5,8 +5,8 @@ use Rattle.rbc_msgs.proofs.usual.bare.Goals as goal
 
 pub returns-clause-found : goal.returns-clause-found
 returns-clause-found c =
-    let h = c.in_ok-t_train in
-    let rest = h.field-0.rest in
+    let h = c.in_ok-header in
+    let rest = h.header.rest in
     rw c.new.ensures (spells-alone c.args.bytes.now _ (train_number_value c.in-Ok.number) rest rest (sym c.in_ok-body.ensures.number) h.ensures.taken
     (ap (λ t. t ++ rest) (sym c.in_ok-body.ensures.bits))
     c.none.ensures c.in-Ok-end.ensures.filling h.ensures.length h.ensures.time h.ensures.engine c.in_ok-body.ensures.fits)

@@ -1,14 +1,12 @@
 use Rattle.std.proofs.Common.{refl}
-use Rattle.rbc_msgs.proofs.Placed.{position-spelled}
 use Rattle.rbc_msgs.proofs.TrainLaws.{spells-alone, read_train-again}
 use Rattle.rbc_msgs.proofs.usual.end_of_mission.Goals as goal
 
 pub returns-clause-found : goal.returns-clause-found
 returns-clause-found c =
-    let h = c.in_ok-t_train in
-    rw c.new.ensures (spells-alone c.args.bytes.now _ 150 h.field-0.rest c.position_bits.new.reader refl h.ensures.taken
-    (position-spelled h.field-0.rest c.in_ok-bits.bits c.position_bits.new.reader c.in_ok-position.position c.in_ok-bits.ensures.taken c.in_ok-bits.ensures.length c.in_ok-position.ensures.found.0)
-    c.none.ensures c.in-Ok.ensures.filling h.ensures.length h.ensures.time h.ensures.engine c.in_ok-position.ensures.found.1)
+    let h = c.in_ok-header in
+    let p = c.in_ok-position.ensures in
+    rw c.new.ensures (spells-alone c.args.bytes.now _ 150 h.header.rest p.taken.0 refl h.ensures.taken p.taken.1 c.none.ensures p.taken.2 h.ensures.length h.ensures.time h.ensures.engine p.fits)
 
 pub returns-clause-exact : goal.returns-clause-exact
 returns-clause-exact c = read_train-again c.args.bytes.now _ (returns-clause-found c)
