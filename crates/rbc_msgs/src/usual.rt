@@ -223,10 +223,10 @@ fn last_position(mut rest: BitReader) -> Option<Position>
     ensures fits { IfSome result PositionFits }
 {
     let bits = position_bits(&mut rest)?;
-    let position = Position::of_usual(bits)?;
     let Ok(()) = end(rest, MsgFault::Packet) else {
         return None;
     };
+    let position = Position::of_usual(bits)?;
     Some(position)
 }
 
