@@ -3,3 +3,4 @@ pub mod Bodies
 pub mod Frames
 pub mod Readings
 pub mod Headers
+pub mod Yields

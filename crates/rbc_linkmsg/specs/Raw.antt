@@ -1,16 +1,32 @@
 -- The numbers of a Yield as they stand in its bytes.
-use Rattle.std.specs.Prelude.{ℕ, List, [], ◌∷◌, ◌++◌, Option, None, Some, ℤ, nat_lt, if◌then◌else◌}
+use Rattle.std.specs.Prelude.{ℕ, List, [], ◌∷◌, ◌++◌, drop, ◌/◌, ◌%◌, ◌==◌, Bool, Option, None, Some, ℤ, nat_lt, if◌then◌else◌}
 use Rattle.std.specs.Int.{w32, cast_signed}
-use Rattle.rbc_hand.specs.SectionRuns.{run_of}
-use Rattle.rbc_linkmsg.specs.Spelling.{Field, run_fields}
-use Rattle.rbc_linkmsg.specs.declared.yield_reading.RawPlace.{RawPlace}
-use Rattle.rbc_linkmsg.specs.declared.yield_reading.RawYield.{RawYield}
+use Rattle.byteorder.specs.Endian.{big_number}
+use Rattle.rbc_linkmsg.specs.Spelling.{Field}
 
-abbrev pub raw_place_fields : RawPlace → List Field
-raw_place_fields p = (1, p.track) ∷ (1, p.flags) ∷ (4, p.group) ∷ (4, p.front) ∷ (4, p.rear) ∷ []
+-- the number in the n bytes from this place on
+unfoldable pub number_at : ℕ → ℕ → List ℕ → ℕ
+number_at n place bytes = big_number n (drop place bytes)
 
-abbrev pub raw_fields : RawYield → List Field
-raw_fields y = (4, y.handover) ∷ (4, y.engine) ∷ (4, y.heard) ∷ (raw_place_fields y.place ++ run_fields (run_of y.hand))
+abbrev pub raw_place_fields : List ℕ → List Field
+raw_place_fields bytes =
+    (1, number_at 1 21 bytes) ∷ (1, number_at 1 22 bytes) ∷ (4, number_at 4 23 bytes) ∷ (4, number_at 4 27 bytes)
+    ∷ (4, number_at 4 31 bytes) ∷ []
+
+abbrev pub raw_run_fields : List ℕ → List Field
+raw_run_fields bytes = (2, number_at 2 35 bytes) ∷ (1, number_at 1 37 bytes) ∷ []
+
+abbrev pub raw_fields : List ℕ → List Field
+raw_fields bytes =
+    (4, number_at 4 9 bytes) ∷ (4, number_at 4 13 bytes) ∷ (4, number_at 4 17 bytes)
+    ∷ (raw_place_fields bytes ++ raw_run_fields bytes)
+
+-- the flags: whether the data of the train are known, and whether its mission has ended
+abbrev pub has_data_at : List ℕ → Bool
+has_data_at bytes = number_at 1 22 bytes % 2 == 1
+
+abbrev pub is_ended_at : List ℕ → Bool
+is_ended_at bytes = number_at 1 22 bytes / 2 % 2 == 1
 
 -- a rear that is known where the flags say so
 abbrev pub rear_from : ℕ → ℕ → Option ℤ

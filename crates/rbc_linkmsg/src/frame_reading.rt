@@ -6,7 +6,7 @@ ghost use Rattle.std.specs.Prelude.{◌≡◌, ◌≢◌, ◌+◌, ◌^◌, ◌<
 ghost use Rattle.byteorder.specs.Endian.{big_bytes};
 ghost use Rattle.rbc_spec.specs.Frame as spec;
 ghost use Rattle.rbc_linkmsg.specs.Bodies.{body_of};
-ghost use Rattle.rbc_linkmsg.specs.Spelling.{Spells};
+ghost use Rattle.rbc_linkmsg.specs.Spelling.{Spells, kind_of};
 ghost use Rattle.rbc_linkmsg.specs.Kinds.{kind_length, kind_number, kind_with};
 ghost use Rattle.rbc_linkmsg.specs.Faults.{first_fault};
 ghost use Rattle.rbc_linkmsg.specs.declared.fault.FrameFault.TheVariants as faults;
@@ -51,11 +51,13 @@ pub(crate) fn frame_of_yield(bytes: &[u8]) -> Result<Frame, FrameFault>
     ensures fault { IfErr result (λ e. e ≡ first_fault bytes.now) }
 {
     check_length(FrameKind::Yield, bytes)?;
-    let (number, stamp, _kind, rest) = read_header(bytes);
-    let Some(body) = read_yield(rest) else {
+    let Some(body) = read_yield(bytes) else {
         return Err(FrameFault::Value);
     };
-    check_ranges(number, stamp, body)?;
+    let (number, stamp, _kind, _rest) = read_header(bytes);
+    if !is_header(number, stamp) {
+        return Err(FrameFault::Value);
+    }
     let frame = Frame::new(number, stamp, body);
     Ok(frame)
 }
@@ -71,13 +73,13 @@ fn check_length(kind: FrameKind, bytes: &[u8]) -> Result<(), FrameFault>
     ensures length { OnOk result (length bytes.now ≡ kind_length kind) }
     ensures value { OnOk result (first_fault bytes.now ≡ faults.Value) }
 {
-    if bytes.len() < kind.length() {
-        return Err(FrameFault::Short);
+    if bytes.len() == kind.length() {
+        Ok(())
+    } else if bytes.len() < kind.length() {
+        Err(FrameFault::Short)
+    } else {
+        Err(FrameFault::Length)
     }
-    if bytes.len() > kind.length() {
-        return Err(FrameFault::Length);
-    }
-    Ok(())
 }
 
 // The number on the link, the stamp, the kind's byte, and the bytes behind them.
@@ -100,6 +102,7 @@ fn read_header(bytes: &[u8]) -> (u32, u32, u8, &[u8])
 // Whether a frame may have this number, stamp and body.
 #[inline(always)]
 fn check_ranges(number: u32, stamp: u32, body: Body) -> Result<(), FrameFault>
+    requires { kind_of (body_of body) ≢ kinds.Yield }
     ensures ranges { OnOk result
         (spec.HasFrameRanges (record { number = number; stamp = stamp; body = body_of body })) }
     ensures refused { IfErr result

@@ -1,12 +1,13 @@
 //! The ranges of the fields of a frame (profile).
 
-ghost use Rattle.std.specs.Prelude.{◌≤◌, ◌↔◌, IsTrue};
-ghost use Rattle.rbc_spec.specs.Frame.{HasBodyRange, HasRunRange, HasPlaceRange, IsEngine, last_stamp};
-ghost use Rattle.rbc_spec.specs.SectionRuns.{most_in_hand};
+ghost use Rattle.std.specs.Prelude.{◌≢◌, ◌≤◌, ◌↔◌, IsTrue};
+ghost use Rattle.rbc_spec.specs.Frame.{HasBodyRange, HasRunRange, IsEngine, last_stamp};
 ghost use Rattle.rbc_hand.specs.SectionRuns.{run_of};
-ghost use Rattle.rbc_linkmsg.specs.Bodies.{body_of, place_of};
+ghost use Rattle.rbc_linkmsg.specs.Bodies.{body_of};
+ghost use Rattle.rbc_linkmsg.specs.Spelling.{kind_of};
+ghost use Rattle.rbc_linkmsg.specs.declared.kind.FrameKind.TheVariants as kinds;
 
-use crate::body::{Body, YieldedPlace, Yielding};
+use crate::body::Body;
 use rbc_hand::SectionRun;
 
 /// Whether a link's frame may have this number, stamp and body.
@@ -16,9 +17,10 @@ pub(crate) fn is_header(number: u32, stamp: u32) -> bool
     number >= 1 && number <= 65_536 && stamp >= 1 && stamp <= 1_073_741_823
 }
 
-/// Whether the fields of the body are in their ranges.
+/// Whether the fields of the body are in their ranges. Those of a Yield are looked at as they are read.
 #[inline(always)]
 pub(crate) fn is_in_range(body: Body) -> bool
+    requires { kind_of (body_of body) ≢ kinds.Yield }
     ensures { IsTrue result ↔ HasBodyRange (body_of body) }
 {
     match body {
@@ -41,15 +43,12 @@ pub(crate) fn is_in_range(body: Body) -> bool
         } => handover >= 1 && is_engine(engine) && track <= 3,
         Body::Cancel { handover, engine } | Body::TakingOver { handover, engine } => handover >= 1
             && is_engine(engine),
-        Body::Yield {
-            handover,
-            engine,
-            yielding,
-        } => handover >= 1 && is_engine(engine) && is_yielding(yielding),
+        Body::Yield { .. } => unreachable!(),
     }
 }
 
-fn is_engine(engine: u32) -> bool
+#[inline(always)]
+pub(crate) fn is_engine(engine: u32) -> bool
     ensures { IsTrue result ↔ IsEngine engine }
 {
     engine <= 16_777_215
@@ -60,17 +59,4 @@ fn is_run(run: SectionRun, least: u16, most: u16) -> bool
     ensures { IsTrue result ↔ HasRunRange least most (run_of run) }
 {
     run.first <= 511 && run.count >= least && run.count <= most && run.first + run.count <= 512
-}
-
-fn is_yielding(yielding: Yielding) -> bool
-    ensures { IsTrue result ↔ ((yielding.heard ≤ 4294967294)
-        × (HasPlaceRange (place_of yielding.place) × HasRunRange 1 most_in_hand (run_of yielding.hand))) }
-{
-    yielding.heard <= 4_294_967_294 && is_place(yielding.place) && is_run(yielding.hand, 1, 32)
-}
-
-fn is_place(place: YieldedPlace) -> bool
-    ensures { IsTrue result ↔ HasPlaceRange (place_of place) }
-{
-    place.track <= 3 && place.group <= 16_777_214
 }

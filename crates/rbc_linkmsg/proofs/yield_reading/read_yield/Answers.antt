@@ -1,10 +1,9 @@
-use Rattle.std.proofs.Common.{refl, sym, ◌∙◌}
-use Rattle.rbc_linkmsg.specs.Raw.{raw_fields}
-use Rattle.rbc_linkmsg.specs.declared.kind.FrameKind.TheVariants as kinds
-use Rattle.rbc_linkmsg.proofs.Readings.{fields_of}
+use Rattle.std.proofs.Common.{rules}
+use Rattle.rbc_linkmsg.proofs.Yields.{yielding_fields}
 use Rattle.rbc_linkmsg.proofs.yield_reading.read_yield.Goals as goal
 
-pub returns-clause-found : goal.returns-clause-found
-returns-clause-found c =
-    let raw = c.raw_yield-raw in
-    λ f h e s. c.yield_of.ensures.found f h e (fields_of f kinds.Yield (raw_fields raw.result) refl raw.ensures.fits h e (sym raw.ensures.spelled ∙ s))
+pub returns-in_err-yielding-clause-found : goal.returns-in_err-yielding-clause-found
+returns-in_err-yielding-clause-found c = λ number t heard d e p hand h s.
+    let parts = yielding_fields c.args.bytes.now number t heard d e p hand s in
+    let found = c.read_yielding.ensures.found heard d e p hand h.2 h.3 h.4 parts.0 parts.1 parts.2 in
+    search rules
