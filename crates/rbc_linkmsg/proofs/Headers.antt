@@ -1,11 +1,9 @@
 -- What the bytes of a header and of a body say of the frame.
 use Rattle.std.proofs.Common.{◌≡◌, ℕ, ◌^◌, ◌<◌, List, ◌++◌, refl, sym, ap, ◌∙◌, arith, mod-eq_of_lt}
-use Rattle.std.specs.Prelude.{Some, slice_index}
+use Rattle.std.specs.Prelude.{slice_index}
 use Rattle.byteorder.specs.Endian.{big_bytes}
-use Rattle.rbc_spec.specs.Frame.{Frame, Body, AskRight, GiveRight, RefuseRight, ReturnRight, RouteAsk, RouteInfo, RouteWithdraw, RouteReturn, Announce, Cancel, TakingOver, Yield, HasFrameRanges}
+use Rattle.rbc_spec.specs.Frame.{Frame, Body, HasFrameRanges}
 use Rattle.rbc_linkmsg.specs.declared.kind.FrameKind.{FrameKind}
-use Rattle.rbc_linkmsg.specs.declared.body.Body.{Body as BodyCode}
-use Rattle.rbc_linkmsg.specs.Bodies.{body_of, body_back}
 use Rattle.rbc_linkmsg.specs.Kinds.{kind_number}
 use Rattle.rbc_linkmsg.specs.Spelling.{spelled, kind_of, body_fields, frame_fields, Spells}
 use Rattle.rbc_linkmsg.proofs.Fields.{one_number}
@@ -33,27 +31,6 @@ header_read bytes rest n s k kind f e n-fits s-fits k-fits at p =
     let byte = one_number 1 (kind_number (kind_of f.body)) k _ _ (kind-fits (kind_of f.body)) k-fits stamp.1 in
     let same : kind_number (kind_of f.body) ≡ kind_number kind = byte.0 ∙ sym (header_kind bytes rest n s k e k-fits) ∙ at in
     record { number = number.0; stamp = stamp.0; kind = one_kind (kind_of f.body) kind same; body = sym byte.1 }
-
-again : (b : Body) → body_of (body_back b) ≡ b
-again (AskRight t) = refl
-again (GiveRight t) = refl
-again (RefuseRight t) = refl
-again (ReturnRight t) = refl
-again (RouteAsk t first most) = refl
-again (RouteInfo t run) = refl
-again (RouteWithdraw t s) = refl
-again (RouteReturn t run) = refl
-again (Announce number t track) = refl
-again (Cancel number t) = refl
-again (TakingOver number t) = refl
-again (Yield number t heard has_data is_ended place hand) = refl
-
-some_same : (a b : BodyCode) → Some a ≡ Some b → a ≡ b
-some_same a b e = cc
-
--- the body that was read is the frame's
-pub body_read : (b : BodyCode) (f : Frame) → Some b ≡ Some (body_back f.body) → body_of b ≡ f.body
-body_read b f e = ap body_of (some_same b (body_back f.body) e) ∙ again f.body
 
 same_bytes : (n s k k' : ℕ) (rest rest' : List ℕ) → k ≡ k' → rest ≡ rest' → header n s k rest ≡ header n s k' rest'
 same_bytes n s k k' rest rest' p q = rw (p, q) refl
