@@ -5,12 +5,20 @@ use Rattle.rbc_spec.specs.Line.{Line}
 use Rattle.rbc_spec.specs.SectionRuns.{SectionRun, no_run, within}
 use Rattle.rbc_spec.specs.Place.{Place}
 use Rattle.rbc_spec.specs.Centre.{Mission, Expectation, is_out_for}
+use Rattle.rbc_spec.specs.Acts.{Act}
+use Rattle.rbc_spec.specs.Links.{yielded}
 use Rattle.rbc_book.specs.Book.{Pages, is_own, entry_at}
 use Rattle.rbc_hand.specs.Hands.{Holding}
 use Rattle.rbc_hand.specs.SectionRuns.{run_of}
 use Rattle.rbc_linkmsg.specs.declared.body.Yielding.{Yielding}
 use Rattle.rbc_mission.specs.Supervisions.{SupervisionState}
+use Rattle.rbc_train.specs.declared.taking_up.Arriving.{Arriving}
 use Rattle.rbc_train.specs.declared.train.TrainState.{TrainState}
+
+-- the mission of train t that arrives at centre c, at this place
+abbrev pub yielded_at : Line → ℕ → ℕ → Arriving → Place → Act
+yielded_at line c t a =
+    yielded line c a.from a.number t (run_of a.yielding.hand) a.yielding.heard a.yielding.has_data a.yielding.is_ended
 
 -- a mission with this hand may go on with the train: none stands here, the sections are of the line, and those of the
 -- book's home are out for it

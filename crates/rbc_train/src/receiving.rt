@@ -11,6 +11,7 @@ ghost use Rattle.rbc_train.specs.Desks.{IsBookOf};
 ghost use Rattle.rbc_train.specs.Desk.{HasParts, IsHeld, KeepsTrain, KeepsDesk, last_said, with_parts, reply_left};
 
 use crate::heard::Heard;
+use crate::taking_up::Arriving;
 use crate::train::TrainState;
 use rbc_book::Book;
 use rbc_line::Line;
@@ -76,7 +77,14 @@ impl TrainState {
                 handover,
                 yielding,
                 ..
-            } => self.yielded(line, centre, book, registrar, from, handover, yielding, out),
+            } => {
+                let arriving = Arriving {
+                    from,
+                    number: handover,
+                    yielding,
+                };
+                self.yielded(line, centre, book, registrar, arriving, out)
+            }
         }
     }
 }

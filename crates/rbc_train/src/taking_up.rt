@@ -19,7 +19,7 @@ ghost use Rattle.rbc_right.specs.Rights.{is_here};
 ghost use Rattle.rbc_hand.specs.SectionRuns.{run_of};
 ghost use Rattle.rbc_linkmsg.specs.Bodies as bodies;
 ghost use Rattle.rbc_place.specs.Places.{place_of};
-ghost use Rattle.rbc_train.specs.Arriving.{MayGoOn, taken_up};
+ghost use Rattle.rbc_train.specs.Arriving.{MayGoOn, taken_up, yielded_at};
 ghost use Rattle.rbc_train.specs.Desk.{HasParts, IsAtBook, KeepsState, IsReady, Does};
 ghost use Rattle.rbc_train.specs.Desks.{IsBookOf};
 
@@ -36,6 +36,14 @@ use rbc_place::{Place, group_start};
 use rbc_right::{Registrar, Right};
 use std::cmp::max;
 
+/// A mission that another centre yields: the centre, the number of the handover, and what goes over.
+#[derive(Clone, Copy, Debug)]
+pub(crate) struct Arriving {
+    pub from: u8,
+    pub number: u32,
+    pub yielding: Yielding,
+}
+
 impl TrainState {
     /// Yield of a centre: where it is expected, and this centre has said that it takes over, the mission goes on here,
     /// with its sections and with the right. The later of both stamps is kept, and the train is asked to end its
@@ -46,19 +54,17 @@ impl TrainState {
         centre: u8,
         book: &mut Book,
         registrar: &Registrar,
-        from: u8,
-        number: u32,
-        yielding: Yielding,
+        arriving: Arriving,
         out: &mut Heard,
     )
         requires ready { IsReady self.old out.old }
         requires at { IsAtBook line.now centre self.old book.old }
-        requires place { HasPlaceRange (bodies.place_of yielding.place) }
-        requires hand { HasRunRange 1 32 (run_of yielding.hand) }
+        requires place { HasPlaceRange (bodies.place_of arriving.yielding.place) }
+        requires hand { HasRunRange 1 32 (run_of arriving.yielding.hand) }
         ensures exact { Does line.now centre
-            (option_map_or (links.yielded line.now centre from number self.old.supervision.engine (run_of
-            yielding.hand) yielding.heard yielding.has_data yielding.is_ended) (carried_place (bodies.place_of
-            yielding.place)) rest) self.old book.old registrar.now self.new book.new registrar.now out.new }
+            (option_map_or (yielded_at line.now centre self.old.supervision.engine arriving)
+            (carried_place (bodies.place_of arriving.yielding.place)) rest)
+            self.old book.old registrar.now self.new book.new registrar.now out.new }
         ensures left { self.new ≡ record self.old {
           heard = self.new.heard;
           said = self.new.said;
@@ -68,23 +74,14 @@ impl TrainState {
         ensures keeps { KeepsState line.now centre self.old self.new }
         ensures homes { (s : ℕ) → is_own book.new s ≡ is_own book.old s }
     {
-        let Some(place) = arriving_place(yielding.place) else {
+        let Some(place) = arriving_place(arriving.yielding.place) else {
             return;
         };
-        if !self.may_take(
-            line,
-            centre,
-            book,
-            registrar,
-            from,
-            number,
-            yielding.hand,
-            &place,
-        ) {
+        if !self.may_take(line, centre, book, registrar, &arriving, &place) {
             return;
         }
-        self.take_mission(line, book, from, yielding, place);
-        match first_wished(line, centre, book, yielding.hand) {
+        self.take_mission(line, book, arriving, place);
+        match first_wished(line, centre, book, arriving.yielding.hand) {
             Some(s) => out.saying = self.ask_back(line, s),
             None => {}
         }
@@ -99,21 +96,21 @@ impl TrainState {
         centre: u8,
         book: &Book,
         registrar: &Registrar,
-        from: u8,
-        number: u32,
-        hand: SectionRun,
+        arriving: &Arriving,
         place: &Place,
     ) -> bool
         requires book { IsBookOf line.now centre book.now }
-        requires some { 1 ≤ hand.count }
+        requires some { 1 ≤ arriving.now.yielding.hand.count }
         ensures exact { (k : spec.Centre) → HasParts line.now centre k self.now book.now registrar.now
-            → result ≡ links.may_take line.now centre k from number self.now.supervision.engine (place_of place.now)
-            (run_of hand) }
-        ensures may { result ≡ true → MayGoOn line.now self.now.supervision (run_of hand) book.now }
+            → result ≡ links.may_take line.now centre k arriving.now.from arriving.now.number
+            self.now.supervision.engine (place_of place.now) (run_of arriving.now.yielding.hand) }
+        ensures may { result ≡ true
+            → MayGoOn line.now self.now.supervision (run_of arriving.now.yielding.hand) book.now }
     {
-        if !self.awaits(registrar, from, number) {
+        if !self.awaits(registrar, arriving.from, arriving.number) {
             return false;
         }
+        let hand = arriving.yielding.hand;
         if !is_placed(line, place, hand) {
             return false;
         }
@@ -135,25 +132,19 @@ impl TrainState {
     }
 
     // The mission goes on here.
-    fn take_mission(
-        &mut self,
-        line: &Line,
-        book: &mut Book,
-        from: u8,
-        yielding: Yielding,
-        place: Place,
-    )
-        requires hand { HasRunRange 1 32 (run_of yielding.hand) }
-        requires may { MayGoOn line.now self.old.supervision (run_of yielding.hand) book.old }
+    fn take_mission(&mut self, line: &Line, book: &mut Book, arriving: Arriving, place: Place)
+        requires hand { HasRunRange 1 32 (run_of arriving.yielding.hand) }
+        requires may { MayGoOn line.now self.old.supervision (run_of arriving.yielding.hand) book.old }
         ensures left { self.new
-            ≡ taken_up yielding (place_of place) self.new.supervision.hand self.new.expectations self.old }
-        ensures expected { (d : ℕ)
-            → expected_from self.new.expectations d ≡ put (expected_from self.old.expectations) from None d }
+            ≡ taken_up arriving.yielding (place_of place) self.new.supervision.hand self.new.expectations self.old }
+        ensures expected { (d : ℕ) → expected_from self.new.expectations d
+            ≡ put (expected_from self.old.expectations) arriving.from None d }
         ensures count { length self.new.expectations ≡ length self.old.expectations }
         ensures held { IsHeldBy self.old.supervision.engine self.new.supervision.hand book.new }
         ensures book { IsBooked (spec.is_out_for self.old.supervision.engine) (spec.Taken self.old.supervision.engine)
-            (run_of yielding.hand) book.old book.new }
+            (run_of arriving.yielding.hand) book.old book.new }
     {
+        let Arriving { from, yielding, .. } = arriving;
         let mission = MissionFacts {
             has_data: yielding.has_data,
             is_ended: yielding.is_ended,

@@ -20,7 +20,7 @@ take_up-requires-clause-right c = c.arrive-right.ensures ∙ ap right_of c.numbe
 pub returns-clause-left : goal.returns-clause-left
 returns-clause-left c =
     let old = c.args.self.now in
-    let y = c.args.yielding in
+    let y = c.args.arriving.yielding in
     λ i. record old {
       heard = Some (c.later.ensures i);
       supervision = (c.take_up.ensures.supervision

@@ -1,10 +1,8 @@
 use Rattle.std.proofs.Common.{◌∙◌, option_map, length, ap, sym, arith}
 use Rattle.std.specs.Option.{option_map_or}
 use Rattle.rbc_spec.specs.Acts.{rest}
-use Rattle.rbc_spec.specs.Links.{yielded}
-use Rattle.rbc_hand.specs.SectionRuns.{run_of}
 use Rattle.rbc_place.specs.Places.{place_of}
-use Rattle.rbc_train.specs.Arriving.{taken_up}
+use Rattle.rbc_train.specs.Arriving.{taken_up, yielded_at}
 use Rattle.rbc_train.specs.Desk.{with_parts, reply_left}
 use Rattle.rbc_train.specs.Sayings.{sayings_of}
 use Rattle.rbc_train.specs.declared.heard.Heard.{Heard}
@@ -19,8 +17,7 @@ returns-in_default-clause-exact c = λ k has.
     let line = c.args.line.now in
     let n = c.args.centre in
     let p = c.args.self.now in
-    let y = c.args.yielding in
-    ap (λ o. option_map_or (yielded line n c.args.from c.args.number p.supervision.engine (run_of y.hand) y.heard y.has_data y.is_ended) o rest k) (sym c.arriving_place.ensures ∙ ap (option_map place_of) c.in_default.is)
+    ap (λ o. option_map_or (yielded_at line n p.supervision.engine c.args.arriving) o rest k) (sym c.arriving_place.ensures ∙ ap (option_map place_of) c.in_default.is)
     ∙ same_parts line n k p c.args.book.now c.args.registrar.now has ∙ ap (reply_left line n p.supervision.engine (with_parts p c.args.book.now c.args.registrar.now k)) (sym c.requires.ready.out)
 
 pub returns-then-not-may_take-clause-exact : goal.returns-then-not-may_take-clause-exact
@@ -28,8 +25,7 @@ returns-then-not-may_take-clause-exact c = λ k has.
     let line = c.args.line.now in
     let n = c.args.centre in
     let p = c.args.self.now in
-    let y = c.args.yielding in
-    ap (λ o. option_map_or (yielded line n c.args.from c.args.number p.supervision.engine (run_of y.hand) y.heard y.has_data y.is_ended) o rest k) (sym c.arriving_place.ensures ∙ ap (option_map place_of) c.in-Some.is)
+    ap (λ o. option_map_or (yielded_at line n p.supervision.engine c.args.arriving) o rest k) (sym c.arriving_place.ensures ∙ ap (option_map place_of) c.in-Some.is)
     ∙ rw (sym (c.may_take.ensures.exact k has) ∙ c.if-not-may_take.true) (same_parts line n k p c.args.book.now c.args.registrar.now has)
     ∙ ap (reply_left line n p.supervision.engine (with_parts p c.args.book.now c.args.registrar.now k)) (sym c.requires.ready.out)
 
@@ -48,14 +44,14 @@ returns-in-Some-first_wished-clause-exact c = λ k has.
     let n = c.args.centre in
     let p = c.args.self.now in
     let t = p.supervision.engine in
-    let y = c.args.yielding in
+    let y = c.args.arriving.yielding in
     let place = place_of c.in-Some.place in
     let taken = c.take_mission.ensures in
     let x = c.take_mission.new.self in
     let asked = c.ask_back-out.ensures in
-    ap (λ o. option_map_or (yielded line n c.args.from c.args.number t (run_of y.hand) y.heard y.has_data y.is_ended) o rest k) (sym c.arriving_place.ensures ∙ ap (option_map place_of) c.in-Some.is)
+    ap (λ o. option_map_or (yielded_at line n t c.args.arriving) o rest k) (sym c.arriving_place.ensures ∙ ap (option_map place_of) c.in-Some.is)
     ∙ rw (sym (c.may_take.ensures.exact k has) ∙ c.if-not-may_take.false)
-    (wished_first line n k p c.args.book.now c.args.registrar.now has c.args.from y place x.supervision.hand x.expectations c.take_mission.new.book taken.book taken.expected c.requires.hand taken.count
+    (wished_first line n k p c.args.book.now c.args.registrar.now has c.args.arriving.from y place x.supervision.hand x.expectations c.take_mission.new.book taken.book taken.expected c.requires.hand taken.count
     c.in-Some-first_wished.s c.ask_back-out.new.self (sayings_of c.ask_back-out.result) (sym c.first_wished.ensures ∙ c.in-Some-first_wished.is)
     (asked_so line c.in-Some-first_wished.s x (taken_up y place x.supervision.hand x.expectations p) c.ask_back-out.new.self (sayings_of c.ask_back-out.result) taken.left asked.exact)
     (asked.engine ∙ ap (λ (q : TrainState). q.supervision.engine) taken.left) (asked.number ∙ ap (λ (q : TrainState). q.supervision.number) taken.left)
@@ -69,14 +65,14 @@ returns-in-None-clause-exact c = λ k has.
     let n = c.args.centre in
     let p = c.args.self.now in
     let t = p.supervision.engine in
-    let y = c.args.yielding in
+    let y = c.args.arriving.yielding in
     let place = place_of c.in-Some.place in
     let taken = c.take_mission.ensures in
     let x = c.take_mission.new.self in
     let book' = c.take_mission.new.book in
-    ap (λ o. option_map_or (yielded line n c.args.from c.args.number t (run_of y.hand) y.heard y.has_data y.is_ended) o rest k) (sym c.arriving_place.ensures ∙ ap (option_map place_of) c.in-Some.is)
+    ap (λ o. option_map_or (yielded_at line n t c.args.arriving) o rest k) (sym c.arriving_place.ensures ∙ ap (option_map place_of) c.in-Some.is)
     ∙ rw (sym (c.may_take.ensures.exact k has) ∙ c.if-not-may_take.false)
-    (unwished line n k p c.args.book.now c.args.registrar.now has c.args.from y place x.supervision.hand x.expectations book' taken.book taken.expected c.requires.hand taken.count
+    (unwished line n k p c.args.book.now c.args.registrar.now has c.args.arriving.from y place x.supervision.hand x.expectations book' taken.book taken.expected c.requires.hand taken.count
     (sym c.first_wished.ensures ∙ c.in-None.is))
     ∙ (λ i. reply_left line n t (with_parts (sym taken.left i) book' c.args.registrar.now k) (sym c.requires.ready.out i))
 
