@@ -3,7 +3,7 @@ ghost use Rattle.rbc_spec.specs.Message.{is_stale};
 ghost use Rattle.rbc_hand.specs.SectionRuns.{run_of};
 ghost use Rattle.rbc_place.specs.Places.{place_of};
 ghost use Rattle.rbc_session.specs.SessionStates.{phase_of, session_phase};
-ghost use Rattle.rbc_mission.specs.Supervisions.{hand_of, handing_in};
+ghost use Rattle.rbc_mission.specs.Supervisions.{hand_of, handing_in, pool_of};
 ghost use Rattle.rbc_handover.specs.Expectations.{expected_from};
 ghost use Rattle.rbc_pending_start.specs.Waits.{nothing_waits};
 ghost use Rattle.rbc_train.specs.Desks.{mission_by};
@@ -110,6 +110,8 @@ impl TrainState {
         ensures said { result.said ≡ self.now.said }
         ensures mission { mission_by result.mission result.hand result.pool (handing_in self.now.supervision)
             ≡ self.now.supervision.mission }
+        ensures hand { run_of result.hand ≡ hand_of self.now.supervision }
+        ensures pool { run_of result.pool ≡ pool_of self.now.supervision }
         ensures waiting { option_map place_of result.waiting ≡ self.now.waiting.wait }
     {
         TrainPage {
