@@ -33,7 +33,7 @@ use Rattle.rbc_train.specs.declared.heard.Heard.{Heard}
 use Rattle.rbc_train.specs.declared.reason.Reason.{Reason as ReasonCode}
 use Rattle.rbc_train.specs.declared.train.TrainState.{TrainState}
 use Rattle.rbc_centre.specs.Kept.{IsCentre, AreLinks, AreTrains}
-use Rattle.rbc_centre.specs.Posts.{MayPost}
+use Rattle.rbc_centre.specs.Posts.{MayPost, IsSent}
 use Rattle.rbc_centre.specs.Rooms.{HasFrameRoom}
 use Rattle.rbc_centre.specs.Ranges.{AreInRange-prop}
 use Rattle.rbc_centre.specs.State.{stands_for, IsOfTrain}
@@ -249,14 +249,7 @@ heard_frames k m t i old number at new book rights n kept desk heard exact room 
 
 -- ## What was posted
 
--- the mail of a train went on the links, and these are its frames
-pub record IsSent (line : Line) (c t stamp : ℕ) (e : ℕ → Option Expectation) (mail : Mail) (old new : List (Link Body)) (frames : ℕ → List Frame) : Type 0 where
-  pub links : HasPosted body_of stamp (mail_to line c t e mail) old new
-  pub each : (d : ℕ) → frames d ≡ numbered stamp (length (sent_to old d)) (mail_to line c t e mail d)
-
--- by another name of the train
-pub sent_by : (line : Line) (c t u stamp : ℕ) (e : ℕ → Option Expectation) (mail : Mail) (old new : List (Link Body)) (frames : ℕ → List Frame) → t ≡ u → HasPosted body_of stamp (mail_to line c t e mail) old new
-    → ((d : ℕ) → frames d ≡ numbered stamp (length (sent_to old d)) (mail_to line c t e mail d)) → IsSent line c u stamp e mail old new frames
-sent_by line c t u stamp e mail old new frames same links each =
-    let first : IsSent line c t stamp e mail old new frames = record { links = links; each = each } in
-    subst (λ (x : ℕ). IsSent line c x stamp e mail old new frames) same first
+-- the mail of a train went on the links, also by another name of the train
+pub sent_by : (line : Line) (c t u stamp : ℕ) (e : ℕ → Option Expectation) (mail : Mail) (old new : List (Link Body)) (frames : ℕ → List Frame) → t ≡ u → IsSent stamp (mail_to line c t e mail) old new frames
+    → IsSent stamp (mail_to line c u e mail) old new frames
+sent_by line c t u stamp e mail old new frames same sent = subst (λ (x : ℕ). IsSent stamp (mail_to line c x e mail) old new frames) same sent

@@ -1,9 +1,8 @@
 -- What a step sends: bodies that go on the links, and the frames of them.
-use Rattle.std.specs.Prelude.{◌≡◌, ℕ, ◌+◌, ◌≤◌, ◌==◌, if◌then◌else◌, true, List, [], ◌∷◌, ◌++◌, length, All}
-use Rattle.rbc_spec.specs.SectionRuns.{SectionRun, is_empty}
+use Rattle.std.specs.Prelude.{◌≡◌, ◌⊎◌, ℕ, ◌+◌, ◌≤◌, ◌==◌, if◌then◌else◌, true, List, [], ◌∷◌, ◌++◌, length, All}
 use Rattle.rbc_spec.specs.Line.{Line, is_linked}
 use Rattle.rbc_spec.specs.Frame as spec
-use Rattle.rbc_spec.specs.Frame.{RouteReturn, HasBodyRange}
+use Rattle.rbc_spec.specs.Frame.{Frame, HasBodyRange, last_stamp}
 use Rattle.rbc_spec.specs.Step.{numbered}
 use Rattle.rbc_link.specs.declared.link.Link.{Link}
 use Rattle.rbc_link.specs.Links.{has_link, sent_to, room_to}
@@ -11,11 +10,9 @@ use Rattle.rbc_link.specs.Posted.{HasPosted}
 use Rattle.rbc_linkmsg.specs.Bodies.{body_of}
 use Rattle.rbc_linkmsg.specs.declared.body.Body.{Body}
 use Rattle.rbc_centre.specs.declared.sent_frame.SentFrame.{SentFrame}
+use Rattle.rbc_centre.specs.declared.frame_room.FrameRoom.{FrameRoom}
 use Rattle.rbc_centre.specs.Listed.{frames_in}
-
--- the sections of a run go home, where there are some
-abbrev pub run_home : ℕ → SectionRun → List spec.Body
-run_home t r = if is_empty r then [] else RouteReturn t r ∷ []
+use Rattle.rbc_centre.specs.Rooms.{HasFrameRoom}
 
 -- these bodies to one centre
 abbrev pub only : ℕ → List spec.Body → ℕ → List spec.Body
@@ -41,3 +38,17 @@ pub record HasSent (stamp : ℕ) (bodies : ℕ → List spec.Body) (old new : Li
     (before after : List SentFrame) : Type 0 where
   pub posted : HasPosted body_of stamp bodies old new
   pub frames : (d : ℕ) → frames_in after d ≡ frames_in before d ++ numbered stamp (length (sent_to old d)) (bodies d)
+
+-- centre c of the line may send these bodies in a step with this stamp: on its links, and there is room for the frames
+pub record MaySend (line : Line) (c stamp : ℕ) (bodies : ℕ → List spec.Body) (links : List (Link Body))
+    (spare : FrameRoom) : Type 0 where
+  pub timely : (1 ≤ stamp) × (stamp ≤ last_stamp)
+  pub linked : (d : ℕ) → has_link links d ≡ is_linked line c d
+  pub may : (d : ℕ) → MayPost links d (bodies d)
+  pub room : (d : ℕ) → (bodies d ≡ []) ⊎ HasFrameRoom spare
+
+-- these bodies went on the links, and these are their frames
+pub record IsSent (stamp : ℕ) (bodies : ℕ → List spec.Body) (old new : List (Link Body))
+    (frames : ℕ → List Frame) : Type 0 where
+  pub links : HasPosted body_of stamp bodies old new
+  pub each : (d : ℕ) → frames d ≡ numbered stamp (length (sent_to old d)) (bodies d)

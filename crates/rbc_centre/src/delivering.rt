@@ -12,7 +12,7 @@ ghost use Rattle.rbc_centre.specs.Views.{outcome_of};
 
 use crate::centre::Centre;
 use crate::outcome::Outcome;
-use crate::posted::post;
+use crate::posted::Dispatch;
 use rbc_link::LinkAnswer;
 use rbc_linkmsg::Frame;
 use rbc_train::Heard;
@@ -92,17 +92,15 @@ impl Centre {
             body,
             &mut heard,
         );
-        post(
-            &mut self.links,
-            &mut self.room,
-            &self.line,
-            self.number,
-            body.engine(),
-            self.clock,
-            &train.expectations,
-            &heard.mail,
-            &mut out.frames,
-        );
+        let dispatch = Dispatch {
+            line: &self.line,
+            centre: self.number,
+            nid_engine: body.engine(),
+            stamp: self.clock,
+            expectations: &train.expectations,
+            mail: &heard.mail,
+        };
+        dispatch.post(&mut self.links, &mut self.room, &mut out.frames);
         out.write_heard(self.clock, Some(answer), &heard);
     }
 }

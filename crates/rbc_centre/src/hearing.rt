@@ -19,7 +19,7 @@ ghost use Rattle.rbc_centre.specs.Views.{outcome_of};
 use crate::centre::Centre;
 use crate::fault::StepFault;
 use crate::outcome::Outcome;
-use crate::posted::post;
+use crate::posted::Dispatch;
 use crate::ranges::look_at_ranges;
 use rbc_msgs::{TrainBody, TrainMsg};
 use rbc_train::{Heard, Reason, tells_others};
@@ -150,17 +150,15 @@ impl Centre {
         );
         match taken {
             Ok(()) => {
-                post(
-                    &mut self.links,
-                    &mut self.room,
-                    &self.line,
-                    self.number,
-                    message.nid_engine(),
-                    self.clock,
-                    &train.expectations,
-                    &heard.mail,
-                    &mut out.frames,
-                );
+                let dispatch = Dispatch {
+                    line: &self.line,
+                    centre: self.number,
+                    nid_engine: message.nid_engine(),
+                    stamp: self.clock,
+                    expectations: &train.expectations,
+                    mail: &heard.mail,
+                };
+                dispatch.post(&mut self.links, &mut self.room, &mut out.frames);
                 out.write_heard(self.clock, None, &heard);
             }
             Err(why) => out.write_nothing(self.clock, None, Some(why)),

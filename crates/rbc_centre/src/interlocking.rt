@@ -16,7 +16,7 @@ ghost use Rattle.rbc_centre.specs.Views.{outcome_of};
 use crate::centre::Centre;
 use crate::fault::StepFault;
 use crate::outcome::{Outcome, Word};
-use crate::posted::post_to_others;
+use crate::posted::Broadcast;
 use rbc_book::{Entry, NotHome, Unset};
 use rbc_linkmsg::Body;
 use std::alloc::AllocError;
@@ -103,19 +103,16 @@ impl Centre {
     {
         self.clock += 1;
         let _asked = self.book.unset(s);
-        let body = Body::RouteWithdraw {
-            engine: nid_engine,
-            section: s,
+        let broadcast = Broadcast {
+            line: &self.line,
+            centre: self.number,
+            stamp: self.clock,
+            body: Body::RouteWithdraw {
+                engine: nid_engine,
+                section: s,
+            },
         };
-        post_to_others(
-            &mut self.links,
-            &mut self.room,
-            &self.line,
-            self.number,
-            self.clock,
-            body,
-            &mut out.frames,
-        );
+        broadcast.post(&mut self.links, &mut self.room, &mut out.frames);
         out.write_sent(self.clock, Word::Asked(s));
     }
 

@@ -1,26 +1,20 @@
 //! What a step leaves for other centres goes on its links.
 
-ghost use Rattle.std.specs.Prelude.{◌≡◌, ◌⊎◌, ◌+◌, ◌≤◌, ◌<◌, ℕ, IsTrue, [], Option, Some, length};
+ghost use Rattle.std.specs.Prelude.{◌≡◌, ◌⊎◌, ◌+◌, ◌≤◌, ◌<◌, ℕ, IsTrue, [], Some, length};
 ghost use Rattle.std.specs.Vec.{vec_capacity};
-ghost use Rattle.rbc_spec.specs.Line.{is_linked};
-ghost use Rattle.rbc_spec.specs.Step.{numbered};
-ghost use Rattle.rbc_link.specs.Links.{has_link, sent_to};
-ghost use Rattle.rbc_link.specs.Posted.{HasPosted};
-ghost use Rattle.rbc_linkmsg.specs.Bodies.{body_of};
-ghost use Rattle.rbc_handover.specs.Expectations.{expected_from};
-ghost use Rattle.rbc_spec.specs.Centre.{Expectation};
-ghost use Rattle.rbc_spec.specs.Frame.{last_stamp};
 ghost use Rattle.rbc_linkmsg.specs.declared.body.Body.{Body as BodyCode};
-ghost use Rattle.rbc_train.specs.Letters.{bodies_in, mail_to};
-ghost use Rattle.rbc_centre.specs.Posts.{MayPost, HasSent, only, to_others};
-ghost use Rattle.rbc_centre.specs.Rooms.{HasFrameRoom};
+ghost use Rattle.rbc_spec.specs.Frame.{last_stamp};
+ghost use Rattle.rbc_train.specs.Letters.{bodies_in};
+ghost use Rattle.rbc_centre.specs.Posts.{MayPost, MaySend, HasSent, IsSent, only};
 ghost use Rattle.rbc_centre.specs.Sent.{frames_to};
 
 use crate::frame_room::FrameRoom;
 use crate::frames::Frames;
 use crate::reach::Reach;
-use crate::returned::{home, letter_to, part_to, stays};
+use crate::returned::{letter_to, stays};
 use crate::sent_frame::SentFrame;
+use rbc_border::part_of;
+use rbc_hand::SectionRun;
 use rbc_handover::Expectations;
 use rbc_line::Line;
 use rbc_link::Links;
@@ -28,110 +22,8 @@ use rbc_linkmsg::{Body, Frame};
 use rbc_train::{Mail, Notice};
 use std::cmp::min;
 
-/// Sends the mail of a step with this stamp, which is of this train: to each centre first the sections that go to its
-/// home, then what it is told of a handover, and then its letter. The frames are written in place of those before.
-#[inline(always)]
-pub(crate) fn post(
-    links: &mut Links<Body>,
-    room: &mut FrameRoom,
-    line: &Line,
-    centre: u8,
-    nid_engine: u32,
-    stamp: u32,
-    expectations: &Expectations,
-    mail: &Mail,
-    frames: &mut Frames,
-)
-    requires stamp { (1 ≤ stamp) × (stamp ≤ last_stamp) }
-    requires linked { (d : ℕ) → has_link links.old d ≡ is_linked line.now centre d }
-    requires may { (d : ℕ)
-        → MayPost links.old d (mail_to line.now centre nid_engine (expected_from expectations.now) mail.now d) }
-    requires room { (d : ℕ)
-        → (mail_to line.now centre nid_engine (expected_from expectations.now) mail.now d
-        ≡ []) ⊎ HasFrameRoom room.old }
-    ensures posted { HasPosted body_of stamp
-        (mail_to line.now centre nid_engine (expected_from expectations.now) mail.now) links.old links.new }
-    ensures frames { (d : ℕ)
-        → frames_to frames.new d
-        ≡ numbered stamp (length (sent_to links.old d))
-        (mail_to line.now centre nid_engine (expected_from expectations.now) mail.now d) }
-{
-    if is_nothing(line, centre, mail) {
-        frames.clear();
-        return;
-    }
-    // The copy keeps the mail of a step that sends nothing in registers.
-    let mail = *mail;
-    post_all(
-        links,
-        room,
-        line,
-        centre,
-        nid_engine,
-        stamp,
-        expectations,
-        &mail,
-        frames,
-    );
-}
-
-// Whether there is nothing to send.
-#[inline(always)]
-fn is_nothing(line: &Line, centre: u8, mail: &Mail) -> bool
-    ensures { IsTrue result → (t : ℕ) → (e : ℕ → Option Expectation) → (d : ℕ)
-        → mail_to line.now centre t e mail.now d ≡ [] }
-{
-    mail.notice == Notice::Nothing
-        && mail.letter.is_none()
-        && stays(line, centre, mail.first)
-        && stays(line, centre, mail.second)
-}
-
-// Sends each centre its part of the mail.
-fn post_all(
-    links: &mut Links<Body>,
-    room: &mut FrameRoom,
-    line: &Line,
-    centre: u8,
-    nid_engine: u32,
-    stamp: u32,
-    expectations: &Expectations,
-    mail: &Mail,
-    frames: &mut Frames,
-)
-    requires stamp { (1 ≤ stamp) × (stamp ≤ last_stamp) }
-    requires linked { (d : ℕ) → has_link links.old d ≡ is_linked line.now centre d }
-    requires may { (d : ℕ)
-        → MayPost links.old d (mail_to line.now centre nid_engine (expected_from expectations.now) mail.now d) }
-    requires room { (d : ℕ)
-        → (mail_to line.now centre nid_engine (expected_from expectations.now) mail.now d
-        ≡ []) ⊎ HasFrameRoom room.old }
-    ensures posted { HasPosted body_of stamp
-        (mail_to line.now centre nid_engine (expected_from expectations.now) mail.now) links.old links.new }
-    ensures frames { (d : ℕ)
-        → frames_to frames.new d
-        ≡ numbered stamp (length (sent_to links.old d))
-        (mail_to line.now centre nid_engine (expected_from expectations.now) mail.now d) }
-{
-    let dispatch = Dispatch {
-        line,
-        centre,
-        nid_engine,
-        stamp,
-        expectations,
-        mail,
-    };
-    let reach = Reach::of(line, centre, mail);
-    let mut list = room.swap(frames.list.take());
-    let end = min(reach.last.saturating_add(1), line.centre_count());
-    for to in reach.first..end {
-        dispatch.post_to(links, &mut list, to);
-    }
-    frames.list = Some(list);
-}
-
 /// The mail of a step, and what goes with it.
-#[derive(Drop)]
+#[derive(Clone, Copy)]
 pub(crate) struct Dispatch<'a> {
     pub(crate) line: &'a Line,
     /// The number of the centre that takes the step.
@@ -146,7 +38,50 @@ pub(crate) struct Dispatch<'a> {
 }
 
 impl Dispatch<'_> {
+    ghost use Rattle.rbc_hand.specs.SectionRuns.{run_of};
+    ghost use Rattle.rbc_train.specs.Letters.{going_home};
     ghost use Rattle.rbc_centre.specs.Dispatches.{bodies_to};
+
+    /// Sends the mail: to each centre first the sections that go to its home, then what it is told of a handover, and
+    /// then its letter. The frames are written in place of those before.
+    #[inline(always)]
+    pub(crate) fn post(&self, links: &mut Links<Body>, room: &mut FrameRoom, frames: &mut Frames)
+        requires { MaySend self.now.line.now self.now.centre self.now.stamp (bodies_to self.now) links.old room.old }
+        ensures { IsSent self.now.stamp (bodies_to self.now) links.old links.new (frames_to frames.new) }
+    {
+        if self.is_nothing() {
+            frames.clear();
+            return;
+        }
+        // The copy keeps a step that sends nothing in registers.
+        let dispatch = *self;
+        dispatch.post_all(links, room, frames);
+    }
+
+    // Whether there is nothing to send.
+    #[inline(always)]
+    fn is_nothing(&self) -> bool
+        ensures { IsTrue result → (d : ℕ) → bodies_to self.now d ≡ [] }
+    {
+        self.mail.notice == Notice::Nothing
+            && self.mail.letter.is_none()
+            && stays(self.line, self.centre, self.mail.first)
+            && stays(self.line, self.centre, self.mail.second)
+    }
+
+    // Sends each centre its part of the mail.
+    fn post_all(&self, links: &mut Links<Body>, room: &mut FrameRoom, frames: &mut Frames)
+        requires { MaySend self.now.line.now self.now.centre self.now.stamp (bodies_to self.now) links.old room.old }
+        ensures { IsSent self.now.stamp (bodies_to self.now) links.old links.new (frames_to frames.new) }
+    {
+        let reach = Reach::of(self);
+        let mut list = room.swap(frames.list.take());
+        let end = min(reach.last.saturating_add(1), self.line.centre_count());
+        for to in reach.first..end {
+            self.post_to(links, &mut list, to);
+        }
+        frames.list = Some(list);
+    }
 
     // Sends one centre its part of the mail.
     #[inline(always)]
@@ -160,53 +95,67 @@ impl Dispatch<'_> {
         ensures capacity { vec_capacity list.new ≡ vec_capacity list.old }
     {
         let mail = self.mail;
-        let first = part_to(self.line, self.centre, to, mail.track, mail.first);
-        post_one(links, list, self.stamp, to, home(self.nid_engine, first));
-        let second = part_to(self.line, self.centre, to, mail.track, mail.second);
-        post_one(links, list, self.stamp, to, home(self.nid_engine, second));
+        post_one(links, list, self.stamp, to, self.home(to, mail.first));
+        post_one(links, list, self.stamp, to, self.home(to, mail.second));
         let notice = mail
             .notice
             .to_centre(self.nid_engine, self.expectations, to);
         post_one(links, list, self.stamp, to, notice);
         post_one(links, list, self.stamp, to, letter_to(mail.letter, to));
     }
-}
 
-/// Tells each other centre of the line this, in a step with this stamp.
-pub(crate) fn post_to_others(
-    links: &mut Links<Body>,
-    room: &mut FrameRoom,
-    line: &Line,
-    centre: u8,
-    stamp: u32,
-    body: Body,
-    frames: &mut Frames,
-)
-    requires stamp { (1 ≤ stamp) × (stamp ≤ last_stamp) }
-    requires linked { (d : ℕ) → has_link links.old d ≡ is_linked line.now centre d }
-    requires may { (d : ℕ) → MayPost links.old d (to_others line.now centre (body_of body) d) }
-    requires room { HasFrameRoom room.old }
-    ensures posted { HasPosted body_of stamp (to_others line.now centre (body_of body)) links.old links.new }
-    ensures frames { (d : ℕ)
-        → frames_to frames.new d
-        ≡ numbered stamp (length (sent_to links.old d)) (to_others line.now centre (body_of body) d) }
-{
-    let mut list = room.swap(frames.list.take());
-    for to in 0..line.centre_count() {
-        let told = body_to(line, centre, to, body);
-        post_one(links, &mut list, stamp, to, told);
+    // The frame's body in which those sections of a run go home to a centre, where there are some.
+    #[inline(always)]
+    fn home(&self, to: u8, sections: SectionRun) -> Option<Body>
+        ensures { bodies_in result ≡ going_home self.now.line.now self.now.centre self.now.nid_engine
+            self.now.mail.now.track (run_of sections) to }
+    {
+        if sections.is_empty() {
+            return None;
+        }
+        let run = part_of(self.line, self.centre, to, self.mail.track, sections)?;
+        Some(Body::RouteReturn {
+            engine: self.nid_engine,
+            run,
+        })
     }
-    frames.list = Some(list);
 }
 
-// What one centre is told, where it is another of the line.
-fn body_to(line: &Line, centre: u8, to: u8, body: Body) -> Option<Body>
-    ensures { bodies_in result ≡ to_others line.now centre (body_of body) to }
-{
-    if line.linked(centre, to) {
-        Some(body)
-    } else {
-        None
+/// What each other centre of the line is told.
+#[derive(Drop)]
+pub(crate) struct Broadcast<'a> {
+    pub(crate) line: &'a Line,
+    /// The number of the centre that takes the step.
+    pub(crate) centre: u8,
+    /// The stamp of the step.
+    pub(crate) stamp: u32,
+    pub(crate) body: Body,
+}
+
+impl Broadcast<'_> {
+    ghost use Rattle.rbc_centre.specs.Dispatches.{told_by};
+
+    /// Tells each of them. The frames are written in place of those before.
+    pub(crate) fn post(&self, links: &mut Links<Body>, room: &mut FrameRoom, frames: &mut Frames)
+        requires { MaySend self.now.line.now self.now.centre self.now.stamp (told_by self.now) links.old room.old }
+        ensures { IsSent self.now.stamp (told_by self.now) links.old links.new (frames_to frames.new) }
+    {
+        let mut list = room.swap(frames.list.take());
+        for to in 0..self.line.centre_count() {
+            post_one(links, &mut list, self.stamp, to, self.body_to(to));
+        }
+        frames.list = Some(list);
+    }
+
+    // What one centre is told, where it is another of the line.
+    fn body_to(&self, to: u8) -> Option<Body>
+        ensures { bodies_in result ≡ told_by self.now to }
+    {
+        if self.line.linked(self.centre, to) {
+            Some(self.body)
+        } else {
+            None
+        }
     }
 }
 

@@ -5,13 +5,14 @@ ghost use Rattle.rbc_spec.specs.Line.{is_home};
 ghost use Rattle.rbc_spec.specs.Centre.{Expectation};
 ghost use Rattle.rbc_hand.specs.SectionRuns.{run_of};
 ghost use Rattle.rbc_handover.specs.Expectations.{is_told};
-ghost use Rattle.rbc_train.specs.Letters.{going_home, letters, mail_to, notices};
+ghost use Rattle.rbc_train.specs.Letters.{going_home, letters, notices};
 
 use crate::frames::MOST_CENTRES;
+use crate::posted::Dispatch;
 use rbc_hand::SectionRun;
 use rbc_handover::Announcers;
 use rbc_line::Line;
-use rbc_train::{Letter, Mail, Notice};
+use rbc_train::{Letter, Notice};
 use std::cmp::{max, min};
 
 /// A stretch of centres by their numbers, from the first to the last: none where the last is below the first.
@@ -22,17 +23,18 @@ pub(crate) struct Reach {
 }
 
 impl Reach {
+    ghost use Rattle.rbc_centre.specs.Dispatches.{bodies_to};
     ghost use Rattle.rbc_centre.specs.Reached.{IsOutside};
 
     /// A stretch that has each centre to which this mail of a step goes.
     #[inline(always)]
-    pub(crate) fn of(line: &Line, centre: u8, mail: &Mail) -> Reach
-        ensures { (d : ℕ) → d < 8 → IsOutside result d → (t : ℕ) → (e : ℕ → Option Expectation)
-            → mail_to line.now centre t e mail.now d ≡ [] }
+    pub(crate) fn of(dispatch: &Dispatch<'_>) -> Reach
+        ensures { (d : ℕ) → d < 8 → IsOutside result d → bodies_to dispatch.now d ≡ [] }
     {
+        let mail = dispatch.mail;
         Reach::nowhere()
-            .and_homes(line, centre, mail.first)
-            .and_homes(line, centre, mail.second)
+            .and_homes(dispatch.line, dispatch.centre, mail.first)
+            .and_homes(dispatch.line, dispatch.centre, mail.second)
             .and_notice(mail.notice)
             .and_letter(mail.letter)
     }

@@ -32,9 +32,6 @@ use Rattle.rbc_centre.proofs.centre.Centre.hear_train.Goals as goal
 pub overflow_add-self : goal.overflow_add-self
 overflow_add-self c = let early = heard_early c.args.self.now (step_message c.args.message.now) c.requires.allowed in search (rules, early)
 
-pub post-requires-clause-stamp : goal.post-requires-clause-stamp
-post-requires-clause-stamp c = let early = heard_early c.args.self.now (step_message c.args.message.now) c.requires.allowed in (omega arith, omega (arith, early))
-
 -- ## The train that the message is from, in the list of trains
 
 place : (c : After-index_mut-train) → slice_get c.args.self.now.trains.items c.args.i ≡ Some c.index_mut-train.result.now
@@ -91,35 +88,29 @@ take-taken-requires-clause-announced c =
 
 -- ## What goes to other centres
 
-pub post-requires-clause-linked : goal.post-requires-clause-linked
-post-requires-clause-linked c = c.args.self.now.rules.all_links.linked
-
-pub post-requires-clause-may : goal.post-requires-clause-may
-post-requires-clause-may c =
+pub post-requires : goal.post-requires
+post-requires c =
     let k = c.args.self.now in
     let m = step_message c.args.message.now in
     let i = c.args.i in
     let number = c.requires.number in
     let old = c.index_mut-train.result.now in
-    let at = place (goal.at.post-requires-clause-may c).After-index_mut-train in
-    let heard = c.take-taken.new.out in
+    let at = place (goal.at.post-requires c).After-index_mut-train in
+    let new = c.take-taken.new in
+    let heard = new.out in
+    let kept = c.take-taken.ensures.kept in
+    let desk = c.take-taken.ensures.desk in
+    let exact = c.in-Ok.ensures.exact in
     let engine = c.nid_engine.ensures.value ∙ sym (of_train k _ i old number at).engine in
-    subst (λ (t : ℕ). (d : ℕ) → MayPost k.links d (mail_to k.line k.number t (expected_from c.take-taken.new.self.expectations) heard.mail d)) (sym engine)
-    (heard_may k m _ i old number at c.take-taken.new.self c.take-taken.new.book c.take-taken.new.registrar c.take-taken.new.count c.take-taken.ensures.kept c.take-taken.ensures.desk heard c.in-Ok.ensures.exact
-    c.requires.allowed c.requires.ranges c.requires.frames)
-
-pub post-requires-clause-room : goal.post-requires-clause-room
-post-requires-clause-room c =
-    let k = c.args.self.now in
-    let m = step_message c.args.message.now in
-    let i = c.args.i in
-    let number = c.requires.number in
-    let old = c.index_mut-train.result.now in
-    let at = place (goal.at.post-requires-clause-room c).After-index_mut-train in
-    let heard = c.take-taken.new.out in
-    let engine = c.nid_engine.ensures.value ∙ sym (of_train k _ i old number at).engine in
-    subst (λ (t : ℕ). (d : ℕ) → (mail_to k.line k.number t (expected_from c.take-taken.new.self.expectations) heard.mail d ≡ []) ⊎ HasFrameRoom k.room) (sym engine)
-    (heard_frames k m _ i old number at c.take-taken.new.self c.take-taken.new.book c.take-taken.new.registrar c.take-taken.new.count c.take-taken.ensures.kept c.take-taken.ensures.desk heard c.in-Ok.ensures.exact c.requires.room)
+    let early = heard_early k m c.requires.allowed in
+    record {
+      timely = (omega arith, omega (arith, early));
+      linked = k.rules.all_links.linked;
+      may = subst (λ (t : ℕ). (d : ℕ) → MayPost k.links d (mail_to k.line k.number t (expected_from new.self.expectations) heard.mail d)) (sym engine)
+          (heard_may k m _ i old number at new.self new.book new.registrar new.count kept desk heard exact c.requires.allowed c.requires.ranges c.requires.frames);
+      room = subst (λ (t : ℕ). (d : ℕ) → (mail_to k.line k.number t (expected_from new.self.expectations) heard.mail d ≡ []) ⊎ HasFrameRoom k.room) (sym engine)
+          (heard_frames k m _ i old number at new.self new.book new.registrar new.count kept desk heard exact c.requires.room);
+    }
 
 -- ## The centre that is left
 
@@ -164,7 +155,7 @@ invariant_of-self c =
     let kept = c.take-taken.ensures.kept in
     let desk = c.take-taken.ensures.desk in
     let effect = hears k (Train m) t i old number at now new c.take-taken.new.book c.take-taken.new.registrar c.take-taken.new.count kept desk heard c.in-Ok.ensures.exact in
-    let sent = sent_by k.line k.number c.nid_engine.result old.supervision.engine now (expected_from new.expectations) heard.mail k.links c.post.new.links (frames_to c.post.new.frames) (c.nid_engine.ensures.value ∙ sym (of_train k t i old number at).engine) c.post.ensures.posted c.post.ensures.frames in
+    let sent = sent_by k.line k.number c.nid_engine.result old.supervision.engine now (expected_from new.expectations) heard.mail k.links c.post.new.links (frames_to c.post.new.frames) (c.nid_engine.ensures.value ∙ sym (of_train k t i old number at).engine) c.post.ensures in
     record {
       rules = stays k (Train m) now k.links c.post.new.links c.take-taken.new.book (record { registrar = c.take-taken.new.registrar; handovers = c.take-taken.new.count }) (set k.trains.items i new) (mail_to k.line k.number old.supervision.engine (expected_from new.expectations) heard.mail) (told_train heard.saying heard.order) (map (λ s. Told s) heard.told) None None
           (heard_stamp k m) (λ d. refl) sent.links effect (frames_to c.post.new.frames) sent.each
@@ -212,7 +203,7 @@ returns-in-Ok-clause-exact c =
     let effect = hears k (Train m) t i old number at now new c.take-taken.new.book c.take-taken.new.registrar c.take-taken.new.count c.take-taken.ensures.kept c.take-taken.ensures.desk heard c.in-Ok.ensures.exact in
     let left = stands_for k.line k.number now c.take-taken.new.book (record { registrar = c.take-taken.new.registrar; handovers = c.take-taken.new.count }) c.post.new.links (set k.trains.items i new) in
     let sent = sent_by k.line k.number c.nid_engine.result old.supervision.engine now (expected_from new.expectations) heard.mail k.links c.post.new.links (frames_to c.post.new.frames)
-    (c.nid_engine.ensures.value ∙ sym (of_train k t i old number at).engine) c.post.ensures.posted c.post.ensures.frames in
+    (c.nid_engine.ensures.value ∙ sym (of_train k t i old number at).engine) c.post.ensures in
     ap (λ (o : Outcome). (o, left)) c.write_heard.ensures
     ∙ turns k (Train m) now k.links c.post.new.links c.take-taken.new.book (record { registrar = c.take-taken.new.registrar; handovers = c.take-taken.new.count }) (set k.trains.items i new) (mail_to k.line k.number old.supervision.engine (expected_from new.expectations) heard.mail) (told_train heard.saying heard.order) (map (λ s. Told s) heard.told) None None
     (heard_stamp k m) (λ d. refl) sent.links effect (frames_to c.post.new.frames) sent.each

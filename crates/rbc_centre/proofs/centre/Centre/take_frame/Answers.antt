@@ -41,11 +41,6 @@ overflow_add-self c =
     let early = in_time k (Deliver c.args.from f) (max k.clock f.stamp) (deliver_stamp k c.args.from f) c.requires.allowed in
     search (rules, stamp, early)
 
-pub post-requires-clause-stamp : goal.post-requires-clause-stamp
-post-requires-clause-stamp c =
-    let early = in_time c.args.self.now (Deliver c.args.from c.args.frame.now) c.max.result (stamped (goal.at.post-requires-clause-stamp c).After-offer-answer) c.requires.allowed in
-    (omega arith, omega (arith, early))
-
 range : (c : After-offer-answer) → HasBodyRange c.args.frame.now.body
 range c = subst HasBodyRange c.body-body.ensures.value c.body-body.ensures.range
 
@@ -166,21 +161,13 @@ receive-requires-clause-count c =
     let few = has_count c.args.self.now c.engine.result c.in-Some.i c.index_mut-train.result.now (number at) (place at) (omega (arith, low, early)) in
     omega (arith, few)
 
-pub post-requires-clause-linked : goal.post-requires-clause-linked
-post-requires-clause-linked c = λ e. c.offer-answer.ensures.linked e ∙ c.args.self.now.rules.all_links.linked e
-
 -- the frame is the next of its sender
 is_next : (c : After-index_mut-train) → IsOffered c.args.self.now c.args.from c.args.frame.now c.offer-answer.new.self (answer_of c.offer-answer.result) → TakesMemory (state_of c.args.self.now) (Deliver c.args.from c.args.frame.now)
 is_next c is = next_number c.args.self.now c.args.from c.args.frame.now c.offer-answer.new.self (answer_of c.offer-answer.result) is (ap answer_of c.in-Next.is)
 
-pub post-requires-clause-room : goal.post-requires-clause-room
-post-requires-clause-room c e =
-    let at = goal.at.post-requires-clause-room c in
-    inr (c.requires.room (is_next at.After-index_mut-train (is_offered at.After-offer-answer)))
-
-pub post-requires-clause-may : goal.post-requires-clause-may
-post-requires-clause-may c =
-    let at = goal.at.post-requires-clause-may c in
+pub post-requires : goal.post-requires
+post-requires c =
+    let at = goal.at.post-requires c in
     let o = at.After-offer-answer in
     let p = at.After-index_mut-train in
     let k = c.args.self.now in
@@ -194,9 +181,16 @@ post-requires-clause-may c =
     let effect = train_takes k clock d f c.offer-answer.new.self answer (is_offered o) (ap answer_of c.in-Next.is) c.engine.result c.in-Some.i old (number p) (place p) new c.receive.new.book c.receive.new.registrar
     c.receive.ensures.kept c.receive.ensures.desk heard
     (λ x has known. ap (λ (b : Body). received k.line k.number d b x) (sym c.body-body.ensures.value) ∙ c.receive.ensures.exact x has known) in
-    subst (λ (u : ℕ). (e : ℕ) → MayPost c.offer-answer.new.self e (mail_to k.line k.number u (expected_from new.expectations) heard.mail e)) ((train p).engine ∙ c.engine.ensures ∙ sym c.engine-2.ensures)
-    (received_may k d f clock c.offer-answer.new.self _ old (expected_from new.expectations) heard answer (stamped o) c.offer-answer.ensures.sent effect c.requires.allowed
-    (range o) c.offer-answer.ensures.linked c.offer-answer.ensures.room (c.requires.frames (is_next p (is_offered o))))
+    let early = in_time k (Deliver d f) c.max.result (stamped o) c.requires.allowed in
+    let next = is_next p (is_offered o) in
+    record {
+      timely = (omega arith, omega (arith, early));
+      linked = λ e. c.offer-answer.ensures.linked e ∙ k.rules.all_links.linked e;
+      may = subst (λ (u : ℕ). (e : ℕ) → MayPost c.offer-answer.new.self e (mail_to k.line k.number u (expected_from new.expectations) heard.mail e)) ((train p).engine ∙ c.engine.ensures ∙ sym c.engine-2.ensures)
+          (received_may k d f clock c.offer-answer.new.self _ old (expected_from new.expectations) heard answer (stamped o) c.offer-answer.ensures.sent effect c.requires.allowed
+          (range o) c.offer-answer.ensures.linked c.offer-answer.ensures.room (c.requires.frames next));
+      room = λ e. inr (c.requires.room next);
+    }
 
 -- ## The centre that is left, and the answer
 
@@ -221,7 +215,7 @@ invariant_of-self-2 c =
     let effect = train_takes k clock d f mid answer (is_offered o) (ap answer_of c.in-Next.is) t i old (number p) (place p) new c.receive.new.book c.receive.new.registrar kept desk heard
     (λ x has known. ap (λ (b : Body). received k.line k.number d b x) (sym c.body-body.ensures.value) ∙ c.receive.ensures.exact x has known) in
     let was = train p in
-    let sent = sent_by k.line k.number c.engine-2.result old.supervision.engine clock (expected_from new.expectations) heard.mail mid c.post.new.links (frames_to c.post.new.frames) (c.engine-2.ensures ∙ sym c.engine.ensures ∙ sym was.engine) c.post.ensures.posted c.post.ensures.frames in
+    let sent = sent_by k.line k.number c.engine-2.result old.supervision.engine clock (expected_from new.expectations) heard.mail mid c.post.new.links (frames_to c.post.new.frames) (c.engine-2.ensures ∙ sym c.engine.ensures ∙ sym was.engine) c.post.ensures in
     let low = le-max_left k.clock f.stamp in
     let now = deliver_stamp k d f in
     let stamp = stamped o in
@@ -265,7 +259,7 @@ returns-clause-exact c =
     let desk : Desk = record { registrar = c.receive.new.registrar; handovers = k.desk.handovers } in
     let left = stands_for k.line k.number clock c.receive.new.book desk c.post.new.links (set k.trains.items i new) in
     let sent = sent_by k.line k.number c.engine-2.result old.supervision.engine clock (expected_from new.expectations) heard.mail mid c.post.new.links (frames_to c.post.new.frames)
-    (c.engine-2.ensures ∙ sym c.engine.ensures ∙ sym (train p).engine) c.post.ensures.posted c.post.ensures.frames in
+    (c.engine-2.ensures ∙ sym c.engine.ensures ∙ sym (train p).engine) c.post.ensures in
     ap (λ (o : Outcome). (o, left)) c.write_heard.ensures
     ∙ turns k (Deliver d f) clock mid c.post.new.links c.receive.new.book desk (set k.trains.items i new) (mail_to k.line k.number old.supervision.engine (expected_from new.expectations) heard.mail) (told_train heard.saying heard.order) (map (λ s. Told s) heard.told) (Some answer) None
     (stamped o) c.offer-answer.ensures.sent sent.links effect (frames_to c.post.new.frames) sent.each

@@ -29,7 +29,7 @@ pub post_one-requires-clause-may : goal.post_one-requires-clause-may
 post_one-requires-clause-may c =
     let p = c.args.self.now in
     let to = c.args.to in
-    subst (MayPost c.args.links.now to) (sym (c.home.ensures ∙ c.part_to-first.ensures p.nid_engine))
+    subst (MayPost c.args.links.now to) (sym c.home.ensures)
     (may_first c.args.links.now to (first p to) (second p to ++ (third p to ++ last p to)) c.requires.may)
 
 pub post_one-requires-2-clause-may : goal.post_one-requires-2-clause-may
@@ -38,8 +38,8 @@ post_one-requires-2-clause-may c =
     let to = c.args.to in
     let xs = bodies_in c.home.result in
     let may = may_after p.stamp (only to xs) c.args.links.now c.post_one.new.links to (first p to) (second p to ++ (third p to ++ last p to)) c.post_one.ensures.sent.posted
-    (only_here to xs ∙ c.home.ensures ∙ c.part_to-first.ensures p.nid_engine) c.requires.may in
-    subst (MayPost c.post_one.new.links to) (sym (c.home-2.ensures ∙ c.part_to-second.ensures p.nid_engine)) (may_first c.post_one.new.links to (second p to) (third p to ++ last p to) may)
+    (only_here to xs ∙ c.home.ensures) c.requires.may in
+    subst (MayPost c.post_one.new.links to) (sym c.home-2.ensures) (may_first c.post_one.new.links to (second p to) (third p to ++ last p to) may)
 
 pub post_one-requires-3-clause-may : goal.post_one-requires-3-clause-may
 post_one-requires-3-clause-may c =
@@ -48,9 +48,9 @@ post_one-requires-3-clause-may c =
     let xs = bodies_in c.home.result in
     let ys = bodies_in c.home-2.result in
     let may = may_after p.stamp (only to xs) c.args.links.now c.post_one.new.links to (first p to) (second p to ++ (third p to ++ last p to)) c.post_one.ensures.sent.posted
-    (only_here to xs ∙ c.home.ensures ∙ c.part_to-first.ensures p.nid_engine) c.requires.may in
+    (only_here to xs ∙ c.home.ensures) c.requires.may in
     let then = may_after p.stamp (only to ys) c.post_one.new.links c.post_one-2.new.links to (second p to) (third p to ++ last p to) c.post_one-2.ensures.sent.posted
-    (only_here to ys ∙ c.home-2.ensures ∙ c.part_to-second.ensures p.nid_engine) may in
+    (only_here to ys ∙ c.home-2.ensures) may in
     subst (MayPost c.post_one-2.new.links to) (sym c.to_centre-notice.ensures) (may_first c.post_one-2.new.links to (third p to) (last p to) then)
 
 pub post_one-requires-4-clause-may : goal.post_one-requires-4-clause-may
@@ -61,9 +61,9 @@ post_one-requires-4-clause-may c =
     let ys = bodies_in c.home-2.result in
     let zs = bodies_in c.to_centre-notice.result in
     let may = may_after p.stamp (only to xs) c.args.links.now c.post_one.new.links to (first p to) (second p to ++ (third p to ++ last p to)) c.post_one.ensures.sent.posted
-    (only_here to xs ∙ c.home.ensures ∙ c.part_to-first.ensures p.nid_engine) c.requires.may in
+    (only_here to xs ∙ c.home.ensures) c.requires.may in
     let then = may_after p.stamp (only to ys) c.post_one.new.links c.post_one-2.new.links to (second p to) (third p to ++ last p to) c.post_one-2.ensures.sent.posted
-    (only_here to ys ∙ c.home-2.ensures ∙ c.part_to-second.ensures p.nid_engine) may in
+    (only_here to ys ∙ c.home-2.ensures) may in
     subst (MayPost c.post_one-3.new.links to) (sym c.letter_to.ensures)
     (may_after p.stamp (only to zs) c.post_one-2.new.links c.post_one-3.new.links to (third p to) (last p to) c.post_one-3.ensures.sent.posted (only_here to zs ∙ c.to_centre-notice.ensures) then)
 
@@ -74,7 +74,7 @@ post_one-requires-clause-room c b is =
     let p = c.args.self.now in
     let to = c.args.to in
     let here = ap (λ (o : Option BodyCode). length (bodies_in o)) is in
-    let part = ap length (c.home.ensures ∙ c.part_to-first.ensures p.nid_engine) in
+    let part = ap length c.home.ensures in
     let room = some_of (first p to) (second p to) (third p to) (last p to) (omega (arith, here, part)) c.requires.room in
     omega (arith, room)
 
@@ -83,7 +83,7 @@ post_one-requires-2-clause-room c b is =
     let p = c.args.self.now in
     let to = c.args.to in
     let here = ap (λ (o : Option BodyCode). length (bodies_in o)) is in
-    let part = ap length (c.home-2.ensures ∙ c.part_to-second.ensures p.nid_engine) in
+    let part = ap length c.home-2.ensures in
     let room = some_of (first p to) (second p to) (third p to) (last p to) (omega (arith, here, part)) c.requires.room in
     omega (arith, room, c.post_one.ensures.count, c.post_one.ensures.capacity)
 
@@ -116,7 +116,7 @@ returns-clause-sent c =
     let zs = bodies_in c.to_centre-notice.result in
     let us = bodies_in c.letter_to.result in
     subst (λ (bodies : List Body). HasSent p.stamp (only to bodies) c.args.links.now c.post_one-4.new.links c.args.list.now.items c.post_one-4.new.list.items)
-    (λ i. (c.home.ensures ∙ c.part_to-first.ensures p.nid_engine) i ++ ((c.home-2.ensures ∙ c.part_to-second.ensures p.nid_engine) i ++ (c.to_centre-notice.ensures i ++ c.letter_to.ensures i)))
+    (λ i. c.home.ensures i ++ (c.home-2.ensures i ++ (c.to_centre-notice.ensures i ++ c.letter_to.ensures i)))
     (sent_more p.stamp to xs (ys ++ (zs ++ us)) c.args.links.now c.post_one.new.links c.post_one-4.new.links _ _ _ c.post_one.ensures.sent
     (sent_more p.stamp to ys (zs ++ us) c.post_one.new.links c.post_one-2.new.links c.post_one-4.new.links _ _ _ c.post_one-2.ensures.sent
     (sent_more p.stamp to zs us c.post_one-2.new.links c.post_one-3.new.links c.post_one-4.new.links _ _ _ c.post_one-3.ensures.sent c.post_one-4.ensures.sent)))

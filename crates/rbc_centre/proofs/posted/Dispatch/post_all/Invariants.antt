@@ -1,14 +1,13 @@
 use Rattle.std.proofs.Common.{◌≤◌, ◌*◌, [], length, vec_capacity}
-use Rattle.rbc_handover.specs.Expectations.{expected_from}
-use Rattle.rbc_train.specs.Letters.{mail_to}
+use Rattle.rbc_centre.specs.Dispatches.{bodies_to}
 use Rattle.rbc_centre.specs.Posts.{HasSent}
 use Rattle.rbc_centre.specs.Rooms.{HasFrameRoom}
 use Rattle.rbc_centre.proofs.Posts.{below}
-use Rattle.rbc_centre.proofs.posted.post_all.Given as goal
+use Rattle.rbc_centre.proofs.posted.Dispatch.post_all.Given as goal
 
 abbrev pub invariant-loop-to : goal.invariant-loop-to
 invariant-loop-to l = record {
-  sent : HasSent l.stamp (below (mail_to l.line l.centre l.nid_engine (expected_from l.expectations) l.mail) l.to) l.fn.links l.links [] l.list.items;
+  sent : HasSent l.self.stamp (below (bodies_to l.self) l.to) l.fn.links l.links [] l.list.items;
   count : length l.list.items ≤ 4 * l.to;
   most : length l.list.items ≤ 32;
   room : HasFrameRoom l.fn.room → 32 ≤ vec_capacity l.list;
