@@ -10,3 +10,4 @@ pub mod Kept
 pub mod States
 pub mod Answer
 pub mod Ranges
+pub mod Taken

@@ -4,7 +4,6 @@ ghost use Rattle.rbc_spec.specs.Centre.{beginning};
 ghost use Rattle.rbc_spec.specs.Step as spec;
 ghost use Rattle.rbc_spec.specs.Step.{refusal, stamp_of};
 ghost use Rattle.rbc_book.specs.Entries.{entry_of};
-ghost use Rattle.rbc_link.specs.Links as links;
 ghost use Rattle.rbc_place.specs.Places.{place_of};
 ghost use Rattle.rbc_train.specs.Desks.{mission_by};
 ghost use Rattle.rbc_msgs.specs.StepMessage.{step_message};
@@ -87,8 +86,8 @@ impl Drop for Centre {
 }
 
 impl Centre {
-    ghost use Rattle.rbc_centre.specs.Rooms.{HasFrameRoom};
     ghost use Rattle.rbc_centre.specs.States.{line_of, number_of, state_of, IsSame};
+    ghost use Rattle.rbc_centre.specs.Taken.{HasRoomToSend};
 
     /// A centre of the line at its beginning. It keeps a copy of the line.
     pub fn new(alloc: Global, line: &Line, number: u8) -> Result<Centre, AllocError>
@@ -191,8 +190,7 @@ impl Centre {
     #[inline(always)]
     pub(crate) fn reserve_frames(&mut self) -> Result<(), AllocError>
         ensures same { IsSame self.old self.new }
-        ensures links { OnOk result (links.HasRoom self.new.links 4) }
-        ensures room { OnOk result (HasFrameRoom self.new.room) }
+        ensures room { OnOk result (HasRoomToSend self.new) }
     {
         self.links.reserve(MOST_TO_ONE)?;
         self.room.reserve()

@@ -1,14 +1,11 @@
 //! The step of a frame of another centre: room is made where it is the next, the link says whether it is, and then its
 //! train takes it.
 
-ghost use Rattle.std.specs.Prelude.{◌≡◌, OnOk, OnErr, None};
+ghost use Rattle.std.specs.Prelude.{◌≡◌, OnOk, OnErr};
 ghost use Rattle.rbc_spec.specs.Step as spec;
-ghost use Rattle.rbc_spec.specs.Step.{refusal};
-ghost use Rattle.rbc_link.specs.Links as links;
 ghost use Rattle.rbc_centre.specs.Answer.{TakesMemory};
-ghost use Rattle.rbc_centre.specs.Rooms.{HasFrameRoom};
-ghost use Rattle.rbc_centre.specs.States.{line_of, number_of, state_of, IsSame};
-ghost use Rattle.rbc_centre.specs.Views.{outcome_of};
+ghost use Rattle.rbc_centre.specs.States.{state_of, IsSame};
+ghost use Rattle.rbc_centre.specs.Taken.{HasRoomToSend, HasTaken, KeepsPlace, MayTake};
 
 use crate::centre::Centre;
 use crate::outcome::Outcome;
@@ -28,12 +25,9 @@ impl Centre {
         frame: &Frame,
         out: &mut Outcome,
     ) -> Result<(), AllocError>
-        requires allowed { refusal (line_of self.old) (number_of self.old) (state_of self.old)
-            (spec.Deliver from frame.now) ≡ None }
-        ensures line { line_of self.new ≡ line_of self.old }
-        ensures number { number_of self.new ≡ number_of self.old }
-        ensures exact { OnOk result ((outcome_of out.new, state_of self.new)
-            ≡ spec.taken (line_of self.old) (number_of self.old) (spec.Deliver from frame.now) (state_of self.old)) }
+        requires allowed { MayTake self.old (spec.Deliver from frame.now) }
+        ensures place { KeepsPlace self.old self.new }
+        ensures exact { OnOk result (HasTaken (spec.Deliver from frame.now) self.old self.new out.new) }
         ensures memory { OnErr result (TakesMemory (state_of self.old) (spec.Deliver from frame.now)) }
         ensures err { OnErr result (state_of self.new ≡ state_of self.old) }
     {
@@ -46,10 +40,8 @@ impl Centre {
     #[inline(always)]
     fn make_room_for(&mut self, from: u8, frame: &Frame) -> Result<(), AllocError>
         ensures same { IsSame self.old self.new }
-        ensures frames { OnOk result
-            (TakesMemory (state_of self.new) (spec.Deliver from frame.now) → links.HasRoom self.new.links 4) }
         ensures room { OnOk result
-            (TakesMemory (state_of self.new) (spec.Deliver from frame.now) → HasFrameRoom self.new.room) }
+            (TakesMemory (state_of self.new) (spec.Deliver from frame.now) → HasRoomToSend self.new) }
         ensures memory { OnErr result (TakesMemory (state_of self.old) (spec.Deliver from frame.now)) }
     {
         if frame.number() - 1 != self.taken(from) {
@@ -60,15 +52,10 @@ impl Centre {
 
     // The step of a frame. For what a next one is answered by there is room.
     fn take_frame(&mut self, from: u8, frame: &Frame, out: &mut Outcome)
-        requires allowed { refusal (line_of self.old) (number_of self.old) (state_of self.old)
-            (spec.Deliver from frame.now) ≡ None }
-        requires frames { TakesMemory (state_of self.old) (spec.Deliver from frame.now)
-            → links.HasRoom self.old.links 4 }
-        requires room { TakesMemory (state_of self.old) (spec.Deliver from frame.now) → HasFrameRoom self.old.room }
-        ensures line { line_of self.new ≡ line_of self.old }
-        ensures number { number_of self.new ≡ number_of self.old }
-        ensures exact { (outcome_of out.new, state_of self.new)
-            ≡ spec.taken (line_of self.old) (number_of self.old) (spec.Deliver from frame.now) (state_of self.old) }
+        requires allowed { MayTake self.old (spec.Deliver from frame.now) }
+        requires room { TakesMemory (state_of self.old) (spec.Deliver from frame.now) → HasRoomToSend self.old }
+        ensures place { KeepsPlace self.old self.new }
+        ensures exact { HasTaken (spec.Deliver from frame.now) self.old self.new out.new }
     {
         let body = frame.body();
         self.clock = max(self.clock, frame.stamp()) + 1;

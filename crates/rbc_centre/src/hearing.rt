@@ -1,19 +1,17 @@
 //! The step of a train's message: room is made, then the train takes it, and what it leaves for other centres is sent.
 
-ghost use Rattle.std.specs.Prelude.{◌≡◌, OnOk, OnErr, true, false, Some, None};
+ghost use Rattle.std.specs.Prelude.{◌≡◌, OnOk, OnErr, true, false, Some};
 ghost use Rattle.rbc_spec.specs.Line.{train_number};
 ghost use Rattle.rbc_spec.specs.Message.{is_stale};
 ghost use Rattle.rbc_spec.specs.Step as spec;
-ghost use Rattle.rbc_spec.specs.Step.{refusal};
 ghost use Rattle.rbc_msgs.specs.StepMessage.{step_message};
 ghost use Rattle.rbc_msgs.specs.declared.train_body.TrainBody.TheVariants.{InitiationOfSession};
 ghost use Rattle.rbc_session.specs.Sessions as sessions;
-ghost use Rattle.rbc_link.specs.Links as links;
 ghost use Rattle.law_ranges.specs.Ranges.{HasMessageRanges};
 ghost use Rattle.rbc_train.specs.Letters.{tells_others};
 ghost use Rattle.rbc_centre.specs.Answer.{Steps, IsWantedBy, TakesMemory};
-ghost use Rattle.rbc_centre.specs.Rooms.{HasFrameRoom};
 ghost use Rattle.rbc_centre.specs.States.{line_of, number_of, state_of, IsSame};
+ghost use Rattle.rbc_centre.specs.Taken.{HasRoomToSend, HasTaken, KeepsPlace, MayTake};
 ghost use Rattle.rbc_centre.specs.Views.{outcome_of};
 
 use crate::centre::Centre;
@@ -29,13 +27,9 @@ impl Centre {
     /// The step of a train's message, at a centre that refuses none. Room for a session and for frames is made first.
     #[inline(always)]
     pub(crate) fn take(&mut self, message: &TrainMsg, out: &mut Outcome) -> Result<(), AllocError>
-        requires allowed { refusal (line_of self.old) (number_of self.old) (state_of self.old)
-            (spec.Train (step_message message.now)) ≡ None }
-        ensures line { line_of self.new ≡ line_of self.old }
-        ensures number { number_of self.new ≡ number_of self.old }
-        ensures exact { OnOk result ((outcome_of out.new, state_of self.new)
-            ≡ spec.taken (line_of self.old) (number_of self.old) (spec.Train (step_message message.now))
-            (state_of self.old)) }
+        requires allowed { MayTake self.old (spec.Train (step_message message.now)) }
+        ensures place { KeepsPlace self.old self.new }
+        ensures exact { OnOk result (HasTaken (spec.Train (step_message message.now)) self.old self.new out.new) }
         ensures memory { OnErr result (TakesMemory (state_of self.old) (spec.Train (step_message message.now))) }
         ensures err { OnErr result (state_of self.new ≡ state_of self.old) }
     {
@@ -72,14 +66,10 @@ impl Centre {
     // The step of a message of train number i of the line, at a centre that refuses none.
     #[inline(always)]
     fn take_from(&mut self, i: u8, message: &TrainMsg, out: &mut Outcome) -> Result<(), AllocError>
-        requires allowed { refusal (line_of self.old) (number_of self.old) (state_of self.old)
-            (spec.Train (step_message message.now)) ≡ None }
+        requires allowed { MayTake self.old (spec.Train (step_message message.now)) }
         requires number { train_number (line_of self.old) message.now.nid_engine ≡ Some i }
-        ensures line { line_of self.new ≡ line_of self.old }
-        ensures number { number_of self.new ≡ number_of self.old }
-        ensures exact { OnOk result ((outcome_of out.new, state_of self.new)
-            ≡ spec.taken (line_of self.old) (number_of self.old) (spec.Train (step_message message.now))
-            (state_of self.old)) }
+        ensures place { KeepsPlace self.old self.new }
+        ensures exact { OnOk result (HasTaken (spec.Train (step_message message.now)) self.old self.new out.new) }
         ensures memory { OnErr result (TakesMemory (state_of self.old) (spec.Train (step_message message.now))) }
         ensures err { OnErr result (state_of self.new ≡ state_of self.old) }
     {
@@ -95,9 +85,7 @@ impl Centre {
     fn make_room(&mut self, i: usize, message: &TrainMsg) -> Result<(), AllocError>
         requires number { train_number (line_of self.old) message.now.nid_engine ≡ Some i }
         ensures same { IsSame self.old self.new }
-        ensures frames { OnOk result
-            (tells_others (step_message message.now).body ≡ true → links.HasRoom self.new.links 4) }
-        ensures room { OnOk result (tells_others (step_message message.now).body ≡ true → HasFrameRoom self.new.room) }
+        ensures room { OnOk result (tells_others (step_message message.now).body ≡ true → HasRoomToSend self.new) }
         ensures session { OnOk result
             (message.now.body ≡ InitiationOfSession
             → is_stale message.now.t_train ((state_of self.new).heard message.now.nid_engine) ≡ false
@@ -120,20 +108,15 @@ impl Centre {
     // The step of a message of train number i of the line, in its ranges.
     #[inline(always)]
     fn hear_train(&mut self, i: usize, message: &TrainMsg, out: &mut Outcome)
-        requires allowed { refusal (line_of self.old) (number_of self.old) (state_of self.old)
-            (spec.Train (step_message message.now)) ≡ None }
+        requires allowed { MayTake self.old (spec.Train (step_message message.now)) }
         requires number { train_number (line_of self.old) message.now.nid_engine ≡ Some i }
         requires ranges { HasMessageRanges (step_message message.now) }
-        requires frames { tells_others (step_message message.now).body ≡ true → links.HasRoom self.old.links 4 }
-        requires room { tells_others (step_message message.now).body ≡ true → HasFrameRoom self.old.room }
+        requires room { tells_others (step_message message.now).body ≡ true → HasRoomToSend self.old }
         requires session { message.now.body ≡ InitiationOfSession
             → is_stale message.now.t_train ((state_of self.old).heard message.now.nid_engine) ≡ false
             → sessions.HasRoom self.old.sessions }
-        ensures line { line_of self.new ≡ line_of self.old }
-        ensures number { number_of self.new ≡ number_of self.old }
-        ensures exact { (outcome_of out.new, state_of self.new)
-            ≡ spec.taken (line_of self.old) (number_of self.old) (spec.Train (step_message message.now))
-            (state_of self.old) }
+        ensures place { KeepsPlace self.old self.new }
+        ensures exact { HasTaken (spec.Train (step_message message.now)) self.old self.new out.new }
     {
         self.clock += 1;
         let train = &mut self.trains[i];

@@ -1,16 +1,14 @@
 //! The step of what the interlocking says of a section.
 
-ghost use Rattle.std.specs.Prelude.{◌≡◌, ◌<◌, ℕ, IfSome, OnOk, OnErr, None, length};
+ghost use Rattle.std.specs.Prelude.{◌≡◌, ◌<◌, ℕ, IfSome, OnOk, OnErr, length};
 ghost use Rattle.rbc_spec.specs.Centre as spec;
 ghost use Rattle.rbc_spec.specs.Line.{train_number};
 ghost use Rattle.rbc_spec.specs.Step as step;
-ghost use Rattle.rbc_spec.specs.Step.{refusal};
 ghost use Rattle.rbc_book.specs.Book.{entry_at};
 ghost use Rattle.rbc_book.specs.Entries.{entry_of};
-ghost use Rattle.rbc_link.specs.Links as links;
 ghost use Rattle.rbc_centre.specs.Answer.{Steps, IsWantedBy, TakesMemory};
-ghost use Rattle.rbc_centre.specs.Rooms.{HasFrameRoom};
 ghost use Rattle.rbc_centre.specs.States.{line_of, number_of, state_of};
+ghost use Rattle.rbc_centre.specs.Taken.{HasRoomToSend, HasTaken, KeepsPlace, MayTake};
 ghost use Rattle.rbc_centre.specs.Views.{outcome_of};
 
 use crate::centre::Centre;
@@ -54,11 +52,9 @@ impl Centre {
     /// The interlocking releases a section.
     #[inline(always)]
     pub(crate) fn set(&mut self, s: u16, out: &mut Outcome)
-        requires allowed { refusal (line_of self.old) (number_of self.old) (state_of self.old) (step.Set s) ≡ None }
-        ensures line { line_of self.new ≡ line_of self.old }
-        ensures number { number_of self.new ≡ number_of self.old }
-        ensures exact { (outcome_of out.new, state_of self.new)
-            ≡ step.taken (line_of self.old) (number_of self.old) (step.Set s) (state_of self.old) }
+        requires allowed { MayTake self.old (step.Set s) }
+        ensures place { KeepsPlace self.old self.new }
+        ensures exact { HasTaken (step.Set s) self.old self.new out.new }
     {
         self.clock += 1;
         match self.book.set(s) {
@@ -71,11 +67,9 @@ impl Centre {
     /// it is lent each other centre. Room for the frames is made first.
     #[inline(always)]
     pub(crate) fn unset(&mut self, s: u16, out: &mut Outcome) -> Result<(), AllocError>
-        requires allowed { refusal (line_of self.old) (number_of self.old) (state_of self.old) (step.Unset s) ≡ None }
-        ensures line { line_of self.new ≡ line_of self.old }
-        ensures number { number_of self.new ≡ number_of self.old }
-        ensures exact { OnOk result ((outcome_of out.new, state_of self.new)
-            ≡ step.taken (line_of self.old) (number_of self.old) (step.Unset s) (state_of self.old)) }
+        requires allowed { MayTake self.old (step.Unset s) }
+        ensures place { KeepsPlace self.old self.new }
+        ensures exact { OnOk result (HasTaken (step.Unset s) self.old self.new out.new) }
         ensures memory { OnErr result (TakesMemory (state_of self.old) (step.Unset s)) }
         ensures err { OnErr result (state_of self.new ≡ state_of self.old) }
     {
@@ -92,14 +86,11 @@ impl Centre {
     // A section is taken back that is out for this train: each other centre is asked for it, as it is not known here
     // which has it.
     fn withdraw(&mut self, s: u16, nid_engine: u32, out: &mut Outcome)
-        requires allowed { refusal (line_of self.old) (number_of self.old) (state_of self.old) (step.Unset s) ≡ None }
+        requires allowed { MayTake self.old (step.Unset s) }
         requires out { entry_at self.old.book s ≡ spec.Out nid_engine }
-        requires frames { links.HasRoom self.old.links 4 }
-        requires room { HasFrameRoom self.old.room }
-        ensures line { line_of self.new ≡ line_of self.old }
-        ensures number { number_of self.new ≡ number_of self.old }
-        ensures exact { (outcome_of out.new, state_of self.new)
-            ≡ step.taken (line_of self.old) (number_of self.old) (step.Unset s) (state_of self.old) }
+        requires room { HasRoomToSend self.old }
+        ensures place { KeepsPlace self.old self.new }
+        ensures exact { HasTaken (step.Unset s) self.old self.new out.new }
     {
         self.clock += 1;
         let _asked = self.book.unset(s);
@@ -119,13 +110,11 @@ impl Centre {
     // A section is taken back that is not out, but used so.
     #[inline(always)]
     fn unset_here(&mut self, s: u16, entry: Entry, out: &mut Outcome)
-        requires allowed { refusal (line_of self.old) (number_of self.old) (state_of self.old) (step.Unset s) ≡ None }
+        requires allowed { MayTake self.old (step.Unset s) }
         requires entry { entry_of entry ≡ entry_at self.old.book s }
         requires here { (t : ℕ) → entry_at self.old.book s ≡ spec.Out t → ⊥ }
-        ensures line { line_of self.new ≡ line_of self.old }
-        ensures number { number_of self.new ≡ number_of self.old }
-        ensures exact { (outcome_of out.new, state_of self.new)
-            ≡ step.taken (line_of self.old) (number_of self.old) (step.Unset s) (state_of self.old) }
+        ensures place { KeepsPlace self.old self.new }
+        ensures exact { HasTaken (step.Unset s) self.old self.new out.new }
     {
         let user = self.user_of(entry);
         self.clock += 1;

@@ -107,9 +107,9 @@ post-requires c =
       timely = (omega arith, omega (arith, early));
       linked = k.rules.all_links.linked;
       may = subst (λ (t : ℕ). (d : ℕ) → MayPost k.links d (mail_to k.line k.number t (expected_from new.self.expectations) heard.mail d)) (sym engine)
-          (heard_may k m _ i old number at new.self new.book new.registrar new.count kept desk heard exact c.requires.allowed c.requires.ranges c.requires.frames);
+          (heard_may k m _ i old number at new.self new.book new.registrar new.count kept desk heard exact c.requires.allowed c.requires.ranges (λ tells. (c.requires.room tells).links));
       room = subst (λ (t : ℕ). (d : ℕ) → (mail_to k.line k.number t (expected_from new.self.expectations) heard.mail d ≡ []) ⊎ HasFrameRoom k.room) (sym engine)
-          (heard_frames k m _ i old number at new.self new.book new.registrar new.count kept desk heard exact c.requires.room);
+          (heard_frames k m _ i old number at new.self new.book new.registrar new.count kept desk heard exact (λ tells. (c.requires.room tells).frames));
     }
 
 -- ## The centre that is left
@@ -160,7 +160,7 @@ invariant_of-self c =
       rules = stays k (Train m) now k.links c.post.new.links c.take-taken.new.book (record { registrar = c.take-taken.new.registrar; handovers = c.take-taken.new.count }) (set k.trains.items i new) (mail_to k.line k.number old.supervision.engine (expected_from new.expectations) heard.mail) (told_train heard.saying heard.order) (map (λ s. Told s) heard.told) None None
           (heard_stamp k m) (λ d. refl) sent.links effect (frames_to c.post.new.frames) sent.each
           c.take-taken.new.sessions (omega arith) c.requires.allowed (k.rules.of_line, c.requires.ranges)
-          (heard_may k m t i old number at new c.take-taken.new.book c.take-taken.new.registrar c.take-taken.new.count kept desk heard c.in-Ok.ensures.exact c.requires.allowed c.requires.ranges c.requires.frames)
+          (heard_may k m t i old number at new c.take-taken.new.book c.take-taken.new.registrar c.take-taken.new.count kept desk heard c.in-Ok.ensures.exact c.requires.allowed c.requires.ranges (λ tells. (c.requires.room tells).links))
           desk.homes desk.rights.count k.rules.all_links (trains (goal.at.invariant_of-self c).After-take-taken at);
     }
 

@@ -188,8 +188,8 @@ post-requires c =
       linked = λ e. c.offer-answer.ensures.linked e ∙ k.rules.all_links.linked e;
       may = subst (λ (u : ℕ). (e : ℕ) → MayPost c.offer-answer.new.self e (mail_to k.line k.number u (expected_from new.expectations) heard.mail e)) ((train p).engine ∙ c.engine.ensures ∙ sym c.engine-2.ensures)
           (received_may k d f clock c.offer-answer.new.self _ old (expected_from new.expectations) heard answer (stamped o) c.offer-answer.ensures.sent effect c.requires.allowed
-          (range o) c.offer-answer.ensures.linked c.offer-answer.ensures.room (c.requires.frames next));
-      room = λ e. inr (c.requires.room next);
+          (range o) c.offer-answer.ensures.linked c.offer-answer.ensures.room (c.requires.room next).links);
+      room = λ e. inr (c.requires.room next).frames;
     }
 
 -- ## The centre that is left, and the answer
@@ -224,7 +224,7 @@ invariant_of-self-2 c =
           stamp c.offer-answer.ensures.sent sent.links effect (frames_to c.post.new.frames) sent.each
           k.sessions (omega arith) c.requires.allowed (range o)
           (received_may k d f clock mid _ old (expected_from new.expectations) heard answer stamp c.offer-answer.ensures.sent effect c.requires.allowed (range o) c.offer-answer.ensures.linked c.offer-answer.ensures.room
-          (c.requires.frames (is_next p (is_offered o)))) desk.homes desk.rights.count
+          (c.requires.room (is_next p (is_offered o))).links) desk.homes desk.rights.count
           (links_still k.line k.number k.links mid c.offer-answer.ensures.count c.offer-answer.ensures.linked c.offer-answer.ensures.sent k.rules.all_links)
           (trains_set k.line k.number k.clock clock k.sessions k.sessions k.trains.items t i old new (omega (arith, low, now, stamp)) (number p) (place p) kept.said
           (record {

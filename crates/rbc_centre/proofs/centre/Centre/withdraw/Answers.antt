@@ -19,8 +19,8 @@ post-requires c =
     record {
       timely = (omega arith, omega (arith, early));
       linked = c.args.self.now.rules.all_links.linked;
-      may = may_withdraw c.args.self.now c.args.s c.args.nid_engine c.unset-asked.new.self c.requires.out c.unset-asked.ensures.entry c.unset-asked.ensures.wish c.requires.allowed c.requires.frames;
-      room = λ d. inr c.requires.room;
+      may = may_withdraw c.args.self.now c.args.s c.args.nid_engine c.unset-asked.new.self c.requires.out c.unset-asked.ensures.entry c.unset-asked.ensures.wish c.requires.allowed c.requires.room.links;
+      room = λ d. inr c.requires.room.frames;
     }
 
 pub invariant_of-self : goal.invariant_of-self
@@ -32,7 +32,7 @@ invariant_of-self c =
           (withdraws k c.args.s c.args.nid_engine c.unset-asked.new.self c.requires.out c.unset-asked.ensures.entry c.unset-asked.ensures.wish)
           (frames_to c.post.new.frames) c.post.ensures.each
           k.sessions (omega arith) c.requires.allowed tt
-          (may_withdraw k c.args.s c.args.nid_engine c.unset-asked.new.self c.requires.out c.unset-asked.ensures.entry c.unset-asked.ensures.wish c.requires.allowed c.requires.frames) c.unset-asked.ensures.homes refl k.rules.all_links
+          (may_withdraw k c.args.s c.args.nid_engine c.unset-asked.new.self c.requires.out c.unset-asked.ensures.entry c.unset-asked.ensures.wish c.requires.allowed c.requires.room.links) c.unset-asked.ensures.homes refl k.rules.all_links
           (trains_still k.line k.number k.clock (k.clock + 1) k.sessions k.trains.items (omega arith) k.rules.all_trains);
     }
 
