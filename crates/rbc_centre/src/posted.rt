@@ -95,13 +95,14 @@ impl Dispatch<'_> {
         ensures capacity { vec_capacity list.new ≡ vec_capacity list.old }
     {
         let mail = self.mail;
-        post_one(links, list, self.stamp, to, self.home(to, mail.first));
-        post_one(links, list, self.stamp, to, self.home(to, mail.second));
+        let stamp = self.stamp;
+        post_one(links, list, stamp, to, self.home(to, mail.first));
+        post_one(links, list, stamp, to, self.home(to, mail.second));
         let notice = mail
             .notice
             .to_centre(self.nid_engine, self.expectations, to);
-        post_one(links, list, self.stamp, to, notice);
-        post_one(links, list, self.stamp, to, letter_to(mail.letter, to));
+        post_one(links, list, stamp, to, notice);
+        post_one(links, list, stamp, to, letter_to(mail.letter, to));
     }
 
     // The frame's body in which those sections of a run go home to a centre, where there are some.
