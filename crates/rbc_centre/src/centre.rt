@@ -1,9 +1,12 @@
 ghost use Rattle.std.specs.Prelude.{◌≡◌, ◌+◌, true, length, IfOk, IfErr, OnOk, OnErr, Some, None, option_map};
+ghost use Rattle.std.specs.Option.{option_map_or};
 ghost use Rattle.rbc_spec.specs.Line.{is_centre};
+ghost use Rattle.rbc_spec.specs.SectionRuns.{no_run};
 ghost use Rattle.rbc_spec.specs.Centre.{beginning};
 ghost use Rattle.rbc_spec.specs.Step as spec;
 ghost use Rattle.rbc_spec.specs.Step.{refusal, stamp_of};
 ghost use Rattle.rbc_book.specs.Entries.{entry_of};
+ghost use Rattle.rbc_hand.specs.SectionRuns.{run_of};
 ghost use Rattle.rbc_place.specs.Places.{place_of};
 ghost use Rattle.rbc_train.specs.Desks.{mission_by};
 ghost use Rattle.rbc_msgs.specs.StepMessage.{step_message};
@@ -141,6 +144,10 @@ impl Centre {
         ensures said { result.said ≡ (state_of self.now).said nid_engine }
         ensures mission { mission_by result.mission result.hand result.pool
             (handing_at ((state_of self.now).mission nid_engine)) ≡ (state_of self.now).mission nid_engine }
+        ensures hand { run_of result.hand
+            ≡ option_map_or (λ m. m.hand) ((state_of self.now).mission nid_engine) no_run }
+        ensures pool { run_of result.pool
+            ≡ option_map_or (λ m. m.pool) ((state_of self.now).mission nid_engine) no_run }
         ensures waiting { option_map place_of result.waiting ≡ (state_of self.now).wait nid_engine }
     {
         match self.line.train_number(nid_engine) {

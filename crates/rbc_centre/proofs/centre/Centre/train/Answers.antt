@@ -1,5 +1,7 @@
 use Rattle.std.proofs.Common.{◌∙◌, ap, sym, refl, Option, None}
+use Rattle.std.specs.Option.{option_map_or}
 use Rattle.std.proofs.lemmas.Option.{slice_get_read}
+use Rattle.rbc_spec.specs.SectionRuns.{no_run}
 use Rattle.rbc_spec.specs.Centre.{Mission, Closed}
 use Rattle.rbc_session.specs.SessionStates.{session_phase}
 use Rattle.rbc_train.specs.Desks.{mission_by}
@@ -56,6 +58,34 @@ pub returns-in-None-clause-mission : goal.returns-in-None-clause-mission
 unfolding stands_for
 returns-in-None-clause-mission c =
     part_of_foreign (λ p. p.supervision.mission) None c.args.self.now.line c.args.self.now.trains.items c.args.nid_engine (sym c.train_number.ensures.value ∙ c.in-None.is)
+
+pub returns-in-Some-clause-hand : goal.returns-in-Some-clause-hand
+unfolding stands_for
+returns-in-Some-clause-hand c =
+    let number = sym c.train_number.ensures.value ∙ c.in-Some.is in
+    let within = number_within c.args.self.now.line c.args.self.now.trains.items c.args.nid_engine _ number c.args.self.now.rules.all_trains.count in
+    let is = part_of_train (λ p. p.supervision.mission) None c.args.self.now.line c.args.self.now.trains.items c.args.nid_engine _ c.index.result.now number (slice_get_read _ _ _ _ refl within c.index.ensures) in
+    c.page.ensures.hand ∙ ap (λ (m : Option Mission). option_map_or (λ m. m.hand) m no_run) is
+
+pub returns-in-None-clause-hand : goal.returns-in-None-clause-hand
+unfolding stands_for
+returns-in-None-clause-hand c =
+    ap (λ (m : Option Mission). option_map_or (λ m. m.hand) m no_run)
+    (part_of_foreign (λ p. p.supervision.mission) None c.args.self.now.line c.args.self.now.trains.items c.args.nid_engine (sym c.train_number.ensures.value ∙ c.in-None.is))
+
+pub returns-in-Some-clause-pool : goal.returns-in-Some-clause-pool
+unfolding stands_for
+returns-in-Some-clause-pool c =
+    let number = sym c.train_number.ensures.value ∙ c.in-Some.is in
+    let within = number_within c.args.self.now.line c.args.self.now.trains.items c.args.nid_engine _ number c.args.self.now.rules.all_trains.count in
+    let is = part_of_train (λ p. p.supervision.mission) None c.args.self.now.line c.args.self.now.trains.items c.args.nid_engine _ c.index.result.now number (slice_get_read _ _ _ _ refl within c.index.ensures) in
+    c.page.ensures.pool ∙ ap (λ (m : Option Mission). option_map_or (λ m. m.pool) m no_run) is
+
+pub returns-in-None-clause-pool : goal.returns-in-None-clause-pool
+unfolding stands_for
+returns-in-None-clause-pool c =
+    ap (λ (m : Option Mission). option_map_or (λ m. m.pool) m no_run)
+    (part_of_foreign (λ p. p.supervision.mission) None c.args.self.now.line c.args.self.now.trains.items c.args.nid_engine (sym c.train_number.ensures.value ∙ c.in-None.is))
 
 pub returns-in-Some-clause-waiting : goal.returns-in-Some-clause-waiting
 unfolding stands_for
