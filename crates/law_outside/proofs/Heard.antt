@@ -1,34 +1,37 @@
 -- What is seen outside follows the one line centre's state through a train's message that is heard.
-use Rattle.std.proofs.Common.{◌≡◌, ℕ, zero, suc, ◌+◌, ◌-◌, ◌*◌, ◌<◌, ◌≤◌, ◌==◌, ◌&&◌, ◌||◌, not, nat_le, nat_lt, Bool, true, false, List, [], ◌∷◌, Option, Some, None, option_map, if◌then◌else◌, refl, sym, ap, ◌∙◌, inl, inr, subst, arith, eqb-true, leb-true, ltb-true, min}
+use Rattle.std.proofs.Common.{◌≡◌, ℕ, zero, suc, ◌+◌, ◌-◌, ◌*◌, ◌<◌, ◌≤◌, ◌==◌, ◌&&◌, ◌||◌, not, nat_le, nat_lt, Bool, true, false, List, [], ◌∷◌, Option, Some, None, Ok, option_map, if◌then◌else◌, refl, sym, ap, ◌∙◌, inl, inr, subst, arith, eqb-true, leb-true, ltb-true, max}
 use Rattle.std.specs.Option.{option_map_or, option_and_then}
 use Rattle.std.specs.List.{find, list_any, range_with_len}
-use Rattle.std.proofs.lemmas.Bool.{and_parts, or_cases, or_left, or_right, cases_lt, both_ways}
+use Rattle.std.proofs.lemmas.Bool.{and_parts, and_from, or_cases, or_left, or_right, cases_lt, both_ways}
 use Rattle.std.proofs.lemmas.Option.{same_Some}
 use Rattle.rbc_spec.specs.Maps.{has, put, put_pair}
 use Rattle.rbc_spec.specs.SectionRuns.{SectionRun, within, behind, all_of}
 use Rattle.rbc_spec.specs.Line.{Line, section_of_group, IsLine, is_centre, is_home, start, end}
 use Rattle.rbc_spec.specs.Sections.{is_on, section_count}
-use Rattle.rbc_spec.specs.Place.{Place, Position, covered, extent, fit_place, place_on, is_cleared, has_room, group_start}
-use Rattle.rbc_spec.specs.Message.{TrainMessage, TrainBody, TrainData, Request, Report, ShorteningGranted, ShorteningRejected, EndOfMission, InitiationOfSession, TerminationOfSession, StartOfMission, SessionEstablished}
+use Rattle.rbc_spec.specs.Place.{Place, Position, covered, extent, is_fit, fit_place, place_on, is_cleared, has_room, group_start}
+use Rattle.rbc_spec.specs.Message.{TrainMessage, TrainBody, TrainData, Request, Report, ShorteningGranted, ShorteningRejected, EndOfMission, InitiationOfSession, TerminationOfSession, StartOfMission, SessionEstablished, Authority}
+use Rattle.rbc_spec.specs.Outcome.{Saying}
 use Rattle.rbc_spec.specs.Centre.{Proposal, is_registrar_of}
 use Rattle.rbc_spec.specs.LineCentre.{LineState, LineMission, Mark, Shut, Open, Kept, Given, Supervisor, At, Parted, is_given_to, is_kept_for, is_mark_open, is_at, supervises, is_waiting_at, is_waiting, release, set_mission, change_mission, close_if_empty, Said}
 use Rattle.rbc_spec.specs.OwnSteps.{without_proposal, session_ends, begins, may_start, waits, restarted, Rejects, Accepts, StartsHere, Restarts, StartsNew, Starts, may_be_given, Extends, is_cleared_of, is_cut_of, reported, shortened, without_ask, ended, has_reached, is_ahead_of, stopped, track_of, last_kept_of, Ending, Own, Tells, release_words}
+use Rattle.rbc_spec.specs.World.{Event, Bytes}
 use Rattle.rbc_spec.specs.Run.{may_request_at, last_of_hand, answers_it}
 use Rattle.rbc_spec.proofs.Places.{ends_rise}
 use Rattle.law_base.proofs.Lines.{on_line}
 use Rattle.law_base.proofs.Lists.{any-range}
-use Rattle.law_base.proofs.Puts.{put_other, put_there, put_pair_there}
+use Rattle.law_base.proofs.Puts.{put_other, put_there, put_same, put_pair_there, itself}
 use Rattle.law_base.proofs.Runs.{within_true, within_from, each_within, same_tests}
 use Rattle.law_centre.proofs.Places.{extent_ahead, has_group, fit_is, IsPlacedOn, placed_on}
 use Rattle.law_local.proofs.Fits.{fit_parts}
 use Rattle.law_runs.proofs.Waits.{WaitsKeep, IsLoose, opened, kept_for, PutAt, there, elsewhere, put_at}
 use Rattle.law_runs.proofs.Frees.{by_test, own_leaves, closed_mark, closed_wait}
 use Rattle.law_outside.specs.Outside as outside
-use Rattle.law_outside.specs.Outside.{View, is_placed, Stretch, accepted, all_told, change_stretch, reports, grants, last_before, stands, metres_behind}
+use Rattle.law_outside.specs.Outside.{View, Stretch, accepted, all_told, begun, starts, cleared, up_to, after_message, extended, metres_from, gets, stamp_of, front_end, is_told, takes_back}
 use Rattle.law_outside.proofs.Marks.{Stays, Moves, by, if_true, if_false, loose_stays, given_moves, released_moves}
-use Rattle.law_outside.proofs.Tied.{IsReported, Way, Tied, tied_as, remade, tied_restarts, tied_extends, Left, some_left, none_left, tied_listens, reports_keep, tied_reports, tied_stays_long, tied_shortens}
-use Rattle.law_outside.proofs.Standstill.{tied_stands, tied_stops}
-use Rattle.law_outside.proofs.Follows.{founded_still, IsStart, IsSeen, given, Follows, wait_still, wait_less, after_one, after_none, after_mission, changed_there, free_stays, waiting_loose, accepts_is, begins_follow}
+use Rattle.law_outside.proofs.Spans.{IsLess, cleared_less, first_stretch}
+use Rattle.law_outside.proofs.Tied.{IsReported, IsSince, Later, talk_as, Way, Tied, tied_as, under_way, remade, tied_less, way_restarts, way_extends, Left, some_left, none_left, way_reports, way_shortens}
+use Rattle.law_outside.proofs.Standstill.{by_place, at_place, stands, stands_less, report_less, end_less, way_stops}
+use Rattle.law_outside.proofs.Follows.{IsStart, IsSeen, given, Follows, begun_is, metres_is, put_apart, heard_as, wait_still, wait_less, wait_none, after_one, after_none, after_mission, changed_there, free_stays, waiting_loose, accepts_is, accepted_first, begins_follow}
 
 -- ## Who supervises
 
@@ -64,6 +67,19 @@ reported_is line p place is = record { group = has_group line p place is; ahead 
 
 start_good : (line : Line) (is_valid : Bool) (p : Position) (place : Place) → fit_place line is_valid p ≡ Some place → IsStart line place
 start_good line is_valid p place is = let h = fit_is line is_valid p place is in record { fit = fit_parts line place h.0; ahead = reported_is line p place h.1 }
+
+-- what is seen of it
+seen_is : (line : Line) (is_valid : Bool) (p : Position) (place : Place) (n : ℕ) → fit_place line is_valid p ≡ Some place → (if is_valid then option_and_then (begun line n) (extent line p) else None) ≡ begun line n place
+seen_is line true p place n is = ap (option_and_then (begun line n)) (fit_is line true p place is).1
+seen_is line false p place n is = absurd (none_there (extent line p) is)
+  where
+    none_there : (o : Option Place) → option_map_or (λ q. if false && is_fit line q then Some q else None) o None ≡ Some place → ⊥
+    none_there None so = cc
+    none_there (Some q) so = cc
+
+closed_heard : (b : Bool) (x y : LineState) → y.heard ≡ x.heard → (if b then x else y).heard ≡ x.heard
+closed_heard true x y same = refl
+closed_heard false x y same = same
 
 -- ## Lists
 
@@ -102,39 +118,67 @@ closed_other line t u v apart = by_any (list_any (λ s. is_given_to t (v.mark s)
 
 -- ## A message
 
-module _ (line : Line) (ok : IsLine line) (v : LineState) (x : View) (old : Follows line v x) (c : ℕ) (at_centre : is_centre line c ≡ true) (m : TrainMessage) where
+module _ (line : Line) (ok : IsLine line) (v : LineState) (x : View) (old : Follows line v x) (c : ℕ) (at_centre : is_centre line c ≡ true) (m : TrainMessage) (now : v.heard m.nid_engine c ≡ Some m.t_train)
+    (fresh : (n : LineMission) (y : Stretch) → v.mission m.nid_engine ≡ Some n → n.supervisor ≡ At c → x.stretch m.nid_engine ≡ Some y → y.since < m.t_train) where
   abbrev t : ℕ
   t = m.nid_engine
+
+  abbrev event : Event
+  event = Bytes c (Ok m)
+
+  abbrev changed_view : (Stretch → Stretch) → View
+  changed_view change = record x { stretch = put x.stretch t (option_map change (x.stretch t)) }
 
   keep_of : (body : TrainBody) (said : Said) (new : LineState) → Own line v c m body said new → WaitsKeep line new
   keep_of body said new h = (own_leaves line v old.keep c at_centre m body said new h).waits
 
-  of_mission : (n : LineMission) → v.mission t ≡ Some n → Tied line (given v t) (Some n) (x.stretch t) (x.asked t)
-  of_mission n is = subst (λ (o : Option LineMission). Tied line (given v t) o (x.stretch t) (x.asked t)) is (old.tied t)
+  is_now : IsSince m.t_train (v.heard t c)
+  is_now = record { last = m.t_train; is = now; le = (omega arith) }
+
+  later_as : (new : LineState) → new.heard ≡ v.heard → (u d : ℕ) → Later (v.heard u d) (new.heard u d)
+  later_as new same = heard_as line v x old new same
 
   -- the stretch of the train changes
-  after_stretch : (new : LineState) (change : Stretch → Stretch) (strays : Bool) → strays ≡ false → WaitsKeep line new → new.wait ≡ v.wait → ((u : ℕ) → (u ≡ t → ⊥) → (s : ℕ) → given new u s ≡ given v u s) → ((u : ℕ) → (u ≡ t → ⊥) → new.mission u ≡ v.mission u)
-      → Tied line (given new t) (new.mission t) (option_map change (x.stretch t)) (x.asked t) → Follows line new (record (change_stretch t change x) { stray = strays })
-  after_stretch new change strays founded keep waits hands missions tied =
-      after_one line v x old t new (record (change_stretch t change x) { stray = strays }) founded keep (wait_still line v x old new (record (change_stretch t change x) { stray = strays }) waits refl) hands missions
-      (λ u apart. put_other x.stretch t u (option_map change (x.stretch t)) apart) (λ u apart. refl)
-      (subst (λ (o : Option Stretch). Tied line (given new t) (new.mission t) o (x.asked t)) (sym (put_there x.stretch t (option_map change (x.stretch t)))) tied)
+  after_stretch : (new : LineState) (change : Stretch → Stretch) → WaitsKeep line new → new.wait ≡ v.wait → new.heard ≡ v.heard → ((u : ℕ) → (u ≡ t → ⊥) → (s : ℕ) → given new u s ≡ given v u s) → ((u : ℕ) → (u ≡ t → ⊥) → new.mission u ≡ v.mission u)
+      → Tied line (given new t) (new.mission t) (option_map change (x.stretch t)) (v.heard t) → Follows line new (changed_view change)
+  after_stretch new change keep waits heards hands missions tied =
+      after_one line v x old t new (changed_view change) old.founded keep (wait_still line v x old new (changed_view change) waits refl (later_as new heards)) hands missions
+      (λ u apart. put_other x.stretch t u (option_map change (x.stretch t)) apart) (later_as new heards)
+      (tied_as line (given new t) (given new t) (new.mission t) (new.mission t) (option_map change (x.stretch t)) ((changed_view change).stretch t) (v.heard t) (new.heard t) (λ s. refl) refl (put_there x.stretch t (option_map change (x.stretch t))) (later_as new heards t) tied)
+
+  -- to this
+  changes_to : (k : ℕ → Bool) (o : Option LineMission) (change : Stretch → Stretch) (y z : Stretch) → x.stretch t ≡ Some y → change y ≡ z → Tied line k o (Some z) (v.heard t) → Tied line k o (option_map change (x.stretch t)) (v.heard t)
+  changes_to k o change y z is same h = subst (λ (p : Option Stretch). Tied line k o p (v.heard t)) (sym (ap (option_map change) is ∙ ap (λ (q : Stretch). Some q) same)) h
+
+  -- a change that changes nothing
+  unmoved : (change : Stretch → Stretch) → ((y : Stretch) → change y ≡ y) → changed_view change ≡ x
+  unmoved change same = λ i. record x { stretch = λ u. put_same t (option_map change (x.stretch t)) x.stretch (sym (by_stretch (x.stretch t))) u i }
+    where
+      by_stretch : (o : Option Stretch) → option_map change o ≡ o
+      by_stretch None = refl
+      by_stretch (Some y) = ap (λ (z : Stretch). Some z) (same y)
+
+  remade_tied : (change : LineMission → LineMission) → ((n : LineMission) → (change n).place ≡ n.place) → ((n : LineMission) → (change n).supervisor ≡ n.supervisor) → ((n : LineMission) (p : Proposal) → (change n).proposal ≡ Some p → n.proposal ≡ Some p)
+      → Tied line (given v t) (option_map change (v.mission t)) (x.stretch t) (v.heard t)
+  remade_tied change places supervisors proposals = by_mission (v.mission t) refl
+    where
+      by_mission : (o : Option LineMission) → v.mission t ≡ o → Tied line (given v t) (option_map change o) (x.stretch t) (v.heard t)
+      by_mission None is = subst (λ (o : Option LineMission). Tied line (given v t) o (x.stretch t) (v.heard t)) is (old.tied t)
+      by_mission (Some n) is =
+          let w = (old.tied t).way n is in
+          subst (λ (o : Option Stretch). Tied line (given v t) (Some (change n)) o (v.heard t)) (sym w.1)
+          (under_way line (given v t) (change n) w.0 (v.heard t) (remade line (given v t) n (change n) w.0 (v.heard t) (v.heard t) (places n)
+          (talk_as line n (change n) w.0 w.0 (v.heard t) (v.heard t) (ap (λ (p : Place). p.track) (places n)) (supervisors n) (proposals n) refl refl (λ d n h. h) w.2.talk) w.2))
 
   -- the mission alone changes, where there is one
-  after_change : (new : LineState) (change : LineMission → LineMission) → WaitsKeep line new → new.wait ≡ v.wait → new.mark ≡ v.mark → new.mission ≡ put v.mission t (option_map change (v.mission t))
-      → ((n : LineMission) → (change n).place ≡ n.place) → ((n : LineMission) → (change n).supervisor ≡ n.supervisor) → ((n : LineMission) (p : Proposal) → (change n).proposal ≡ Some p → n.proposal ≡ Some p) → ((n : LineMission) → n.proposal ≡ None → (change n).proposal ≡ None)
+  after_change : (new : LineState) (change : LineMission → LineMission) → WaitsKeep line new → new.wait ≡ v.wait → new.mark ≡ v.mark → new.heard ≡ v.heard → new.mission ≡ put v.mission t (option_map change (v.mission t))
+      → ((n : LineMission) → (change n).place ≡ n.place) → ((n : LineMission) → (change n).supervisor ≡ n.supervisor) → ((n : LineMission) (p : Proposal) → (change n).proposal ≡ Some p → n.proposal ≡ Some p)
       → Follows line new x
-  after_change new change keep waits marks missions places supervisors proposals nones =
-      after_mission line v x old t new x old.founded keep (wait_still line v x old new x waits refl) marks
-      (λ u apart. ap (λ (f : ℕ → Option LineMission). f u) missions ∙ put_other v.mission t u (option_map change (v.mission t)) apart) refl (λ u apart. refl)
-      (subst (λ (o : Option LineMission). Tied line (given v t) o (x.stretch t) (x.asked t)) (sym (ap (λ (f : ℕ → Option LineMission). f t) missions ∙ put_there v.mission t (option_map change (v.mission t)))) (changed (v.mission t) refl))
-    where
-      changed : (o : Option LineMission) → v.mission t ≡ o → Tied line (given v t) (option_map change o) (x.stretch t) (x.asked t)
-      changed None is = subst (λ (o : Option LineMission). Tied line (given v t) o (x.stretch t) (x.asked t)) is (old.tied t)
-      changed (Some n) is =
-          let way = (old.tied t).way n is in
-          remade line ok (given v t) n (change n) (x.stretch t) (x.asked t) (x.asked t) (places n)
-          (λ d p at stands. way.asks d p (sym (supervisors n) ∙ at) (proposals n p stands)) (λ stamp at. nones n (way.parted stamp (sym (supervisors n) ∙ at))) (of_mission n is)
+  after_change new change keep waits marks heards missions places supervisors proposals =
+      after_mission line v x old t new x old.founded keep (wait_still line v x old new x waits refl (later_as new heards)) marks
+      (λ u apart. ap (λ (f : ℕ → Option LineMission). f u) missions ∙ put_other v.mission t u (option_map change (v.mission t)) apart) refl (later_as new heards)
+      (tied_as line (given v t) (given v t) (option_map change (v.mission t)) (new.mission t) (x.stretch t) (x.stretch t) (v.heard t) (new.heard t) (λ s. refl)
+      (ap (λ (f : ℕ → Option LineMission). f t) missions ∙ put_there v.mission t (option_map change (v.mission t))) refl (later_as new heards t) (remade_tied change places supervisors proposals))
 
   -- ## Sessions
 
@@ -159,63 +203,55 @@ module _ (line : Line) (ok : IsLine line) (v : LineState) (x : View) (old : Foll
       by_case true is = cc
       by_case false is = is
 
-  without_none : (n : LineMission) → n.proposal ≡ None → (without_proposal c n).proposal ≡ None
-  without_none n = by_case (is_at c n.supervisor)
-    where
-      by_case : (b : Bool) → n.proposal ≡ None → (if b then record n { proposal = None } else n).proposal ≡ None
-      by_case true is = refl
-      by_case false is = is
-
-  session_follows : (new : LineState) → WaitsKeep line new → new.mark ≡ (session_ends line t c v).mark → new.wait ≡ put_pair v.wait t c None → new.mission ≡ (session_ends line t c v).mission → Follows line new x
-  session_follows new keep marks waits missions =
+  session_follows : (new : LineState) → WaitsKeep line new → new.mark ≡ (session_ends line t c v).mark → new.wait ≡ put_pair v.wait t c None → new.mission ≡ (session_ends line t c v).mission → new.heard ≡ v.heard → Follows line new (starts t c None x)
+  session_follows new keep marks waits missions heards =
       let stays = free_stays v (is_waiting_at line v t c) (waiting_loose line v old.keep t c) in
-      after_one line v x old t new x old.founded keep (wait_less line v x old new x t c waits refl)
+      after_one line v x old t new (starts t c None x) old.founded keep
+      (wait_less line v x old new (starts t c None x) t c waits (λ u d apart. put_apart x.start t c None u d apart) (later_as new heards))
       (λ u apart s. ap (λ (f : ℕ → Mark). is_given_to u (f s)) marks ∙ stays.hands u s)
       (λ u apart. ap (λ (f : ℕ → Option LineMission). f u) missions ∙ put_other v.mission t u (option_map (without_proposal c) (v.mission t)) apart)
-      (λ u apart. refl) (λ u apart. refl)
-      (tied_as line (given v t) (given new t) (option_map (without_proposal c) (v.mission t)) (new.mission t) (x.stretch t) (x.stretch t) (x.asked t) (x.asked t)
-      (λ s. ap (λ (f : ℕ → Mark). is_given_to t (f s)) marks ∙ stays.hands t s) (ap (λ (f : ℕ → Option LineMission). f t) missions ∙ put_there v.mission t (option_map (without_proposal c) (v.mission t))) refl refl (changed (v.mission t) refl))
-    where
-      changed : (o : Option LineMission) → v.mission t ≡ o → Tied line (given v t) (option_map (without_proposal c) o) (x.stretch t) (x.asked t)
-      changed None is = subst (λ (o : Option LineMission). Tied line (given v t) o (x.stretch t) (x.asked t)) is (old.tied t)
-      changed (Some n) is =
-          let way = (old.tied t).way n is in
-          remade line ok (given v t) n (without_proposal c n) (x.stretch t) (x.asked t) (x.asked t) (without_place n)
-          (λ d p at stands. way.asks d p (sym (without_supervisor n) ∙ at) (without_some n p stands)) (λ stamp at. without_none n (way.parted stamp (sym (without_supervisor n) ∙ at))) (of_mission n is)
+      (λ u apart. refl) (later_as new heards)
+      (tied_as line (given v t) (given new t) (option_map (without_proposal c) (v.mission t)) (new.mission t) (x.stretch t) (x.stretch t) (v.heard t) (new.heard t)
+      (λ s. ap (λ (f : ℕ → Mark). is_given_to t (f s)) marks ∙ stays.hands t s) (ap (λ (f : ℕ → Option LineMission). f t) missions ∙ put_there v.mission t (option_map (without_proposal c) (v.mission t))) refl (later_as new heards t)
+      (remade_tied (without_proposal c) without_place without_supervisor without_some))
 
   -- ## A start
 
   module _ (is_valid : Bool) (position : Position) (no_wait : v.wait t c ≡ None) where
+    abbrev reach : Option Stretch
+    reach = if is_valid then option_and_then (begun line m.t_train) (extent line position) else None
+
     abbrev seen : View
-    seen = record x { start = put_pair x.start t c (fit_place line is_valid position) }
+    seen = starts t c reach x
 
-    start_still : (new : LineState) (y : View) → new.wait ≡ v.wait → y.start ≡ seen.start → (u d : ℕ) (p : Place) → new.wait u d ≡ Some p → IsSeen line y u d p
-    start_still new y waits starts u d p is = by_pair (put_at x.start t c (fit_place line is_valid position) u d) (sym (ap (λ (f : ℕ → ℕ → Option Place). f u d) waits) ∙ is)
-      where
-        by_pair : PutAt x.start t c (fit_place line is_valid position) u d → v.wait u d ≡ Some p → IsSeen line y u d p
-        by_pair (there a b at) waiting = let wrong : None ≡ Some p = sym no_wait ∙ sym (ap (λ (n : ℕ). v.wait n d) a ∙ ap (λ (n : ℕ). v.wait t n) b) ∙ waiting in cc
-        by_pair (elsewhere apart at) waiting = let was = old.waits u d p waiting in record { seen = ap (λ (f : ℕ → ℕ → Option Place). f u d) starts ∙ at ∙ was.seen; good = was.good }
+    elsewhere_still : (u d : ℕ) → (u ≡ t → d ≡ c → ⊥) → (starts t c None seen).start u d ≡ x.start u d
+    elsewhere_still u d apart = put_apart seen.start t c None u d apart ∙ put_apart x.start t c reach u d apart
 
-    rejects_follow : (said : Said) (new : LineState) → WaitsKeep line new → Rejects t c v said new → Follows line new (all_told line c said.sayings seen)
+    rejects_follow : (said : Said) (new : LineState) → WaitsKeep line new → Rejects t c v said new → Follows line new (all_told line event said.sayings seen)
     rejects_follow said new keep h =
-        subst (λ (p : Said). Follows line new (all_told line c p.sayings seen)) (sym h.said_is)
-        (after_none line v x old new seen old.founded keep (start_still new seen (ap (λ (n : LineState). n.wait) h.new_is) refl)
-        (λ u s. ap (λ (n : LineState). is_given_to u (n.mark s)) h.new_is) (ap (λ (n : LineState). n.mission) h.new_is) refl refl)
+        let heards = ap (λ (n : LineState). n.heard) h.new_is in
+        subst (λ (p : Said). Follows line new (all_told line event p.sayings seen)) (sym h.said_is)
+        (after_none line v x old new (starts t c None seen) old.founded keep (wait_none line v x old new (starts t c None seen) t c no_wait (ap (λ (n : LineState). n.wait) h.new_is) elsewhere_still (later_as new heards))
+        (λ u s. ap (λ (n : LineState). is_given_to u (n.mark s)) h.new_is) (ap (λ (n : LineState). n.mission) h.new_is) refl (later_as new heards))
 
     module _ (place : Place) (fits : fit_place line is_valid position ≡ Some place) where
       good : IsStart line place
       good = start_good line is_valid position place fits
 
-      seen_there : seen.start t c ≡ Some place
-      seen_there = put_pair_there x.start t c (fit_place line is_valid position) ∙ fits
+      abbrev first : Stretch
+      first = first_stretch line ok place good.fit m.t_train
 
-      abbrev told : View
-      told = record seen { stretch = put x.stretch t (accepted line place (x.stretch t)) }
+      seen_there : seen.start t c ≡ begun line m.t_train place
+      seen_there = put_pair_there x.start t c reach ∙ seen_is line is_valid position place m.t_train fits
 
-      told_is : (said : Said) (changed new : LineState) → Accepts t c v changed said new → Follows line new told → Follows line new (all_told line c said.sayings seen)
-      told_is said changed new h f = subst (λ (p : Said). Follows line new (all_told line c p.sayings seen)) (sym h.said_is) (subst (Follows line new) (sym (accepts_is line ok v x old t c (v.said t c + 1) seen place seen_there)) f)
+      abbrev told : Stretch → View
+      told z = record (starts t c None seen) { stretch = put x.stretch t (Some z) }
 
-      restarts_follow : (said : Said) (new : LineState) → supervises v c t ≡ true → WaitsKeep line new → Restarts line t c place v said new → Follows line new (all_told line c said.sayings seen)
+      told_is : (z : Stretch) (said : Said) (changed new : LineState) → Accepts t c v changed said new → accepted (x.stretch t) first ≡ Some z → Follows line new (told z) → Follows line new (all_told line event said.sayings seen)
+      told_is z said changed new h is f = subst (λ (p : Said). Follows line new (all_told line event p.sayings seen)) (sym h.said_is)
+          (subst (Follows line new) (sym (accepts_is line ok v x old event t (v.said t c + 1) seen z first (seen_there ∙ begun_is line ok place good m.t_train) is)) f)
+
+      restarts_follow : (said : Said) (new : LineState) → supervises v c t ≡ true → WaitsKeep line new → Restarts line t c place v said new → Follows line new (all_told line event said.sayings seen)
       restarts_follow said new here keep h = by_test (all_of (λ s. is_given_to t (v.mark s)) (covered line place)) _ _ (λ all a. goes_on all a) (λ _ r. rejects_follow said new keep r) h
         where
           sup : Supervised v c t
@@ -224,17 +260,21 @@ module _ (line : Line) (ok : IsLine line) (v : LineState) (x : View) (old : Foll
           change : LineMission → LineMission
           change n = record n { place = place; has_data = false; is_ended = false; proposal = None }
 
-          goes_on : all_of (λ s. is_given_to t (v.mark s)) (covered line place) ≡ true → Accepts t c v (restarted t place v) said new → Follows line new (all_told line c said.sayings seen)
-          goes_on all a = told_is said (restarted t place v) new a
-              (after_one line v x old t new told old.founded keep (start_still new told (ap (λ (n : LineState). n.wait) a.new_is) refl)
+          goes_on : all_of (λ s. is_given_to t (v.mark s)) (covered line place) ≡ true → Accepts t c v (restarted t place v) said new → Follows line new (all_told line event said.sayings seen)
+          goes_on all a =
+              let w = (old.tied t).way sup.m sup.of_train in
+              let heards = ap (λ (n : LineState). n.heard) a.new_is in
+              let r = way_restarts line ok place good.fit good.ahead m.t_train (given v t) sup.m (change sup.m) w.0 (v.heard t) (v.heard t) c refl refl sup.at is_now (w.2.talk.since c sup.at)
+              (each_within (λ s. is_given_to t (v.mark s)) (covered line place) all) w.2 in
+              told_is r.0 said (restarted t place v) new a (ap (λ (o : Option Stretch). accepted o first) w.1 ∙ r.1)
+              (after_one line v x old t new (told r.0) old.founded keep (wait_none line v x old new (told r.0) t c no_wait (ap (λ (n : LineState). n.wait) a.new_is) elsewhere_still (later_as new heards))
               (λ u apart s. ap (λ (n : LineState). is_given_to u (n.mark s)) a.new_is)
               (λ u apart. ap (λ (n : LineState). n.mission u) a.new_is ∙ put_other v.mission t u (option_map change (v.mission t)) apart)
-              (λ u apart. put_other x.stretch t u (accepted line place (x.stretch t)) apart) (λ u apart. refl)
-              (tied_as line (given v t) (given new t) (Some (change sup.m)) (new.mission t) (accepted line place (x.stretch t)) (told.stretch t) (x.asked t) (x.asked t)
+              (λ u apart. put_other x.stretch t u (Some (r.0)) apart) (later_as new heards)
+              (tied_as line (given v t) (given new t) (Some (change sup.m)) (new.mission t) (Some (r.0)) ((told r.0).stretch t) (v.heard t) (new.heard t)
               (λ s. ap (λ (n : LineState). is_given_to t (n.mark s)) a.new_is) (ap (λ (n : LineState). n.mission t) a.new_is ∙ changed_there line v x old t change sup.m sup.of_train)
-              (put_there x.stretch t (accepted line place (x.stretch t))) refl
-              (tied_restarts line ok place good.fit good.ahead (given v t) sup.m (change sup.m) (x.stretch t) (x.asked t) (x.asked t) refl refl
-              (each_within (λ s. is_given_to t (v.mark s)) (covered line place) all) (of_mission sup.m sup.of_train))))
+              (put_there x.stretch t (Some (r.0))) (later_as new heards t)
+              (under_way line (given v t) (change sup.m) r.0 (v.heard t) r.2)))
 
       mark_open : (k : Mark) → is_mark_open k ≡ true → k ≡ Open
       mark_open Shut h = cc
@@ -245,37 +285,48 @@ module _ (line : Line) (ok : IsLine line) (v : LineState) (x : View) (old : Foll
       may_loose : may_start line v c place ≡ true → (s : ℕ) → within (covered line place) s ≡ true → IsLoose (v.mark s)
       may_loose may s so = opened (mark_open (v.mark s) (and_parts (is_home line c s) (is_mark_open (v.mark s)) (each_within (λ e. is_home line c e && is_mark_open (v.mark e)) (covered line place) may s so)).1)
 
-      here_follows : (said : Said) (new : LineState) → may_start line v c place ≡ true → WaitsKeep line new → StartsHere line t c place v said new → Follows line new (all_told line c said.sayings seen)
+      here_follows : (said : Said) (new : LineState) → may_start line v c place ≡ true → WaitsKeep line new → StartsHere line t c place v said new → Follows line new (all_told line event said.sayings seen)
       here_follows said new may keep (inr h) = rejects_follow said new keep h
-      here_follows said new may keep (inl h) = told_is said (begins line t c place v) new h.1
-          (begins_follow line ok v x old t c place new told x old.founded h.0 good (may_loose may) (ap (λ (n : LineState). n.mark) h.1.new_is) (ap (λ (n : LineState). n.mission) h.1.new_is) keep
-          (start_still new told (ap (λ (n : LineState). n.wait) h.1.new_is) refl) refl refl)
+      here_follows said new may keep (inl h) =
+          let heards = ap (λ (n : LineState). n.heard) h.1.new_is in
+          told_is first said (begins line t c place v) new h.1 (accepted_first line ok v x old event t m.t_train place good h.0)
+          (begins_follow line ok v x old event t c m.t_train place good new (told first) old.founded h.0 (may_loose may) (ap (λ (n : LineState). n.mark) h.1.new_is) (ap (λ (n : LineState). n.mission) h.1.new_is) keep
+          (wait_none line v x old new (told first) t c no_wait (ap (λ (n : LineState). n.wait) h.1.new_is) elsewhere_still (later_as new heards)) refl heards is_now)
 
       waits_stays : may_start line v c place ≡ true → Stays v.mark (waits line t c place v).mark
       waits_stays may = loose_stays v.mark (waits line t c place v).mark (within (covered line place)) (λ s fails. if_false (within (covered line place) s) (Kept t) (v.mark s) fails) (may_loose may)
           (λ s u so. ap (is_given_to u) (if_true (within (covered line place) s) (Kept t) (v.mark s) so))
 
-      waits_follow : (said : Said) (new : LineState) → may_start line v c place ≡ true → WaitsKeep line new → said.sayings ≡ [] → new ≡ waits line t c place v → Follows line new (all_told line c said.sayings seen)
+      waits_follow : (said : Said) (new : LineState) → may_start line v c place ≡ true → WaitsKeep line new → said.sayings ≡ [] → new ≡ waits line t c place v → Follows line new (all_told line event said.sayings seen)
       waits_follow said new may keep none is =
-          subst (λ ps. Follows line new (all_told line c ps seen)) (sym none)
-          (after_none line v x old new seen old.founded keep waiting (λ u s. ap (λ (n : LineState). is_given_to u (n.mark s)) is ∙ (waits_stays may).hands u s) (ap (λ (n : LineState). n.mission) is) refl refl)
+          subst (λ ps. Follows line new (all_told line event ps seen)) (sym none)
+          (after_none line v x old new seen old.founded keep waiting (λ u s. ap (λ (n : LineState). is_given_to u (n.mark s)) is ∙ (waits_stays may).hands u s) (ap (λ (n : LineState). n.mission) is) refl (later_as new heards))
         where
-          waiting : (u d : ℕ) (p : Place) → new.wait u d ≡ Some p → IsSeen line seen u d p
-          waiting u d p some = by_pair (put_at v.wait t c (Some place) u d) (put_at x.start t c (fit_place line is_valid position) u d) (sym (ap (λ (n : LineState). n.wait u d) is) ∙ some)
-            where
-              by_pair : PutAt v.wait t c (Some place) u d → PutAt x.start t c (fit_place line is_valid position) u d → put_pair v.wait t c (Some place) u d ≡ Some p → IsSeen line seen u d p
-              by_pair (there a b at) (there e f now) so = let same : place ≡ p = same_Some place p (sym at ∙ so) in
-                  subst (IsSeen line seen u d) same (record { seen = now ∙ fits; good = good })
-              by_pair (there a b at) (elsewhere apart now) so = absurd (apart a b)
-              by_pair (elsewhere apart at) (there e f now) so = absurd (apart e f)
-              by_pair (elsewhere apart at) (elsewhere apart2 now) so = let was = old.waits u d p (sym at ∙ so) in record { seen = now ∙ was.seen; good = was.good }
+          heards : new.heard ≡ v.heard
+          heards = ap (λ (n : LineState). n.heard) is
 
-      new_follows : (said : Said) (new : LineState) → WaitsKeep line new → StartsNew line t c place v said new → Follows line new (all_told line c said.sayings seen)
+          waiting : (u d : ℕ) (p : Place) → new.wait u d ≡ Some p → IsSeen line seen (new.heard u d) u d p
+          waiting u d p some = by_pair (put_at v.wait t c (Some place) u d) (put_at x.start t c reach u d) (sym (ap (λ (n : LineState). n.wait u d) is) ∙ some)
+            where
+              by_pair : PutAt v.wait t c (Some place) u d → PutAt x.start t c reach u d → put_pair v.wait t c (Some place) u d ≡ Some p → IsSeen line seen (new.heard u d) u d p
+              by_pair (there a b at) (there e f put) so = let same : place ≡ p = same_Some place p (sym at ∙ so) in
+                  subst (IsSeen line seen (new.heard u d) u d) same (record {
+                    since = m.t_train;
+                    good = good;
+                    seen = put ∙ seen_is line is_valid position place m.t_train fits;
+                    now = later_as new heards u d m.t_train (subst (λ (k : ℕ). IsSince m.t_train (v.heard k d)) (sym a) (subst (λ (k : ℕ). IsSince m.t_train (v.heard t k)) (sym b) is_now));
+                  })
+              by_pair (there a b at) (elsewhere apart put) so = absurd (apart a b)
+              by_pair (elsewhere apart at) (there e f put) so = absurd (apart e f)
+              by_pair (elsewhere apart at) (elsewhere apart2 put) so = let was = old.waits u d p (sym at ∙ so) in
+                  record { since = was.since; good = was.good; seen = put ∙ was.seen; now = later_as new heards u d was.since was.now }
+
+      new_follows : (said : Said) (new : LineState) → WaitsKeep line new → StartsNew line t c place v said new → Follows line new (all_told line event said.sayings seen)
       new_follows said new keep h = by_test (may_start line v c place) _ _
           (λ may n. by_test (is_registrar_of line c t) _ _ (λ _ a. here_follows said new may keep a) (λ _ a. waits_follow said new may keep (ap (λ (p : Said). p.sayings) a.said_is) a.new_is) n)
           (λ _ r. rejects_follow said new keep r) h
 
-    starts_follow : (o : Option Place) (said : Said) (new : LineState) → fit_place line is_valid position ≡ o → WaitsKeep line new → Starts line t c o v said new → Follows line new (all_told line c said.sayings seen)
+    starts_follow : (o : Option Place) (said : Said) (new : LineState) → fit_place line is_valid position ≡ o → WaitsKeep line new → Starts line t c o v said new → Follows line new (all_told line event said.sayings seen)
     starts_follow None said new fits keep h = rejects_follow said new keep h
     starts_follow (Some place) said new fits keep h = by_test (supervises v c t) _ _ (λ here r. restarts_follow place fits said new here keep r) (λ _ n. new_follows place fits said new keep n) h
 
@@ -318,21 +369,26 @@ module _ (line : Line) (ok : IsLine line) (v : LineState) (x : View) (old : Foll
         front = leb-true place.front (10 * end line s) (and_parts (nat_le place.front (10 * end line s)) (has_room line place (end line s)) h).0;
       }
 
-  extends_follow : (n : LineMission) (position : Position) (place : Place) (said : Said) (new : LineState) → v.mission t ≡ Some n → place_on line n.place.track position ≡ Some place → IsWithin place → WaitsKeep line new
-      → Extends line v t c place said new → Follows line new (all_told line c said.sayings x)
-  extends_follow n position place said new is on inside keep h =
-      subst (λ (p : Said). Follows line new (all_told line c p.sayings x)) (sym h.says_it.said_is)
-      (subst (λ (metres : ℕ). Follows line new (record (change_stretch t (λ y. record y { end = metres }) x) { stray = x.stray || not (is_placed line x t place.group) })) (sym metres_is)
-      (after_stretch new (λ y. record y { end = end line last }) (x.stray || not (is_placed line x t place.group)) founded keep (ap (λ (w : LineState). w.wait) h.says_it.new_is)
+  extends_follow : (n : LineMission) (position : Position) (place : Place) (said : Said) (new : LineState) → v.mission t ≡ Some n → n.supervisor ≡ At c → n.proposal ≡ None → place_on line n.place.track position ≡ Some place → IsWithin place → WaitsKeep line new
+      → Extends line v t c place said new → Follows line new (all_told line event said.sayings x)
+  extends_follow n position place said new is at none on inside keep h =
+      subst (λ (p : Said). Follows line new (all_told line event p.sayings x)) (sym h.says_it.said_is)
+      (subst (Follows line new) (sym told_is)
+      (after_one line v x old t new y old.founded keep (wait_still line v x old new y (ap (λ (w : LineState). w.wait) h.says_it.new_is) refl later)
       (λ u apart s. ap (λ (w : LineState). is_given_to u (w.mark s)) h.says_it.new_is ∙ moves.others u apart s)
       (λ u apart. ap (λ (w : LineState). w.mission u) h.says_it.new_is ∙ put_other v.mission t u (option_map change (v.mission t)) apart)
-      (subst (λ (o : Option LineMission). Tied line (given new t) o (option_map {T = Stretch} {U = Stretch} (λ y. record y { end = end line last }) (x.stretch t)) (x.asked t))
-      (sym (ap (λ (w : LineState). w.mission t) h.says_it.new_is ∙ changed_there line v x old t change n is))
-      (tied_extends line ok (given v t) (given new t) n (change n) (x.stretch t) (x.asked t) h.hand h.count placed.track_is (reported_is line position place placed.extent_is) refl refl h.is_hand.each longer_is on_more
-      (λ s so. here s ∙ or_right (within more s) (given v t s) so) (of_mission n is)))))
+      (λ u apart. put_other x.stretch t u (Some z) apart) later
+      (tied_as line (given new t) (given new t) (Some (change n)) (new.mission t) (Some z) (y.stretch t) (v.heard t) (new.heard t) (λ s. refl)
+      (ap (λ (w : LineState). w.mission t) h.says_it.new_is ∙ changed_there line v x old t change n is) (put_there x.stretch t (Some z)) (later t)
+      (under_way line (given new t) (change n) z (v.heard t)
+      (way_extends line (given v t) (given new t) n (change n) way.0 (v.heard t) h.hand h.count (max way.0.since m.t_train) c placed.track_is (reported_is line position place placed.extent_is) none at sent_now h.is_hand.each longer_is on_more
+      (λ s so. here s ∙ or_right (within more s) (given v t s) so) way.2)))))
     where
       placed : IsPlacedOn line n.place.track position place
       placed = placed_on line n.place.track position place on
+
+      later : (u d : ℕ) → Later (v.heard u d) (new.heard u d)
+      later = later_as new (ap (λ (w : LineState). w.heard) h.says_it.new_is)
 
       more : SectionRun
       more = record { first = behind h.hand; count = h.count }
@@ -369,16 +425,20 @@ module _ (line : Line) (ok : IsLine line) (v : LineState) (x : View) (old : Foll
             | inr past ↦ or_left (within more s) (given v t s) (within_from more s past (omega (arith, high)))
           ])
 
-      way : Way line (given v t) n (x.stretch t) (x.asked t)
+      way : (y : Stretch) × (x.stretch t ≡ Some y) × Way line (given v t) n y (v.heard t)
       way = (old.tied t).way n is
 
-      founded : (x.stray || not (is_placed line x t place.group)) ≡ false
-      founded = founded_still x.stray (is_placed line x t place.group) old.founded
-          (ap (λ (o : Option Stretch). option_map_or (λ z. option_map_or (is_on line z.track) (section_of_group line place.group) false) o false) way.is
-          ∙ ap (λ (k : ℕ). option_map_or (is_on line k) (section_of_group line place.group) false) (way.track ∙ sym placed.track_is) ∙ (reported_is line position place placed.extent_is).group)
+      sent_now : IsSince (max way.0.since m.t_train) (v.heard t c)
+      sent_now = record { last = m.t_train; is = now; le = (let less = fresh n way.0 is at way.1 in omega (arith, less)) }
+
+      z : Stretch
+      z = record (way.0) { end = max way.0.end (end line last); since = max way.0.since m.t_train; asked = None }
+
+      y : View
+      y = record x { stretch = put x.stretch t (Some z) }
 
       on_hand : (s : ℕ) → given v t s ≡ true → is_on line n.place.track s ≡ true
-      on_hand s so = subst (λ (k : ℕ). is_on line k s ≡ true) way.track (((old.tied t).spans way.x way.is).on s so)
+      on_hand s so = subst (λ (k : ℕ). is_on line k s ≡ true) way.2.track (way.2.spans.on s so)
 
       ends_hand : (h.hand.first ≤ inside.s) × (inside.s < h.hand.first + h.hand.count)
       ends_hand = within_true h.hand inside.s (sym (h.is_hand.each inside.s) ∙ inside.given_it)
@@ -389,14 +449,24 @@ module _ (line : Line) (ok : IsLine line) (v : LineState) (x : View) (old : Foll
         | inr past ↦ on_more last (within_from more last past (omega (arith, low, high)))
       ]
 
-      metres_is : metres_behind line place.group (end line last - group_start line place) ≡ end line last
-      metres_is =
+      metres : group_start line place + (end line last - group_start line place) ≡ end line last
+      metres =
           let high = ends_hand.1 in
           let rises = ends_rise line n.place.track inside.s last (on_hand inside.s inside.given_it) on_last (omega (arith, high)) in
           let ahead = extent_ahead line position place placed.extent_is in
           let front = inside.front in
-          let whole : group_start line place + (end line last - group_start line place) ≡ end line last = omega (arith, rises, ahead, front) in
-          whole
+          omega (arith, rises, ahead, front)
+
+      saying : Saying
+      saying = record { nid_engine = t; message = record { t_train = v.said t c + 1; nid_lrbg = place.group; body = Authority (end line last - group_start line place) } }
+
+      told_is : is_told line event saying saying.message.body x ≡ y
+      told_is = ap (λ (o : Option Stretch). gets t (option_and_then (extended line event t place.group (end line last - group_start line place)) o) x) way.1
+          ∙ ap (λ (o : Option ℕ). gets t (option_and_then {T = ℕ} {U = Stretch} (λ stamp. option_map {T = ℕ} {U = Stretch} (λ e. record (way.0) { end = max way.0.end e; since = max way.0.since stamp; asked = None })
+          (metres_from line place.group (end line last - group_start line place) way.0)) o) x) (if_true (t == t) (Some m.t_train) None (itself t))
+          ∙ ap (λ (o : Option ℕ). gets t (option_map {T = ℕ} {U = Stretch} (λ e. record (way.0) { end = max way.0.end e; since = max way.0.since m.t_train; asked = None }) o) x)
+          (metres_is line place (end line last - group_start line place) way.0 (subst (λ (k : ℕ). has (is_on line k) (section_of_group line place.group) ≡ true) (placed.track_is ∙ sym way.2.track) (reported_is line position place placed.extent_is).group)
+          ∙ ap (λ (k : ℕ). Some k) metres)
 
   -- ## Reports
 
@@ -404,26 +474,37 @@ module _ (line : Line) (ok : IsLine line) (v : LineState) (x : View) (old : Foll
   track_is n is = ap (λ (o : Option LineMission). option_map_or (λ k. k.place.track) o 0) is
 
   low_of : (n : LineMission) → v.mission t ≡ Some n → (s : ℕ) → given v t s ≡ true → s < section_count line
-  low_of n is s so = let way = (old.tied t).way n is in on_line line way.x.track s (((old.tied t).spans way.x way.is).on s so)
+  low_of n is s so = let w = (old.tied t).way n is in on_line line w.0.track s (w.2.spans.on s so)
 
-  pub listens_follow : (position : Position) (new : LineState) → WaitsKeep line new → new.mark ≡ v.mark → new.wait ≡ v.wait → new.mission ≡ v.mission → Follows line new (change_stretch t (reports line position) x)
-  listens_follow position new keep marks waits missions =
-      after_stretch new (reports line position) x.stray old.founded keep waits (λ u apart s. ap (λ (f : ℕ → Mark). is_given_to u (f s)) marks) (λ u apart. ap (λ (f : ℕ → Option LineMission). f u) missions)
-      (tied_as line (given v t) (given new t) (v.mission t) (new.mission t) (option_map (reports line position) (x.stretch t)) (option_map (reports line position) (x.stretch t)) (x.asked t) (x.asked t)
-      (λ s. ap (λ (f : ℕ → Mark). is_given_to t (f s)) marks) (ap (λ (f : ℕ → Option LineMission). f t) missions) refl refl (tied_listens line ok position (given v t) (v.mission t) (x.stretch t) (x.asked t) (old.tied t)))
+  -- nothing is taken back by the line centre
+  lesser_follow : (change : Stretch → Stretch) (new : LineState) → ((y : Stretch) → IsLess line y (change y)) → WaitsKeep line new → new.mark ≡ v.mark → new.wait ≡ v.wait → new.heard ≡ v.heard → ((u : ℕ) → (u ≡ t → ⊥) → new.mission u ≡ v.mission u)
+      → Tied line (given v t) (new.mission t) (x.stretch t) (v.heard t) → Follows line new (changed_view change)
+  lesser_follow change new less keep marks waits heards missions tied =
+      after_stretch new change keep waits heards (λ u apart s. ap (λ (f : ℕ → Mark). is_given_to u (f s)) marks) missions
+      (tied_as line (given v t) (given new t) (new.mission t) (new.mission t) (option_map change (x.stretch t)) (option_map change (x.stretch t)) (v.heard t) (v.heard t)
+      (λ s. ap (λ (f : ℕ → Mark). is_given_to t (f s)) marks) refl refl (λ d n h. h) (tied_less line (given v t) (new.mission t) (x.stretch t) (v.heard t) change (λ y is. less y) tied))
+
+  pub listens_follow : (position : Position) (new : LineState) → WaitsKeep line new → new.mark ≡ v.mark → new.wait ≡ v.wait → new.heard ≡ v.heard → new.mission ≡ v.mission → Follows line new (changed_view (after_message line c m.t_train (Report position)))
+  listens_follow position new keep marks waits heards missions =
+      lesser_follow (after_message line c m.t_train (Report position)) new (report_less line c m.t_train position) keep marks waits heards (λ u apart. ap (λ (f : ℕ → Option LineMission). f u) missions)
+      (subst (λ (o : Option LineMission). Tied line (given v t) o (x.stretch t) (v.heard t)) (sym (ap (λ (f : ℕ → Option LineMission). f t) missions)) (old.tied t))
 
   left_as : (g k : ℕ → Bool) (n : LineMission) (o : Option LineMission) → ((s : ℕ) → k s ≡ g s) → Left g n o → Left k n o
   left_as g k n _ same (some_left one is) = some_left one (same one ∙ is)
   left_as g k n _ same (none_left none) = none_left (λ s. same s ∙ none s)
 
-  silently : (said : Said) (new : LineState) (y : View) → said.sayings ≡ [] → Follows line new y → Follows line new (all_told line c said.sayings y)
-  silently said new y none h = subst (λ ps. Follows line new (all_told line c ps y)) (sym none) h
+  silently : (said : Said) (new : LineState) (y : View) → said.sayings ≡ [] → Follows line new y → Follows line new (all_told line event said.sayings y)
+  silently said new y none h = subst (λ ps. Follows line new (all_told line event ps y)) (sym none) h
 
   and_again : (a b : Bool) → (a && not (a && b)) ≡ (a && not b)
   and_again true b = refl
   and_again false b = refl
 
-  module _ (position : Position) (n : LineMission) (is : v.mission t ≡ Some n) (place : Place) (on : place_on line n.place.track position ≡ Some place) where
+  -- what an end leaves
+  abbrev fin_ended : LineMission → LineMission
+  fin_ended k = record k { is_ended = true; proposal = None }
+
+  module _ (position : Position) (n : LineMission) (is : v.mission t ≡ Some n) (at : n.supervisor ≡ At c) (place : Place) (on : place_on line n.place.track position ≡ Some place) where
     abbrev placed_there : LineMission → LineMission
     placed_there k = record k { place = place }
 
@@ -433,221 +514,224 @@ module _ (line : Line) (ok : IsLine line) (v : LineState) (x : View) (old : Foll
     abbrev behind_report : LineState
     behind_report = change_mission t placed_there without
 
-    report_moves : Moves v.mark without.mark t (λ s. given v t s && not (is_cleared_of line v t place s))
-    report_moves = released_moves line c t (is_cleared_of line v t place) v (λ s so. (and_parts (is_given_to t (v.mark s)) (is_cleared line place s) so).0)
-
-    report_left : Left (given without t) (placed_there n) ((close_if_empty line t behind_report).mission t)
-    report_left = closed_left line t behind_report (placed_there n) (λ s so. low_of n is s (and_parts (given v t s) (not (is_cleared_of line v t place s)) (sym (report_moves.here s) ∙ so)).0)
-        (put_there v.mission t (option_map placed_there (v.mission t)) ∙ ap (option_map placed_there) is)
-
-    taken_follow : (fin : LineMission → LineMission) (new : LineState) → ((k : LineMission) → (fin k).place ≡ k.place) → ((k : LineMission) → (fin k).supervisor ≡ k.supervisor)
-        → ((k : LineMission) (p : Proposal) → (fin k).proposal ≡ Some p → k.proposal ≡ Some p) → ((k : LineMission) → k.proposal ≡ None → (fin k).proposal ≡ None)
-        → WaitsKeep line new → new.mark ≡ without.mark → new.wait ≡ v.wait → ((u : ℕ) → (u ≡ t → ⊥) → new.mission u ≡ v.mission u) → Left (given without t) (fin (placed_there n)) (new.mission t)
-        → Follows line new (change_stretch t (reports line position) x)
-    taken_follow fin new places supervisors proposals nones keep marks waits missions left =
-        after_stretch new (reports line position) x.stray old.founded keep waits (λ u apart s. ap (λ (f : ℕ → Mark). is_given_to u (f s)) marks ∙ report_moves.others u apart s) missions
-        (tied_reports line ok position place (given v t) (given new t) n (fin (placed_there n)) (new.mission t) (x.stretch t) (x.asked t) on (places (placed_there n)) placed.track_is (reported_is line position place placed.extent_is)
-        (λ d p at stands. way.asks d p (sym (supervisors (placed_there n)) ∙ at) (proposals (placed_there n) p stands)) (λ stamp at. nones (placed_there n) (way.parted stamp (sym (supervisors (placed_there n)) ∙ at)))
-        (λ s. here s ∙ and_again (given v t s) (is_cleared line place s))
-        (left_as (given without t) (given new t) (fin (placed_there n)) (new.mission t) (λ s. ap (λ (f : ℕ → Mark). is_given_to t (f s)) marks) left) (of_mission n is))
-      where
-        placed : IsPlacedOn line n.place.track position place
-        placed = placed_on line n.place.track position place on
-
-        way : Way line (given v t) n (x.stretch t) (x.asked t)
-        way = (old.tied t).way n is
-
-        here : (s : ℕ) → given new t s ≡ (given v t s && not (is_cleared_of line v t place s))
-        here s = ap (λ (f : ℕ → Mark). is_given_to t (f s)) marks ∙ report_moves.here s
-
-    reported_follow : (new : LineState) → WaitsKeep line new → new ≡ reported line t c place v → Follows line new (change_stretch t (reports line position) x)
-    reported_follow new keep so =
-        taken_follow (λ k. k) new (λ k. refl) (λ k. refl) (λ k p stands. stands) (λ k none. none) keep
-        (ap (λ (w : LineState). w.mark) so ∙ closed_mark (list_any (λ s. is_given_to t (without.mark s)) (range_with_len 0 (section_count line))) behind_report (set_mission t None behind_report) refl)
-        (ap (λ (w : LineState). w.wait) so ∙ closed_wait (list_any (λ s. is_given_to t (without.mark s)) (range_with_len 0 (section_count line))) behind_report (set_mission t None behind_report) refl)
-        (λ u apart. ap (λ (w : LineState). w.mission u) so ∙ closed_other line t u behind_report apart ∙ put_other v.mission t u (option_map placed_there (v.mission t)) apart)
-        (subst (Left (given without t) (placed_there n)) (sym (ap (λ (w : LineState). w.mission t) so)) report_left)
-
-    ended_follow : (new : LineState) → WaitsKeep line new → new ≡ ended t (reported line t c place v) → Follows line new (change_stretch t (reports line position) x)
-    ended_follow new keep so =
-        taken_follow (λ k. record k { is_ended = true; proposal = None }) new (λ k. refl) (λ k. refl) (λ k p stands. cc) (λ k none. refl) keep
-        (ap (λ (w : LineState). w.mark) so ∙ closed_mark (list_any (λ s. is_given_to t (without.mark s)) (range_with_len 0 (section_count line))) behind_report (set_mission t None behind_report) refl)
-        (ap (λ (w : LineState). w.wait) so ∙ closed_wait (list_any (λ s. is_given_to t (without.mark s)) (range_with_len 0 (section_count line))) behind_report (set_mission t None behind_report) refl)
-        (λ u apart. ap (λ (w : LineState). w.mission u) so ∙ put_other (reported line t c place v).mission t u (option_map fin ((reported line t c place v).mission t)) apart
-        ∙ closed_other line t u behind_report apart ∙ put_other v.mission t u (option_map placed_there (v.mission t)) apart)
-        (subst (Left (given without t) (fin (placed_there n))) (sym (ap (λ (w : LineState). w.mission t) so ∙ put_there (reported line t c place v).mission t (option_map fin ((reported line t c place v).mission t))))
-        (left_by (given without t) (placed_there n) ((reported line t c place v).mission t) fin report_left))
-      where
-        fin : LineMission → LineMission
-        fin k = record k { is_ended = true; proposal = None }
-
-    -- ## At standstill
-
     abbrev past_report : LineState
     past_report = reported line t c place v
 
-    abbrev stood : LineState
-    stood = stopped line t c place past_report
+    placed : IsPlacedOn line n.place.track position place
+    placed = placed_on line n.place.track position place on
+
+    way : (y : Stretch) × (x.stretch t ≡ Some y) × Way line (given v t) n y (v.heard t)
+    way = (old.tied t).way n is
+
+    -- the place is on the track of the stretch, and the message is new
+    same_track : place.track ≡ way.0.track
+    same_track = placed.track_is ∙ sym way.2.track
+
+    is_fresh : way.0.since < m.t_train
+    is_fresh = fresh n way.0 is at way.1
+
+    report_is : after_message line c m.t_train (Report position) way.0 ≡ cleared place way.0
+    report_is = at_place line m.t_train position (λ p. cleared p way.0) way.0 place placed.extent_is same_track is_fresh
+
+    end_is : after_message line c m.t_train (EndOfMission position) way.0 ≡ stands line position place (cleared place way.0)
+    end_is = at_place line m.t_train position (λ p. stands line position p (cleared p way.0)) way.0 place placed.extent_is same_track is_fresh
+
+    report_moves : Moves v.mark without.mark t (λ s. given v t s && not (is_cleared_of line v t place s))
+    report_moves = released_moves line c t (is_cleared_of line v t place) v (λ s so. (and_parts (is_given_to t (v.mark s)) (is_cleared line place s) so).0)
+
+    report_left : Left (given without t) (placed_there n) (past_report.mission t)
+    report_left = closed_left line t behind_report (placed_there n) (λ s so. low_of n is s (and_parts (given v t s) (not (is_cleared_of line v t place s)) (sym (report_moves.here s) ∙ so)).0)
+        (put_there v.mission t (option_map placed_there (v.mission t)) ∙ ap (option_map placed_there) is)
 
     behind_marks : past_report.mark ≡ without.mark
     behind_marks = closed_mark (list_any (λ s. is_given_to t (without.mark s)) (range_with_len 0 (section_count line))) behind_report (set_mission t None behind_report) refl
 
+    behind_wait : past_report.wait ≡ v.wait
+    behind_wait = closed_wait (list_any (λ s. is_given_to t (without.mark s)) (range_with_len 0 (section_count line))) behind_report (set_mission t None behind_report) refl
+
+    behind_heard : past_report.heard ≡ v.heard
+    behind_heard = closed_heard (list_any (λ s. is_given_to t (without.mark s)) (range_with_len 0 (section_count line))) behind_report (set_mission t None behind_report) refl
+
+    behind_others : (u : ℕ) → (u ≡ t → ⊥) → (s : ℕ) → given past_report u s ≡ given v u s
+    behind_others u apart s = ap (λ (f : ℕ → Mark). is_given_to u (f s)) behind_marks ∙ report_moves.others u apart s
+
+    behind_missions : (u : ℕ) → (u ≡ t → ⊥) → past_report.mission u ≡ v.mission u
+    behind_missions u apart = closed_other line t u behind_report apart ∙ put_other v.mission t u (option_map placed_there (v.mission t)) apart
+
     behind_left : Left (given past_report t) (placed_there n) (past_report.mission t)
     behind_left = left_as (given without t) (given past_report t) (placed_there n) (past_report.mission t) (λ s. ap (λ (f : ℕ → Mark). is_given_to t (f s)) behind_marks) report_left
 
-    behind_tied : Tied line (given past_report t) (past_report.mission t) (option_map (reports line position) (x.stretch t)) (x.asked t)
-    behind_tied =
-        let placed = placed_on line n.place.track position place on in
-        let way = (old.tied t).way n is in
-        tied_reports line ok position place (given v t) (given past_report t) n (placed_there n) (past_report.mission t) (x.stretch t) (x.asked t) on refl placed.track_is (reported_is line position place placed.extent_is)
-        (λ d p at stands. way.asks d p at stands) (λ stamp at. way.parted stamp at)
-        (λ s. ap (λ (f : ℕ → Mark). is_given_to t (f s)) behind_marks ∙ report_moves.here s ∙ and_again (given v t s) (is_cleared line place s)) behind_left (of_mission n is)
+    behind_tied : Tied line (given past_report t) (past_report.mission t) (Some (cleared place way.0)) (v.heard t)
+    behind_tied = way_reports line place (given v t) (given past_report t) n (placed_there n) (past_report.mission t) way.0 (v.heard t) refl placed.track_is (reported_is line position place placed.extent_is) refl (λ p stands. stands)
+        (λ s. ap (λ (f : ℕ → Mark). is_given_to t (f s)) behind_marks ∙ report_moves.here s ∙ and_again (given v t s) (is_cleared line place s)) behind_left way.2
 
-    ahead_moves : Moves past_report.mark (release line c t (is_ahead_of line past_report t place) past_report).mark t (λ s. given past_report t s && not (is_ahead_of line past_report t place s))
+    reported_follow : (new : LineState) → WaitsKeep line new → new ≡ past_report → Follows line new (changed_view (after_message line c m.t_train (Report position)))
+    reported_follow new keep so =
+        after_stretch new (after_message line c m.t_train (Report position)) keep (ap (λ (w : LineState). w.wait) so ∙ behind_wait) (ap (λ (w : LineState). w.heard) so ∙ behind_heard)
+        (λ u apart s. ap (λ (w : LineState). is_given_to u (w.mark s)) so ∙ behind_others u apart s) (λ u apart. ap (λ (w : LineState). w.mission u) so ∙ behind_missions u apart)
+        (changes_to (given new t) (new.mission t) (after_message line c m.t_train (Report position)) way.0 (cleared place way.0) way.1 report_is
+        (tied_as line (given past_report t) (given new t) (past_report.mission t) (new.mission t) (Some (cleared place way.0)) (Some (cleared place way.0)) (v.heard t) (v.heard t)
+        (λ s. ap (λ (w : LineState). is_given_to t (w.mark s)) so) (ap (λ (w : LineState). w.mission t) so) refl (λ d n h. h) behind_tied))
+
+    -- an end of mission
+    finished : (k : ℕ → Bool) (o : Option LineMission) (y : Stretch) → Tied line k o (Some y) (v.heard t) → Tied line k (option_map fin_ended o) (Some y) (v.heard t)
+    finished k None y h = h
+    finished k (Some n) y h =
+        let w = h.way n refl in
+        subst (λ (o : Option Stretch). Tied line k (Some (fin_ended n)) o (v.heard t)) (sym w.1)
+        (under_way line k (fin_ended n) w.0 (v.heard t) (remade line k n (fin_ended n) w.0 (v.heard t) (v.heard t) refl (talk_as line n (fin_ended n) w.0 w.0 (v.heard t) (v.heard t) refl refl (λ p stands. cc) refl refl (λ d n h. h) w.2.talk) w.2))
+
+    ends_follow : (stood new : LineState) → WaitsKeep line new → new ≡ ended t stood → stood.wait ≡ v.wait → stood.heard ≡ v.heard → ((u : ℕ) → (u ≡ t → ⊥) → (s : ℕ) → given stood u s ≡ given v u s) → ((u : ℕ) → (u ≡ t → ⊥) → stood.mission u ≡ v.mission u)
+        → Tied line (given stood t) (stood.mission t) (Some (stands line position place (cleared place way.0))) (v.heard t) → Follows line new (changed_view (after_message line c m.t_train (EndOfMission position)))
+    ends_follow stood new keep so waits heards others missions tied =
+        after_stretch new (after_message line c m.t_train (EndOfMission position)) keep (ap (λ (w : LineState). w.wait) so ∙ waits) (ap (λ (w : LineState). w.heard) so ∙ heards)
+        (λ u apart s. ap (λ (w : LineState). is_given_to u (w.mark s)) so ∙ others u apart s)
+        (λ u apart. ap (λ (w : LineState). w.mission u) so ∙ put_other stood.mission t u (option_map fin_ended (stood.mission t)) apart ∙ missions u apart)
+        (changes_to (given new t) (new.mission t) (after_message line c m.t_train (EndOfMission position)) way.0 (stands line position place (cleared place way.0)) way.1 end_is
+        (tied_as line (given stood t) (given new t) (option_map fin_ended (stood.mission t)) (new.mission t) (Some (stands line position place (cleared place way.0))) (Some (stands line position place (cleared place way.0))) (v.heard t) (v.heard t)
+        (λ s. ap (λ (w : LineState). is_given_to t (w.mark s)) so) (ap (λ (w : LineState). w.mission t) so ∙ put_there stood.mission t (option_map fin_ended (stood.mission t))) refl (λ d n h. h)
+        (finished (given stood t) (stood.mission t) (stands line position place (cleared place way.0)) tied)))
+
+    -- where it moves
+    moving_follow : (position.v_train == 0) ≡ false → (new : LineState) → WaitsKeep line new → new ≡ ended t past_report → Follows line new (changed_view (after_message line c m.t_train (EndOfMission position)))
+    moving_follow moves new keep so = ends_follow past_report new keep so behind_wait behind_heard behind_others behind_missions
+        (subst (λ (y : Stretch). Tied line (given past_report t) (past_report.mission t) (Some y) (v.heard t))
+        (sym (if_false (position.v_train == 0) (option_map_or (up_to (cleared place way.0)) (front_end line place (section_count line)) (cleared place way.0)) (cleared place way.0) moves)) behind_tied)
+
+    -- ## At standstill
+
+    abbrev stood : LineState
+    stood = stopped line t c place past_report
+
+    abbrev let_go : LineState
+    let_go = release line c t (is_ahead_of line past_report t place) past_report
+
+    ahead_moves : Moves past_report.mark let_go.mark t (λ s. given past_report t s && not (is_ahead_of line past_report t place s))
     ahead_moves = released_moves line c t (is_ahead_of line past_report t place) past_report (λ s so. (and_parts (is_given_to t (past_report.mark s)) (nat_le place.front (10 * start line s)) so).0)
 
-    -- a place is on the track on which it was looked for
-    on_track : (track : ℕ) (q : Position) (p : Place) → place_on line track q ≡ Some p → p.track ≡ track
-    on_track track q p looked = (placed_on line track q p looked).track_is
+    on_cleared : place.track ≡ (cleared place way.0).track
+    on_cleared = same_track ∙ sym (cleared_less line place way.0).track
 
-    stood_tied : position.v_train ≡ 0 → Tied line (given stood t) (stood.mission t) (option_map (stands line position) (option_map (reports line position) (x.stretch t))) (x.asked t)
+    stood_tied : position.v_train ≡ 0 → Tied line (given stood t) (stood.mission t) (Some (stands line position place (cleared place way.0))) (v.heard t)
     stood_tied still = by_reached (has_reached line past_report t place) refl
       where
-        by_left : (o : Option LineMission) → Left (given past_report t) (placed_there n) o → Tied line (given past_report t) o (option_map (reports line position) (x.stretch t)) (x.asked t) → (one : ℕ) → given past_report t one ≡ true → 10 * start line one < place.front
-            → Tied line (given (release line c t (is_ahead_of line past_report t place) past_report) t) o (option_map (stands line position) (option_map (reports line position) (x.stretch t))) (x.asked t)
+        by_left : (o : Option LineMission) → Left (given past_report t) (placed_there n) o → Tied line (given past_report t) o (Some (cleared place way.0)) (v.heard t) → (one : ℕ) → given past_report t one ≡ true → 10 * start line one < place.front
+            → Tied line (given let_go t) o (Some (stands line position place (cleared place way.0))) (v.heard t)
         by_left _ (none_left none) h one so early = absurd (both_ways (given past_report t one) (none one) so)
-        by_left _ (some_left first first_so) h one so early =
-            tied_stops line on_track position place (given past_report t) (given (release line c t (is_ahead_of line past_report t place) past_report) t) (placed_there n) (option_map (reports line position) (x.stretch t)) (x.asked t) still
-            (ap (λ (k : ℕ). place_on line k position) (on_track n.place.track position place on) ∙ on) one so early ahead_moves.here h
+        by_left _ (some_left _ _) h one so early =
+            let w = h.way (placed_there n) refl in
+            let same : cleared place way.0 ≡ w.0 = same_Some (cleared place way.0) w.0 w.1 in
+            under_way line (given let_go t) (placed_there n) (stands line position place (cleared place way.0)) (v.heard t)
+            (way_stops line position place (given past_report t) (given let_go t) (placed_there n) (cleared place way.0) (v.heard t) still on_cleared one so early ahead_moves.here
+            (subst (λ (y : Stretch). Way line (given past_report t) (placed_there n) y (v.heard t)) (sym same) w.2))
 
         by_reached : (b : Bool) → has_reached line past_report t place ≡ b
-            → Tied line (given (if b then release line c t (is_ahead_of line past_report t place) past_report else past_report) t) ((if b then release line c t (is_ahead_of line past_report t place) past_report else past_report).mission t)
-            (option_map (stands line position) (option_map (reports line position) (x.stretch t))) (x.asked t)
-        by_reached false none = tied_stands line on_track position (given past_report t) (past_report.mission t) (option_map (reports line position) (x.stretch t)) (x.asked t) behind_tied
+            → Tied line (given (if b then let_go else past_report) t) ((if b then let_go else past_report).mission t) (Some (stands line position place (cleared place way.0))) (v.heard t)
+        by_reached false none = tied_less line (given past_report t) (past_report.mission t) (Some (cleared place way.0)) (v.heard t) (stands line position place)
+            (λ y is. stands_less line position place y (on_cleared ∙ ap (λ (z : Stretch). z.track) (same_Some (cleared place way.0) y is))) behind_tied
         by_reached true some =
             let one = any_one (λ s. is_given_to t (past_report.mark s) && nat_lt (10 * start line s) place.front) 0 (section_count line) some in
             let parts = and_parts (is_given_to t (past_report.mark one.0)) (nat_lt (10 * start line one.0) place.front) one.1 in
             by_left (past_report.mission t) behind_left behind_tied one.0 parts.0 (ltb-true (10 * start line one.0) place.front parts.1)
 
     stood_wait : stood.wait ≡ v.wait
-    stood_wait = by_reached (has_reached line past_report t place)
-        ∙ closed_wait (list_any (λ s. is_given_to t (without.mark s)) (range_with_len 0 (section_count line))) behind_report (set_mission t None behind_report) refl
+    stood_wait = by_reached (has_reached line past_report t place) ∙ behind_wait
       where
-        by_reached : (b : Bool) → (if b then release line c t (is_ahead_of line past_report t place) past_report else past_report).wait ≡ past_report.wait
+        by_reached : (b : Bool) → (if b then let_go else past_report).wait ≡ past_report.wait
+        by_reached true = refl
+        by_reached false = refl
+
+    stood_heard : stood.heard ≡ v.heard
+    stood_heard = by_reached (has_reached line past_report t place) ∙ behind_heard
+      where
+        by_reached : (b : Bool) → (if b then let_go else past_report).heard ≡ past_report.heard
         by_reached true = refl
         by_reached false = refl
 
     stood_missions : (u : ℕ) → (u ≡ t → ⊥) → stood.mission u ≡ v.mission u
-    stood_missions u apart = by_reached (has_reached line past_report t place) ∙ closed_other line t u behind_report apart ∙ put_other v.mission t u (option_map placed_there (v.mission t)) apart
+    stood_missions u apart = by_reached (has_reached line past_report t place) ∙ behind_missions u apart
       where
-        by_reached : (b : Bool) → (if b then release line c t (is_ahead_of line past_report t place) past_report else past_report).mission u ≡ past_report.mission u
+        by_reached : (b : Bool) → (if b then let_go else past_report).mission u ≡ past_report.mission u
         by_reached true = refl
         by_reached false = refl
 
     stood_others : (u : ℕ) → (u ≡ t → ⊥) → (s : ℕ) → given stood u s ≡ given v u s
-    stood_others u apart s = by_reached (has_reached line past_report t place) ∙ ap (λ (f : ℕ → Mark). is_given_to u (f s)) behind_marks ∙ report_moves.others u apart s
+    stood_others u apart s = by_reached (has_reached line past_report t place) ∙ behind_others u apart s
       where
-        by_reached : (b : Bool) → given (if b then release line c t (is_ahead_of line past_report t place) past_report else past_report) u s ≡ given past_report u s
+        by_reached : (b : Bool) → given (if b then let_go else past_report) u s ≡ given past_report u s
         by_reached true = ahead_moves.others u apart s
         by_reached false = refl
 
-    stopped_follow : position.v_train ≡ 0 → (new : LineState) → WaitsKeep line new → new ≡ ended t stood → Follows line new (change_stretch t (λ y. stands line position (reports line position y)) x)
-    stopped_follow still new keep so =
-        after_stretch new (λ y. stands line position (reports line position y)) x.stray old.founded keep (ap (λ (w : LineState). w.wait) so ∙ stood_wait)
-        (λ u apart s. ap (λ (w : LineState). is_given_to u (w.mark s)) so ∙ stood_others u apart s)
-        (λ u apart. ap (λ (w : LineState). w.mission u) so ∙ put_other stood.mission t u (option_map fin (stood.mission t)) apart ∙ stood_missions u apart)
-        (tied_as line (given stood t) (given new t) (option_map fin (stood.mission t)) (new.mission t) (option_map (stands line position) (option_map (reports line position) (x.stretch t)))
-        (option_map (λ y. stands line position (reports line position y)) (x.stretch t)) (x.asked t) (x.asked t) (λ s. ap (λ (w : LineState). is_given_to t (w.mark s)) so)
-        (ap (λ (w : LineState). w.mission t) so ∙ put_there stood.mission t (option_map fin (stood.mission t))) (both (x.stretch t)) refl
-        (ends (stood.mission t) (stood_tied still)))
-      where
-        fin : LineMission → LineMission
-        fin k = record k { is_ended = true; proposal = None }
-
-        both : (o : Option Stretch) → option_map (λ y. stands line position (reports line position y)) o ≡ option_map (stands line position) (option_map (reports line position) o)
-        both None = refl
-        both (Some y) = refl
-
-        ends : (o : Option LineMission) → Tied line (given stood t) o (option_map (stands line position) (option_map (reports line position) (x.stretch t))) (x.asked t)
-            → Tied line (given stood t) (option_map fin o) (option_map (stands line position) (option_map (reports line position) (x.stretch t))) (x.asked t)
-        ends None h = h
-        ends (Some k) h = remade line ok (given stood t) k (fin k) (option_map (stands line position) (option_map (reports line position) (x.stretch t))) (x.asked t) (x.asked t) refl (λ d p at stands. cc) (λ stamp at. refl) h
-
-  -- where it does not stand still, or has no place, nothing ahead is taken back
-  nothing_back : (position : Position) → ((y : Stretch) → x.stretch t ≡ Some y → stands line position (reports line position y) ≡ reports line position y)
-      → change_stretch t (reports line position) x ≡ change_stretch t (λ y. stands line position (reports line position y)) x
-  nothing_back position same = λ i. record x { stretch = put x.stretch t (by_stretch (x.stretch t) same i) }
-    where
-      by_stretch : (o : Option Stretch) → ((y : Stretch) → o ≡ Some y → stands line position (reports line position y) ≡ reports line position y)
-          → option_map (reports line position) o ≡ option_map (λ y. stands line position (reports line position y)) o
-      by_stretch None same = refl
-      by_stretch (Some y) same = ap (λ (z : Stretch). Some z) (sym (same y refl))
-
-  under_way_still : (position : Position) → (position.v_train == 0) ≡ false → (y : Stretch) → stands line position y ≡ y
-  under_way_still position moves y =
-      if_false (position.v_train == 0) (option_map_or (λ s. record y { end = min y.end (end line s) }) (option_and_then (λ place. last_before line place (section_count line)) (place_on line y.track position)) y) y moves
-
-  unplaced_still : (position : Position) (y : Stretch) → place_on line y.track position ≡ None → stands line position y ≡ y
-  unplaced_still position y none =
-      ap (λ (o : Option Place). if position.v_train == 0 then option_map_or (λ s. record y { end = min y.end (end line s) }) (option_and_then (λ place. last_before line place (section_count line)) o) y else y) none
-      ∙ by_still (position.v_train == 0)
-    where
-      by_still : (b : Bool) → (if b then y else y) ≡ y
-      by_still true = refl
-      by_still false = refl
+    stopped_follow : position.v_train ≡ 0 → (new : LineState) → WaitsKeep line new → new ≡ ended t stood → Follows line new (changed_view (after_message line c m.t_train (EndOfMission position)))
+    stopped_follow still new keep so = ends_follow stood new keep so stood_wait stood_heard stood_others stood_missions (stood_tied still)
 
   -- an end of mission that has no place
-  ends_unplaced : (position : Position) (n : LineMission) (new : LineState) → v.mission t ≡ Some n → WaitsKeep line new → new ≡ ended t v → Follows line new (change_stretch t (reports line position) x)
+  ends_unplaced : (position : Position) (n : LineMission) (new : LineState) → v.mission t ≡ Some n → WaitsKeep line new → new ≡ ended t v → Follows line new (changed_view (after_message line c m.t_train (EndOfMission position)))
   ends_unplaced position n new is keep so =
-      after_stretch new (reports line position) x.stray old.founded keep (ap (λ (w : LineState). w.wait) so) (λ u apart s. ap (λ (w : LineState). is_given_to u (w.mark s)) so)
-      (λ u apart. ap (λ (w : LineState). w.mission u) so ∙ put_other v.mission t u (option_map fin (v.mission t)) apart)
-      (tied_as line (given v t) (given new t) (Some (fin n)) (new.mission t) (option_map (reports line position) (x.stretch t)) (option_map (reports line position) (x.stretch t)) (x.asked t) (x.asked t)
-      (λ s. ap (λ (w : LineState). is_given_to t (w.mark s)) so) (ap (λ (w : LineState). w.mission t) so ∙ put_there v.mission t (option_map fin (v.mission t)) ∙ ap (option_map fin) is) refl refl
-      (remade line ok (given v t) n (fin n) (option_map (reports line position) (x.stretch t)) (x.asked t) (x.asked t) refl (λ d p at stands. cc) (λ stamp at. refl)
-      (tied_listens line ok position (given v t) (Some n) (x.stretch t) (x.asked t) (of_mission n is))))
-    where
-      fin : LineMission → LineMission
-      fin k = record k { is_ended = true; proposal = None }
+      lesser_follow (after_message line c m.t_train (EndOfMission position)) new (end_less line c m.t_train position) keep (ap (λ (w : LineState). w.mark) so) (ap (λ (w : LineState). w.wait) so) (ap (λ (w : LineState). w.heard) so)
+      (λ u apart. ap (λ (w : LineState). w.mission u) so ∙ put_other v.mission t u (option_map fin_ended (v.mission t)) apart)
+      (subst (λ (o : Option LineMission). Tied line (given v t) o (x.stretch t) (v.heard t)) (sym (ap (λ (w : LineState). w.mission t) so ∙ put_there v.mission t (option_map fin_ended (v.mission t))))
+      (remade_tied fin_ended (λ k. refl) (λ k. refl) (λ k p stands. cc)))
 
   -- ## A shortening
 
-  module _ (stamp : ℕ) (position : Position) (n : LineMission) (is : v.mission t ≡ Some n) (at : n.supervisor ≡ At c) (p : Proposal) (stands : n.proposal ≡ Some p) (answers : p.stamp ≡ stamp) where
+  module _ (stamp : ℕ) (position : Position) (n : LineMission) (is : v.mission t ≡ Some n) (at : n.supervisor ≡ At c) (p : Proposal) (stands_so : n.proposal ≡ Some p) (answers : p.stamp ≡ stamp) where
     abbrev fin : LineMission → LineMission
     fin k = record k { proposal = None }
 
-    abbrev y : View
-    y = change_stretch t (grants line position (end line p.last_kept)) x
+    abbrev change : Stretch → Stretch
+    change = after_message line c m.t_train (ShorteningGranted stamp position)
 
-    asked_is : option_map_or (λ end. change_stretch t (grants line position end) x) (x.asked t c stamp) x ≡ y
-    asked_is = ap (λ (o : Option ℕ). option_map_or (λ end. change_stretch t (grants line position end) x) o x) (ap (x.asked t c) (sym answers) ∙ (((old.tied t).way n is).asks c p at stands).is)
+    granted_way : (y : Stretch) × (x.stretch t ≡ Some y) × Way line (given v t) n y (v.heard t)
+    granted_way = (old.tied t).way n is
 
     last_is : last_kept_of v t ≡ p.last_kept
-    last_is = ap (λ (o : Option LineMission). option_map_or (λ k. option_map_or (λ q. q.last_kept) k.proposal 0) o 0) is ∙ ap (λ (o : Option Proposal). option_map_or (λ q. q.last_kept) o 0) stands
+    last_is = ap (λ (o : Option LineMission). option_map_or (λ k. option_map_or (λ q. q.last_kept) k.proposal 0) o 0) is ∙ ap (λ (o : Option Proposal). option_map_or (λ q. q.last_kept) o 0) stands_so
 
     fin_there : (without_ask t v).mission t ≡ Some (fin n)
     fin_there = put_there v.mission t (option_map fin (v.mission t)) ∙ ap (option_map fin) is
 
-    too_late : (new : LineState) → WaitsKeep line new → new ≡ without_ask t v → ((place : Place) → place_on line n.place.track position ≡ Some place → nat_le place.front (10 * end line p.last_kept) ≡ false) → Follows line new y
+    -- what the request leaves where the front has, or has not, passed its end
+    request_is : (place : Place) → takes_back line c (ShorteningGranted stamp position) place granted_way.0 ≡ (if nat_le place.front (10 * end line p.last_kept) then up_to granted_way.0 (end line p.last_kept) else granted_way.0)
+    request_is place =
+        let w = granted_way.0 in
+        ap (λ (o : Option outside.Shortening). option_map_or (λ a. if ((a.centre == c) && (a.stamp == stamp)) && nat_le place.front (10 * a.end) then up_to w a.end else w) o w) (granted_way.2.talk.asks c p at stands_so).is
+        ∙ ap (λ (b : Bool). if b && nat_le place.front (10 * end line p.last_kept) then up_to w (end line p.last_kept) else w)
+        (and_from (c == c) (p.stamp == stamp) (itself c) (subst (λ (k : ℕ). (p.stamp == k) ≡ true) answers (itself p.stamp)))
+
+    too_late : (new : LineState) → WaitsKeep line new → new ≡ without_ask t v → ((place : Place) → place_on line n.place.track position ≡ Some place → nat_le place.front (10 * end line p.last_kept) ≡ false) → Follows line new (changed_view change)
     too_late new keep so past =
-        after_stretch new (grants line position (end line p.last_kept)) x.stray old.founded keep (ap (λ (w : LineState). w.wait) so) (λ u apart s. ap (λ (w : LineState). is_given_to u (w.mark s)) so)
+        let w = granted_way.0 in
+        after_stretch new change keep (ap (λ (w : LineState). w.wait) so) (ap (λ (w : LineState). w.heard) so) (λ u apart s. ap (λ (w : LineState). is_given_to u (w.mark s)) so)
         (λ u apart. ap (λ (w : LineState). w.mission u) so ∙ put_other v.mission t u (option_map fin (v.mission t)) apart)
-        (tied_as line (given v t) (given new t) (Some (fin n)) (new.mission t) (option_map (grants line position (end line p.last_kept)) (x.stretch t)) (option_map (grants line position (end line p.last_kept)) (x.stretch t)) (x.asked t) (x.asked t)
-        (λ s. ap (λ (w : LineState). is_given_to t (w.mark s)) so) (ap (λ (w : LineState). w.mission t) so ∙ fin_there) refl refl
-        (tied_stays_long line ok position p.last_kept (given v t) n (fin n) (x.stretch t) (x.asked t) refl refl past (of_mission n is)))
+        (changes_to (given new t) (new.mission t) change w w granted_way.1 same
+        (tied_as line (given v t) (given new t) (Some (fin n)) (new.mission t) (Some w) (Some w) (v.heard t) (v.heard t)
+        (λ s. ap (λ (w : LineState). is_given_to t (w.mark s)) so) (ap (λ (w : LineState). w.mission t) so ∙ fin_there) refl (λ d n h. h)
+        (under_way line (given v t) (fin n) w (v.heard t) (remade line (given v t) n (fin n) w (v.heard t) (v.heard t) refl (talk_as line n (fin n) w w (v.heard t) (v.heard t) refl refl (λ p stands. cc) refl refl (λ d n h. h) granted_way.2.talk) granted_way.2))))
+      where
+        on_it : (place : Place) → extent line position ≡ Some place → place.track ≡ n.place.track → place_on line n.place.track position ≡ Some place
+        on_it place extends same = ap (λ (o : Option Place). option_map_or (λ (q : Place). if q.track == n.place.track then Some q else None) o None) extends
+            ∙ if_true (place.track == n.place.track) (Some place) None (subst (λ (k : ℕ). (place.track == k) ≡ true) same (itself place.track))
+
+        same : change granted_way.0 ≡ granted_way.0
+        same = by_place line (λ y. y ≡ granted_way.0) m.t_train position (λ place. takes_back line c (ShorteningGranted stamp position) place granted_way.0) granted_way.0 refl
+            (λ place extends on. request_is place ∙ if_false (nat_le place.front (10 * end line p.last_kept)) (up_to granted_way.0 (end line p.last_kept)) granted_way.0 (past place (on_it place extends (on ∙ granted_way.2.track))))
 
     in_time : (place : Place) (new : LineState) → WaitsKeep line new → place_on line n.place.track position ≡ Some place → nat_le place.front (10 * end line p.last_kept) ≡ true
-        → new ≡ close_if_empty line t (release line c t (is_cut_of (without_ask t v) t p.last_kept) (without_ask t v)) → Follows line new y
+        → new ≡ close_if_empty line t (release line c t (is_cut_of (without_ask t v) t p.last_kept) (without_ask t v)) → Follows line new (changed_view change)
     in_time place new keep on time so =
-        after_stretch new (grants line position (end line p.last_kept)) x.stray old.founded keep
+        after_stretch new change keep
         (ap (λ (w : LineState). w.wait) so ∙ closed_wait (list_any (λ s. is_given_to t (cut.mark s)) (range_with_len 0 (section_count line))) cut (set_mission t None cut) refl)
+        (ap (λ (w : LineState). w.heard) so ∙ closed_heard (list_any (λ s. is_given_to t (cut.mark s)) (range_with_len 0 (section_count line))) cut (set_mission t None cut) refl)
         (λ u apart s. ap (λ (f : ℕ → Mark). is_given_to u (f s)) marks ∙ moves.others u apart s)
         (λ u apart. ap (λ (w : LineState). w.mission u) so ∙ closed_other line t u cut apart ∙ put_other v.mission t u (option_map fin (v.mission t)) apart)
-        (tied_shortens line ok position place p.last_kept (given v t) (given new t) n (fin n) (new.mission t) (x.stretch t) (x.asked t) refl refl on time (((old.tied t).way n is).asks c p at stands).on
+        (changes_to (given new t) (new.mission t) change granted_way.0 (up_to granted_way.0 (end line p.last_kept)) granted_way.1 cut_is
+        (way_shortens line p.last_kept (given v t) (given new t) n (fin n) (new.mission t) granted_way.0 (v.heard t) refl refl refl (granted_way.2.talk.asks c p at stands_so).on
         (λ s. ap (λ (f : ℕ → Mark). is_given_to t (f s)) marks ∙ moves.here s)
         (left_as (given cut t) (given new t) (fin n) (new.mission t) (λ s. ap (λ (f : ℕ → Mark). is_given_to t (f s)) marks)
         (subst (Left (given cut t) (fin n)) (sym (ap (λ (w : LineState). w.mission t) so))
         (closed_left line t cut (fin n) (λ s yes. low_of n is s (and_parts (given v t s) (not (is_cut_of v t p.last_kept s)) (sym (moves.here s) ∙ yes)).0) fin_there)))
-        (of_mission n is))
+        granted_way.2))
       where
         cut : LineState
         cut = release line c t (is_cut_of (without_ask t v) t p.last_kept) (without_ask t v)
@@ -658,12 +742,19 @@ module _ (line : Line) (ok : IsLine line) (v : LineState) (x : View) (old : Foll
         marks : new.mark ≡ cut.mark
         marks = ap (λ (w : LineState). w.mark) so ∙ closed_mark (list_any (λ s. is_given_to t (cut.mark s)) (range_with_len 0 (section_count line))) cut (set_mission t None cut) refl
 
-    granted_follow : (o : Option Place) (new : LineState) → place_on line n.place.track position ≡ o → WaitsKeep line new → new ≡ shortened line t c o p.last_kept (without_ask t v) → Follows line new y
+        placed_so : IsPlacedOn line n.place.track position place
+        placed_so = placed_on line n.place.track position place on
+
+        cut_is : change granted_way.0 ≡ up_to granted_way.0 (end line p.last_kept)
+        cut_is = at_place line m.t_train position (λ q. takes_back line c (ShorteningGranted stamp position) q granted_way.0) granted_way.0 place placed_so.extent_is (placed_so.track_is ∙ sym granted_way.2.track) (fresh n granted_way.0 is at granted_way.1)
+            ∙ request_is place ∙ if_true (nat_le place.front (10 * end line p.last_kept)) (up_to granted_way.0 (end line p.last_kept)) granted_way.0 time
+
+    granted_follow : (o : Option Place) (new : LineState) → place_on line n.place.track position ≡ o → WaitsKeep line new → new ≡ shortened line t c o p.last_kept (without_ask t v) → Follows line new (changed_view change)
     granted_follow None new on keep so = too_late new keep so (λ place is. let wrong : None ≡ Some place = sym on ∙ is in cc)
     granted_follow (Some place) new on keep so = by_time (nat_le place.front (10 * end line p.last_kept)) refl so
       where
         by_time : (b : Bool) → nat_le place.front (10 * end line p.last_kept) ≡ b
-            → new ≡ (if b then close_if_empty line t (release line c t (is_cut_of (without_ask t v) t p.last_kept) (without_ask t v)) else without_ask t v) → Follows line new y
+            → new ≡ (if b then close_if_empty line t (release line c t (is_cut_of (without_ask t v) t p.last_kept) (without_ask t v)) else without_ask t v) → Follows line new (changed_view change)
         by_time true time so = in_time place new keep on time so
         by_time false time so = too_late new keep so (λ q is. let same : place ≡ q = same_Some place q (sym on ∙ is) in subst (λ (r : Place). nat_le r.front (10 * end line p.last_kept) ≡ false) same time)
 
@@ -672,7 +763,7 @@ module _ (line : Line) (ok : IsLine line) (v : LineState) (x : View) (old : Foll
   -- what a message that is heard has
   abbrev pub Fair : TrainBody → Type 0
   Fair (StartOfMission is_valid position) = v.wait t c ≡ None
-  Fair (Request position) = (h : Supervised v c t) × (may_request_at line v t h.m position ≡ true)
+  Fair (Request position) = (h : Supervised v c t) × (may_request_at line v t h.m position ≡ true) × (h.m.proposal ≡ None)
   Fair (ShorteningGranted stamp position) = (h : Supervised v c t) × (answers_it stamp h.m ≡ true)
   Fair (Report position) = Supervised v c t
   Fair (EndOfMission position) = Supervised v c t
@@ -685,64 +776,66 @@ module _ (line : Line) (ok : IsLine line) (v : LineState) (x : View) (old : Foll
       by_proposal None h = cc
       by_proposal (Some p) h = (p, refl, eqb-true p.stamp stamp h)
 
-  reports_follow : (position : Position) (place : Place) (n : LineMission) (said : Said) (new : LineState) → v.mission t ≡ Some n → place_on line (track_of v t) position ≡ Some place → WaitsKeep line new
-      → Tells (release_words line c (is_cleared_of line v t place) v) (reported line t c place v) said new → Follows line new (all_told line c said.sayings (change_stretch t (reports line position) x))
-  reports_follow position place n said new is on keep h =
-      silently said new (change_stretch t (reports line position) x) (ap (λ (p : Said). p.sayings) h.said_is)
-      (reported_follow position n is place (sym (ap (λ (k : ℕ). place_on line k position) (track_is n is)) ∙ on) new keep h.new_is)
+  reports_follow : (position : Position) (place : Place) (sup : Supervised v c t) (said : Said) (new : LineState) → place_on line (track_of v t) position ≡ Some place → WaitsKeep line new
+      → Tells (release_words line c (is_cleared_of line v t place) v) (reported line t c place v) said new → Follows line new (all_told line event said.sayings (changed_view (after_message line c m.t_train (Report position))))
+  reports_follow position place sup said new on keep h =
+      silently said new (changed_view (after_message line c m.t_train (Report position))) (ap (λ (p : Said). p.sayings) h.said_is)
+      (reported_follow position sup.m sup.of_train sup.at place (sym (ap (λ (k : ℕ). place_on line k position) (track_is sup.m sup.of_train)) ∙ on) new keep h.new_is)
 
-  ending_follow : (position : Position) (b : Bool) (o : Option Place) (n : LineMission) (said : Said) (new : LineState) → (position.v_train == 0) ≡ b → v.mission t ≡ Some n → place_on line (track_of v t) position ≡ o
-      → WaitsKeep line new → Ending line t c b o v said new → Follows line new (all_told line c said.sayings (change_stretch t (λ y. stands line position (reports line position y)) x))
-  ending_follow position b None n said new still is on keep h =
-      let w = (old.tied t).way n is in
-      let none : place_on line w.x.track position ≡ None = ap (λ (k : ℕ). place_on line k position) (w.track ∙ sym (track_is n is)) ∙ on in
-      silently said new (change_stretch t (λ y. stands line position (reports line position y)) x) (ap (λ (p : Said). p.sayings) h.said_is)
-      (subst (Follows line new) (nothing_back position (λ y there. unplaced_still position (reports line position y)
-      (ap (λ (k : ℕ). place_on line k position) ((reports_keep line ok position y).0 ∙ ap (λ (z : Stretch). z.track) (same_Some y w.x (sym there ∙ w.is))) ∙ none)))
-      (ends_unplaced position n new is keep h.new_is))
-  ending_follow position false (Some place) n said new moves is on keep h =
-      silently said new (change_stretch t (λ y. stands line position (reports line position y)) x) (ap (λ (p : Said). p.sayings) h.said_is)
-      (subst (Follows line new) (nothing_back position (λ y there. under_way_still position moves (reports line position y)))
-      (ended_follow position n is place (sym (ap (λ (k : ℕ). place_on line k position) (track_is n is)) ∙ on) new keep h.new_is))
-  ending_follow position true (Some place) n said new still is on keep h =
-      silently said new (change_stretch t (λ y. stands line position (reports line position y)) x) (ap (λ (p : Said). p.sayings) h.said_is)
-      (stopped_follow position n is place (sym (ap (λ (k : ℕ). place_on line k position) (track_is n is)) ∙ on) (eqb-true position.v_train 0 still) new keep h.new_is)
+  ending_follow : (position : Position) (b : Bool) (o : Option Place) (sup : Supervised v c t) (said : Said) (new : LineState) → (position.v_train == 0) ≡ b → place_on line (track_of v t) position ≡ o
+      → WaitsKeep line new → Ending line t c b o v said new → Follows line new (all_told line event said.sayings (changed_view (after_message line c m.t_train (EndOfMission position))))
+  ending_follow position b None sup said new still on keep h =
+      silently said new (changed_view (after_message line c m.t_train (EndOfMission position))) (ap (λ (p : Said). p.sayings) h.said_is) (ends_unplaced position sup.m new sup.of_train keep h.new_is)
+  ending_follow position false (Some place) sup said new moves on keep h =
+      silently said new (changed_view (after_message line c m.t_train (EndOfMission position))) (ap (λ (p : Said). p.sayings) h.said_is)
+      (moving_follow position sup.m sup.of_train sup.at place (sym (ap (λ (k : ℕ). place_on line k position) (track_is sup.m sup.of_train)) ∙ on) moves new keep h.new_is)
+  ending_follow position true (Some place) sup said new still on keep h =
+      silently said new (changed_view (after_message line c m.t_train (EndOfMission position))) (ap (λ (p : Said). p.sayings) h.said_is)
+      (stopped_follow position sup.m sup.of_train sup.at place (sym (ap (λ (k : ℕ). place_on line k position) (track_is sup.m sup.of_train)) ∙ on) (eqb-true position.v_train 0 still) new keep h.new_is)
 
-  pub own_follows : (body : TrainBody) (said : Said) (new : LineState) → Fair body → Own line v c m body said new → Follows line new (all_told line c said.sayings (outside.says line c m body x))
+  -- nothing is taken back by the message
+  plainly : (body : TrainBody) (said : Said) (new : LineState) → ((y : Stretch) → after_message line c m.t_train body y ≡ y) → Follows line new (all_told line event said.sayings x) → Follows line new (all_told line event said.sayings (changed_view (after_message line c m.t_train body)))
+  plainly body said new same h = subst (λ (z : View). Follows line new (all_told line event said.sayings z)) (sym (unmoved (after_message line c m.t_train body) same)) h
+
+  pub own_follows : (body : TrainBody) (said : Said) (new : LineState) → Fair body → Own line v c m body said new → Follows line new (all_told line event said.sayings (outside.says line c m body x))
   own_follows InitiationOfSession said new fair h =
-      subst (λ (p : Said). Follows line new (all_told line c p.sayings x)) (sym h.said_is)
-      (session_follows new (keep_of InitiationOfSession said new h) (ap (λ (w : LineState). w.mark) h.new_is) (ap (λ (w : LineState). w.wait) h.new_is) (ap (λ (w : LineState). w.mission) h.new_is))
+      subst (λ (p : Said). Follows line new (all_told line event p.sayings (starts t c None x))) (sym h.said_is)
+      (session_follows new (keep_of InitiationOfSession said new h) (ap (λ (w : LineState). w.mark) h.new_is) (ap (λ (w : LineState). w.wait) h.new_is) (ap (λ (w : LineState). w.mission) h.new_is) (ap (λ (w : LineState). w.heard) h.new_is))
   own_follows TerminationOfSession said new fair h =
-      subst (λ (p : Said). Follows line new (all_told line c p.sayings x)) (sym h.said_is)
-      (session_follows new (keep_of TerminationOfSession said new h) (ap (λ (w : LineState). w.mark) h.new_is) (ap (λ (w : LineState). w.wait) h.new_is) (ap (λ (w : LineState). w.mission) h.new_is))
+      subst (λ (p : Said). Follows line new (all_told line event p.sayings (starts t c None x))) (sym h.said_is)
+      (session_follows new (keep_of TerminationOfSession said new h) (ap (λ (w : LineState). w.mark) h.new_is) (ap (λ (w : LineState). w.wait) h.new_is) (ap (λ (w : LineState). w.mission) h.new_is) (ap (λ (w : LineState). w.heard) h.new_is))
   own_follows SessionEstablished said new fair h =
-      silently said new x (ap (λ (p : Said). p.sayings) h.said_is)
-      (after_none line v x old new x old.founded (keep_of SessionEstablished said new h) (wait_still line v x old new x (ap (λ (w : LineState). w.wait) h.new_is) refl)
-      (λ u s. ap (λ (w : LineState). is_given_to u (w.mark s)) h.new_is) (ap (λ (w : LineState). w.mission) h.new_is) refl refl)
+      let heards = ap (λ (w : LineState). w.heard) h.new_is in
+      plainly SessionEstablished said new (λ y. refl)
+      (silently said new x (ap (λ (p : Said). p.sayings) h.said_is)
+      (after_none line v x old new x old.founded (keep_of SessionEstablished said new h) (wait_still line v x old new x (ap (λ (w : LineState). w.wait) h.new_is) refl (later_as new heards))
+      (λ u s. ap (λ (w : LineState). is_given_to u (w.mark s)) h.new_is) (ap (λ (w : LineState). w.mission) h.new_is) refl (later_as new heards)))
   own_follows (StartOfMission is_valid position) said new fair h =
       starts_follow is_valid position fair (fit_place line is_valid position) said new refl (keep_of (StartOfMission is_valid position) said new h) h
   own_follows (TrainData position) said new fair h =
-      subst (λ (p : Said). Follows line new (all_told line c p.sayings x)) (sym h.said_is)
-      (after_change new (λ k. record k { has_data = true }) (keep_of (TrainData position) said new h) (ap (λ (w : LineState). w.wait) h.new_is) (ap (λ (w : LineState). w.mark) h.new_is) (ap (λ (w : LineState). w.mission) h.new_is)
-      (λ k. refl) (λ k. refl) (λ k p stands. stands) (λ k none. none))
+      plainly (TrainData position) said new (λ y. refl)
+      (subst (λ (p : Said). Follows line new (all_told line event p.sayings x)) (sym h.said_is)
+      (after_change new (λ k. record k { has_data = true }) (keep_of (TrainData position) said new h) (ap (λ (w : LineState). w.wait) h.new_is) (ap (λ (w : LineState). w.mark) h.new_is) (ap (λ (w : LineState). w.heard) h.new_is) (ap (λ (w : LineState). w.mission) h.new_is)
+      (λ k. refl) (λ k. refl) (λ k p stands. stands)))
   own_follows (Request position) said new fair h =
       let on = sym (ap (λ (k : ℕ). place_on line k position) (track_is fair.0.m fair.0.of_train)) ∙ h.1 in
-      extends_follow fair.0.m position h.0 said new fair.0.of_train on (within_is fair.0.m position h.0 fair.1 on) (keep_of (Request position) said new h) h.2
-  own_follows (Report position) said new fair h = reports_follow position h.0 fair.m said new fair.of_train h.1 (keep_of (Report position) said new h) h.2
+      plainly (Request position) said new (λ y. refl)
+      (extends_follow fair.0.m position h.0 said new fair.0.of_train fair.0.at fair.2 on (within_is fair.0.m position h.0 fair.1 on) (keep_of (Request position) said new h) h.2)
+  own_follows (Report position) said new fair h = reports_follow position h.0 fair said new h.1 (keep_of (Report position) said new h) h.2
   own_follows (ShorteningGranted stamp position) said new fair h =
       let sup = fair.0 in
       let p = answer_is stamp sup.m fair.1 in
-      subst (λ (z : View). Follows line new (all_told line c said.sayings z)) (sym (asked_is stamp position sup.m sup.of_train sup.at p.0 p.1 p.2))
-      (silently said new (change_stretch t (grants line position (end line p.0.last_kept)) x) (ap (λ (q : Said). q.sayings) h.said_is)
+      silently said new (changed_view (after_message line c m.t_train (ShorteningGranted stamp position))) (ap (λ (q : Said). q.sayings) h.said_is)
       (granted_follow stamp position sup.m sup.of_train sup.at p.0 p.1 p.2 (place_on line sup.m.place.track position) new refl (keep_of (ShorteningGranted stamp position) said new h)
       (h.new_is ∙ ap (λ (k : ℕ). shortened line t c (place_on line k position) (last_kept_of v t) (without_ask t v)) (track_is sup.m sup.of_train)
-      ∙ ap (λ (k : ℕ). shortened line t c (place_on line sup.m.place.track position) k (without_ask t v)) (last_is stamp position sup.m sup.of_train sup.at p.0 p.1 p.2))))
+      ∙ ap (λ (k : ℕ). shortened line t c (place_on line sup.m.place.track position) k (without_ask t v)) (last_is stamp position sup.m sup.of_train sup.at p.0 p.1 p.2)))
   own_follows (ShorteningRejected stamp position) said new fair h =
-      silently said new x (ap (λ (p : Said). p.sayings) h.said_is)
-      (after_change new (λ k. record k { proposal = None }) (keep_of (ShorteningRejected stamp position) said new h) (ap (λ (w : LineState). w.wait) h.new_is) (ap (λ (w : LineState). w.mark) h.new_is) (ap (λ (w : LineState). w.mission) h.new_is)
-      (λ k. refl) (λ k. refl) (λ k p stands. cc) (λ k none. refl))
+      plainly (ShorteningRejected stamp position) said new (λ y. refl)
+      (silently said new x (ap (λ (p : Said). p.sayings) h.said_is)
+      (after_change new (λ k. record k { proposal = None }) (keep_of (ShorteningRejected stamp position) said new h) (ap (λ (w : LineState). w.wait) h.new_is) (ap (λ (w : LineState). w.mark) h.new_is) (ap (λ (w : LineState). w.heard) h.new_is) (ap (λ (w : LineState). w.mission) h.new_is)
+      (λ k. refl) (λ k. refl) (λ k p stands. cc)))
   own_follows (EndOfMission position) said new fair h =
-      ending_follow position (position.v_train == 0) (place_on line (track_of v t) position) fair.m said new refl fair.of_train refl (keep_of (EndOfMission position) said new h) h
+      ending_follow position (position.v_train == 0) (place_on line (track_of v t) position) fair said new refl refl (keep_of (EndOfMission position) said new h) h
 
   -- ## What is shut stays shut
 

@@ -1,7 +1,8 @@
 pub mod Spans
 pub mod Marks
-pub mod Standstill
 pub mod Tied
+pub mod Standstill
 pub mod Follows
 pub mod Heard
 pub mod Pieces
+pub mod Arrives

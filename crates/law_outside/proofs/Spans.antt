@@ -1,5 +1,5 @@
 -- How far a train may run, and the sections that are given to it.
-use Rattle.std.proofs.Common.{◌≡◌, ℕ, ◌+◌, ◌-◌, ◌*◌, ◌<◌, ◌≤◌, ◌&&◌, Bool, true, false, nat_lt, min, length, Option, ℤ, pos, negsuc, int_lt, int_le, refl, sym, ap, ◌∙◌, inl, inr, subst, arith, ltb-true, leb-true, lt-ltb, le-leb}
+use Rattle.std.proofs.Common.{◌≡◌, ℕ, ◌+◌, ◌-◌, ◌*◌, ◌<◌, ◌≤◌, ◌&&◌, ◌⊎◌, Bool, true, false, if◌then◌else◌, nat_lt, min, max, length, Option, Some, None, ℤ, pos, negsuc, int_lt, int_le, refl, sym, ap, ◌∙◌, inl, inr, subst, arith, ltb-true, leb-true, lt-ltb, le-leb}
 use Rattle.std.specs.Option.{option_map_or}
 use Rattle.std.proofs.lemmas.Bool.{and_parts, and_from, cases_lt, ltb-false}
 use Rattle.rbc_spec.specs.SectionRuns.{SectionRun, within, behind}
@@ -10,7 +10,7 @@ use Rattle.rbc_spec.proofs.Places.{IsCovered, covers_parts, covers_from, covers_
 use Rattle.law_base.proofs.Lists.{each_at}
 use Rattle.law_base.proofs.Runs.{within_true, within_from}
 use Rattle.law_local.proofs.Fits.{IsFit, fit_covers}
-use Rattle.law_outside.specs.Outside.{Stretch, is_in}
+use Rattle.law_outside.specs.Outside.{Stretch, is_in, cleared, up_to}
 
 -- the stretch ends where a section of its track ends
 pub record Ends (line : Line) (x : Stretch) : Type 0 where
@@ -21,7 +21,7 @@ pub record Ends (line : Line) (x : Stretch) : Type 0 where
 -- the train may run over sections of its hand alone, which is a run on the track, and no section between its rear and its hand is of another
 pub record Spans (line : Line) (g : ℕ → Bool) (x : Stretch) : Type 0 where
   pub ends : Ends line x
-  pub over : (s : ℕ) → is_in line x s ≡ true → g s ≡ true
+  pub over : (s : ℕ) → is_in line s x ≡ true → g s ≡ true
   pub on : (s : ℕ) → g s ≡ true → is_on line x.track s ≡ true
   pub between : (s m e : ℕ) → s ≤ m → m ≤ e → g s ≡ true → g e ≡ true → g m ≡ true
   pub behind : (s e : ℕ) → s ≤ e → g e ≡ true → is_on line x.track s ≡ true → int_lt x.rear (pos (10 * end line s)) ≡ true → g s ≡ true
@@ -47,6 +47,10 @@ pub rear_up : (r : ℤ) (a b : ℕ) → a ≤ b → int_le (pos b) r ≡ true �
 rear_up (pos r) a b le one = le-leb a r (omega (arith, leb-true b r one))
 rear_up (negsuc r) a b le one = cc
 
+pub lt_up : (r : ℤ) (a b : ℕ) → a ≤ b → int_lt r (pos a) ≡ true → int_lt r (pos b) ≡ true
+lt_up (pos r) a b le one = lt-ltb r b (omega (arith, ltb-true r a one, le))
+lt_up (negsuc r) a b le one = refl
+
 -- ## What it is to be in a stretch
 
 pub record IsIn (line : Line) (x : Stretch) (s : ℕ) : Type 0 where
@@ -54,13 +58,13 @@ pub record IsIn (line : Line) (x : Stretch) (s : ℕ) : Type 0 where
   pub before : start line s < x.end
   pub past : int_lt x.rear (pos (10 * end line s)) ≡ true
 
-pub in_parts : (line : Line) (x : Stretch) (s : ℕ) → is_in line x s ≡ true → IsIn line x s
+pub in_parts : (line : Line) (x : Stretch) (s : ℕ) → is_in line s x ≡ true → IsIn line x s
 in_parts line x s h =
     let both = and_parts (is_on line x.track s && nat_lt (start line s) x.end) (int_lt x.rear (pos (10 * end line s))) h in
     let front = and_parts (is_on line x.track s) (nat_lt (start line s) x.end) both.0 in
     record { on = front.0; before = ltb-true (start line s) x.end front.1; past = both.1 }
 
-pub in_from : (line : Line) (x : Stretch) (s : ℕ) → IsIn line x s → is_in line x s ≡ true
+pub in_from : (line : Line) (x : Stretch) (s : ℕ) → IsIn line x s → is_in line s x ≡ true
 in_from line x s h =
     and_from (is_on line x.track s && nat_lt (start line s) x.end) (int_lt x.rear (pos (10 * end line s)))
     (and_from (is_on line x.track s) (nat_lt (start line s) x.end) h.on (lt-ltb (start line s) x.end h.before)) h.past
@@ -118,13 +122,19 @@ module _ (line : Line) (g : ℕ → Bool) (x : Stretch) (old : Spans line g x) w
   }
 
   -- the hand is extended by a run that follows it at once
-  pub lengthened : (k : ℕ → Bool) (hand : SectionRun) (count : ℕ) → ((s : ℕ) → g s ≡ within hand s) → ((s : ℕ) → k s ≡ within (record { first = hand.first; count = hand.count + count }) s)
+  pub lengthened : (k : ℕ → Bool) (hand : SectionRun) (count since : ℕ) → ((s : ℕ) → g s ≡ within hand s) → ((s : ℕ) → k s ≡ within (record { first = hand.first; count = hand.count + count }) s)
       → (s : ℕ) → g s ≡ true → ((s : ℕ) → within (record { first = behind hand; count = count }) s ≡ true → is_on line x.track s ≡ true)
-      → Spans line k (record x { end = end line (behind hand + count - 1) })
-  lengthened k hand count is_hand is_longer one there on_more = record {
-    ends = record { last = last; on = on_all last last_in; is = refl };
-    over = λ s is. let h = in_parts line (record x { end = end line last }) s is in
-        behind_all s last (no_later line x.track s last h.on (on_all last last_in) h.before) last_in h.on h.past;
+      → Spans line k (record x { end = max x.end (end line (behind hand + count - 1)); since = since; asked = None })
+  lengthened k hand count since is_hand is_longer one there on_more = record {
+    ends = elim (cases_lt x.end (end line last)) [
+      | inl lt ↦ record { last = last; on = on_all last last_in; is = (omega (arith, lt)) }
+      | inr le ↦ record { last = old.ends.last; on = old.ends.on; is = (omega (arith, le, old.ends.is)) }
+    ];
+    over = λ s is. let h = in_parts line new s is in let before = h.before in elim (cases_lt (start line s) x.end) [
+      | inl early ↦ let p = within_true hand s (sym (is_hand s) ∙ old.over s (in_from line x s (record { on = h.on; before = early; past = h.past }))) in
+          is_in_longer s p.0 (let b = p.1 in omega (arith, b))
+      | inr late ↦ behind_all s last (no_later line x.track s last h.on (on_all last last_in) (omega (arith, before, late))) last_in h.on h.past
+    ];
     on = on_all;
     between = λ s m e from to a b. let low = ends_of s a in let high = ends_of e b in is_in_longer m (let l = low.0 in omega (arith, from, l)) (let r = high.1 in omega (arith, to, r));
     behind = behind_all;
@@ -132,6 +142,9 @@ module _ (line : Line) (g : ℕ → Bool) (x : Stretch) (old : Spans line g x) w
     where
       last : ℕ
       last = behind hand + count - 1
+
+      new : Stretch
+      new = record x { end = max x.end (end line last); since = since; asked = None }
 
       longer : SectionRun
       longer = record { first = hand.first; count = hand.count + count }
@@ -180,56 +193,128 @@ module _ (line : Line) (ok : IsLine line) (place : Place) (fit : IsFit line plac
       let a = h.0 in let b = h.1 in
       sym (covered_is last_covered) ∙ within_from (covered line place) last_covered (omega (arith, a, b)) (omega (arith, a, b))
 
+  abbrev pub first_stretch : ℕ → Stretch
+  first_stretch since = record { track = place.track; rear = pos fit.rear; end = end line last_covered; since = since; asked = None }
+
+  last_at : IsCovered line place last_covered
+  last_at = covers_parts line place last_covered last_is
+
+  -- what is given from the place's rear end on
+  from_there : (g : ℕ → Bool) → ((s : ℕ) → covers line place s ≡ true → g s ≡ true) → ((s m e : ℕ) → s ≤ m → m ≤ e → g s ≡ true → g e ≡ true → g m ≡ true)
+      → (s e : ℕ) → s ≤ e → g e ≡ true → is_on line place.track s ≡ true → int_lt (pos fit.rear) (pos (10 * end line s)) ≡ true → g s ≡ true
+  from_there g all between s e le two there past = elim (cases_lt last_covered s) [
+    | inl more ↦ between last_covered s e (omega (arith, more)) le (all last_covered last_is) two
+    | inr less ↦ all s (covers_from line place s (record {
+      on = there;
+      begins = let b = last_at.begins in omega (arith, starts_rise line place.track s last_covered there last_at.on less, b);
+      ends = ap (λ (o : Option ℤ). option_map_or (λ rear. int_lt rear (pos (10 * end line s))) o false) fit.rear_is ∙ past;
+    }))
+  ]
+
   -- a stretch of what the place covers, which is given with what follows
-  pub begun_spans : (g : ℕ → Bool) → ((s : ℕ) → covers line place s ≡ true → g s ≡ true) → ((s : ℕ) → g s ≡ true → is_on line place.track s ≡ true)
-      → ((s m e : ℕ) → s ≤ m → m ≤ e → g s ≡ true → g e ≡ true → g m ≡ true) → Spans line g (record { track = place.track; rear = pos fit.rear; end = end line last_covered })
-  begun_spans g all on between = record {
-    ends = record { last = last_covered; on = last_on; is = refl };
-    over = λ s is. let h = in_parts line (record { track = place.track; rear = pos fit.rear; end = end line last_covered }) s is in all s (early s (no_later line place.track s last_covered h.on last_on h.before) h.on h.past);
+  pub begun_spans : (g : ℕ → Bool) (since : ℕ) → ((s : ℕ) → covers line place s ≡ true → g s ≡ true) → ((s : ℕ) → g s ≡ true → is_on line place.track s ≡ true)
+      → ((s m e : ℕ) → s ≤ m → m ≤ e → g s ≡ true → g e ≡ true → g m ≡ true) → Spans line g (first_stretch since)
+  begun_spans g since all on between = record {
+    ends = record { last = last_covered; on = last_at.on; is = refl };
+    over = λ s is. let h = in_parts line (first_stretch since) s is in
+        from_there g all between s last_covered (no_later line place.track s last_covered h.on last_at.on h.before) (all last_covered last_is) h.on h.past;
     on = on;
     between = between;
-    behind = λ s e le two there past. elim (cases_lt last_covered s) [
-      | inl more ↦ between last_covered s e (omega (arith, more)) le (all last_covered last_is) two
-      | inr less ↦ all s (early s less there past)
+    behind = from_there g all between;
+  }
+
+  -- a train that goes on from a place within its hand, over all that it had and what the place covers
+  pub goes_on_spans : (g : ℕ → Bool) (x : Stretch) (old : Spans line g x) (since : ℕ) (rear : ℤ) → g old.ends.last ≡ true → x.track ≡ place.track → ((s : ℕ) → covers line place s ≡ true → g s ≡ true)
+      → ((n : ℕ) → int_lt rear (pos n) ≡ true → (int_lt x.rear (pos n) ≡ true) ⊎ (int_lt (pos fit.rear) (pos n) ≡ true))
+      → Spans line g (record { track = place.track; rear = rear; end = max x.end (end line last_covered); since = since; asked = None })
+  goes_on_spans g x old since rear last_given same all either = record {
+    ends = elim (cases_lt x.end (end line last_covered)) [
+      | inl lt ↦ record { last = last_covered; on = last_at.on; is = (omega (arith, lt)) }
+      | inr le ↦ record { last = old.ends.last; on = on_new old.ends.last old.ends.on; is = (omega (arith, le, old.ends.is)) }
     ];
-  }
-    where
-      last_at : IsCovered line place last_covered
-      last_at = covers_parts line place last_covered last_is
-
-      last_on : is_on line place.track last_covered ≡ true
-      last_on = last_at.on
-
-      early : (s : ℕ) → s ≤ last_covered → is_on line place.track s ≡ true → int_lt (pos fit.rear) (pos (10 * end line s)) ≡ true → covers line place s ≡ true
-      early s le there past = covers_from line place s (record {
-        on = there;
-        begins = let b = last_at.begins in omega (arith, starts_rise line place.track s last_covered there last_on le, b);
-        ends = ap (λ (o : Option ℤ). option_map_or (λ rear. int_lt rear (pos (10 * end line s))) o false) fit.rear_is ∙ past;
-      })
-
-  -- a train that goes on from a place within its hand
-  pub from_further_back : (g : ℕ → Bool) (x : Stretch) (old : Spans line g x) → g old.ends.last ≡ true → x.track ≡ place.track → ((s : ℕ) → covers line place s ≡ true → g s ≡ true) → Spans line g (record x { rear = pos fit.rear })
-  from_further_back g x old last_given same all = record {
-    ends = record { last = old.ends.last; on = old.ends.on; is = old.ends.is };
-    over = λ s is. let h = in_parts line (record x { rear = pos fit.rear }) s is in
-        elsewhere s old.ends.last (no_later line x.track s old.ends.last h.on old.ends.on (subst (λ (n : ℕ). start line s < n) old.ends.is h.before)) last_given h.on h.past;
-    on = old.on;
+    over = λ s is. let h = in_parts line new s is in let before = h.before in elim (cases_lt (start line s) x.end) [
+      | inl early ↦ somewhere s old.ends.last (no_later line place.track s old.ends.last h.on (on_new old.ends.last old.ends.on) (subst (λ (n : ℕ). start line s < n) old.ends.is early)) last_given h.on h.past
+      | inr late ↦ somewhere s last_covered (no_later line place.track s last_covered h.on last_at.on (omega (arith, before, late))) (all last_covered last_is) h.on h.past
+    ];
+    on = λ s so. on_new s (old.on s so);
     between = old.between;
-    behind = elsewhere;
+    behind = somewhere;
   }
     where
-      last_at : IsCovered line place last_covered
-      last_at = covers_parts line place last_covered last_is
+      new : Stretch
+      new = record { track = place.track; rear = rear; end = max x.end (end line last_covered); since = since; asked = None }
 
-      elsewhere : (s e : ℕ) → s ≤ e → g e ≡ true → is_on line x.track s ≡ true → int_lt (pos fit.rear) (pos (10 * end line s)) ≡ true → g s ≡ true
-      elsewhere s e le two on past = elim (cases_lt last_covered s) [
-        | inl more ↦ old.between last_covered s e (omega (arith, more)) le (all last_covered last_is) two
-        | inr less ↦ all s (covers_from line place s (record {
-          on = there;
-          begins = let b = last_at.begins in omega (arith, starts_rise line place.track s last_covered there last_at.on less, b);
-          ends = ap (λ (o : Option ℤ). option_map_or (λ rear. int_lt rear (pos (10 * end line s))) o false) fit.rear_is ∙ past;
-        }))
+      on_new : (s : ℕ) → is_on line x.track s ≡ true → is_on line place.track s ≡ true
+      on_new s on = subst (λ (k : ℕ). is_on line k s ≡ true) same on
+
+      somewhere : (s e : ℕ) → s ≤ e → g e ≡ true → is_on line place.track s ≡ true → int_lt rear (pos (10 * end line s)) ≡ true → g s ≡ true
+      somewhere s e le two on past = elim (either (10 * end line s) past) [
+        | inl before ↦ old.behind s e le two (subst (λ (k : ℕ). is_on line k s ≡ true) (sym same) on) before
+        | inr there ↦ from_there g all old.between s e le two on there
       ]
-        where
-          there : is_on line place.track s ≡ true
-          there = subst (λ (k : ℕ). is_on line k s ≡ true) same on
+
+-- ## A stretch that is less
+
+-- nothing that is told changes, and no section joins
+pub record IsLess (line : Line) (x y : Stretch) : Type 0 where
+  pub track : y.track ≡ x.track
+  pub since : y.since ≡ x.since
+  pub asked : y.asked ≡ x.asked
+  pub ends : Ends line x → Ends line y
+  pub over : (s : ℕ) → is_in line s y ≡ true → is_in line s x ≡ true
+  pub past : (n : ℕ) → int_lt y.rear (pos n) ≡ true → int_lt x.rear (pos n) ≡ true
+
+module _ (line : Line) where
+  pub less_itself : (x : Stretch) → IsLess line x x
+  less_itself x = record { track = refl; since = refl; asked = refl; ends = λ e. e; over = λ s is. is; past = λ n is. is }
+
+  pub less_then : (x y z : Stretch) → IsLess line x y → IsLess line y z → IsLess line x z
+  less_then x y z one two = record {
+    track = two.track ∙ one.track;
+    since = two.since ∙ one.since;
+    asked = two.asked ∙ one.asked;
+    ends = λ e. two.ends (one.ends e);
+    over = λ s is. one.over s (two.over s is);
+    past = λ n is. one.past n (two.past n is);
+  }
+
+  -- no hand changes
+  pub spans_less : (g : ℕ → Bool) (x y : Stretch) → IsLess line x y → Spans line g x → Spans line g y
+  spans_less g x y less old = record {
+    ends = less.ends old.ends;
+    over = λ s is. old.over s (less.over s is);
+    on = λ s so. subst (λ (n : ℕ). is_on line n s ≡ true) (sym less.track) (old.on s so);
+    between = old.between;
+    behind = λ s e le two on past. old.behind s e le two (subst (λ (n : ℕ). is_on line n s ≡ true) less.track on) (less.past (10 * end line s) past);
+  }
+
+  pub cleared_less : (place : Place) (x : Stretch) → IsLess line x (cleared place x)
+  cleared_less place x = by_rear place.rear
+    where
+      by_later : (rear : ℤ) (b : Bool) → int_lt x.rear rear ≡ b → IsLess line x (if b then record x { rear = rear } else x)
+      by_later rear false is = less_itself x
+      by_later rear true is = record {
+        track = refl;
+        since = refl;
+        asked = refl;
+        ends = λ e. record { last = e.last; on = e.on; is = e.is };
+        over = λ s yes. let h = in_parts line (record x { rear = rear }) s yes in in_from line x s (record { on = h.on; before = h.before; past = rear_later x.rear rear (10 * end line s) is h.past });
+        past = λ n past. rear_later x.rear rear n is past;
+      }
+
+      by_rear : (o : Option ℤ) → IsLess line x (option_map_or (λ rear. if int_lt x.rear rear then record x { rear = rear } else x) o x)
+      by_rear None = less_itself x
+      by_rear (Some rear) = by_later rear (int_lt x.rear rear) refl
+
+  pub up_to_less : (x : Stretch) (last : ℕ) → is_on line x.track last ≡ true → IsLess line x (up_to x (end line last))
+  up_to_less x last on = record {
+    track = refl;
+    since = refl;
+    asked = refl;
+    ends = λ e. elim (cases_lt x.end (end line last)) [
+      | inl lt ↦ record { last = e.last; on = e.on; is = (let is = e.is in omega (arith, lt, is)) }
+      | inr le ↦ record { last = last; on = on; is = (omega (arith, le)) }
+    ];
+    over = λ s yes. let h = in_parts line (up_to x (end line last)) s yes in let before = h.before in in_from line x s (record { on = h.on; before = omega (arith, before); past = h.past });
+    past = λ n past. past;
+  }

@@ -1,186 +1,241 @@
 -- What the world outside sees of the centres of a line: what trains say and are told, and what the interlocking does
--- and is told. No state of a centre occurs here, no frame, and no word of the one line centre.
-use Rattle.std.specs.Prelude.{◌≡◌, ℕ, zero, suc, ◌+◌, ◌*◌, ◌==◌, Bool, true, false, ◌&&◌, ◌||◌, not, if◌then◌else◌, List, [], ◌∷◌, ◌++◌, min, Option, Some, None, option_map, option_and_then, ◌-◌, nat_lt, nat_le, ℤ, pos, int_lt, Ok}
+-- and is told. No state of a centre occurs here, no frame, and no word of the one line centre. What is told never takes
+-- back, and what a train says takes back only what it was told before that. "In advance of" is further on in the
+-- direction of travel, "in rear of" is further back.
+use Rattle.std.specs.Prelude.{◌≡◌, ℕ, zero, suc, ◌+◌, ◌*◌, ◌==◌, Bool, true, false, ◌&&◌, if◌then◌else◌, List, [], ◌∷◌, ◌++◌, map, min, max, Option, Some, None, option_map, option_and_then, is_none, nat_lt, nat_le, ℤ, pos, int_lt, Ok}
 use Rattle.std.specs.Option.{option_map_or}
 use Rattle.rbc_spec.specs.Maps.{has, put, put_pair}
-use Rattle.rbc_spec.specs.SectionRuns.{behind}
 use Rattle.rbc_spec.specs.Line.{Line, IsLine, section_of_group, start, end}
 use Rattle.rbc_spec.specs.Sections.{is_on, section_count}
-use Rattle.rbc_spec.specs.Place.{Place, Position, covered, fit_place, place_on}
-use Rattle.rbc_spec.specs.Message.{TrainMessage, TrainBody, Report, ShorteningGranted, EndOfMission, StartOfMission, TrackBody, Authority, ShorteningRequest, TrainAccepted}
-use Rattle.rbc_spec.specs.Outcome.{Outcome, Saying, Word, Done, Told}
+use Rattle.rbc_spec.specs.Place.{Place, Position, extent}
+use Rattle.rbc_spec.specs.Message.{TrainMessage, TrainBody, Report, ShorteningGranted, EndOfMission, StartOfMission, InitiationOfSession, TerminationOfSession, TrackBody, Authority, ShorteningRequest, TrainAccepted, TrainRejected}
+use Rattle.rbc_spec.specs.Outcome.{Saying, Word, Done, Told}
 use Rattle.rbc_spec.specs.World.{World, Event, Bytes, Set, Unset, centre_of, Answer, Answered, new_world, world_run}
 
--- how far a train may run: on this track, from the farthest safe rear end that it has reported, in decimetres, to the
--- end of the authority that it was told, in metres
+-- a request to shorten that stands: by which centre, its T_TRAIN, and where the authority would end
+pub record Shortening : Type 0 where
+  pub centre : ℕ
+  pub stamp : ℕ
+  pub end : ℕ
+
+-- how far a train may run: on this track, from its safe rear end, in decimetres, to the farthest end that it was told,
+-- in metres; T_TRAIN of its message that was so answered last; and the request to shorten that it was told since
 pub record Stretch : Type 0 where
   pub track : ℕ
   pub rear : ℤ
   pub end : ℕ
+  pub since : ℕ
+  pub asked : Option Shortening
 
--- of each train how far it may run; of each train and centre the place of the last start of mission; of each train,
--- centre and T_TRAIN of a request to shorten where that would end the authority; of each section whether the
--- interlocking has released it and not had it back; and whether a train was ever told what it can't place: that it is
--- accepted, with no place to start from, or an end of its authority on another track than its own
+-- of each train how far it may run; of each train and centre how far its start of mission reaches, which has no answer
+-- yet; of each section whether the interlocking has released it and not had it back; and whether a train was ever told
+-- what it can't place
 pub record View : Type 0 where
   pub stretch : ℕ → Option Stretch
-  pub start : ℕ → ℕ → Option Place
-  pub asked : ℕ → ℕ → ℕ → Option ℕ
+  pub start : ℕ → ℕ → Option Stretch
   pub released : ℕ → Bool
   pub stray : Bool
 
 abbrev pub nothing_seen : View
-nothing_seen =
-    record { stretch = λ t. None; start = λ t c. None; asked = λ t c stamp. None; released = λ s. false; stray = false }
+nothing_seen = record { stretch = λ t. None; start = λ t c. None; released = λ s. false; stray = false }
 
 -- the section lies in the stretch
-abbrev pub is_in : Line → Stretch → ℕ → Bool
-is_in line x s = (is_on line x.track s && nat_lt (start line s) x.end) && int_lt x.rear (pos (10 * end line s))
+abbrev pub is_in : Line → ℕ → Stretch → Bool
+is_in line s x = (is_on line x.track s && nat_lt (start line s) x.end) && int_lt x.rear (pos (10 * end line s))
 
 -- the train may run over the section
 abbrev pub may_run_over : Line → View → ℕ → ℕ → Bool
-may_run_over line v t s = has (λ x. is_in line x s) (v.stretch t)
+may_run_over line v t s = has (is_in line s) (v.stretch t)
 
--- the metres from the start of the track that are so far from a balise group
-abbrev pub metres_behind : Line → ℕ → ℕ → ℕ
-metres_behind line group metres = option_map_or (λ s. start line s) (section_of_group line group) 0 + metres
+-- of the first n sections the last of the place's track that begins before the place's front: where it ends
+unfoldable pub front_end : Line → Place → ℕ → Option ℕ
+front_end line place zero = None
+front_end line place (suc n) =
+    if is_on line place.track n && nat_lt (10 * start line n) place.front then Some (end line n)
+    else front_end line place n
 
 -- ## What a train says that is heard
 
-abbrev pub change_stretch : ℕ → (Stretch → Stretch) → View → View
-change_stretch t change v = record v { stretch = put v.stretch t (option_map change (v.stretch t)) }
+-- a report takes back what lies in rear of its safe rear end
+abbrev pub cleared : Place → Stretch → Stretch
+cleared place x = option_map_or (λ rear. if int_lt x.rear rear then record x { rear = rear } else x) place.rear x
 
--- a report takes back what lies behind its safe rear end
-abbrev pub reports : Line → Position → Stretch → Stretch
-reports line position x = option_map_or
-    (λ rear. if int_lt x.rear rear then record x { rear = rear } else x)
-    (option_and_then (λ place. place.rear) (place_on line x.track position)) x
+abbrev pub up_to : Stretch → ℕ → Stretch
+up_to x end = record x { end = min x.end end }
 
--- a granted request takes back what lies behind its end, where the front has not passed that
-abbrev pub grants : Line → Position → ℕ → Stretch → Stretch
-grants line position end x = option_map_or
-    (λ place. if nat_le place.front (10 * end) then record x { end = min x.end end } else x)
-    (place_on line x.track position) x
-
--- the last of the track's sections below n that begins before the front of the place
-unfoldable pub last_before : Line → Place → ℕ → Option ℕ
-last_before line place zero = None
-last_before line place (suc n) =
-    if is_on line place.track n && nat_lt (10 * start line n) place.front then Some n else last_before line place n
-
--- an end of mission at standstill takes back what lies ahead: what begins at the front or past it
-abbrev pub stands : Line → Position → Stretch → Stretch
-stands line position x =
+-- an end of mission at standstill also takes back what lies in advance of the section of the front; a granted request
+-- what lies in advance of its end, where the front has not passed that
+abbrev pub takes_back : Line → ℕ → TrainBody → Place → Stretch → Stretch
+takes_back line c (Report position) place x = cleared place x
+takes_back line c (EndOfMission position) place x =
     if position.v_train == 0
-    then option_map_or (λ s. record x { end = min x.end (end line s) })
-    (option_and_then (λ place. last_before line place (section_count line)) (place_on line x.track position)) x
-    else x
+    then option_map_or (up_to (cleared place x)) (front_end line place (section_count line)) (cleared place x)
+    else cleared place x
+takes_back line c (ShorteningGranted stamp position) place x =
+    option_map_or
+    (λ a. if ((a.centre == c) && (a.stamp == stamp)) && nat_le place.front (10 * a.end) then up_to x a.end else x)
+    x.asked x
+takes_back line c body place x = x
+
+abbrev pub position_of : TrainBody → Option Position
+position_of (Report position) = Some position
+position_of (EndOfMission position) = Some position
+position_of (ShorteningGranted stamp position) = Some position
+position_of body = None
+
+-- what is left behind a message of this T_TRAIN: only one that was sent after the last that was answered takes back
+abbrev pub after_message : Line → ℕ → ℕ → TrainBody → Stretch → Stretch
+after_message line c t_train body x =
+    option_map_or
+    (λ place. if (place.track == x.track) && nat_lt x.since t_train then takes_back line c body place x else x)
+    (option_and_then (extent line) (position_of body)) x
+
+-- from a place where a train starts: to the end of the section of its front
+abbrev pub begun : Line → ℕ → Place → Option Stretch
+begun line stamp place =
+    option_and_then (λ rear. option_map
+    (λ e. record { track = place.track; rear = rear; end = e; since = stamp; asked = None })
+    (front_end line place (section_count line))) place.rear
+
+abbrev pub starts : ℕ → ℕ → Option Stretch → View → View
+starts t c x v = record v { start = put_pair v.start t c x }
 
 abbrev pub says : Line → ℕ → TrainMessage → TrainBody → View → View
 says line c m (StartOfMission is_valid position) v =
-    record v { start = put_pair v.start m.nid_engine c (fit_place line is_valid position) }
-says line c m (Report position) v = change_stretch m.nid_engine (reports line position) v
-says line c m (EndOfMission position) v =
-    change_stretch m.nid_engine (λ x. stands line position (reports line position x)) v
-says line c m (ShorteningGranted stamp position) v =
-    option_map_or (λ end. change_stretch m.nid_engine (grants line position end) v) (v.asked m.nid_engine c stamp) v
-says line c m body v = v
+    starts m.nid_engine c
+    (if is_valid then option_and_then (begun line m.t_train) (extent line position) else None) v
+says line c m InitiationOfSession v = starts m.nid_engine c None v
+says line c m TerminationOfSession v = starts m.nid_engine c None v
+says line c m body v =
+    record v {
+      stretch = put v.stretch m.nid_engine
+          (option_map (after_message line c m.t_train body) (v.stretch m.nid_engine));
+    }
 
 -- ## What it is told
 
--- a start of mission gives what its place covers
-abbrev pub begun_at : Line → Place → Option Stretch
-begun_at line place =
-    option_map (λ rear. record {
-      track = place.track;
-      rear = rear;
-      end = end line (behind (covered line place) - 1);
-    }) place.rear
+-- a train that may still run goes on, and over all that its start reaches; on another track it can't
+abbrev pub accepted : Option Stretch → Stretch → Option Stretch
+accepted None y = Some y
+accepted (Some x) y =
+    if int_lt x.rear (pos (10 * x.end))
+    then (if x.track == y.track
+    then Some (record y {
+      rear = if int_lt x.rear y.rear then x.rear else y.rear;
+      end = max x.end y.end;
+      since = max x.since y.since;
+    }) else None)
+    else Some y
 
--- the stretch from the rear end of a place on, where that is further back
-abbrev pub back_to : Place → Stretch → Stretch
-back_to place x = option_map_or (λ rear. if int_lt rear x.rear then record x { rear = rear } else x) place.rear x
+-- the train may run so now; what it can't place is stray
+abbrev pub gets : ℕ → Option Stretch → View → View
+gets t None v = record v { stray = true }
+gets t (Some x) v = record v { stretch = put v.stretch t (Some x) }
 
--- a train that may still run goes on as it was, from where it says that it is
-abbrev pub accepted : Line → Place → Option Stretch → Option Stretch
-accepted line place (Some x) = if int_lt x.rear (pos (10 * x.end)) then Some (back_to place x) else begun_at line place
-accepted line place None = begun_at line place
+-- so many metres in advance of a group of the train's track
+abbrev pub metres_from : Line → ℕ → ℕ → Stretch → Option ℕ
+metres_from line group metres x =
+    option_and_then (λ s. if is_on line x.track s then Some (start line s + metres) else None)
+    (section_of_group line group)
 
--- the balise group is on the track that the train runs on
-abbrev pub is_placed : Line → View → ℕ → ℕ → Bool
-is_placed line v t group = has (λ x. has (is_on line x.track) (section_of_group line group)) (v.stretch t)
+-- T_TRAIN of the train's message that is answered
+abbrev pub stamp_of : Event → ℕ → Option ℕ
+stamp_of (Bytes c (Ok m)) t = if m.nid_engine == t then Some m.t_train else None
+stamp_of event t = None
 
-abbrev pub is_told : Line → ℕ → Saying → TrackBody → View → View
-is_told line c p TrainAccepted v =
-    option_map_or (λ place. record v {
-      stretch = put v.stretch p.nid_engine
-          (accepted line place (v.stretch p.nid_engine));
-    }) (v.start p.nid_engine c) (record v { stray = true })
-is_told line c p (Authority l) v =
-    record (change_stretch p.nid_engine
-    (λ x. record x { end = metres_behind line p.message.nid_lrbg l }) v) {
-      stray = v.stray
-          || not (is_placed line v p.nid_engine p.message.nid_lrbg);
-    }
-is_told line c p (ShorteningRequest l) v =
-    record v {
-      asked = λ t d stamp. if ((t == p.nid_engine) && (d == c)) && (stamp == p.message.t_train)
-          then Some (metres_behind line p.message.nid_lrbg l)
-          else v.asked t d stamp;
-      stray = v.stray || not (is_placed line v p.nid_engine p.message.nid_lrbg);
-    }
-is_told line c p body v = v
+-- the end of its authority: the farthest counts, and it answers a message of the train
+abbrev pub extended : Line → Event → ℕ → ℕ → ℕ → Stretch → Option Stretch
+extended line event t group metres x =
+    option_and_then (λ stamp. option_map
+    (λ e. record x { end = max x.end e; since = max x.since stamp; asked = None }) (metres_from line group metres x))
+    (stamp_of event t)
+
+-- a request to shorten: what it would leave is not taken back yet
+abbrev pub asked_for : Line → ℕ → ℕ → ℕ → ℕ → Stretch → Option Stretch
+asked_for line c stamp group metres x =
+    option_map (λ e. record x { asked = Some (record { centre = c; stamp = stamp; end = e }) })
+    (metres_from line group metres x)
+
+abbrev pub is_told : Line → Event → Saying → TrackBody → View → View
+is_told line event p TrainAccepted v =
+    gets p.nid_engine
+    (option_and_then (accepted (v.stretch p.nid_engine)) (v.start p.nid_engine (centre_of event)))
+    (starts p.nid_engine (centre_of event) None v)
+is_told line event p TrainRejected v = starts p.nid_engine (centre_of event) None v
+is_told line event p (Authority l) v =
+    gets p.nid_engine
+    (option_and_then (extended line event p.nid_engine p.message.nid_lrbg l) (v.stretch p.nid_engine)) v
+is_told line event p (ShorteningRequest l) v =
+    gets p.nid_engine
+    (option_and_then (asked_for line (centre_of event) p.message.t_train p.message.nid_lrbg l)
+    (v.stretch p.nid_engine)) v
+is_told line event p body v = v
 
 -- ## What the interlocking is told
 
 abbrev pub hears : Event → Word → View → View
-hears (Set c e) (Done s) v = record v { released = put v.released s true }
-hears (Unset c e) (Done s) v = record v { released = put v.released s false }
+hears (Set c e) (Done s) v = if s == e then record v { released = put v.released s true } else v
+hears (Unset c e) (Done s) v = record v { released = put v.released e false }
 hears event (Told s) v = record v { released = put v.released s false }
 hears event word v = v
 
--- ## A list of events and their answers
+-- ## A list of events and what is spoken behind them
 
-abbrev pub all_told : Line → ℕ → List Saying → View → View
-all_told line c [] v = v
-all_told line c (p ∷ ps) v = all_told line c ps (is_told line c p p.message.body v)
+abbrev pub all_told : Line → Event → List Saying → View → View
+all_told line event [] v = v
+all_told line event (p ∷ ps) v = all_told line event ps (is_told line event p p.message.body v)
 
 abbrev pub all_heard : Event → List Word → View → View
 all_heard event [] v = v
 all_heard event (w ∷ ws) v = all_heard event ws (hears event w v)
 
+-- what leaves the line after an event, where a centre took a step: whether a message was heard, what is told to trains
+-- and to the interlocking
+pub record Spoken : Type 0 where
+  pub is_heard : Bool
+  pub sayings : List Saying
+  pub words : List Word
+
 -- the message that an event brings, where it was heard
-abbrev pub said_by : Line → Event → Outcome → View → View
-said_by line (Bytes c (Ok m)) o v = option_map_or (λ why. v) o.silence (says line c m m.body v)
-said_by line event o v = v
+abbrev pub said_by : Line → Event → Bool → View → View
+said_by line (Bytes c (Ok m)) true v = says line c m m.body v
+said_by line event is_heard v = v
 
-abbrev pub sees : Line → Event → Answer → View → View
-sees line event (Answered o) v =
-    all_heard event o.words (all_told line (centre_of event) o.sayings (said_by line event o v))
-sees line event answer v = v
+abbrev pub sees : Line → Event → Option Spoken → View → View
+sees line event (Some o) v =
+    all_heard event o.words (all_told line event o.sayings (said_by line event o.is_heard v))
+sees line event None v = v
 
-abbrev pub sees_all : Line → List Event → List Answer → View → View
-sees_all line (event ∷ events) (answer ∷ answers) v = sees_all line events answers (sees line event answer v)
-sees_all line events answers v = v
+-- each event has what was spoken after it
+abbrev pub sees_all : Line → List Event → List (Option Spoken) → View → View
+sees_all line [] [] v = v
+sees_all line (event ∷ events) (spoken ∷ others) v = sees_all line events others (sees line event spoken v)
+sees_all line events others v = record v { stray = true }
 
 -- ## What is claimed
 
 -- no two trains may run over one section, and none over a section that the interlocking has not released, or has had
--- back; and each end of an authority was told to a train that had been accepted, on its track
+-- back; and each train could place what it was told
 pub record IsSafeOutside (line : Line) (v : View) : Type 0 where
   pub one_train : (t u s : ℕ) → may_run_over line v t s ≡ true → may_run_over line v u s ≡ true → t ≡ u
   pub released : (t s : ℕ) → may_run_over line v t s ≡ true → v.released s ≡ true
   pub founded : v.stray ≡ false
 
+-- what leaves the line with an answer
+abbrev pub spoken_of : Answer → Option Spoken
+spoken_of (Answered o) = Some (record { is_heard = is_none o.silence; sayings = o.sayings; words = o.words })
+spoken_of answer = None
+
 -- whatever comes to the centres of a line, in any order, late, twice or never
 abbrev pub OutsideTheorem : Type 0
 OutsideTheorem = (line : Line) (events : List Event) (answers : List Answer) (w : World)
     → IsLine line → world_run line (new_world line) events ≡ Ok (answers, w)
-    → IsSafeOutside line (sees_all line events answers nothing_seen)
+    → IsSafeOutside line (sees_all line events (map spoken_of answers) nothing_seen)
 
--- whatever events led from the line's beginning to this world: with this event and its answer behind them, what is seen
+-- whatever events led from the line's beginning to this world: with this event and its answer after them, what is seen
 -- is safe
 abbrev pub StaysSafeOutside : Line → World → Event → Answer → Type 0
 StaysSafeOutside line w event answer =
     (events : List Event) (answers : List Answer) → world_run line (new_world line) events ≡ Ok (answers, w)
-    → IsSafeOutside line (sees_all line (events ++ event ∷ []) (answers ++ answer ∷ []) nothing_seen)
+    → IsSafeOutside line
+    (sees_all line (events ++ event ∷ []) (map spoken_of (answers ++ answer ∷ [])) nothing_seen)

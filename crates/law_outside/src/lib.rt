@@ -6,4 +6,4 @@
 
 mod laws;
 
-pub use laws::what_is_told_is_safe;
+pub use laws::{what_comes_is_safe, what_is_told_is_safe};

@@ -7,7 +7,7 @@ use Rattle.rbc_spec.specs.Line.{Line, IsLine, AreDistinct}
 use Rattle.rbc_spec.specs.Centre.{Centre, beginning}
 use Rattle.rbc_spec.specs.ReadOff.{IsLineRun}
 use Rattle.rbc_spec.specs.Promises.{IsSound}
-use Rattle.law_outside.specs.Outside.{IsSafeOutside, sees_all, nothing_seen}
+use Rattle.law_outside.specs.Outside.{IsSafeOutside, sees_all, nothing_seen, spoken_of}
 use Rattle.law_logs.specs.Logs.{LogEntry, IsLegal, IsMerge, IsWorldRun, happened, answered}
 use Rattle.rbc_centre.specs.States.{line_of, number_of, state_of}
 use Rattle.rbc_log.specs.Entries.{entry_of, written_of}
@@ -62,7 +62,7 @@ pub record IsMerged (logs : List LogValue) (es : List Entry) : Type 0 where
 pub record IsOneRun (line : Line) (es : List LogEntry) (ends : ℕ → Centre) : Type 0 where
   pub world : IsWorldRun line es ends
   pub line_centre : IsLineRun line (map happened es) (map answered es) world.last
-  pub outside : IsSafeOutside line (sees_all line (map happened es) (map answered es) nothing_seen)
+  pub outside : IsSafeOutside line (sees_all line (map happened es) (map spoken_of (map answered es)) nothing_seen)
   pub sound : IsSound line world.last
 
 -- so it is where each frame that was delivered stands in its sender's log

@@ -9,7 +9,7 @@ use Rattle.rbc_spec.specs.Run.{Run}
 use Rattle.rbc_spec.specs.ReadOff.{IsLineRun, read_off}
 use Rattle.rbc_spec.specs.Promises.{IsSound}
 use Rattle.rbc_spec.specs.Theorems.{IsOneCentreLine, IsOneCentreRun, ForcedRun}
-use Rattle.law_outside.specs.Outside.{IsSafeOutside, sees_all, nothing_seen}
+use Rattle.law_outside.specs.Outside.{IsSafeOutside, sees_all, nothing_seen, spoken_of}
 use Rattle.law_outside.proofs.Pieces.{run_safe}
 use Rattle.law_reached.proofs.Whole.{Reaches, at_start, stops_at, run_names, run_refused, run_read, the_run, run_sound}
 use Rattle.law_reached.proofs.Forced as forced
@@ -53,7 +53,7 @@ module _ {X : Type 0} (line : Line) (events : List Event) (answers : X → List 
     is_line_run (Ok o) e = the_run line ok events (answers o) (world o) e
     is_line_run (Err fault) e = tt
 
-    pub is_safe_outside : (result : Result X StepFault) → Runs result → IfOk result (λ o. IsSafeOutside line (sees_all line events (answers o) nothing_seen))
+    pub is_safe_outside : (result : Result X StepFault) → Runs result → IfOk result (λ o. IsSafeOutside line (sees_all line events (map spoken_of (answers o)) nothing_seen))
     is_safe_outside (Ok o) e = let h = the_run line ok events (answers o) (world o) e in run_safe line ok events (answers o) h.last h.is_run
     is_safe_outside (Err fault) e = tt
 

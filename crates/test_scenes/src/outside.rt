@@ -1,9 +1,10 @@
 //! What the world outside sees of right and of wrong answers.
 
 ghost use Rattle.std.specs.Prelude.{◌≡◌, true, false};
-ghost use Rattle.law_outside.specs.Outside.{IsSafeOutside, may_run_over};
+ghost use Rattle.law_outside.specs.Outside.{IsSafeOutside, may_run_over, nothing_seen};
+ghost use Rattle.law_outside.specs.Arrival.{Arrive};
 ghost use Rattle.test_scenes.specs.Scene.{line};
-ghost use Rattle.test_scenes.specs.Outside.{seen_of, side_by_side, longer_than_the_hand, over_a_waiting_start, unset_of_a_kept_section_is_done, out_of_nothing};
+ghost use Rattle.test_scenes.specs.Outside.{events_of, spoken_after, seen_of, side_by_side, train_1_runs, granted, ended, the_authority_is_lost, longer_than_the_hand, over_a_waiting_start, unset_of_a_kept_section_is_done, out_of_nothing, shortened_by_an_authority, granted_before_it_was_told, a_late_report, accepted_in_advance, another_is_done, accepted_after_a_rejection};
 
 /// Two trains side by side may each run over their own section, and over no other's.
 pub fn trains_side_by_side_are_seen()
@@ -13,12 +14,43 @@ pub fn trains_side_by_side_are_seen()
     ensures not_the_second { may_run_over line (seen_of side_by_side) 1 2 ≡ false }
 {}
 
-/// Wrong answers are seen from outside: an authority that is longer than the train's hand, one over a section in which
-/// another train's start waits, a section that is had back while a train has it, and an authority for a train that was
-/// never accepted.
+/// A train takes back what it was told: by granting a request to shorten its authority, and by ending its mission at
+/// standstill.
+pub fn what_trains_take_back_is_seen()
+    ensures runs { may_run_over line (seen_of train_1_runs) 1 3 ≡ true }
+    ensures granted { may_run_over line (seen_of granted) 1 3 ≡ false }
+    ensures kept { may_run_over line (seen_of granted) 1 2 ≡ true }
+    ensures ended { may_run_over line (seen_of ended) 1 2 ≡ false }
+    ensures stands { may_run_over line (seen_of ended) 1 1 ≡ true }
+{}
+
+/// An authority that is lost is a part of what a train was told that does not come to it: it stays where it started.
+pub fn a_lost_authority_is_seen()
+    ensures part { Arrive line (events_of train_1_runs) (spoken_after train_1_runs)
+        (spoken_after the_authority_is_lost) nothing_seen nothing_seen }
+    ensures waits { may_run_over line (seen_of the_authority_is_lost) 1 3 ≡ false }
+    ensures stands { may_run_over line (seen_of the_authority_is_lost) 1 1 ≡ true }
+{}
+
+/// Answers that tell too much are seen from outside: an authority that is longer than the train's hand, one over a
+/// section in which another train's start waits, a section that is had back while a train has it, and an authority for
+/// a train that was never accepted.
 pub fn wrong_answers_are_seen()
     ensures longer_than_the_hand { IsSafeOutside line (seen_of longer_than_the_hand) → ⊥ }
     ensures over_a_waiting_start { IsSafeOutside line (seen_of over_a_waiting_start) → ⊥ }
     ensures unset_of_a_kept_section { IsSafeOutside line (seen_of unset_of_a_kept_section_is_done) → ⊥ }
     ensures out_of_nothing { IsSafeOutside line (seen_of out_of_nothing) → ⊥ }
+{}
+
+/// Answers that take back too early, or believe too much, are seen from outside: a shorter authority whose rest is told
+/// back though the train gave nothing up, an authority that is told before a request to shorten is granted, a report
+/// from before a start, a start that is accepted in advance of the authority, a set that is answered for another
+/// section, and a start that is accepted after it was rejected.
+pub fn answers_that_forget_are_seen()
+    ensures shortened_by_an_authority { IsSafeOutside line (seen_of shortened_by_an_authority) → ⊥ }
+    ensures granted_before_it_was_told { IsSafeOutside line (seen_of granted_before_it_was_told) → ⊥ }
+    ensures a_late_report { IsSafeOutside line (seen_of a_late_report) → ⊥ }
+    ensures accepted_in_advance { IsSafeOutside line (seen_of accepted_in_advance) → ⊥ }
+    ensures another_is_done { IsSafeOutside line (seen_of another_is_done) → ⊥ }
+    ensures accepted_after_a_rejection { IsSafeOutside line (seen_of accepted_after_a_rejection) → ⊥ }
 {}

@@ -1,0 +1,10 @@
+//! The law of what a train's message leaves alone.
+
+ghost use Rattle.law_apart.specs.Apart.{IsolationTheorem};
+
+/// No train takes anything from another: in whatever state the centres are and whatever a train says, all that each
+/// centre keeps of every other train stays as it is, and what is answered to trains and sent to centres is of that
+/// train alone.
+pub fn no_train_takes_from_another()
+    ensures { IsolationTheorem }
+{}
