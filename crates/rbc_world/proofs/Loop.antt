@@ -10,7 +10,7 @@ use Rattle.rbc_spec.specs.ReadOff.{IsLineRun, read_off}
 use Rattle.rbc_spec.specs.Promises.{IsSound}
 use Rattle.rbc_spec.specs.Theorems.{IsOneCentreLine, IsOneCentreRun, ForcedRun}
 use Rattle.law_outside.specs.Outside.{IsSafeOutside, sees_all, nothing_seen, spoken_of}
-use Rattle.law_outside.proofs.Pieces.{run_safe}
+use Rattle.law_promises.proofs.Pieces.{run_safe}
 use Rattle.law_reached.proofs.Whole.{Reaches, at_start, stops_at, run_names, run_refused, run_read, the_run, run_sound}
 use Rattle.law_reached.proofs.Forced as forced
 use Rattle.rbc_centre.specs.declared.fault.StepFault.{StepFault}

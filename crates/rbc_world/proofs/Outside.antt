@@ -4,7 +4,7 @@ use Rattle.std.specs.Result.{IfOk}
 use Rattle.rbc_spec.specs.Line.{Line, IsLine}
 use Rattle.rbc_spec.specs.World.{World, Answer, new_world, world_step}
 use Rattle.law_outside.specs.Outside.{StaysSafeOutside}
-use Rattle.law_outside.proofs.Pieces.{run_safe}
+use Rattle.law_promises.proofs.Pieces.{run_safe}
 use Rattle.law_reached.proofs.Whole.{the_run}
 use Rattle.rbc_centre.specs.declared.fault.StepFault.{StepFault}
 use Rattle.rbc_world.specs.Answers.{Gives}

@@ -22,10 +22,10 @@ use Rattle.law_base.proofs.Runs.{within_true, within_from}
 use Rattle.law_local.proofs.Fits.{IsFit}
 use Rattle.law_runs.proofs.Waits.{WaitsKeep, IsLoose, opened, kept_for, PutAt, there, elsewhere, put_at, is_waited, quiet_leaves}
 use Rattle.law_outside.specs.Outside.{View, Stretch, accepted, begun, front_end, metres_from, asked_for, gets, starts, is_told, all_told}
-use Rattle.law_outside.proofs.Marks.{Stays, if_true, if_false, loose_stays, plain_stays, given_moves}
-use Rattle.law_outside.proofs.Spans.{first_stretch, last_covered, last_is, lt_up}
-use Rattle.law_outside.proofs.Tied.{IsReported, Asks, IsSince, Later, same_later, Way, Tied, tied_as, under_way, remade, asked_way, accepted_begins, way_begins}
-use Rattle.law_outside.proofs.Standstill.{IsFront, front_at, has_front}
+use Rattle.law_promises.proofs.Marks.{Stays, if_true, if_false, loose_stays, plain_stays, given_moves}
+use Rattle.law_promises.proofs.Spans.{first_stretch, last_covered, last_is, lt_up}
+use Rattle.law_promises.proofs.Tied.{IsReported, Asks, IsSince, Later, same_later, Way, Tied, tied_as, under_way, remade, asked_way, accepted_begins, way_begins}
+use Rattle.law_promises.proofs.Standstill.{IsFront, front_at, has_front}
 
 -- a place at which a train may start
 pub record IsStart (line : Line) (place : Place) : Type 0 where

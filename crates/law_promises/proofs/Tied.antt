@@ -15,8 +15,8 @@ use Rattle.law_base.proofs.Lines.{one_track}
 use Rattle.law_base.proofs.Puts.{itself}
 use Rattle.law_local.proofs.Fits.{IsFit, fit_covers}
 use Rattle.law_outside.specs.Outside.{Stretch, Shortening, accepted, cleared, up_to}
-use Rattle.law_outside.proofs.Spans.{Spans, IsLess, in_from, some_metres, rear_other, not_behind, rear_up, trimmed, cut_back, lengthened, begun_spans, goes_on_spans, first_stretch, spans_less, cleared_less}
-use Rattle.law_outside.proofs.Marks.{by, if_true, if_false}
+use Rattle.law_promises.proofs.Spans.{Spans, IsLess, in_from, some_metres, rear_other, not_behind, rear_up, trimmed, cut_back, lengthened, begun_spans, goes_on_spans, first_stretch, spans_less, cleared_less}
+use Rattle.law_promises.proofs.Marks.{by, if_true, if_false}
 
 -- the group of a place is on its track, and not past its front
 pub record IsReported (line : Line) (place : Place) : Type 0 where

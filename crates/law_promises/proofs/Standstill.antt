@@ -12,9 +12,9 @@ use Rattle.rbc_spec.proofs.Places.{starts_rise}
 use Rattle.law_base.proofs.Lines.{on_line}
 use Rattle.law_base.proofs.Puts.{itself}
 use Rattle.law_outside.specs.Outside.{Stretch, front_end, cleared, up_to, after_message}
-use Rattle.law_outside.proofs.Marks.{by, if_true}
-use Rattle.law_outside.proofs.Spans.{Spans, IsLess, in_parts, no_later, less_itself, less_then, cleared_less, up_to_less}
-use Rattle.law_outside.proofs.Tied.{Way, talk_as}
+use Rattle.law_promises.proofs.Marks.{by, if_true}
+use Rattle.law_promises.proofs.Spans.{Spans, IsLess, in_parts, no_later, less_itself, less_then, cleared_less, up_to_less}
+use Rattle.law_promises.proofs.Tied.{Way, talk_as}
 
 module _ (line : Line) where
   -- ## Where a message's place is on the track

@@ -24,10 +24,10 @@ use Rattle.law_runs.proofs.Frees.{by_test}
 use Rattle.law_runs.proofs.Words.{Fits, quiets_fit, own_fits}
 use Rattle.law_outside.specs.Outside as outside
 use Rattle.law_outside.specs.Outside.{View, Stretch, is_told, all_told, all_heard, said_by, sees, sees_all, nothing_seen, may_run_over, is_in, IsSafeOutside, gets, starts, spoken_of}
-use Rattle.law_outside.proofs.Marks.{if_true}
-use Rattle.law_outside.proofs.Tied.{IsSince, Later, not_under_way}
-use Rattle.law_outside.proofs.Follows.{given, Follows, heard_as, put_later, wait_still, after_none, quiet_follows, quiet_shut}
-use Rattle.law_outside.proofs.Heard.{here_is, Fair, own_follows, own_shut, listens_follow}
+use Rattle.law_promises.proofs.Marks.{if_true}
+use Rattle.law_promises.proofs.Tied.{IsSince, Later, not_under_way}
+use Rattle.law_promises.proofs.Follows.{given, Follows, heard_as, put_later, wait_still, after_none, quiet_follows, quiet_shut}
+use Rattle.law_promises.proofs.Heard.{here_is, Fair, own_follows, own_shut, listens_follow}
 
 -- ## What changes of a view
 

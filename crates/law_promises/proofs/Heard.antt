@@ -27,11 +27,11 @@ use Rattle.law_runs.proofs.Waits.{WaitsKeep, IsLoose, opened, kept_for, PutAt, t
 use Rattle.law_runs.proofs.Frees.{by_test, own_leaves, closed_mark, closed_wait}
 use Rattle.law_outside.specs.Outside as outside
 use Rattle.law_outside.specs.Outside.{View, Stretch, accepted, all_told, begun, starts, cleared, up_to, after_message, extended, metres_from, gets, stamp_of, front_end, is_told, takes_back}
-use Rattle.law_outside.proofs.Marks.{Stays, Moves, by, if_true, if_false, loose_stays, given_moves, released_moves}
-use Rattle.law_outside.proofs.Spans.{IsLess, cleared_less, first_stretch}
-use Rattle.law_outside.proofs.Tied.{IsReported, IsSince, Later, talk_as, Way, Tied, tied_as, under_way, remade, tied_less, way_restarts, way_extends, Left, some_left, none_left, way_reports, way_shortens}
-use Rattle.law_outside.proofs.Standstill.{by_place, at_place, stands, stands_less, report_less, end_less, way_stops}
-use Rattle.law_outside.proofs.Follows.{IsStart, IsSeen, given, Follows, begun_is, metres_is, put_apart, heard_as, wait_still, wait_less, wait_none, after_one, after_none, after_mission, changed_there, free_stays, waiting_loose, accepts_is, accepted_first, begins_follow}
+use Rattle.law_promises.proofs.Marks.{Stays, Moves, by, if_true, if_false, loose_stays, given_moves, released_moves}
+use Rattle.law_promises.proofs.Spans.{IsLess, cleared_less, first_stretch}
+use Rattle.law_promises.proofs.Tied.{IsReported, IsSince, Later, talk_as, Way, Tied, tied_as, under_way, remade, tied_less, way_restarts, way_extends, Left, some_left, none_left, way_reports, way_shortens}
+use Rattle.law_promises.proofs.Standstill.{by_place, at_place, stands, stands_less, report_less, end_less, way_stops}
+use Rattle.law_promises.proofs.Follows.{IsStart, IsSeen, given, Follows, begun_is, metres_is, put_apart, heard_as, wait_still, wait_less, wait_none, after_one, after_none, after_mission, changed_there, free_stays, waiting_loose, accepts_is, accepted_first, begins_follow}
 
 -- ## Who supervises
 
