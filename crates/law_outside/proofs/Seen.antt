@@ -5,7 +5,6 @@ use Rattle.rbc_spec.specs.Line.{start as line_start, end}
 use Rattle.rbc_spec.specs.Place.{extent}
 use Rattle.rbc_spec.specs.Message.{Request, TrainAccepted}
 use Rattle.law_outside.specs.Outside.{IsSafeOutside, View, may_run_over, front_end, nothing_seen}
-use Rattle.law_outside.specs.Arrival.{Arrive, PartOf, no_more, comes, is_lost, some_spoken}
 use Rattle.law_outside.specs.Scenes.{line, in_section, released, starts_in_1, talk, train_1_asks, events_of, spoken_after, seen_of, side_by_side, train_1_runs, reported, granted, ended, the_authority_is_lost, longer_than_the_hand, over_a_waiting_start, unset_of_a_kept_section_is_done, out_of_nothing, shortened_by_an_authority, granted_before_it_was_told, a_late_report, accepted_in_advance, another_is_done, accepted_after_a_rejection}
 
 pub own_first : may_run_over line (seen_of side_by_side) 1 1 ≡ true
@@ -59,26 +58,6 @@ ended_second = refl
 pub ended_first : may_run_over line (seen_of ended) 1 1 ≡ true
 unfolding within longest line_start end extent front_end seen_of
 ended_first = refl
-
-pub lost_third : may_run_over line (seen_of the_authority_is_lost) 1 3 ≡ false
-unfolding within longest line_start end extent front_end seen_of
-lost_third = refl
-
-pub lost_first : may_run_over line (seen_of the_authority_is_lost) 1 1 ≡ true
-unfolding within longest line_start end extent front_end seen_of
-lost_first = refl
-
-pub lost_part : Arrive line (events_of train_1_runs) (spoken_after train_1_runs) (spoken_after the_authority_is_lost) nothing_seen nothing_seen
-lost_part = (word, tt, (word, tt, (word, tt, (start, (λ position x y a is centre told came asked. cc), (asks, (λ position x y a is centre told came asked. cc), tt)))))
-  where
-    word : {s : ℕ} → PartOf (released s).spoken (released s).spoken
-    word = some_spoken true [] [] _ no_more
-
-    start : PartOf (starts_in_1 1 1 (TrainAccepted ∷ [])).spoken (starts_in_1 1 1 (TrainAccepted ∷ [])).spoken
-    start = some_spoken true _ _ [] (comes _ [] [] no_more)
-
-    asks : PartOf (train_1_asks 3000).spoken (talk 1 2 (Request (in_section 1)) [] []).spoken
-    asks = some_spoken true _ _ [] (is_lost _ [] [] refl no_more)
 
 longer_first : may_run_over line (seen_of longer_than_the_hand) 1 2 ≡ true
 unfolding within longest line_start end extent front_end seen_of

@@ -1,9 +1,8 @@
 //! What is seen of right and of wrong answers.
 
 ghost use Rattle.std.specs.Prelude.{◌≡◌, true, false};
-ghost use Rattle.law_outside.specs.Outside.{IsSafeOutside, may_run_over, nothing_seen};
-ghost use Rattle.law_outside.specs.Arrival.{Arrive};
-ghost use Rattle.law_outside.specs.Scenes.{line, events_of, spoken_after, seen_of, side_by_side, train_1_runs, reported, granted, ended, the_authority_is_lost, longer_than_the_hand, over_a_waiting_start, unset_of_a_kept_section_is_done, out_of_nothing, shortened_by_an_authority, granted_before_it_was_told, a_late_report, accepted_in_advance, another_is_done, accepted_after_a_rejection};
+ghost use Rattle.law_outside.specs.Outside.{IsSafeOutside, may_run_over};
+ghost use Rattle.law_outside.specs.Scenes.{line, seen_of, side_by_side, train_1_runs, reported, granted, ended, longer_than_the_hand, over_a_waiting_start, unset_of_a_kept_section_is_done, out_of_nothing, shortened_by_an_authority, granted_before_it_was_told, a_late_report, accepted_in_advance, another_is_done, accepted_after_a_rejection};
 
 /// Two trains side by side may each run over their own section, and over no other's.
 pub fn trains_side_by_side_are_seen()
@@ -25,14 +24,6 @@ pub fn what_trains_take_back_is_seen()
     ensures not_taken_back { (seen_of granted).released 2 ≡ true }
     ensures ended { may_run_over line (seen_of ended) 1 2 ≡ false }
     ensures stays { may_run_over line (seen_of ended) 1 1 ≡ true }
-{}
-
-/// An authority that is lost is a part of what a train was told that does not come to it: it stays where it started.
-pub fn a_lost_authority_is_seen()
-    ensures part { Arrive line (events_of train_1_runs) (spoken_after train_1_runs)
-        (spoken_after the_authority_is_lost) nothing_seen nothing_seen }
-    ensures waits { may_run_over line (seen_of the_authority_is_lost) 1 3 ≡ false }
-    ensures stays { may_run_over line (seen_of the_authority_is_lost) 1 1 ≡ true }
 {}
 
 /// Answers that tell too much are seen from outside: an authority that is longer than the train's hand, one over a

@@ -6,4 +6,3 @@ pub mod Standstill
 pub mod Follows
 pub mod Heard
 pub mod Pieces
-pub mod Arrives

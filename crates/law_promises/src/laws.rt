@@ -8,7 +8,6 @@ ghost use Rattle.rbc_spec.specs.World.{World, Event, Unset, Answer, Answered, ne
 ghost use Rattle.rbc_spec.specs.ReadOff.{read_off};
 ghost use Rattle.rbc_spec.specs.Promises.{MayFree};
 ghost use Rattle.rbc_spec.specs.Run.{Run};
-ghost use Rattle.law_outside.specs.Arrival.{ArrivalTheorem};
 ghost use Rattle.law_outside.specs.Outside.{IsSafeOutside, OutsideTheorem, sees_all, nothing_seen, spoken_of};
 ghost use Rattle.law_promises.specs.Promised.{IsFreedWithin, IsTakenBack};
 
@@ -59,11 +58,4 @@ pub fn what_is_told_is_safe()
     ensures { (line : Line) (events : List Event) (answers : List Answer) (v : LineState) → IsLine line
         → Run line line_beginning events answers v
         → IsSafeOutside line (sees_all line events (map spoken_of answers) nothing_seen) }
-{}
-
-/// Whatever part of what they were told comes to the trains, in its order: if no two trains may run over one section by
-/// all that they were told, and none over one that is not released, then none may by what came. Each message may be
-/// lost, except that a train is accepted. A train grants a request to shorten its authority only if that has come.
-pub fn what_comes_is_safe()
-    ensures { ArrivalTheorem }
 {}

@@ -1,5 +1,5 @@
-use Rattle.law_outside.proofs.Seen.{lost_part, lost_third, lost_first}
-use Rattle.law_outside.proofs.scenes.a_lost_authority_is_seen.Goals as goal
+use Rattle.law_arrival.proofs.Seen.{lost_part, lost_third, lost_first}
+use Rattle.law_arrival.proofs.laws.a_lost_authority_is_seen.Goals as goal
 
 pub returns-clause-part : goal.returns-clause-part
 returns-clause-part c = lost_part

@@ -14,7 +14,7 @@ use Rattle.rbc_spec.specs.World.{Event, Bytes, Set, Unset, Delivery, centre_of}
 use Rattle.law_base.proofs.Puts.{put_here, put_other}
 use Rattle.law_outside.specs.Outside as outside
 use Rattle.law_outside.specs.Outside.{View, Stretch, Shortening, Spoken, is_in, may_run_over, front_end, cleared, up_to, takes_back, position_of, after_message, starts, accepted, gets, metres_from, stamp_of, extended, asked_for, is_told, all_told, all_heard, said_by, sees, sees_all, nothing_seen, IsSafeOutside}
-use Rattle.law_outside.specs.Arrival.{is_acceptance, Comes, no_more, comes, is_lost, PartOf, none_spoken, some_spoken, GrantsWhatCame, Arrive, IsSafeByWhatCame}
+use Rattle.law_arrival.specs.Arrival.{is_acceptance, Comes, no_more, comes, is_lost, PartOf, none_spoken, some_spoken, GrantsWhatCame, Arrive, IsSafeByWhatCame}
 use Rattle.law_runs.proofs.Waits.{PutAt, there, elsewhere, put_at}
 use Rattle.law_promises.proofs.Marks.{if_true}
 use Rattle.law_promises.proofs.Spans.{rear_later, rear_other, lt_up, in_parts, in_from}
