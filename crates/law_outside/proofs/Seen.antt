@@ -1,11 +1,10 @@
 -- What is seen of the scenes, computed.
-use Rattle.std.proofs.Common.{◌≡◌, ℕ, true, false, [], ◌∷◌, refl, sym, ◌∙◌}
+use Rattle.std.proofs.Common.{◌≡◌, ℕ, true, false, refl, sym, ◌∙◌}
 use Rattle.rbc_spec.specs.SectionRuns.{within, longest}
 use Rattle.rbc_spec.specs.Line.{start as line_start, end}
 use Rattle.rbc_spec.specs.Place.{extent}
-use Rattle.rbc_spec.specs.Message.{Request, TrainAccepted}
-use Rattle.law_outside.specs.Outside.{IsSafeOutside, View, may_run_over, front_end, nothing_seen}
-use Rattle.law_outside.specs.Scenes.{line, in_section, released, starts_in_1, talk, train_1_asks, events_of, spoken_after, seen_of, side_by_side, train_1_runs, reported, granted, ended, the_authority_is_lost, longer_than_the_hand, over_a_waiting_start, unset_of_a_kept_section_is_done, out_of_nothing, shortened_by_an_authority, granted_before_it_was_told, a_late_report, accepted_in_advance, another_is_done, accepted_after_a_rejection}
+use Rattle.law_outside.specs.Outside.{IsSafeOutside, View, may_run_over, front_end}
+use Rattle.law_outside.specs.Scenes.{line, seen_of, side_by_side, train_1_runs, reported, granted, ended, longer_than_the_hand, over_a_waiting_start, unset_of_a_kept_section_is_done, out_of_nothing, shortened_by_an_authority, granted_before_it_was_told, a_late_report, accepted_in_advance, another_is_done, accepted_after_a_rejection}
 
 pub own_first : may_run_over line (seen_of side_by_side) 1 1 ≡ true
 unfolding within longest line_start end extent front_end seen_of

@@ -1,7 +1,7 @@
 -- Scenes that hold up the definition of the promise (`Outside.antt`): lists of events with the answers to them. A right
 -- definition calls the first scenes safe, and sees what a train takes back there. It calls all other scenes unsafe: two
 -- trains may run over one section, or one over a section that is not released.
-use Rattle.std.specs.Prelude.{ℕ, ◌+◌, ◌*◌, true, List, [], ◌∷◌, ◌++◌, map, Option, Some, None, Ok}
+use Rattle.std.specs.Prelude.{ℕ, ◌+◌, ◌*◌, true, List, [], ◌∷◌, ◌++◌, map, Option, Some, Ok}
 use Rattle.std.specs.List.{range_with_len}
 use Rattle.rbc_spec.specs.Line.{Line}
 use Rattle.rbc_spec.specs.Place.{Position}
