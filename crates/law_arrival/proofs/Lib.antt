@@ -1,2 +1,7 @@
 pub mod Arrives
+pub mod Followed
+pub mod Parts
+pub mod Reached
+pub mod Runs
 pub mod Seen
+pub mod Speaks

@@ -1,1 +1,3 @@
 pub mod Arrival
+pub mod Received
+pub mod Scenes
