@@ -1,5 +1,6 @@
 pub mod Arrives
 pub mod Followed
+pub mod Meets
 pub mod Parts
 pub mod Reached
 pub mod Runs

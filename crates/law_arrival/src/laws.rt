@@ -2,6 +2,7 @@
 
 ghost use Rattle.law_arrival.specs.Arrival.{ArrivalTheorem};
 ghost use Rattle.law_arrival.specs.Received.{ReceivedTheorem};
+ghost use Rattle.law_arrival.specs.Meeting.{WithinTheorem, MeetingTheorem};
 
 /// Whatever part of what they were told comes to the trains, in its order: if no two trains may run over one section by
 /// all that they were told, and none over one that is not released, then none may by what came. Each message may be
@@ -16,4 +17,11 @@ pub fn what_comes_is_safe()
 /// only requests that came to them, and no authority comes to a train whose last acceptance was lost.
 pub fn received_messages_are_safe()
     ensures { ReceivedTheorem }
+{}
+
+/// So if each train is within the stretch that it goes by, no two trains are on one section, and no train is on a
+/// section that is not released.
+pub fn trains_do_not_meet()
+    ensures within { WithinTheorem }
+    ensures meeting { MeetingTheorem }
 {}
