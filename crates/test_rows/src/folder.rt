@@ -46,6 +46,13 @@ impl<R: rt::Files + AllocGlobal> Files for Folder<'_, R> {
         fs::read_to_string(self.rt, path.as_str()).ok()
     }
 
+    fn contents(&self, name: &str) -> Option<Vec<u8>> {
+        match self.text(name) {
+            Some(text) => Some(text.into_bytes()),
+            None => self.bytes(name),
+        }
+    }
+
     fn is_folder(&self, name: &str) -> bool {
         let Ok(path) = format!(in self.rt.alloc(); "rows/{}/{name}", self.name) else {
             return false;
