@@ -42,7 +42,7 @@ impl fmt::Display for Part {
         let Part { events, left_out } = self;
         write!(
             f,
-            "rbcline: the journals are being written: {events} events are read, {left_out} are left out"
+            "rbcline: the journals are being written: {events} events read, {left_out} left out"
         )
     }
 }

@@ -53,6 +53,11 @@ impl<R: rt::Files + AllocGlobal> Files for Folder<'_, R> {
         }
     }
 
+    // A row with the file `writer` has journals that a program writes.
+    fn is_written(&self, _name: &str) -> bool {
+        self.bytes("writer").is_some()
+    }
+
     fn is_folder(&self, name: &str) -> bool {
         let Ok(path) = format!(in self.rt.alloc(); "rows/{}/{name}", self.name) else {
             return false;
