@@ -11,9 +11,9 @@ pub struct Caused {
     pub left_out: usize,
 }
 
-/// Journals that are read while centres write them may have the delivery of a frame, and not yet the event that sent it:
-/// they are read one after another. So each journal is cut before its first delivery of a frame that was not sent. The
-/// entries are in the order of their stamps.
+/// Cuts each journal before its first delivery of a frame that was not sent. Journals that are read one after another
+/// while centres write them may have such a delivery: the event that sent the frame was written after its journal was
+/// read. The entries are in the order of their stamps.
 pub fn with_causes(alloc: Global, line: &Line, entries: Vec<Entry>) -> Result<Caused, StepFault> {
     let mut world = World::new(alloc, line)?;
     keep_caused(alloc, &mut world, entries)
