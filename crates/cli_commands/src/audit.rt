@@ -1,7 +1,7 @@
 //! The audit of what `run` or `serve` printed, or of journals.
 
 use crate::files::{Files, Rows};
-use crate::journal::{journals_in, unfit};
+use crate::journal::{Part, journals_in, unfit};
 use crate::line_file::{LineFile, line_file_in};
 use cli_audit::Audit;
 use cli_compare::Verdict;
@@ -12,14 +12,15 @@ use std::alloc::Global;
 use std::io::Write;
 
 /// Runs the events of a print again, and says whether the print is that of its events, or the first line that differs.
-/// Where the name is that of a folder, so it is done with the journals in it, and their stamps.
+/// If the name is that of a folder, it does so with the journals in it, and their stamps; and it says what was read of
+/// journals that a program writes meanwhile.
 pub fn audit_printed<'a, F: Files, O: Write>(
     alloc: Global,
     file: &'a str,
     printed: &'a str,
     files: &F,
     out: &mut O,
-) -> Result<(), Fault<'a>> {
+) -> Result<Option<Part>, Fault<'a>> {
     let given = line_file_in(alloc, file, files)?;
     if files.is_folder(printed) {
         return audit_journals(alloc, &given, printed, files, out);
@@ -28,7 +29,7 @@ pub fn audit_printed<'a, F: Files, O: Write>(
     writeln!(out, "{verdict}")?;
     out.flush()?;
     match verdict {
-        Verdict::Equal { .. } => Ok(()),
+        Verdict::Equal { .. } => Ok(None),
         Verdict::Differs { .. } => Err(Fault::Differs),
     }
 }
@@ -47,18 +48,18 @@ fn verdict_of<'a, F: Files>(
 }
 
 // Says whether the journals in a folder are a run of the line, or the first line of theirs that differs from one.
-fn audit_journals<'a, F: Files, O: Write>(
+fn audit_journals<F: Files, O: Write>(
     alloc: Global,
     given: &LineFile,
-    folder: &'a str,
+    folder: &str,
     files: &F,
     out: &mut O,
-) -> Result<(), Fault<'a>> {
+) -> Result<Option<Part>, Fault<'static>> {
     match events_of_run(alloc, given, folder, files) {
-        Ok(events) => {
+        Ok((events, part)) => {
             writeln!(out, "{}", Verdict::Equal { events })?;
             out.flush()?;
-            Ok(())
+            Ok(part)
         }
         Err(Fault::Unfit { journal, row }) => {
             writeln!(out, "audit: {journal} line {row} differs")?;
@@ -70,16 +71,16 @@ fn audit_journals<'a, F: Files, O: Write>(
 }
 
 // Runs the events of the journals in a folder, holds each stamp against what the run answers, and counts them.
-fn events_of_run<'a, F: Files>(
+fn events_of_run<F: Files>(
     alloc: Global,
     given: &LineFile,
-    folder: &'a str,
+    folder: &str,
     files: &F,
-) -> Result<u64, Fault<'a>> {
+) -> Result<(u64, Option<Part>), Fault<'static>> {
     let line = &given.line;
-    let entries = journals_in(alloc, line, given.text.as_str(), folder, files)?.entries;
-    match first_unfit(alloc, line, &entries)? {
-        None => Ok(entries.len() as u64),
+    let events = journals_in(alloc, given, folder, files)?;
+    match first_unfit(alloc, line, &events.entries)? {
+        None => Ok((events.entries.len() as u64, events.part())),
         Some(place) => Err(unfit(alloc, line, place.centre, place.row)?),
     }
 }

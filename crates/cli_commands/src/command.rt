@@ -5,6 +5,7 @@ use crate::diagram::draw_printed;
 use crate::explain::explain;
 use crate::files::Files;
 use crate::in_words::{show_message, tell_printed};
+use crate::journal::Part;
 use crate::printed::print_journals;
 use crate::run::{check, run};
 use crate::storm::run_storm;
@@ -26,15 +27,16 @@ pub fn command<S: AsStr, F: Files, O: Write, E: Write>(
 ) -> u8
     ensures { IsStatus result }
 {
-    let done = obey(alloc, words, files, out);
+    let done = obey(alloc, words, files, out, err);
     ended(done, out, err)
 }
 
-fn obey<'a, S: AsStr, F: Files, O: Write>(
+fn obey<'a, S: AsStr, F: Files, O: Write, E: Write>(
     alloc: Global,
     words: &'a [S],
     files: &F,
     out: &mut O,
+    err: &mut E,
 ) -> Result<(), Fault<'a>> {
     match requested(alloc, words)? {
         Request::Check { file } => check(alloc, file, files, out),
@@ -45,8 +47,12 @@ fn obey<'a, S: AsStr, F: Files, O: Write>(
         }
         // Here are files, and no sockets: the program itself does these two.
         Request::Serve { .. } | Request::Drive { .. } => Err(Fault::Socket),
-        Request::Print { file, folder } => print_journals(alloc, file, folder, files, out),
-        Request::Audit { file, printed } => audit_printed(alloc, file, printed, files, out),
+        Request::Print { file, folder } => {
+            tell_part(print_journals(alloc, file, folder, files, out)?, err)
+        }
+        Request::Audit { file, printed } => {
+            tell_part(audit_printed(alloc, file, printed, files, out)?, err)
+        }
         Request::Message { digits } => show_message(alloc, digits, out),
         Request::Printed { file, printed } => tell_printed(alloc, file, printed, files, out),
         Request::Picture {
@@ -56,4 +62,13 @@ fn obey<'a, S: AsStr, F: Files, O: Write>(
             is_html,
         } => draw_printed(alloc, file, printed, cut, is_html, files, out),
     }
+}
+
+// Says what was read of journals that a program writes meanwhile.
+fn tell_part<E: Write>(part: Option<Part>, err: &mut E) -> Result<(), Fault<'static>> {
+    if let Some(part) = part {
+        writeln!(err, "{part}")?;
+        err.flush()?;
+    }
+    Ok(())
 }

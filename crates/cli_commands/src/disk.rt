@@ -1,7 +1,7 @@
 use crate::files::{Files, MOST_ROW, Rows};
 use cli_status::Fault;
 use std::alloc::{AllocError, Global};
-use std::fs::File;
+use std::fs::{File, TryLockError};
 use std::io::{BufRead, BufReader, ErrorKind, Read};
 use std::rt::Env;
 use std::str::from_utf8;
@@ -11,9 +11,27 @@ use std::{env, fs, rt};
 #[derive(Clone, Copy)]
 pub struct Disk<'a, R>(pub &'a R);
 
-impl<R: rt::Files + AllocGlobal> Files for Disk<'_, R> {
+impl<R: rt::Files<File = File> + AllocGlobal> Files for Disk<'_, R> {
     fn text(&self, name: &str) -> Option<String> {
         fs::read_to_string(self.0, path_of(name)).ok()
+    }
+
+    // A pipe or a device may never end.
+    fn contents(&self, name: &str) -> Option<Vec<u8>> {
+        if is_plain(self.0, name) {
+            fs::read(self.0, name).ok()
+        } else {
+            None
+        }
+    }
+
+    // Centres lock a journal for as long as they write it. Here it is locked for a moment only.
+    fn is_written(&self, name: &str) -> bool {
+        is_plain(self.0, name)
+            && match File::open(self.0, name) {
+                Ok(file) => matches!(file.try_lock_shared(), Err(TryLockError::WouldBlock)),
+                Err(_) => false,
+            }
     }
 
     fn is_folder(&self, name: &str) -> bool {
@@ -44,6 +62,14 @@ impl<R: rt::Files + AllocGlobal> Files for Disk<'_, R> {
             rows.row(from_utf8(row.as_slice()).ok()?);
         }
         Some(())
+    }
+}
+
+// Whether it is a file that has an end.
+fn is_plain<R: rt::Files>(rt: &R, name: &str) -> bool {
+    match fs::metadata(rt, name) {
+        Ok(found) => found.is_file(),
+        Err(_) => false,
     }
 }
 

@@ -16,6 +16,16 @@ pub trait Files {
     fn text(&self, name: &str) -> Option<String>
         ensures { may_give self.now name.now (option_map string_bytes result) };
 
+    /// The bytes of the file of this name; none if it can't be read, as `text` says, or is not a plain file.
+    fn contents(&self, name: &str) -> Option<Vec<u8>> {
+        Some(self.text(name)?.into_bytes())
+    }
+
+    /// Whether a program writes the journal of this name now.
+    fn is_written(&self, _name: &str) -> bool {
+        false
+    }
+
     /// Whether a folder has this name.
     fn is_folder(&self, name: &str) -> bool;
 

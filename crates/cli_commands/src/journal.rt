@@ -1,51 +1,134 @@
-//! The journals of a line's centres, which lie in one folder.
+//! The journals of a line's centres, which are in one folder.
 
 ghost use Rattle.std.specs.Prelude.{◌<◌, length};
 
 use crate::files::Files;
+use crate::line_file::LineFile;
 use cli_journal::{
     Entry, JournalFault, file_name, first_fallen, in_order, read_journal, whole_length,
 };
+use cli_rerun::{Caused, Place, with_causes};
 use cli_status::Fault;
 use rbc_line::Line;
 use std::alloc::{AllocError, Global};
+use std::fmt;
+use std::str::from_utf8;
 
-/// What the journals of a line hold.
+/// What the journal of a centre holds.
 #[derive(Drop)]
-pub struct Found {
-    /// The entries of all centres, by their stamps, and those of one stamp by their centres.
+pub struct Journal {
     pub entries: Vec<Entry>,
-    /// How many bytes the whole lines of each centre's journal take, by the centres' numbers.
-    pub lengths: Vec<usize>,
+    /// How many bytes its whole lines take.
+    pub length: usize,
 }
 
-/// Reads the journals of all centres of a line in a folder. Of the text of the line file each has the digest. Where one
-/// can't be read, is of another centre, line or version, or has a line that is damaged or whose stamp is not above that
-/// of the one before it, that is the fault.
-pub fn journals_in<'a, F: Files>(
+/// The events of journals, by their stamps, and those of one stamp by their centres.
+#[derive(Drop)]
+pub struct Events {
+    pub entries: Vec<Entry>,
+    /// How many others are left out, if a program writes the journals: other journals did not have their causes yet.
+    pub left_out: Option<usize>,
+}
+
+/// What was read of journals that a program writes meanwhile.
+#[derive(Clone, Copy)]
+pub struct Part {
+    events: usize,
+    left_out: usize,
+}
+
+impl fmt::Display for Part {
+    fn fmt<W: fmt::Write>(&self, f: &mut fmt::Formatter<W>) -> fmt::Result {
+        let Part { events, left_out } = self;
+        write!(
+            f,
+            "rbcline: the journals are being written: {events} events read, {left_out} left out"
+        )
+    }
+}
+
+impl Events {
+    /// What was read, if a program writes the journals.
+    pub(crate) fn part(&self) -> Option<Part> {
+        Some(Part {
+            events: self.entries.len(),
+            left_out: self.left_out?,
+        })
+    }
+}
+
+/// Reads the journals of all centres of a line in a folder. Of journals that a program writes meanwhile, those events
+/// are left out whose causes other journals did not have yet.
+pub fn journals_in<F: Files>(
     alloc: Global,
-    line: &Line,
-    text: &str,
-    folder: &'a str,
+    given: &LineFile,
+    folder: &str,
     files: &F,
-) -> Result<Found, Fault<'a>> {
+) -> Result<Events, Fault<'static>> {
     let mut journals = Vec::new(alloc);
-    let mut lengths = Vec::new(alloc);
-    for centre in 0..line.centre_count() {
-        let path = journal_name(alloc, line, folder, centre)?;
-        let Some(journal) = files.text(path.as_str()) else {
+    let mut is_written = false;
+    for centre in 0..given.line.centre_count() {
+        let path = journal_name(alloc, &given.line, folder, centre)?;
+        is_written = is_written || files.is_written(path.as_str());
+        let Some(bytes) = files.contents(path.as_str()) else {
             return Err(Fault::NoJournal(path));
         };
-        lengths.push(whole_length(journal.as_str()))?;
-        journals.push(rising_in(alloc, line, centre, text, journal.as_str())?)?;
+        journals.push(journal_of(alloc, given, centre, &bytes)?.entries)?;
     }
-    Ok(Found {
-        entries: in_order(alloc, journals)?,
-        lengths,
+    events_of(alloc, given, in_order(alloc, journals)?, is_written)
+}
+
+fn events_of(
+    alloc: Global,
+    given: &LineFile,
+    entries: Vec<Entry>,
+    is_written: bool,
+) -> Result<Events, Fault<'static>> {
+    if !is_written {
+        return Ok(Events {
+            entries,
+            left_out: None,
+        });
+    }
+    let Caused { entries, left_out } = with_causes(alloc, &given.line, entries)?;
+    Ok(Events {
+        entries,
+        left_out: Some(left_out),
     })
 }
 
-/// The name of the file that has the journal of a centre, behind its folder.
+/// Reads the journal of a centre. If it is of another centre, line or version, or has a line that is damaged or whose
+/// stamp is not above that of the line before, that is the fault. Bytes after its last line feed are left out.
+pub fn journal_of(
+    alloc: Global,
+    given: &LineFile,
+    centre: u8,
+    bytes: &[u8],
+) -> Result<Journal, Fault<'static>>
+    requires { centre < length given.now.line.centres }
+{
+    let length = whole_length(bytes);
+    let whole = bytes.get(..length).unwrap_or(bytes);
+    let read = if length == 0 {
+        first_in(alloc, given, centre, bytes)
+    } else {
+        lines_in(alloc, given, centre, whole)
+    };
+    let entries = match read {
+        Ok(entries) => entries,
+        Err(fault) => {
+            let journal = file_name(alloc, &given.line, centre)?;
+            return Err(fault_of(alloc, journal, bytes, fault)?);
+        }
+    };
+    match first_fallen(&entries) {
+        // The first line is not an entry.
+        Some(at) => Err(unfit(alloc, &given.line, centre, at + 2)?),
+        None => Ok(Journal { entries, length }),
+    }
+}
+
+/// The name of the file that has the journal of a centre, with its folder.
 pub fn journal_name(
     alloc: Global,
     line: &Line,
@@ -56,7 +139,28 @@ pub fn journal_name(
     format!(in alloc; "{folder}/{file}")
 }
 
-/// The fault of journals of which a line of this centre's is the first that does not fit.
+/// The fault of journals of which the entry at this place is the first that does not fit. If its frame was not sent, it
+/// names the journal that lacks the event by which it is sent.
+pub(crate) fn unfit_at(
+    alloc: Global,
+    line: &Line,
+    place: Place,
+) -> Result<Fault<'static>, AllocError> {
+    let Place {
+        centre,
+        row,
+        sender,
+    } = place;
+    let Some(sender) = sender else {
+        return unfit(alloc, line, centre, row);
+    };
+    let journal = file_name(alloc, line, centre)?;
+    let other = file_name(alloc, line, sender)?;
+    let journal = format!(in alloc; "{other} lacks the event that sends the frame of {journal}")?;
+    Ok(Fault::Unfit { journal, row })
+}
+
+/// The fault of journals of which this line of this centre's is the first that does not fit.
 pub(crate) fn unfit(
     alloc: Global,
     line: &Line,
@@ -67,41 +171,69 @@ pub(crate) fn unfit(
     Ok(Fault::Unfit { journal, row })
 }
 
-// The entries of the journal of a centre, whose stamps rise.
-fn rising_in(
+// A journal without a line feed: it may end in its first line.
+fn first_in(
     alloc: Global,
-    line: &Line,
+    given: &LineFile,
     centre: u8,
-    text: &str,
-    journal: &str,
-) -> Result<Vec<Entry>, Fault<'static>>
-    requires { centre < length line.now.centres }
+    bytes: &[u8],
+) -> Result<Vec<Entry>, JournalFault>
+    requires { centre < length given.now.line.centres }
 {
-    let entries = entries_in(alloc, line, centre, text, journal)?;
-    match first_fallen(&entries) {
-        // The first line is no entry.
-        Some(at) => Err(unfit(alloc, line, centre, at + 2)?),
-        None => Ok(entries),
+    match from_utf8(bytes) {
+        Ok(text) => read_journal(alloc, &given.line, centre, given.text.as_str(), text),
+        Err(_) => Err(JournalFault::Foreign),
     }
 }
 
-// The entries of the journal of a centre.
-fn entries_in(
+// The entries of whole lines. A line that is not UTF-8 is damaged, if no line before it is.
+fn lines_in(
     alloc: Global,
-    line: &Line,
+    given: &LineFile,
     centre: u8,
-    text: &str,
-    journal: &str,
-) -> Result<Vec<Entry>, Fault<'static>>
-    requires { centre < length line.now.centres }
+    whole: &[u8],
+) -> Result<Vec<Entry>, JournalFault>
+    requires { centre < length given.now.line.centres }
 {
-    match read_journal(alloc, line, centre, text, journal) {
-        Ok(entries) => Ok(entries),
-        Err(JournalFault::Memory) => Err(AllocError.into()),
-        Err(JournalFault::Foreign) => Err(Fault::Foreign(file_name(alloc, line, centre)?)),
-        Err(JournalFault::Damaged(row)) => Err(Fault::Damaged {
-            journal: file_name(alloc, line, centre)?,
-            row,
-        }),
+    let (text, is_whole) = match from_utf8(whole) {
+        Ok(text) => (text, true),
+        Err(error) => (text_before(whole, error.valid_up_to()), false),
+    };
+    if text.is_empty() {
+        return Err(JournalFault::Foreign);
     }
+    let entries = read_journal(alloc, &given.line, centre, given.text.as_str(), text)?;
+    if is_whole {
+        Ok(entries)
+    } else {
+        // The first line is not an entry.
+        Err(JournalFault::Damaged(entries.len().saturating_add(2)))
+    }
+}
+
+// The whole lines before this byte.
+fn text_before(bytes: &[u8], at: usize) -> &str {
+    let front = bytes.get(..at).unwrap_or(&[]);
+    let lines = front.get(..whole_length(front)).unwrap_or(&[]);
+    from_utf8(lines).unwrap_or("")
+}
+
+// The fault as it is reported of the journal of this name, which has these bytes.
+fn fault_of(
+    alloc: Global,
+    journal: String,
+    bytes: &[u8],
+    fault: JournalFault,
+) -> Result<Fault<'static>, AllocError> {
+    Ok(match fault {
+        JournalFault::Memory => AllocError.into(),
+        JournalFault::Damaged(row) => Fault::Damaged { journal, row },
+        JournalFault::Foreign if bytes.starts_with(b"journal 1 ") => Fault::Foreign(journal),
+        JournalFault::Foreign if bytes.starts_with(b"journal ") => {
+            Fault::NoJournal(format!(in alloc; "{journal}: it has another version than 1")?)
+        }
+        JournalFault::Foreign => {
+            Fault::NoJournal(format!(in alloc; "{journal}: it is not a journal")?)
+        }
+    })
 }

@@ -1,21 +1,22 @@
 //! What is printed of a run that lies in journals, and the text of any print.
 
 use crate::files::Files;
-use crate::journal::{journals_in, unfit};
+use crate::journal::{Part, journals_in, unfit_at};
 use crate::line_file::{LineFile, line_file_in};
 use cli_rerun::{RerunFault, print_rerun};
 use cli_status::Fault;
 use std::alloc::{AllocError, Global};
 use std::io::{BufWriter, Write};
 
-/// Prints the run of a line whose journals lie in a folder. Where these are no run of the line, nothing is printed.
+/// Prints the run of a line whose journals are in a folder. If these are not a run of the line, nothing is printed. It
+/// says what was read of journals that a program writes meanwhile.
 pub fn print_journals<'a, F: Files, O: Write>(
     alloc: Global,
     file: &'a str,
     folder: &'a str,
     files: &F,
     out: &mut O,
-) -> Result<(), Fault<'a>> {
+) -> Result<Option<Part>, Fault<'a>> {
     let given = line_file_in(alloc, file, files)?;
     let Ok(mut out) = BufWriter::new(alloc, out) else {
         return Err(AllocError.into());
@@ -41,19 +42,18 @@ pub(crate) fn printed_in<'a, F: Files>(
 }
 
 // Writes the print of the journals in a folder.
-fn print_found<'a, F: Files, W: Write>(
+fn print_found<F: Files, W: Write>(
     alloc: Global,
     given: &LineFile,
-    folder: &'a str,
+    folder: &str,
     files: &F,
     out: &mut W,
-) -> Result<(), Fault<'a>> {
-    let found = journals_in(alloc, &given.line, given.text.as_str(), folder, files)?;
-    match print_rerun(alloc, &given.line, found.entries, out) {
-        Ok(()) => Ok(()),
-        Err(RerunFault::Unfit(place)) => {
-            Err(unfit(alloc, &given.line, place.centre, place.row)?)
-        }
+) -> Result<Option<Part>, Fault<'static>> {
+    let events = journals_in(alloc, given, folder, files)?;
+    let part = events.part();
+    match print_rerun(alloc, &given.line, events.entries, out) {
+        Ok(()) => Ok(part),
+        Err(RerunFault::Unfit(place)) => Err(unfit_at(alloc, &given.line, place)?),
         Err(RerunFault::Refused(fault)) => Err(fault.into()),
         Err(RerunFault::Untold(fault)) => Err(fault),
     }

@@ -5,7 +5,7 @@ use Rattle.std.proofs.lemmas.Bool.{cases_lt}
 use Rattle.std.proofs.lemmas.List.{get_or-drop, length-drop}
 use Rattle.cli_journal.specs.Reading.{Lacks}
 use Rattle.cli_journal.specs.Whole.{AreWhole}
-use Rattle.cli_journal.proofs.Letters.{lacks_at, lacks_from}
+use Rattle.cli_journal.proofs.Letters.{lacks_at}
 use Rattle.rbc_spec.specs.Line.{Line, IsLine, is_centre}
 use Rattle.cli_journal.specs.Journal.{entry_line, first_line, journal}
 use Rattle.cli_journal.specs.Reading.{Begins, torn, early, noted_of}
@@ -15,20 +15,6 @@ use Rattle.cli_journal.proofs.Entries.{entry_line_is, first_feed}
 
 get_behind : (n : ℕ) (xs : List ℕ) (i : ℕ) → get_or (drop n xs) i 0 ≡ get_or xs (n + i) 0
 get_behind n xs i = get_or-drop n xs i 0
-
-pub whole_behind : (text : List ℕ) (at : ℕ) → at < length text → get_or text at 0 ≡ 10
-    → ((i : ℕ) → at < i → i < length text → get_or text i 0 ≢ 10) → AreWhole text (at + 1)
-whole_behind text at low is behind =
-    let same : at + 1 - 1 ≡ at = omega arith in
-    let long : length (drop (at + 1) text) ≡ length text - (at + 1) = length-drop (at + 1) text in
-    record {
-      within = omega (arith, low);
-      ended = inr (ap (λ (i : ℕ). get_or text i 0) same ∙ is);
-      unended = lacks_from 10 (drop (at + 1) text) (λ i l e. behind (at + 1 + i) (omega arith) (omega (arith, l, long)) (sym (get_behind (at + 1) text i) ∙ e));
-    }
-
-pub none_whole : (text : List ℕ) → ((i : ℕ) → i < length text → get_or text i 0 ≢ 10) → AreWhole text 0
-none_whole text none = record { within = omega arith; ended = inl refl; unended = lacks_from 10 text none }
 
 -- ## What is left of a journal
 

@@ -4,11 +4,13 @@
 //! Bodies are free. What is printed is fixed by docs/FORMATS.md.
 #![tactic(auto)]
 
+mod causes;
 mod fault;
 mod place;
 mod printing;
 mod rerun;
 
+pub use causes::{Caused, with_causes};
 pub use fault::RerunFault;
 pub use place::Place;
 pub use printing::print_rerun;

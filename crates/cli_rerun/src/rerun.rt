@@ -2,7 +2,7 @@ ghost use Rattle.std.specs.Prelude.{◌≡◌, ◌↔◌, Some, IsTrue};
 ghost use Rattle.rbc_world.specs.Views.{answer_of};
 ghost use Rattle.cli_rerun.specs.Rerun.{Finds, stamp_of};
 
-use crate::place::{Place, next_row};
+use crate::place::{Place, missing_sender, next_row};
 use cli_journal::Entry;
 use rbc_centre::StepFault;
 use rbc_line::Line;
@@ -28,7 +28,12 @@ pub fn first_unfit(
         } else {
             let centre = entry.centre();
             let row = next_row(entries, at, centre);
-            return Ok(Some(Place { centre, row }));
+            let sender = missing_sender(&answer, &entry.event);
+            return Ok(Some(Place {
+                centre,
+                row,
+                sender,
+            }));
         }
     }
     Ok(None)

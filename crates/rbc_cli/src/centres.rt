@@ -1,12 +1,10 @@
 //! The centres of a line that run.
 
-use crate::record::opened;
+use crate::record::locked;
 use cli_commands::disk::Disk;
-use cli_commands::files::Files as _;
-use cli_commands::journal::{Found, journals_in};
+use cli_commands::line_file::{LineFile, line_file_in};
 use cli_commands::words::ServeWords;
-use cli_status::{Fault, report};
-use rbc_line::Line;
+use cli_status::report;
 use serve_line::{Doors, Loud, Manner, Notes, Quiet, Record, ServeFault, serve};
 use std::fs::File;
 use std::io::{Eprint, Write};
@@ -29,22 +27,14 @@ pub fn run_centres<
     O: Write,
     E: Write,
 >(rt: &R, file: &str, port: u16, words: &ServeWords<'_>, out: &mut O, err: &mut E) -> u8 {
-    let Some(text) = Disk(rt).text(file) else {
-        return report(&Fault::CannotRead(file), out, err);
-    };
-    let (line, found) = match known(rt, &text, words) {
-        Ok(known) => known,
+    let given = match line_file_in(rt.alloc(), file, &Disk(rt)) {
+        Ok(given) => given,
         Err(fault) => return report(&fault, out, err),
     };
-    let begun = Begun {
-        line: &line,
-        text: &text,
-        found,
-    };
     let done = if words.is_quiet {
-        run_noted(rt, begun, port, words, &Quiet, out)
+        run_noted(rt, &given, port, words, &Quiet, out)
     } else {
-        run_noted(rt, begun, port, words, &Loud(rt), out)
+        run_noted(rt, &given, port, words, &Loud(rt), out)
     };
     match done {
         Ok(()) => 0,
@@ -56,32 +46,8 @@ pub fn run_centres<
     }
 }
 
-/// What the centres begin with: the line, the text of its file, and the journals that they go on from.
-#[derive(Drop)]
-struct Begun<'a> {
-    line: &'a Line,
-    text: &'a str,
-    found: Option<Found>,
-}
-
-// The line, and the journals that its centres go on from, if they do.
-fn known<'a, R: Files + AllocGlobal>(
-    rt: &R,
-    text: &str,
-    words: &ServeWords<'a>,
-) -> Result<(Line, Option<Found>), Fault<'a>> {
-    let line = Line::from_toml(rt.alloc(), text)?;
-    let found = match &words.journal {
-        Some(journal) if journal.is_resumed => {
-            let disk = Disk(rt);
-            Some(journals_in(rt.alloc(), &line, text, journal.folder, &disk)?)
-        }
-        _ => None,
-    };
-    Ok((line, found))
-}
-
-// Opens the ports and the journals, and serves.
+// Locks and reads the journals, opens the ports, begins the journals, and serves. What is refused before it serves
+// leaves the journals as they were.
 fn run_noted<
     R: Threads
         + Wait
@@ -94,25 +60,28 @@ fn run_noted<
     O: Write,
 >(
     rt: &R,
-    begun: Begun<'_>,
+    given: &LineFile,
     port: u16,
     words: &ServeWords<'_>,
     notes: &N,
     out: &mut O,
 ) -> Result<(), ServeFault> {
-    let Begun { line, text, found } = begun;
-    let mut doors = Doors::open(rt, rt.alloc(), line, port, notes)?;
+    let journals = match words.journal {
+        Some(journal) => Some(locked(rt, given, journal, notes)?),
+        None => None,
+    };
+    let mut doors = Doors::open(rt, rt.alloc(), &given.line, port, notes)?;
     if let Some(page) = words.page {
         doors = doors.and_page(rt, page, notes)?;
     }
-    let record = match &words.journal {
-        Some(journal) => opened(rt, line, text, journal, found, notes)?,
+    let record = match journals {
+        Some(journals) => journals.begun(rt, given, notes)?,
         None => Record::none(rt.alloc()),
     };
     serve(
         rt,
         rt.alloc(),
-        line,
+        &given.line,
         doors,
         record,
         manner_of(words),

@@ -1,51 +1,183 @@
 //! The journals of a line's centres, as files in a folder.
 
-use cli_commands::journal::{Found, journal_name};
+use cli_commands::journal::{Journal, journal_name, journal_of};
+use cli_commands::line_file::LineFile;
 use cli_commands::words::JournalWords;
-use cli_journal::first_line;
-use rbc_line::Line;
+use cli_journal::{Entry, first_line, in_order};
+use cli_status::Fault;
+use serve_journal::{OpenFault, make_journal, open_journal, read_whole};
 use serve_line::{JournalFile, Notes, Record, ServeFault};
 use std::alloc::AllocError;
-use std::fs::{File, OpenOptions};
+use std::fs;
+use std::fs::File;
 use std::io::ErrorKind;
+use std::path::Path;
 use std::rt::Files;
-use std::{fs, io};
+use std::time::Clock;
 
-/// Opens the journals of the centres: new ones, or those that were found, to go on behind their whole lines. Where one
-/// can't be opened, a note names it.
-pub fn opened<R: Files<File = File> + AllocGlobal, N: Notes>(
+/// The journal of a centre.
+#[derive(Drop)]
+struct Place {
+    name: String,
+    /// Open and locked, if it is there.
+    file: Option<File>,
+    /// How many bytes of it stay.
+    length: usize,
+}
+
+/// The journals of all centres, locked, and the events that they have.
+#[derive(Drop)]
+pub struct Locked<'a> {
+    words: JournalWords<'a>,
+    places: Vec<Place>,
+    entries: Vec<Entry>,
+}
+
+/// Opens and locks the journals that are there, and then reads them. To go on, all of them have to be there. To begin,
+/// none of them may have an event. Nothing is changed. A note names the journal that is refused.
+pub fn locked<'a, R: Files<File = File> + Clock + AllocGlobal, N: Notes>(
     rt: &R,
-    line: &Line,
-    text: &str,
-    words: &JournalWords<'_>,
-    found: Option<Found>,
+    given: &LineFile,
+    words: JournalWords<'a>,
     notes: &N,
-) -> Result<Record<File>, ServeFault> {
-    let alloc = rt.alloc();
-    let found = match found {
-        Some(found) => found,
-        None => {
-            make_folder(rt, words.folder, notes)?;
-            Found {
-                entries: Vec::new(alloc),
-                lengths: Vec::new(alloc),
-            }
-        }
-    };
-    let mut files = Vec::new(alloc);
-    for centre in 0..line.centre_count() {
-        let length = found.lengths.get(centre as usize).copied();
-        files.push(opened_one(rt, line, text, words, centre, length, notes)?)?;
+) -> Result<Locked<'a>, ServeFault> {
+    let mut places = Vec::new(rt.alloc());
+    for centre in 0..given.line.centre_count() {
+        let name = journal_name(rt.alloc(), &given.line, words.folder, centre)?;
+        places.push(place_of(rt, name, words.is_resumed, notes)?)?;
     }
-    Ok(Record {
-        files,
-        entries: found.entries,
+    let entries = entries_of(rt, given, words.is_resumed, &mut places, notes)?;
+    Ok(Locked {
+        words,
+        places,
+        entries,
     })
 }
 
-// Makes the folder, where it is not there.
-fn make_folder<R: Files, N: Notes>(rt: &R, folder: &str, notes: &N) -> Result<(), ServeFault> {
+impl Locked<'_> {
+    /// Begins the journals that have no first line, and makes those that are missing. A note names one that can't be
+    /// made or written.
+    pub fn begun<R: Files<File = File> + Clock + AllocGlobal, N: Notes>(
+        self,
+        rt: &R,
+        given: &LineFile,
+        notes: &N,
+    ) -> Result<Record<File>, ServeFault> {
+        let Locked {
+            words,
+            mut places,
+            entries,
+        } = self;
+        if !words.is_resumed {
+            make_folder(rt, &words, notes)?;
+        }
+        let mut files = Vec::new(rt.alloc());
+        places.reverse();
+        for centre in 0..given.line.centre_count() {
+            let Some(place) = places.pop() else {
+                break;
+            };
+            let first = first_line(rt.alloc(), &given.line, centre, given.text.as_str())?;
+            files.push(begun_one(rt, place, first.as_str(), words.is_synced, notes)?)?;
+        }
+        if words.is_synced {
+            sync(rt, words.folder, notes)?;
+        }
+        Ok(Record { files, entries })
+    }
+}
+
+// Opens and locks the journal of this name. One to go on from has to be there.
+fn place_of<R: Files<File = File> + Clock, N: Notes>(
+    rt: &R,
+    name: String,
+    is_resumed: bool,
+    notes: &N,
+) -> Result<Place, ServeFault> {
+    let file = match open_journal(rt, name.as_str()) {
+        Ok(file) => Some(file),
+        Err(OpenFault::Missing) if is_resumed => {
+            return Err(ServeFault::Run(Fault::NoJournal(name)));
+        }
+        Err(OpenFault::Missing) => None,
+        Err(fault) => {
+            notes.note(format_args!("{name} can't be opened: {fault}"));
+            return Err(ServeFault::Journal);
+        }
+    };
+    Ok(Place {
+        name,
+        file,
+        length: 0,
+    })
+}
+
+// The events of the journals, in the order in which they happened. Those of a journal that is begun are none.
+fn entries_of<R: AllocGlobal, N: Notes>(
+    rt: &R,
+    given: &LineFile,
+    is_resumed: bool,
+    places: &mut [Place],
+    notes: &N,
+) -> Result<Vec<Entry>, ServeFault> {
+    let mut journals = Vec::new(rt.alloc());
+    for centre in 0..given.line.centre_count() {
+        let Some(place) = places.get_mut(centre as usize) else {
+            break;
+        };
+        let bytes = bytes_of(rt, place, notes)?;
+        let Journal { entries, length } = journal_of(rt.alloc(), given, centre, &bytes)?;
+        if is_resumed {
+            note_torn(place, bytes.len().saturating_sub(length), notes);
+            place.length = length;
+        } else if !entries.is_empty() {
+            let name = &place.name;
+            notes.note(format_args!(
+                "{name} has events: go on from it by --resume, or name another folder"
+            ));
+            return Err(ServeFault::Journal);
+        }
+        journals.push(entries)?;
+    }
+    Ok(in_order(rt.alloc(), journals)?)
+}
+
+// The bytes of a journal; none if it is not there.
+fn bytes_of<R: AllocGlobal, N: Notes>(
+    rt: &R,
+    place: &Place,
+    notes: &N,
+) -> Result<Vec<u8>, ServeFault> {
+    let Some(file) = &place.file else {
+        return Ok(Vec::new(rt.alloc()));
+    };
+    match read_whole(rt, file) {
+        Ok(bytes) => Ok(bytes),
+        Err(error) if error.kind() == ErrorKind::OutOfMemory => Err(AllocError.into()),
+        Err(error) => {
+            let name = &place.name;
+            notes.note(format_args!("{name} can't be read: {error}"));
+            Err(ServeFault::Journal)
+        }
+    }
+}
+
+fn note_torn<N: Notes>(place: &Place, count: usize, notes: &N) {
+    if count > 0 {
+        let name = &place.name;
+        notes.note(format_args!("{name}: {count} bytes after the last whole line are taken off"));
+    }
+}
+
+// Makes the folder, if it is not there. The disk has its name then.
+fn make_folder<R: Files<File = File>, N: Notes>(
+    rt: &R,
+    words: &JournalWords<'_>,
+    notes: &N,
+) -> Result<(), ServeFault> {
+    let folder = words.folder;
     match fs::create_dir(rt, folder) {
+        Ok(()) if words.is_synced => sync(rt, parent_of(folder), notes),
         Ok(()) => Ok(()),
         Err(error) if error.kind() == ErrorKind::AlreadyExists => Ok(()),
         Err(error) => {
@@ -55,51 +187,61 @@ fn make_folder<R: Files, N: Notes>(rt: &R, folder: &str, notes: &N) -> Result<()
     }
 }
 
-// Opens the journal of a centre, of which so many bytes stay, or a new one. It begins with its first line.
-fn opened_one<R: Files<File = File> + AllocGlobal, N: Notes>(
+// The folder that has this one.
+fn parent_of(folder: &str) -> &str {
+    match Path::new(folder).parent() {
+        Some(parent) if parent.as_str().is_empty() => ".",
+        Some(parent) => parent.as_str(),
+        None => folder,
+    }
+}
+
+// Waits until the disk has the names in a folder.
+fn sync<R: Files<File = File>, N: Notes>(
     rt: &R,
-    line: &Line,
-    text: &str,
-    words: &JournalWords<'_>,
-    centre: u8,
-    length: Option<usize>,
+    folder: &str,
+    notes: &N,
+) -> Result<(), ServeFault> {
+    let done = match fs::open(rt, folder) {
+        Ok(opened) => opened.sync_all(),
+        Err(error) => Err(error),
+    };
+    done.map_err(|error| {
+        notes.note(format_args!("{folder} can't be synced: {error}"));
+        ServeFault::Journal
+    })
+}
+
+// Makes the journal of a centre, if it is not there, and writes its first line, if it has none.
+fn begun_one<R: Files<File = File> + Clock, N: Notes>(
+    rt: &R,
+    mut place: Place,
+    first: &str,
+    is_synced: bool,
     notes: &N,
 ) -> Result<JournalFile<File>, ServeFault> {
-    let name = journal_name(rt.alloc(), line, words.folder, centre)?;
-    let first = first_line(rt.alloc(), line, centre, text)?;
-    match begun(
-        rt,
-        &name,
-        &first,
-        length.unwrap_or(0),
-        length.is_none(),
-        words.is_synced,
-    ) {
-        Ok(file) => Ok(file),
-        Err(error) => {
-            notes.note(format_args!("{name} can't be opened for writing: {error}"));
+    match begun(rt, &mut place, first, is_synced) {
+        Ok(journal) => Ok(journal),
+        Err(fault) => {
+            let name = &place.name;
+            notes.note(format_args!("{name} can't be begun: {fault}"));
             Err(ServeFault::Journal)
         }
     }
 }
 
-// Opens a journal, and writes its first line where it is not there. No other program may write to it.
-fn begun<R: Files<File = File>>(
+fn begun<R: Files<File = File> + Clock>(
     rt: &R,
-    name: &str,
+    place: &mut Place,
     first: &str,
-    length: usize,
-    is_new: bool,
     is_synced: bool,
-) -> io::Result<JournalFile<File>> {
-    let file = OpenOptions::new()
-        .read(true)
-        .write(true)
-        .create_new(is_new)
-        .open(rt, name)?;
-    file.try_lock()?;
-    let mut journal = JournalFile::new(file, length as u64, is_synced);
-    if length == 0 {
+) -> Result<JournalFile<File>, OpenFault> {
+    let file = match place.file.take() {
+        Some(file) => file,
+        None => make_journal(rt, place.name.as_str())?,
+    };
+    let mut journal = JournalFile::new(file, place.length as u64, is_synced);
+    if place.length == 0 {
         journal.begin(first)?;
     }
     Ok(journal)

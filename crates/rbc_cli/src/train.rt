@@ -5,6 +5,7 @@ use cli_commands::files::Files as _;
 use cli_drive::{DriveFault, drive, see_off, steps_of};
 use cli_status::Fault;
 use std::alloc::AllocError;
+use std::fs::File;
 use std::io::Write;
 use std::net::{IpAddr, Ipv4Addr, Net, Shutdown, SocketAddr, TcpStream};
 use std::rt::Files;
@@ -15,7 +16,7 @@ const PATIENCE_S: u64 = 60;
 
 /// Sends the lines of a file to the centre at this port of this host, and prints what it reads. Behind them it waits
 /// until the centre has taken all.
-pub fn run_train<'a, R: Net<Stream = TcpStream> + Files + AllocGlobal, O: Write>(
+pub fn run_train<'a, R: Net<Stream = TcpStream> + Files<File = File> + AllocGlobal, O: Write>(
     rt: &R,
     port: u16,
     file: &'a str,

@@ -1,6 +1,7 @@
 use std::fs::OpenFile;
 use std::io;
-use std::io::{Seek, SeekFrom, Write};
+use std::io::{Error, ErrorKind, Seek, SeekFrom, Write};
+use std::os::unix::fs::MetadataExt;
 
 /// A centre's journal as a file: what is written to it stays.
 #[derive(Drop)]
@@ -8,38 +9,62 @@ pub struct JournalFile<F> {
     file: F,
     /// How many bytes of it stay.
     length: u64,
-    /// Whether more may stand behind those: the last call failed.
+    /// Whether it may have more bytes than those: the last call failed.
     is_torn: bool,
     /// Whether each call waits until the disk has what it wrote.
     is_synced: bool,
+    /// What was done to the file while it was open. Then nothing more is written to it.
+    harm: Option<Harm>,
+}
+
+/// What may be done to a journal while it is written.
+#[derive(Clone, Copy)]
+enum Harm {
+    Removed,
+    Cut,
+}
+
+impl Harm {
+    fn error(self) -> Error {
+        Error::other(match self {
+            Harm::Removed => "its file was removed",
+            Harm::Cut => "its file was cut short, or written by another program",
+        })
+    }
 }
 
 impl<F: Write + Seek + OpenFile> JournalFile<F> {
-    /// A journal of which the first bytes stay, so many. What stands behind them is taken off by the next call.
+    /// Keeps the first `length` bytes of a file; the next call cuts it there.
     pub fn new(file: F, length: u64, is_synced: bool) -> JournalFile<F> {
         JournalFile {
             file,
             length,
             is_torn: true,
             is_synced,
+            harm: None,
         }
     }
 
-    /// Writes a text behind what stays, and waits until it stays too. An error leaves what stayed; what may have been
-    /// written of the text is taken off by the next call.
+    /// Writes a text after what stays, and waits until it stays too. An error leaves what stayed; what may have been
+    /// written of the text is taken off by the next call. Once the file was removed or cut, each call is an error.
     pub fn add(&mut self, text: &[u8]) -> io::Result<()> {
+        if let Some(harm) = self.harm {
+            return Err(harm.error());
+        }
         if self.is_torn {
             self.mend()?;
         }
         self.is_torn = true;
         self.file.write_all(text)?;
         self.sync()?;
-        self.length = self.length.saturating_add(text.len() as u64);
+        let length = self.length.saturating_add(text.len() as u64);
+        self.look(length, length)?;
+        self.length = length;
         self.is_torn = false;
         Ok(())
     }
 
-    /// Begins it anew, with this first line.
+    /// Begins it again, with this first line.
     pub fn begin(&mut self, first: &str) -> io::Result<()> {
         self.length = 0;
         self.is_torn = true;
@@ -47,11 +72,31 @@ impl<F: Write + Seek + OpenFile> JournalFile<F> {
         self.add(b"\n")
     }
 
-    // Takes off what stands behind the bytes that stay.
+    // Takes off what follows the bytes that stay.
     fn mend(&mut self) -> io::Result<()> {
+        self.look(self.length, u64::MAX)?;
         self.file.set_len(self.length)?;
         self.file.seek(SeekFrom::Start(self.length))?;
         Ok(())
+    }
+
+    // Looks whether the file still has its name, and its length is in these bounds. A file that tells nothing of
+    // itself, as one in memory, is not looked at.
+    fn look(&mut self, least: u64, most: u64) -> io::Result<()> {
+        let found = match self.file.metadata() {
+            Ok(found) => found,
+            Err(error) if error.kind() == ErrorKind::Unsupported => return Ok(()),
+            Err(error) => return Err(error),
+        };
+        let harm = if found.nlink() == 0 {
+            Harm::Removed
+        } else if found.len() < least || found.len() > most {
+            Harm::Cut
+        } else {
+            return Ok(());
+        };
+        self.harm = Some(harm);
+        Err(harm.error())
     }
 
     fn sync(&mut self) -> io::Result<()> {

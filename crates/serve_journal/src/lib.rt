@@ -9,10 +9,12 @@ mod file;
 mod held;
 mod journal;
 mod keeping;
+mod opening;
 mod resuming;
 
 pub use file::JournalFile;
 pub use held::Held;
 pub use journal::Journal;
 pub use keeping::{Keeper, keep_journal};
+pub use opening::{OpenFault, make_journal, open_journal, read_whole};
 pub use resuming::{ResumeFault, resume};

@@ -17,8 +17,8 @@ use std::sync::Wait;
 pub enum ResumeFault {
     /// Memory ran out.
     Memory,
-    /// The centre of this number would not have taken an event of its journal so: the number of the first one in the
-    /// journal, from 1. The journals are not of one run.
+    /// The centre of this number would not have taken an event of its journal so: the line of the first one in the
+    /// journal, from 1, its first line counted. The journals are not of one run.
     Unfit(u8, usize),
 }
 
@@ -90,18 +90,19 @@ fn commit_entry<R: Wait>(
     let at = entry.centre();
     let place = at as usize;
     let Some(node) = nodes.get(place) else {
-        return Err(ResumeFault::Unfit(at, 1));
+        return Err(ResumeFault::Unfit(at, 2));
     };
     if place >= shares.len() {
-        return Err(ResumeFault::Unfit(at, 1));
+        return Err(ResumeFault::Unfit(at, 2));
     }
     let share = &mut shares[place];
-    let number = share.receipts().len().saturating_add(1);
+    // The first line of a journal is not an event.
+    let row = share.receipts().len().saturating_add(2);
     let Some(event) = event_of(rt, alloc, nodes, entry)? else {
-        return Err(ResumeFault::Unfit(at, number));
+        return Err(ResumeFault::Unfit(at, row));
     };
     match commit_again(rt, node, share, event, entry.stamp) {
-        Err(ResumeFault::Unfit(..)) => Err(ResumeFault::Unfit(at, number)),
+        Err(ResumeFault::Unfit(..)) => Err(ResumeFault::Unfit(at, row)),
         done => done,
     }
 }

@@ -58,7 +58,7 @@ fn whole_lines_end_with_the_last_line_feed(rt: HostRuntime) -> Result<(), Fail> 
         ("\n\n", 2),
         ("a\nb\n", 4),
     ] {
-        assert!(rt; whole_length(text) == length, "{text}");
+        assert!(rt; whole_length(text.as_bytes()) == length, "{text}");
     }
     let name = file_name(rt.alloc(), &two_centres(rt.alloc())?, B)?;
     assert!(rt; name.as_str() == "B.journal");

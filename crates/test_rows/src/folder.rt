@@ -46,6 +46,18 @@ impl<R: rt::Files + AllocGlobal> Files for Folder<'_, R> {
         fs::read_to_string(self.rt, path.as_str()).ok()
     }
 
+    fn contents(&self, name: &str) -> Option<Vec<u8>> {
+        match self.text(name) {
+            Some(text) => Some(text.into_bytes()),
+            None => self.bytes(name),
+        }
+    }
+
+    // A row with the file `writer` has journals that a program writes.
+    fn is_written(&self, _name: &str) -> bool {
+        self.bytes("writer").is_some()
+    }
+
     fn is_folder(&self, name: &str) -> bool {
         let Ok(path) = format!(in self.rt.alloc(); "rows/{}/{name}", self.name) else {
             return false;
