@@ -34,6 +34,8 @@ pub struct Connection {
     stream: Arc<TcpStream, Global>,
     /// Whether its train was too slow.
     is_cut: AtomicBool,
+    /// Whether it was ended here.
+    is_ended: AtomicBool,
 }
 
 impl Connection {
@@ -48,6 +50,7 @@ impl Connection {
             pipe,
             stream,
             is_cut: AtomicBool::new(false),
+            is_ended: AtomicBool::new(false),
         }
     }
 
@@ -96,8 +99,14 @@ impl Connection {
         self.is_cut.load(Ordering::SeqCst)
     }
 
+    /// Whether it was ended here.
+    pub(crate) fn is_ended(&self) -> bool {
+        self.is_ended.load(Ordering::SeqCst)
+    }
+
     /// Ends the connection for both sides.
     pub(crate) fn shut(&self) {
+        self.is_ended.store(true, Ordering::SeqCst);
         let _ = self.stream.shutdown(Shutdown::Both);
     }
 }

@@ -10,7 +10,7 @@ mod pipe;
 mod reply;
 mod writer;
 
-pub use laws::an_order_lets_out_a_beginning;
+pub use laws::{an_order_lets_out_a_beginning, an_order_never_turns_back};
 pub use order::{NoRoom, Order};
 pub use pipe::{Pipe, PipeEnd, Turn};
 pub use reply::Reply;
