@@ -4,6 +4,7 @@ use crate::audit::audit_printed;
 use crate::diagram::draw_printed;
 use crate::explain::explain;
 use crate::files::Files;
+use crate::forms::VERSION;
 use crate::in_words::{show_message, tell_printed};
 use crate::printed::print_journals;
 use crate::run::{check, run};
@@ -37,6 +38,7 @@ fn obey<'a, S: AsStr, F: Files, O: Write>(
     out: &mut O,
 ) -> Result<(), Fault<'a>> {
     match requested(alloc, words)? {
+        Request::Version => print_version(out),
         Request::Check { file } => check(alloc, file, files, out),
         Request::Explain { file } => explain(alloc, file, files, out),
         Request::Run { file, script } => run(alloc, file, script, files, out),
@@ -56,4 +58,10 @@ fn obey<'a, S: AsStr, F: Files, O: Write>(
             is_html,
         } => draw_printed(alloc, file, printed, cut, is_html, files, out),
     }
+}
+
+fn print_version<'a, O: Write>(out: &mut O) -> Result<(), Fault<'a>> {
+    writeln!(out, "rbcline {VERSION}")?;
+    out.flush()?;
+    Ok(())
 }

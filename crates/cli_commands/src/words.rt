@@ -9,6 +9,8 @@ use std::convert::AsStr;
 /// What the words ask for.
 #[derive(Clone, Copy)]
 pub enum Request<'a> {
+    /// Print the version of the program.
+    Version,
     /// Read the line, and say how much of each thing it has.
     Check {
         file: &'a str,
@@ -102,6 +104,7 @@ pub fn requested<'a, S: AsStr>(alloc: Global, words: &'a [S]) -> Result<Request<
     let matches = match matched(alloc, words) {
         Ok(matches) => matches,
         Err(error) if error.kind() == ErrorKind::OutOfMemory => return Err(AllocError.into()),
+        Err(error) if error.kind() == ErrorKind::DisplayVersion => return Ok(Request::Version),
         Err(error) => return Err(Fault::Usage(error)),
     };
     named(&matches).ok_or(Fault::Words)
