@@ -179,11 +179,19 @@ static DOORS: [(&str, &str, &str); 5] = [
     ),
 ];
 
+// What `drive` takes besides its words.
+static DRIVE: [(&str, &str, &str); 1] = [(
+    "timeout",
+    "SECONDS",
+    "How long to wait for the centre at most [default: no limit]",
+)];
+
 // The options of a command with a value, each with what it is.
 fn parts_of(command: &str) -> &'static [(&'static str, &'static str, &'static str)] {
     match command {
         "picture" => &CUT,
         "serve" => &DOORS,
+        "drive" => &DRIVE,
         _ => &[],
     }
 }

@@ -50,6 +50,8 @@ pub enum Request<'a> {
     Drive {
         port: u16,
         file: &'a str,
+        /// How many seconds the train waits for the centre at most, if that is named.
+        timeout_s: Option<u32>,
     },
     /// Show the message of these hexadecimal digits field by field.
     Message {
@@ -219,9 +221,11 @@ fn named_count(words: &ArgMatches<'_>, option: &str) -> Option<Option<u32>> {
 }
 
 fn named_drive<'a>(words: &ArgMatches<'a>) -> Option<Request<'a>> {
-    let port = port_of(words.get_str("PORT")?)?;
-    let file = words.get_str("FILE")?;
-    Some(Request::Drive { port, file })
+    Some(Request::Drive {
+        port: port_of(words.get_str("PORT")?)?,
+        file: words.get_str("FILE")?,
+        timeout_s: named_count(words, "timeout")?,
+    })
 }
 
 // The part of a run that `picture` draws.
