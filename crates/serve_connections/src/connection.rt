@@ -36,6 +36,8 @@ pub struct Connection {
     is_cut: AtomicBool,
     /// Whether it was ended here.
     is_ended: AtomicBool,
+    /// Whether each reply waits until its event is written.
+    is_held: bool,
 }
 
 impl Connection {
@@ -51,11 +53,22 @@ impl Connection {
             stream,
             is_cut: AtomicBool::new(false),
             is_ended: AtomicBool::new(false),
+            is_held: false,
         }
+    }
+
+    /// The same connection, where each reply waits until its event is written: only its writer writes.
+    pub fn held(self) -> Connection {
+        let mut connection = self;
+        connection.is_held = true;
+        connection
     }
 
     /// The right to write to the train in the calling thread, if no reply waits.
     pub(crate) fn turn(&self) -> Option<Turn<'_, Shared>> {
+        if self.is_held {
+            return None;
+        }
         self.pipe.turn()
     }
 

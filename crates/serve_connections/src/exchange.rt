@@ -87,8 +87,8 @@ impl<'a> Exchange<'a> {
     }
 
     // Hands a message to a train in to its order, and lets out what has its turn now. `own` is the number of the
-    // connection that the calling thread reads.
-    fn say<R: Wait>(&self, rt: &R, own: Option<usize>, saying: &Saying) {
+    // connection that the calling thread reads, and `stamp` that of the event.
+    fn say<R: Wait>(&self, rt: &R, own: Option<usize>, saying: &Saying, stamp: u32) {
         let Some(route) = route_of(self.line, own, saying) else {
             return;
         };
@@ -100,7 +100,7 @@ impl<'a> Exchange<'a> {
             return;
         };
         let to = self.direct(rt, &route);
-        let is_taken = self.hand_in(&mut order, saying);
+        let is_taken = self.hand_in(&mut order, saying, stamp);
         let is_long = let_out(rt, own, to, order, is_taken);
         if is_long && own.is_some() {
             rest(rt, place);
@@ -137,9 +137,9 @@ impl<'a> Exchange<'a> {
     }
 
     // Hands a message in, and says whether there was room for it.
-    fn hand_in(&self, order: &mut Order, saying: &Saying) -> bool {
+    fn hand_in(&self, order: &mut Order, saying: &Saying, stamp: u32) -> bool {
         match Reply::new(self.alloc, saying.message) {
-            Ok(reply) => order.hand_in(reply).is_ok(),
+            Ok(reply) => order.hand_in(reply.answering(stamp)).is_ok(),
             Err(_) => false,
         }
     }
@@ -147,7 +147,7 @@ impl<'a> Exchange<'a> {
     // Says all messages of an outcome, and rings the bells where it has frames.
     fn tell<R: Wait>(&self, rt: &R, own: Option<usize>, outcome: &Outcome) {
         for saying in outcome.sayings.as_slice() {
-            self.say(rt, own, saying);
+            self.say(rt, own, saying, outcome.stamp);
         }
         if outcome.frames.is_empty() {
             return;
