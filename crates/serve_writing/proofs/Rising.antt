@@ -1,13 +1,13 @@
 -- What an order lets out rises, also over the sessions of its train.
-use Rattle.std.proofs.Common.{◌≡◌, ℕ, ◌+◌, ◌<◌, ◌≤◌, List, [], ◌∷◌, arith, nat_lt}
-use Rattle.std.proofs.lemmas.Bool.{cond_both}
+use Rattle.std.proofs.Common.{◌≡◌, ℕ, ◌+◌, ◌≤◌, List, [], ◌∷◌, arith, nat_lt}
+use Rattle.std.proofs.lemmas.Bool.{cond_both, ltb-false}
 use Rattle.rbc_spec.specs.Message.{TrackMessage}
 use Rattle.serve_writing.specs.Turns.{Call, Begins, HandsIn, LetsOut, Rises, Takes, all_out, kept, turn_from, waits_from}
 
 -- the turn does not go back
 not_back : (t next : ℕ) → next ≤ turn_from t next
 not_back t next =
-    cond_both (nat_lt t next) next t (λ n. next ≤ n) (λ e. omega arith) (λ e. omega (arith, e))
+    cond_both (nat_lt t next) next t (λ n. next ≤ n) (λ e. omega arith) (λ e. ltb-false t next e)
 
 pub rising : (calls : List Call) (least next : ℕ) (early : List TrackMessage) → least ≤ next → Takes calls next early →
     Rises least (all_out calls)

@@ -29,7 +29,7 @@ impl Reply {
 
     /// The same reply, as an answer to the event with this stamp.
     pub fn answering(self, stamp: u32) -> Reply
-        ensures message { result.message ≡ self.entry.message }
+        ensures message { result.message ≡ self.message }
         ensures stamp { result.stamp ≡ stamp }
     {
         let mut reply = self;

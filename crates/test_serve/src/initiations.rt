@@ -20,19 +20,27 @@ use std::thread;
 
 // Train 1 initiates its session again, with T_TRAIN 2, 3 and 4.
 const SECOND_INITIATION: &str = "9B028000000080000040";
+
 const THIRD_INITIATION: &str = "9B0280000000C0000040";
+
 const FOURTH_INITIATION: &str = "9B028000000100000040";
 
 // It establishes the session with T_TRAIN 2 and 3, and terminates it with T_TRAIN 3 and 4.
 const SECOND_ESTABLISHED: &str = "9F028000000080000040";
+
 const THIRD_ESTABLISHED: &str = "9F0280000000C0000040";
+
 const THIRD_TERMINATION: &str = "9C0280000000C0000040";
+
 const FOURTH_TERMINATION: &str = "9C028000000100000040";
 
 // Message 32 with T_TRAIN 2 and 3, and message 39 with T_TRAIN 2 and 3.
 const SECOND_VERSION: &str = "2002C00000009FFFFFE800";
+
 const THIRD_VERSION: &str = "2002C0000000DFFFFFE800";
+
 const SECOND_TERMINATED: &str = "2702800000009FFFFFE0";
+
 const THIRD_TERMINATED: &str = "270280000000DFFFFFE0";
 
 // What is written last to each connection: it comes over those alone that were not ended before.
@@ -217,7 +225,10 @@ static OVER_ONE: [&str; 4] = [
 fn a_second_initiation_over_one_connection_leaves_nothing_out(rt: HostRuntime) -> Result<(), Fail> {
     let turns = [(Some(0), 0), (Some(0), 3), (None, 2)];
     let (first, second) = played(&rt, rt.alloc(), &OVER_ONE, &turns)?;
-    let served = row_of(rt.alloc(), &[VERSION, SECOND_TERMINATED, THIRD_VERSION, LAST])?;
+    let served = row_of(
+        rt.alloc(),
+        &[VERSION, SECOND_TERMINATED, THIRD_VERSION, LAST],
+    )?;
     let other = row_of(rt.alloc(), &[LAST])?;
     assert!(rt; (first.as_slice(), second.as_slice()) == (served.as_slice(), other.as_slice()));
     Ok(())
