@@ -33,8 +33,8 @@ impl Order {
         }
     }
 
-    /// The order goes on with this T_TRAIN, and earlier messages are dropped. It returns whether it does: if the turn of
-    /// this T_TRAIN is over, a later one has begun already, and nothing changes.
+    /// The order goes on with this T_TRAIN, and earlier messages are dropped. It returns whether it does: if the turn
+    /// of this T_TRAIN is over, a later one has begun already, and nothing changes.
     pub fn begin(&mut self, t_train: u32) -> bool
         ensures begins { IsTrue result ↔ (self.old.next ≤ t_train) }
         ensures next { self.new.next ≡ turn_from t_train self.old.next }
