@@ -11,8 +11,8 @@ pub fn an_order_lets_out_a_beginning()
         → Goes acts first early → (rest : List TrackMessage) × (said ≡ let_out acts ++ rest) }
 {}
 
-/// Whatever is handed in to an order and let out of it, and whatever T_TRAIN it is to go on with, in any order of calls:
-/// each T_TRAIN that it lets out is above all before.
+/// Whatever is handed in to an order and let out of it, and whatever T_TRAIN it is to go on with, in any order: each
+/// T_TRAIN that it lets out is above all before.
 pub fn an_order_never_turns_back()
     ensures { (calls : List Call) (next : ℕ) (early : List TrackMessage)
         → Takes calls next early → Rises next (all_out calls) }
