@@ -23,8 +23,7 @@ pub struct Audit<'a> {
     events: u64,
     /// Why the run stopped: a refused step, or want of memory. Nothing is played behind it.
     refused: Option<StepFault>,
-    /// The number of the first line that is too long, or whose script has no form that a script may have. Nothing is
-    /// looked at behind it.
+    /// The number of the first line whose script has no form that a script may have. Later lines are only counted.
     faulty: Option<usize>,
 }
 
@@ -45,7 +44,7 @@ impl<'a> Audit<'a> {
 
     /// Takes the next line of the print, without the line feed that ends it.
     pub fn row(&mut self, row: &str) {
-        self.count_row();
+        self.rows = self.rows.saturating_add(1);
         if self.faulty.is_some() {
             return;
         }
@@ -54,18 +53,6 @@ impl<'a> Audit<'a> {
         }
         self.know_ending();
         self.comparison.row(row);
-    }
-
-    /// The next line of the print is too long: it has no form that a line of a print may have.
-    pub fn long_row(&mut self) {
-        self.count_row();
-        if self.faulty.is_none() {
-            self.faulty = Some(self.rows);
-        }
-    }
-
-    fn count_row(&mut self) {
-        self.rows = self.rows.saturating_add(1);
     }
 
     /// What the audit found, where no further line comes. A script fault is told before a refused step, and that before

@@ -93,8 +93,4 @@ impl Rows for Audited<'_> {
     fn row(&mut self, row: &str) {
         self.0.row(row);
     }
-
-    fn long_row(&mut self) {
-        self.0.long_row();
-    }
 }

@@ -4,6 +4,7 @@ use crate::audit::audit_printed;
 use crate::diagram::draw_printed;
 use crate::explain::explain;
 use crate::files::Files;
+use crate::forms::VERSION;
 use crate::in_words::{show_message, tell_printed};
 use crate::journal::Part;
 use crate::printed::print_journals;
@@ -39,6 +40,7 @@ fn obey<'a, S: AsStr, F: Files, O: Write, E: Write>(
     err: &mut E,
 ) -> Result<(), Fault<'a>> {
     match requested(alloc, words)? {
+        Request::Version => print_version(out),
         Request::Check { file } => check(alloc, file, files, out),
         Request::Explain { file } => explain(alloc, file, files, out),
         Request::Run { file, script } => run(alloc, file, script, files, out),
@@ -70,5 +72,11 @@ fn tell_part<E: Write>(part: Option<Part>, err: &mut E) -> Result<(), Fault<'sta
         writeln!(err, "{part}")?;
         err.flush()?;
     }
+    Ok(())
+}
+
+fn print_version<'a, O: Write>(out: &mut O) -> Result<(), Fault<'a>> {
+    writeln!(out, "rbcline {VERSION}")?;
+    out.flush()?;
     Ok(())
 }

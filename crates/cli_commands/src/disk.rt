@@ -1,8 +1,8 @@
-use crate::files::{Files, MOST_ROW, Rows};
+use crate::files::{Files, Rows};
 use cli_status::Fault;
 use std::alloc::{AllocError, Global};
 use std::fs::{File, TryLockError};
-use std::io::{BufRead, BufReader, ErrorKind, Read};
+use std::io::{BufRead, BufReader, ErrorKind};
 use std::rt::Env;
 use std::str::from_utf8;
 use std::{env, fs, rt};
@@ -41,23 +41,18 @@ impl<R: rt::Files<File = File> + AllocGlobal> Files for Disk<'_, R> {
         }
     }
 
-    // A file of any length is read line by line, and no line is kept that is too long.
+    // A file of any length is read line by line.
     fn each_row<T: Rows>(&self, alloc: Global, name: &str, rows: &mut T) -> Option<()> {
         let file = File::open(self.0, path_of(name)).ok()?;
         let mut reader = BufReader::new(alloc, file).ok()?;
         let mut row = Vec::new(alloc);
         for _ in 0..u64::MAX {
             row.clear();
-            let mut piece = reader.by_ref().take(MOST_ROW as u64 + 1);
-            if piece.read_until(b'\n', &mut row).ok()? == 0 {
+            if reader.read_until(b'\n', &mut row).ok()? == 0 {
                 break;
             }
             if row.last() == Some(&b'\n') {
                 row.pop();
-            }
-            if row.len() > MOST_ROW {
-                rows.long_row();
-                break;
             }
             rows.row(from_utf8(row.as_slice()).ok()?);
         }

@@ -2,9 +2,6 @@ ghost use Rattle.std.specs.Prelude.{ℕ, List, Option, option_map, string_bytes}
 
 use std::alloc::Global;
 
-/// How many bytes a line has at most, where a file is given line by line, without the line feed that ends it.
-pub const MOST_ROW: usize = 4_096;
-
 /// Where the program reads its files.
 pub trait Files {
     /// Holds of a name and each answer that `text` may give for it. Of files that others may change, as those of the
@@ -29,9 +26,8 @@ pub trait Files {
     /// Whether a folder has this name.
     fn is_folder(&self, name: &str) -> bool;
 
-    /// Gives each line of the file of this name, without the line feed that ends it; a last line needs none. Behind the
-    /// first line of more than `MOST_ROW` bytes, which is told and not given, nothing is read. None where the file
-    /// can't be read, though some lines were given then.
+    /// Gives each line of the file of this name, without the line feed that ends it; a last line needs none. None if
+    /// the file can't be read, though some lines were given then.
     fn each_row<T: Rows>(&self, _alloc: Global, name: &str, rows: &mut T) -> Option<()> {
         let text = self.text(name)?;
         let text = text.as_str();
@@ -40,10 +36,6 @@ pub trait Files {
         }
         let text = text.strip_suffix('\n').unwrap_or(text);
         for row in text.split('\n') {
-            if row.len() > MOST_ROW {
-                rows.long_row();
-                break;
-            }
             rows.row(row);
         }
         Some(())
@@ -53,7 +45,4 @@ pub trait Files {
 /// Who takes the lines of a text.
 pub trait Rows {
     fn row(&mut self, row: &str);
-
-    /// The next line has more than `MOST_ROW` bytes, and no further one comes.
-    fn long_row(&mut self);
 }

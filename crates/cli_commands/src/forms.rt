@@ -100,6 +100,9 @@ pub fn rbcline<'a>(alloc: Global) -> Result<Command<'a>, AllocError> {
     Ok(rbcline)
 }
 
+/// The version of the program.
+pub(crate) const VERSION: &str = "0.1.0";
+
 // How it ends, and where to begin.
 const ENDS: &str =
     "Exit status: 0 done, 1 a print differs, 2 these words, 3 a file or script, 4 the line file, 5 a refused step, \
@@ -109,7 +112,7 @@ const ENDS: &str =
 fn program<'a>(alloc: Global) -> Command<'a> {
     Command::new(alloc, "rbcline")
         .about("Radio block centres of ETCS Level 2 that supervise one line")
-        .version("0.1.0")
+        .version(VERSION)
         .after_help(ENDS)
         .no_binary_name(true)
         .subcommand_required(true)
@@ -176,11 +179,19 @@ static DOORS: [(&str, &str, &str); 5] = [
     ),
 ];
 
+// What `drive` takes besides its words.
+static DRIVE: [(&str, &str, &str); 1] = [(
+    "timeout",
+    "SECONDS",
+    "How long to wait for the centre at most [default: no limit]",
+)];
+
 // The options of a command with a value, each with what it is.
 fn parts_of(command: &str) -> &'static [(&'static str, &'static str, &'static str)] {
     match command {
         "picture" => &CUT,
         "serve" => &DOORS,
+        "drive" => &DRIVE,
         _ => &[],
     }
 }

@@ -9,6 +9,8 @@ use std::convert::AsStr;
 /// What the words ask for.
 #[derive(Clone, Copy)]
 pub enum Request<'a> {
+    /// Print the version of the program.
+    Version,
     /// Read the line, and say how much of each thing it has.
     Check {
         file: &'a str,
@@ -48,6 +50,8 @@ pub enum Request<'a> {
     Drive {
         port: u16,
         file: &'a str,
+        /// How many seconds the train waits for the centre at most, if that is named.
+        timeout_s: Option<u32>,
     },
     /// Show the message of these hexadecimal digits field by field.
     Message {
@@ -102,6 +106,7 @@ pub fn requested<'a, S: AsStr>(alloc: Global, words: &'a [S]) -> Result<Request<
     let matches = match matched(alloc, words) {
         Ok(matches) => matches,
         Err(error) if error.kind() == ErrorKind::OutOfMemory => return Err(AllocError.into()),
+        Err(error) if error.kind() == ErrorKind::DisplayVersion => return Ok(Request::Version),
         Err(error) => return Err(Fault::Usage(error)),
     };
     named(&matches).ok_or(Fault::Words)
@@ -216,9 +221,11 @@ fn named_count(words: &ArgMatches<'_>, option: &str) -> Option<Option<u32>> {
 }
 
 fn named_drive<'a>(words: &ArgMatches<'a>) -> Option<Request<'a>> {
-    let port = port_of(words.get_str("PORT")?)?;
-    let file = words.get_str("FILE")?;
-    Some(Request::Drive { port, file })
+    Some(Request::Drive {
+        port: port_of(words.get_str("PORT")?)?,
+        file: words.get_str("FILE")?,
+        timeout_s: named_count(words, "timeout")?,
+    })
 }
 
 // The part of a run that `picture` draws.

@@ -28,8 +28,14 @@ fn main(rt: HostRuntime) -> ExitCode {
         Ok(Request::Serve { file, port, words }) => run_centres(
             &rt, file, port, &words, &mut out, &mut err,
         ),
-        Ok(Request::Drive { port, file }) => {
-            let done = run_train(&rt, port, file, &mut out);
+        Ok(
+            Request::Drive {
+                port,
+                file,
+                timeout_s,
+            },
+        ) => {
+            let done = run_train(&rt, port, file, timeout_s, &mut out);
             ended(done, &mut out, &mut err)
         }
         _ => command(rt.alloc(), &words, &Disk(&rt), &mut out, &mut err),

@@ -11,21 +11,24 @@ use std::net::{IpAddr, Ipv4Addr, Net, Shutdown, SocketAddr, TcpStream};
 use std::rt::Files;
 use std::time::Duration;
 
-/// How long a centre may say nothing that is waited for, and take nothing, in seconds.
-const PATIENCE_S: u64 = 60;
+/// How long a centre may send nothing after the last line, in seconds. Then the train ends, whether the centre has
+/// ended the connection or not.
+const QUIET_S: u64 = 2;
 
-/// Sends the lines of a file to the centre at this port of this host, and prints what it reads. Behind them it waits
-/// until the centre has taken all.
+/// Sends the lines of a file to the centre at this port of this host, and prints what it reads. It waits for the centre
+/// as long as is named, or without a limit. After the last line it reads on until the centre, which has taken all then,
+/// ends the connection, or sends nothing for a while.
 pub fn run_train<'a, R: Net<Stream = TcpStream> + Files<File = File> + AllocGlobal, O: Write>(
     rt: &R,
     port: u16,
     file: &'a str,
+    timeout_s: Option<u32>,
     out: &mut O,
 ) -> Result<(), Fault<'a>> {
     let Some(text) = Disk(rt).text(file) else {
         return Err(Fault::CannotRead(file));
     };
-    match run_text(rt, port, text.as_str(), out) {
+    match run_text(rt, port, text.as_str(), timeout_s, out) {
         Ok(()) => Ok(()),
         Err(DriveFault::Memory) => Err(AllocError.into()),
         Err(DriveFault::Form(row)) => Err(Fault::Script(row)),
@@ -38,14 +41,25 @@ fn run_text<R: Net<Stream = TcpStream> + AllocGlobal, O: Write>(
     rt: &R,
     port: u16,
     text: &str,
+    timeout_s: Option<u32>,
     out: &mut O,
 ) -> Result<(), DriveFault> {
     let steps = steps_of(rt.alloc(), text)?;
     let address = SocketAddr::new(IpAddr::V4(Ipv4Addr::LOCALHOST), port);
     let mut stream = TcpStream::connect(rt, address)?;
-    stream.set_read_timeout(Some(Duration::from_secs(PATIENCE_S)))?;
-    stream.set_write_timeout(Some(Duration::from_secs(PATIENCE_S)))?;
+    if let Some(seconds) = timeout_s {
+        let timeout = Some(Duration::from_secs(u64::from(seconds)));
+        stream.set_read_timeout(timeout)?;
+        stream.set_write_timeout(timeout)?;
+    }
     drive(rt.alloc(), &steps, &mut stream, out)?;
-    stream.shutdown(Shutdown::Write)?;
-    see_off(&mut stream)
+    finish(&mut stream);
+    Ok(())
+}
+
+// Sends nothing more, and reads on. The lines are done: how the connection ends is the centre's affair.
+fn finish(stream: &mut TcpStream) {
+    let _ = stream.shutdown(Shutdown::Write);
+    let _ = stream.set_read_timeout(Some(Duration::from_secs(QUIET_S)));
+    let _ = see_off(stream);
 }

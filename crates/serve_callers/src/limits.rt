@@ -6,6 +6,9 @@ use std::time::Duration;
 /// How many replies wait for one train at most. One more, and its connection is cut.
 pub(crate) const REPLIES: usize = 256;
 
+/// How many events of a connection wait for the journal at most, before its next message is read.
+pub(crate) const UNWRITTEN: u32 = 64;
+
 /// How many bytes a line at the control door has at most.
 pub(crate) const MOST_ROW: usize = 4_096;
 

@@ -4,14 +4,15 @@ use crate::pace::Pace;
 use cli_print::name_of;
 use crossbeam_channel::{Receiver, bounded};
 use rbc_node::{Node, Open};
-use serve_connections::{Connection, Exchange, Shared, Wire};
-use serve_hall::{Hall, Seat};
+use serve_connections::{Connection, Shared, Wire};
+use serve_hall::{Hall, Seat, Teller};
 use serve_reading::Reads;
 use serve_show::Notes;
 use serve_workers::{SessionEnd, run_session};
-use serve_writing::{Pipe, Reply, run_writer};
+use serve_writing::{Pipe, Reply, run_held_writer, run_writer};
 use std::alloc::{AllocError, Global};
 use std::net::{Shutdown, TcpStream};
+use std::sync::atomic::AtomicU32;
 use std::sync::{Arc, Wait};
 use std::thread;
 use std::thread::Threads;
@@ -33,7 +34,7 @@ pub(crate) fn serve_train<R: Threads + Wait + Sync + Clock, N: Notes + Sync>(
         return;
     };
     let exchange = teller.exchange;
-    let Ok(ends) = entered(rt, hall.alloc, exchange, number, stream) else {
+    let Ok(ends) = entered(rt, hall.alloc, teller, number, stream) else {
         notes.note(format_args!("{name}: a train is refused, memory ran out"));
         return;
     };
@@ -41,6 +42,7 @@ pub(crate) fn serve_train<R: Threads + Wait + Sync + Clock, N: Notes + Sync>(
     let noted = NotedWire {
         wire: Wire { exchange, number },
         teller,
+        events: AtomicU32::new(0),
         pace: Pace::new(rt, seat, hall.manner.rate),
         notes,
     };
@@ -72,13 +74,16 @@ struct Ends {
 fn entered<R: Wait>(
     rt: &R,
     alloc: Global,
-    exchange: &Exchange<'_>,
+    teller: &Teller<'_>,
     number: usize,
     stream: Arc<TcpStream, Global>,
 ) -> Result<Ends, AllocError> {
     set_waits(&stream, Duration::from_secs(SILENCE_S));
-    let (ends, connection) = ends_of(alloc, stream)?;
-    exchange.enter(rt, number, connection)?;
+    let (ends, mut connection) = ends_of(alloc, stream)?;
+    if teller.journal.is_some() {
+        connection = connection.held();
+    }
+    teller.exchange.enter(rt, number, connection)?;
     Ok(ends)
 }
 
@@ -109,7 +114,11 @@ fn read_and_write<R: Threads + Wait + Sync + Clock, N: Notes + Sync>(
     noted: &NotedWire<'_, R, N>,
 ) -> Option<End> {
     thread::scope(thread::scope_env(), rt, |scope| {
-        if scope.spawn(move || write_replies(rt, ends)).is_err() {
+        let teller = noted.teller;
+        if scope
+            .spawn(move || write_replies(rt, ends, teller))
+            .is_err()
+        {
             noted.wire.exchange.leave(rt, seat.number);
             return None;
         }
@@ -139,9 +148,14 @@ fn read_messages<R: Wait + Clock, N: Notes>(
     }
 }
 
-// Writes the replies of a connection that wait. Behind the last one the connection is ended for the reader too.
-fn write_replies<R: Wait>(rt: &R, ends: &Ends) {
-    let _ = run_writer(rt, &ends.replies, &mut ends.pipe.end(rt));
+// Writes the replies of a connection that wait, each once its event is in the journal, if there is one. After the last
+// one the connection is ended for the reader too.
+fn write_replies<R: Wait>(rt: &R, ends: &Ends, teller: &Teller<'_>) {
+    let mut out = ends.pipe.end(rt);
+    let _ = match teller.journal {
+        Some(_) => run_held_writer(rt, &ends.replies, teller, &mut out),
+        None => run_writer(rt, &ends.replies, &mut out),
+    };
     let _ = ends.stream.shutdown(Shutdown::Both);
 }
 

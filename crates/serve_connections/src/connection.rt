@@ -34,6 +34,10 @@ pub struct Connection {
     stream: Arc<TcpStream, Global>,
     /// Whether its train was too slow.
     is_cut: AtomicBool,
+    /// Whether it was ended here.
+    is_ended: AtomicBool,
+    /// Whether each reply waits until its event is written.
+    is_held: bool,
 }
 
 impl Connection {
@@ -48,11 +52,23 @@ impl Connection {
             pipe,
             stream,
             is_cut: AtomicBool::new(false),
+            is_ended: AtomicBool::new(false),
+            is_held: false,
         }
+    }
+
+    /// The same connection, where each reply waits until its event is written: only its writer writes.
+    pub fn held(self) -> Connection {
+        let mut connection = self;
+        connection.is_held = true;
+        connection
     }
 
     /// The right to write to the train in the calling thread, if no reply waits.
     pub(crate) fn turn(&self) -> Option<Turn<'_, Shared>> {
+        if self.is_held {
+            return None;
+        }
         self.pipe.turn()
     }
 
@@ -96,8 +112,14 @@ impl Connection {
         self.is_cut.load(Ordering::SeqCst)
     }
 
+    /// Whether it was ended here.
+    pub(crate) fn is_ended(&self) -> bool {
+        self.is_ended.load(Ordering::SeqCst)
+    }
+
     /// Ends the connection for both sides.
     pub(crate) fn shut(&self) {
+        self.is_ended.store(true, Ordering::SeqCst);
         let _ = self.stream.shutdown(Shutdown::Both);
     }
 }

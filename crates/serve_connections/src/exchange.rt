@@ -86,9 +86,9 @@ impl<'a> Exchange<'a> {
         Some((number, Arc::try_clone(connection).ok()?))
     }
 
-    // Hands a message to a train in to its order, and lets out what has its turn now. The order begins anew with a
-    // session. The thread that reads a connection is told by its number.
-    fn say<R: Wait>(&self, rt: &R, own: Option<usize>, saying: &Saying) {
+    // Hands a message to a train in to its order, and lets out what has its turn now. `own` is the number of the
+    // connection that the calling thread reads, and `stamp` that of the event.
+    fn say<R: Wait>(&self, rt: &R, own: Option<usize>, saying: &Saying, stamp: u32) {
         let Some(route) = route_of(self.line, own, saying) else {
             return;
         };
@@ -96,21 +96,50 @@ impl<'a> Exchange<'a> {
             return;
         };
         let mut order = place.lock(rt);
-        if route.begins.is_some() {
-            order.begin(saying.message.t_train());
-        }
+        let Some(route) = self.begin(rt, &mut order, route, saying.message.t_train()) else {
+            return;
+        };
         let to = self.direct(rt, &route);
-        let is_taken = self.hand_in(&mut order, saying);
+        let is_taken = self.hand_in(&mut order, saying, stamp);
         let is_long = let_out(rt, own, to, order, is_taken);
         if is_long && own.is_some() {
             rest(rt, place);
         }
     }
 
+    // Lets the order go on with the session that a message of this route begins. A connection that serves the train
+    // already, or was ended, begins nothing: the message has its turn as any other. `None` if a later session has
+    // begun over another connection: then this one ends.
+    fn begin<R: Wait>(
+        &self,
+        rt: &R,
+        order: &mut Order,
+        route: Route,
+        t_train: u32,
+    ) -> Option<Route> {
+        let Some(number) = route.begins else {
+            return Some(route);
+        };
+        let board = self.board.lock(rt);
+        match board.connection(number) {
+            Some(own) if !own.is_ended() && !board.serves(number, route.train) => {
+                if order.begin(t_train) {
+                    return Some(route);
+                }
+                own.shut();
+                None
+            }
+            _ => Some(Route {
+                begins: None,
+                ..route
+            }),
+        }
+    }
+
     // Hands a message in, and says whether there was room for it.
-    fn hand_in(&self, order: &mut Order, saying: &Saying) -> bool {
+    fn hand_in(&self, order: &mut Order, saying: &Saying, stamp: u32) -> bool {
         match Reply::new(self.alloc, saying.message) {
-            Ok(reply) => order.hand_in(reply).is_ok(),
+            Ok(reply) => order.hand_in(reply.answering(stamp)).is_ok(),
             Err(_) => false,
         }
     }
@@ -118,7 +147,7 @@ impl<'a> Exchange<'a> {
     // Says all messages of an outcome, and rings the bells where it has frames.
     fn tell<R: Wait>(&self, rt: &R, own: Option<usize>, outcome: &Outcome) {
         for saying in outcome.sayings.as_slice() {
-            self.say(rt, own, saying);
+            self.say(rt, own, saying, outcome.stamp);
         }
         if outcome.frames.is_empty() {
             return;

@@ -105,6 +105,13 @@ impl<C: Drop> Switchboard<C> {
         *self.serving.get(train)?
     }
 
+    /// Whether the connection of this number serves that train.
+    pub fn serves(&self, number: usize, train: usize) -> bool
+        ensures { IsTrue result ↔ (served_by train self.now.serving.items ≡ Some number) }
+    {
+        self.number_for(train) == Some(number)
+    }
+
     /// The connection of this number, if it is there.
     pub fn connection(&self, number: usize) -> Option<&C> {
         self.connections.get(number)?.as_ref()

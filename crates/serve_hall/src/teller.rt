@@ -3,10 +3,12 @@ use rbc_centre::{Outcome, Word};
 use serve_connections::Exchange;
 use serve_journal::Journal;
 use serve_workers::Outlet;
+use serve_writing::Release;
 use std::sync::Wait;
 
 /// Where what a centre answers goes on to: to its trains and links, and, where the interlocking is told of sections, to
-/// its connections. Where the centre keeps a journal, nothing goes on before its event is written there.
+/// its connections. If the centre keeps a journal, nothing leaves it before its event is written there: words to the
+/// interlocking wait here, and messages to trains and frames wait with the thread that sends them.
 #[derive(Drop)]
 pub struct Teller<'a> {
     /// The connections of the centre's trains, and the bells of its links.
@@ -20,14 +22,13 @@ pub struct Teller<'a> {
 }
 
 impl Teller<'_> {
-    /// Waits until what was answered so may go on, and says whether it may: not where the journal was given up before
-    /// its event was written. Where nothing goes on to a train or the interlocking, it waits for what is far behind
-    /// alone: a frame waits for itself.
+    /// Waits until this answer may go on, and returns whether it may: not if the journal was given up before its event
+    /// was written. Without a word to the interlocking it waits only if the journal is late or can't be written.
     pub fn may_tell<R: Wait>(&self, rt: &R, outcome: &Outcome) -> bool {
         let Some(journal) = self.journal else {
             return true;
         };
-        if outcome.sayings.as_slice().is_empty() && outcome.words().is_empty() {
+        if outcome.words().is_empty() {
             journal.keeps_up(rt, outcome.stamp)
         } else {
             journal.reaches(rt, outcome.stamp)
@@ -56,6 +57,16 @@ impl Outlet for Teller<'_> {
         if self.may_tell(rt, outcome) {
             self.exchange.answered(rt, outcome);
             self.tell(rt, outcome);
+        }
+    }
+}
+
+impl Release for Teller<'_> {
+    // A message to a train may be written once its event is in the journal.
+    fn is_released<R: Wait>(&self, rt: &R, stamp: u32) -> bool {
+        match self.journal {
+            Some(journal) => journal.reaches(rt, stamp),
+            None => true,
         }
     }
 }

@@ -1,4 +1,5 @@
 mod Beginning
 mod LetOut
+mod Rising
 mod Spelled
 mod Written

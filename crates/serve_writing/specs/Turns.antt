@@ -1,6 +1,6 @@
 -- The order in which a centre's replies to one train go out: by T_TRAIN, which counts what the centre says to the
 -- train.
-use Rattle.std.specs.Prelude.{◌≡◌, ◌⊎◌, ℕ, ◌+◌, ◌<◌, Bool, List, [], ◌∷◌, ◌++◌, Contains, if◌then◌else◌, nat_lt, nat_le}
+use Rattle.std.specs.Prelude.{◌≡◌, ◌⊎◌, ℕ, ◌+◌, ◌<◌, ◌≤◌, Bool, List, [], ◌∷◌, ◌++◌, Contains, filter, if◌then◌else◌, nat_lt, nat_le}
 use Rattle.rbc_spec.specs.Message.{TrackMessage}
 use Rattle.serve_writing.specs.declared.reply.Reply.{Reply}
 
@@ -10,6 +10,14 @@ message_of reply = reply.message
 -- its turn is this one or comes behind it
 abbrev pub is_due : ℕ → Reply → Bool
 is_due next reply = nat_le next reply.message.t_train
+
+-- the turn of an order that is to go on with a T_TRAIN: it never goes back
+abbrev pub turn_from : ℕ → ℕ → ℕ
+turn_from t next = if nat_lt t next then next else t
+
+-- what waits then
+abbrev pub kept_from : ℕ → ℕ → List Reply → List Reply
+kept_from t next early = if nat_lt t next then early else filter (is_due t) early
 
 -- what waits, where the turn is this one, once a message has come: one whose turn is over does not wait
 abbrev pub kept : ℕ → TrackMessage → List TrackMessage → List TrackMessage
@@ -54,3 +62,32 @@ IsCounted first (m ∷ others) = (m.t_train ≡ first) × IsCounted (first + 1) 
 -- the centre said it: before this number, or among these messages
 abbrev pub IsSaidBy : ℕ → List TrackMessage → TrackMessage → Type 0
 IsSaidBy first said m = (m.t_train < first) ⊎ Contains said m
+
+-- what is done with an order over many sessions: it goes on with a T_TRAIN, a message is handed in, or let out
+pub data Call : Type 0 where
+  Begins : (t : ℕ) → Call
+  HandsIn : (m : TrackMessage) → Call
+  LetsOut : (m : TrackMessage) → Call
+
+-- the messages that were let out over all sessions
+abbrev pub all_out : List Call → List TrackMessage
+all_out [] = []
+all_out (Begins t ∷ calls) = all_out calls
+all_out (HandsIn m ∷ calls) = all_out calls
+all_out (LetsOut m ∷ calls) = m ∷ all_out calls
+
+-- what waits once an order is to go on with a T_TRAIN
+abbrev pub waits_from : ℕ → ℕ → List TrackMessage → List TrackMessage
+waits_from t next early = if nat_lt t next then early else filter (λ m. nat_le t m.t_train) early
+
+-- an order whose turn is this one, and at which these wait, can be called so
+abbrev pub Takes : List Call → ℕ → List TrackMessage → Type 0
+Takes [] next early = Unit {0}
+Takes (Begins t ∷ calls) next early = Takes calls (turn_from t next) (waits_from t next early)
+Takes (HandsIn m ∷ calls) next early = Takes calls next (kept next m early)
+Takes (LetsOut m ∷ calls) next early = (left : List TrackMessage) × IsTurn next m early left × Takes calls (next + 1) left
+
+-- each T_TRAIN is this one at least, and above those before it
+abbrev pub Rises : ℕ → List TrackMessage → Type 0
+Rises least [] = Unit {0}
+Rises least (m ∷ later) = (least ≤ m.t_train) × Rises (m.t_train + 1) later

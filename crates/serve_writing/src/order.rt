@@ -1,5 +1,5 @@
-ghost use Rattle.std.specs.Prelude.{◌≡◌, ◌≢◌, ◌+◌, ◌<◌, [], map, length, All, HoldsAt, filter, is_some, if◌then◌else◌, OnOk, OnErr, IfSome, IfNone};
-ghost use Rattle.serve_writing.specs.Turns.{is_due, kept, message_of, IsTurn};
+ghost use Rattle.std.specs.Prelude.{◌≡◌, ◌≢◌, ◌↔◌, ◌+◌, ◌<◌, ◌≤◌, [], map, length, All, HoldsAt, is_some, if◌then◌else◌, IsTrue, OnOk, OnErr, IfSome, IfNone};
+ghost use Rattle.serve_writing.specs.Turns.{kept, kept_from, message_of, turn_from, IsTurn};
 
 use crate::reply::Reply;
 use std::alloc::Global;
@@ -33,14 +33,27 @@ impl Order {
         }
     }
 
-    /// The order goes on with this T_TRAIN. What was said before it is let go.
-    pub fn begin(&mut self, t_train: u32)
-        ensures next { self.new.next ≡ t_train }
-        ensures early { self.new.early.items ≡ filter (is_due t_train) self.old.early.items }
+    /// The order goes on with this T_TRAIN, and earlier messages are dropped. It returns whether it does: if the turn
+    /// of this T_TRAIN is over, a later one has begun already, and nothing changes.
+    pub fn begin(&mut self, t_train: u32) -> bool
+        ensures begins { IsTrue result ↔ (self.old.next ≤ t_train) }
+        ensures next { self.new.next ≡ turn_from t_train self.old.next }
+        ensures early { self.new.early.items ≡ kept_from t_train self.old.next self.old.early.items }
     {
+        if self.is_over(t_train) {
+            return false;
+        }
         self.next = t_train;
         self.early
             .retain(|reply| reply.message().t_train() >= t_train);
+        true
+    }
+
+    // Whether the turn of this T_TRAIN is over.
+    fn is_over(&self, t_train: u32) -> bool
+        ensures { IsTrue result ↔ (t_train < self.now.next) }
+    {
+        t_train < self.next
     }
 
     /// A reply is handed in, and waits for its turn. One whose turn is over is let go.
@@ -51,7 +64,7 @@ impl Order {
             ≡ kept self.old.next reply.message (map message_of self.old.early.items)) }
         ensures err { OnErr result (self.new.early.items ≡ self.old.early.items) }
     {
-        if reply.message().t_train() < self.next {
+        if self.is_over(reply.message().t_train()) {
             return Ok(());
         }
         if self.early.len() >= MOST_EARLY {

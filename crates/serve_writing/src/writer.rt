@@ -2,6 +2,7 @@ ghost use Rattle.std.specs.Prelude.{◌≤◌, ℕ, List, take, length, IfOk, On
 ghost use Rattle.std.specs.Io.KnownBytes.{Appends, Keeps};
 ghost use Rattle.serve_writing.specs.Row.{IsRow, IsBegunRow};
 
+use crate::release::{AtOnce, Release};
 use crate::reply::Reply;
 use crossbeam_channel::Receiver;
 use std::io::{ErrorKind, Write};
@@ -23,10 +24,28 @@ pub fn run_writer<R: Wait, W: Write>(
     ensures err { OnErr result
         ((bytes : List ℕ) × IsBegunRow bytes × Appends (W.contents out.old) (W.contents out.new) bytes) }
 {
+    run_held_writer(rt, replies, &AtOnce, out)
+}
+
+/// The same, where each reply waits until it may be written. It ends at the first that never may.
+pub fn run_held_writer<R: Wait, L: Release, W: Write>(
+    rt: &R,
+    replies: &Receiver<Reply>,
+    release: &L,
+    out: &mut W,
+) -> Result<(), WriteFailed>
+    ensures ok { OnOk result
+        ((bytes : List ℕ) × IsRow bytes × Appends (W.contents out.old) (W.contents out.new) bytes) }
+    ensures err { OnErr result
+        ((bytes : List ℕ) × IsBegunRow bytes × Appends (W.contents out.old) (W.contents out.new) bytes) }
+{
     for _ in rt.forever() {
         let Ok(reply) = replies.recv(rt) else {
             break;
         };
+        if !release.is_released(rt, reply.stamp()) {
+            break;
+        }
         write_whole(out, reply.bytes())?;
     }
     Ok(())

@@ -2,7 +2,7 @@ use Rattle.std.proofs.Common.{ℕ, List, ◌++◌, take, refl}
 use Rattle.std.specs.Io.KnownBytes.{Appends}
 use Rattle.serve_writing.specs.Row.{IsBegunRow}
 use Rattle.serve_writing.proofs.Written.{Appends-trans, OnErr-intro, row-more}
-use Rattle.serve_writing.proofs.writer.run_writer.Goals as goal
+use Rattle.serve_writing.proofs.writer.run_held_writer.Goals as goal
 
 pub returns-in_err-write_whole-clause-err : goal.returns-in_err-write_whole-clause-err
 returns-in_err-write_whole-clause-err g c =
