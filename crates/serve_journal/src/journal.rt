@@ -69,6 +69,23 @@ impl Journal {
         }
     }
 
+    /// Waits until the event with this stamp is written, and says whether it is. It is not if the journal can't be
+    /// written now, or was closed before.
+    pub fn comes_to<R: Wait>(&self, rt: &R, stamp: u32) -> bool {
+        self.bell.unpark();
+        let mut reach = self.reach.lock(rt);
+        for _ in rt.forever() {
+            if reach.stamp >= stamp {
+                return true;
+            }
+            if reach.is_closed || reach.is_stuck {
+                return false;
+            }
+            reach = self.moved.wait(rt, reach);
+        }
+        unreachable!()
+    }
+
     /// Whether the journal can't be written now, or is closed.
     pub fn is_stuck<R: Wait>(&self, rt: &R) -> bool {
         let reach = self.reach.lock(rt);
