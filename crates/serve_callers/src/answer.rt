@@ -10,8 +10,8 @@ use std::sync::Wait;
 /// What a line of another form is answered.
 pub(crate) const SCRIPT_FAULT: &str = "script fault\n";
 
-/// What a line is answered whose event can't be written to the centre's journal. The event is not answered: it was not
-/// taken, or the line ended before it was written.
+/// The answer to a line if a journal can't be written. An event was not taken, or the line of centres ended before the
+/// event was written.
 const JOURNAL_FAULT: &str = "journal fault\n";
 
 /// Does what a line at the control door asks for, and writes what a run prints of it. A commit that is refused is told
@@ -26,13 +26,7 @@ pub(crate) fn answer<R: Wait>(
 ) -> Result<(), Fault<'static>> {
     match command {
         Command::Nothing | Command::Stop => Ok(()),
-        Command::Show => {
-            show(rt, hall.alloc, hall.line, hall.nodes, roster, text)?;
-            if hall.manner.shows_life {
-                write_life(rt, hall.line, hall.nodes, text)?;
-            }
-            Ok(())
-        }
+        Command::Show => show_written(rt, hall, roster, text),
         Command::Set { centre, section } => {
             let event = WorldEvent::Set { centre, section };
             commit(rt, hall, shares, centre, Event::Set(section), &event, text)
@@ -50,6 +44,24 @@ pub(crate) fn answer<R: Wait>(
             )
         }
     }
+}
+
+// Shows the line, after the journals have each event that it shows. Without them nothing is shown.
+fn show_written<R: Wait>(
+    rt: &R,
+    hall: &Hall<'_>,
+    roster: &mut Roster,
+    text: &mut Vec<u8>,
+) -> Result<(), Fault<'static>> {
+    show(rt, hall.alloc, hall.line, hall.nodes, roster, text)?;
+    if hall.manner.shows_life {
+        write_life(rt, hall.line, hall.nodes, text)?;
+    }
+    if !hall.await_journals(rt) {
+        text.clear();
+        text.extend_from_slice(JOURNAL_FAULT.as_bytes())?;
+    }
+    Ok(())
 }
 
 // Commits an event of the interlocking at a centre.

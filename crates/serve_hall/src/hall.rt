@@ -102,6 +102,15 @@ impl State {
     }
 }
 
+// The stamp of the last event that a centre has taken; 0 if it has taken none.
+fn last_stamp<R: Wait>(rt: &R, node: &Node) -> u32 {
+    let look = node.look(rt);
+    match look.log().entries().last() {
+        Some(entry) => entry.outcome.stamp,
+        None => 0,
+    }
+}
+
 /// All that the workers share.
 #[derive(Drop)]
 pub struct Hall<'a> {
@@ -150,6 +159,17 @@ impl Hall<'_> {
             Some(journal) => journal.is_stuck(rt),
             None => false,
         }
+    }
+
+    /// Waits until the journals have each event that the centres have taken so far. It returns false if one of them
+    /// can't be written now.
+    pub fn await_journals<R: Wait>(&self, rt: &R) -> bool {
+        for (node, journal) in self.nodes.iter().zip(self.journals.iter()) {
+            if !journal.comes_to(rt, last_stamp(rt, node)) {
+                return false;
+            }
+        }
+        true
     }
 
     /// The journal of a centre is given up: nothing that it lacks is answered.

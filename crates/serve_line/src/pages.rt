@@ -1,10 +1,11 @@
 use cli_status::Fault;
 use rbc_line::Line;
+use rbc_node::Node;
 use serve_glance::Glance;
 use serve_hall::{Caller, DOOR_REST_MS, Door, Hall, Listening};
-use serve_page::{Asked, CentreNow, Refusal, answer, asked_of, refusal};
+use serve_page::{Asked, CentreNow, LineNow, Refusal, answer, asked_of, refusal};
 use serve_show::Notes;
-use std::alloc::{AllocError, Global};
+use std::alloc::Global;
 use std::io::{ErrorKind, Read, Write};
 use std::net::{Shutdown, SocketAddr, TcpListener, TcpStream};
 use std::sync::atomic::{AtomicBool, Ordering};
@@ -44,12 +45,14 @@ struct Seen {
 }
 
 impl PageDoor {
-    pub fn new(
+    /// The centres have taken no event yet that their journals lack.
+    pub fn new<R: Wait>(
+        rt: &R,
         alloc: Global,
-        line: &Line,
+        (line, nodes): (&Line, &[Node]),
         doors: &[Door],
         listening: Listening,
-    ) -> Result<PageDoor, AllocError> {
+    ) -> Result<PageDoor, Fault<'static>> {
         let mut seats = Vec::new(alloc);
         for _ in 0..BROWSERS {
             seats.push(AtomicBool::new(false))?;
@@ -58,7 +61,8 @@ impl PageDoor {
         for door in doors {
             ports.push(door.address.port())?;
         }
-        let glance = Glance::new(alloc, line, ports)?;
+        let mut glance = Glance::new(alloc, line, ports)?;
+        glance.now = glance.look(rt, alloc, line, nodes)?;
         Ok(PageDoor {
             listener: listening.listener,
             address: listening.address,
@@ -183,7 +187,8 @@ fn answer_to<R: Wait + Clock>(
     Ok(answer(hall.alloc, &glance.layout, &glance.now, asked)?)
 }
 
-// Looks at the centres again, where the last look is old.
+// Looks at the centres again if the last look is old. The page goes on showing that one while a journal can't be
+// written: nobody is shown an event that no journal has.
 fn refresh<R: Wait + Clock>(
     rt: &R,
     hall: &Hall<'_>,
@@ -198,16 +203,25 @@ fn refresh<R: Wait + Clock>(
         }
     }
     seen.at = Some(time);
-    seen.glance.look(rt, hall.alloc, hall.line, hall.nodes)?;
-    seen.glance.now.is_stopped = hall.state.is_stopped();
+    let now = seen.glance.look(rt, hall.alloc, hall.line, hall.nodes)?;
+    if hall.await_journals(rt) {
+        seen.glance.now = now;
+    }
+    mark_doors(rt, hall, &mut seen.glance.now);
+    Ok(())
+}
+
+// Marks whether connections are taken, how many there are, and which journals can't be written.
+fn mark_doors<R: Wait>(rt: &R, hall: &Hall<'_>, now: &mut LineNow) {
+    now.is_stopped = hall.state.is_stopped();
     for door in hall.doors {
         if let Caller::Trains(centre) = door.caller {
-            if let Some(place) = seen.glance.now.centres.get_mut(centre as usize) {
+            if let Some(place) = now.centres.get_mut(centre as usize) {
                 count_seats(door, place);
+                place.is_stuck = hall.is_stuck(rt, centre);
             }
         }
     }
-    Ok(())
 }
 
 // How many of a door's seats are taken.

@@ -81,10 +81,11 @@ fn sections_alike_are_one_row(rt: HostRuntime) -> Result<(), Fail> {
     Ok(())
 }
 
-static OF_TRAIN: [&str; 4] = [
+static OF_TRAIN: [&str; 5] = [
     "[19,\"A\",\"B\",\"main\",null,123.4,0,1,null,null,null,0]",
     "[19,\"A\",\"up\"]",
-    "[\"A\",21000,4,4,1,9]",
+    "[\"A\",21000,4,4,1,9,0]",
+    "[\"B\",21001,1,4,1,9,1]",
     "[\"A\",\"B\",3,2]",
 ];
 
