@@ -85,6 +85,10 @@ fn answer_row<R: Wait, N: Notes>(
     row: &[u8],
     stream: &TcpStream,
 ) -> Next {
+    if is_of_another_protocol(row) {
+        notes.note("control: a connection is ended, it speaks another protocol");
+        return Next::End;
+    }
     let Ok(row) = std::str::from_utf8(row) else {
         return send(stream, SCRIPT_FAULT.as_bytes());
     };
@@ -102,6 +106,15 @@ fn answer_row<R: Wait, N: Notes>(
         Ok(()) => send(stream, text.as_slice()),
         Err(_) => Next::End,
     }
+}
+
+// Whether a line is the first of a request of HTTP/1, or has a control character: a browser sends it, perhaps for a page
+// of another site. What follows it is not the interlocking's.
+fn is_of_another_protocol(row: &[u8]) -> bool {
+    let row = row.strip_suffix(b"\r").unwrap_or(row);
+    row.ends_with(b" HTTP/1.0")
+        || row.ends_with(b" HTTP/1.1")
+        || row.iter().any(|byte| byte.is_ascii_control() && *byte != b'\t')
 }
 
 // Writes an answer. A connection that does not take it ends.
