@@ -7,10 +7,12 @@
 mod answer;
 mod control;
 mod doorway;
+mod entrance;
 mod limits;
 mod noted;
 mod pace;
 mod rows;
+mod sending;
 mod sessions;
 
 pub use doorway::run_door;

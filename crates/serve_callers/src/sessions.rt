@@ -1,4 +1,4 @@
-use crate::limits::{REPLIES, SILENCE_S, set_waits};
+use crate::limits::{PATIENCE_S, REPLIES, SILENCE_S, set_waits};
 use crate::noted::NotedWire;
 use crate::pace::Pace;
 use cli_print::name_of;
@@ -76,7 +76,11 @@ fn entered<R: Wait>(
     number: usize,
     stream: Arc<TcpStream, Global>,
 ) -> Result<Ends, AllocError> {
-    set_waits(&stream, Duration::from_secs(SILENCE_S));
+    set_waits(
+        &stream,
+        Duration::from_secs(SILENCE_S),
+        Duration::from_secs(PATIENCE_S),
+    );
     let (ends, connection) = ends_of(alloc, stream)?;
     exchange.enter(rt, number, connection)?;
     Ok(ends)

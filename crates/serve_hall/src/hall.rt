@@ -164,8 +164,8 @@ impl Hall<'_> {
     /// Waits until the journals have each event that the centres have taken so far. It returns false if one of them
     /// can't be written now.
     pub fn await_journals<R: Wait>(&self, rt: &R) -> bool {
-        for (node, journal) in self.nodes.iter().zip(self.journals.iter()) {
-            if !journal.comes_to(rt, last_stamp(rt, node)) {
+        for (node, teller) in self.nodes.iter().zip(self.tellers.iter()) {
+            if !teller.comes_to(rt, last_stamp(rt, node)) {
                 return false;
             }
         }
@@ -196,12 +196,17 @@ impl Hall<'_> {
         }
     }
 
+    /// Where the answers of the centre go on to that a caller comes to, if it comes to one.
+    pub fn teller(&self, caller: Caller) -> Option<&Teller<'_>> {
+        match caller {
+            Caller::Trains(centre) => self.tellers.get(centre as usize),
+            Caller::Interlocking => None,
+        }
+    }
+
     /// Whether the connection with this number serves a train.
     pub fn is_serving<R: Wait>(&self, rt: &R, caller: Caller, number: usize) -> bool {
-        let Caller::Trains(centre) = caller else {
-            return false;
-        };
-        match self.tellers.get(centre as usize) {
+        match self.teller(caller) {
             Some(teller) => teller.exchange.is_serving(rt, number),
             None => false,
         }

@@ -9,6 +9,7 @@ mod doors;
 mod hall;
 mod limits;
 mod manner;
+mod queue;
 mod seats;
 mod teller;
 
@@ -17,5 +18,6 @@ pub use doors::{Doors, Listening};
 pub use hall::{Caller, DirectedLink, Hall, State};
 pub use limits::DOOR_REST_MS;
 pub use manner::Manner;
+pub use queue::{Queue, Watch};
 pub use seats::{Door, Seat};
 pub use teller::Teller;

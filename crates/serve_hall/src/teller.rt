@@ -1,3 +1,4 @@
+use crate::queue::Queue;
 use crate::seats::Door;
 use rbc_centre::{Outcome, Word};
 use serve_connections::Exchange;
@@ -15,6 +16,8 @@ pub struct Teller<'a> {
     pub control: Option<&'a Door>,
     /// The centre's journal, if it keeps one.
     pub journal: Option<&'a Journal>,
+    /// Who waits for that journal.
+    pub queue: Queue,
     /// The name of the centre.
     pub name: &'a str,
 }
@@ -24,14 +27,39 @@ impl Teller<'_> {
     /// its event was written. Where nothing goes on to a train or the interlocking, it waits for what is far behind
     /// alone: a frame waits for itself.
     pub fn may_tell<R: Wait>(&self, rt: &R, outcome: &Outcome) -> bool {
+        if !outcome.sayings.as_slice().is_empty() || !outcome.words().is_empty() {
+            return self.reaches(rt, outcome.stamp);
+        }
         let Some(journal) = self.journal else {
             return true;
         };
-        if outcome.sayings.as_slice().is_empty() && outcome.words().is_empty() {
-            journal.keeps_up(rt, outcome.stamp)
-        } else {
-            journal.reaches(rt, outcome.stamp)
-        }
+        self.queue.enter();
+        let may_tell = journal.keeps_up(rt, outcome.stamp);
+        self.queue.leave();
+        may_tell
+    }
+
+    /// Waits until the journal has the event with this stamp, if the centre keeps one. It returns false if the journal
+    /// was given up before.
+    pub fn reaches<R: Wait>(&self, rt: &R, stamp: u32) -> bool {
+        let Some(journal) = self.journal else {
+            return true;
+        };
+        self.queue.enter();
+        let reaches = journal.reaches(rt, stamp);
+        self.queue.leave();
+        reaches
+    }
+
+    /// As `reaches`, but it also returns false if the journal can't be written now.
+    pub(crate) fn comes_to<R: Wait>(&self, rt: &R, stamp: u32) -> bool {
+        let Some(journal) = self.journal else {
+            return true;
+        };
+        self.queue.enter();
+        let comes_to = journal.comes_to(rt, stamp);
+        self.queue.leave();
+        comes_to
     }
 
     /// Tells the interlocking of each section that was wished back, and is shut now.
