@@ -1,23 +1,19 @@
-use crate::pace::Pace;
 use rbc_centre::Outcome;
 use serve_connections::Wire;
 use serve_hall::Teller;
 use serve_show::Notes;
 use serve_workers::Outlet;
 use std::sync::Wait;
-use std::time::Clock;
 
-/// A train's connection as the session over it sees it, which notes each train that opens its session, and holds one
-/// back that is too fast.
+/// A train's connection as the session over it sees it, which notes each train that opens its session.
 #[derive(Drop)]
-pub(crate) struct NotedWire<'a, T, N> {
+pub(crate) struct NotedWire<'a, N> {
     pub wire: Wire<'a>,
     pub teller: &'a Teller<'a>,
-    pub pace: Pace<'a, T>,
     pub notes: &'a N,
 }
 
-impl<T: Clock, N: Notes> Outlet for NotedWire<'_, T, N> {
+impl<N: Notes> Outlet for NotedWire<'_, N> {
     fn opened<R: Wait>(&self, rt: &R, nid_engine: u32) {
         self.wire.opened(rt, nid_engine);
         let name = self.teller.name;
@@ -32,6 +28,5 @@ impl<T: Clock, N: Notes> Outlet for NotedWire<'_, T, N> {
             self.wire.answered(rt, outcome);
             self.teller.tell(rt, outcome);
         }
-        self.pace.hold(rt);
     }
 }

@@ -1,12 +1,12 @@
 use crate::limits::{PATIENCE_S, REPLIES, SILENCE_S, set_waits};
 use crate::noted::NotedWire;
 use crate::pace::Pace;
+use crate::paced::Paced;
 use cli_print::name_of;
 use crossbeam_channel::{Receiver, bounded};
 use rbc_node::{Node, Open};
 use serve_connections::{Connection, Exchange, Shared, Wire};
 use serve_hall::{Hall, Seat};
-use serve_reading::Reads;
 use serve_show::Notes;
 use serve_workers::{SessionEnd, run_session};
 use serve_writing::{Pipe, Reply, run_writer};
@@ -41,10 +41,9 @@ pub(crate) fn serve_train<R: Threads + Wait + Sync + Clock, N: Notes + Sync>(
     let noted = NotedWire {
         wire: Wire { exchange, number },
         teller,
-        pace: Pace::new(rt, seat, hall.manner.rate),
         notes,
     };
-    match read_and_write(rt, hall.alloc, node, seat, &ends, &noted) {
+    match read_and_write(rt, hall, node, seat, &ends, &noted) {
         Some(end) => tell_end(notes, name, number, end),
         None => notes.note(format_args!(
             "{name}: train connection {number} is ended, no thread could be made"
@@ -106,36 +105,42 @@ fn ends_of(
 // read, and there is no end to tell.
 fn read_and_write<R: Threads + Wait + Sync + Clock, N: Notes + Sync>(
     rt: &R,
-    alloc: Global,
+    hall: &Hall<'_>,
     node: &Node,
     seat: &Seat,
     ends: &Ends,
-    noted: &NotedWire<'_, R, N>,
+    noted: &NotedWire<'_, N>,
 ) -> Option<End> {
     thread::scope(thread::scope_env(), rt, |scope| {
         if scope.spawn(move || write_replies(rt, ends)).is_err() {
             noted.wire.exchange.leave(rt, seat.number);
             return None;
         }
-        Some(read_messages(rt, alloc, node, seat, &ends.stream, noted))
+        Some(read_messages(rt, hall, node, seat, &ends.stream, noted))
     })
 }
 
 // Commits what the train says, and says how the session ended.
 fn read_messages<R: Wait + Clock, N: Notes>(
     rt: &R,
-    alloc: Global,
+    hall: &Hall<'_>,
     node: &Node,
     seat: &Seat,
     stream: &TcpStream,
-    noted: &NotedWire<'_, R, N>,
+    noted: &NotedWire<'_, N>,
 ) -> End {
     let mut shares = seat.shares.lock(rt);
     let Some(share) = shares.first_mut() else {
         return End::Cut;
     };
-    let mut source = Reads::new(stream);
-    let end = run_session(rt, alloc, node, &Open, share, &mut source, noted);
+    let pace = Pace {
+        rt,
+        line: hall.line,
+        paces: &noted.teller.paces,
+        seat,
+    };
+    let mut source = Paced::new(stream, pace);
+    let end = run_session(rt, hall.alloc, node, &Open, share, &mut source, noted);
     if noted.wire.exchange.leave(rt, seat.number) {
         End::Session(end)
     } else {

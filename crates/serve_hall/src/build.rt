@@ -2,6 +2,7 @@ use crate::doors::Listening;
 use crate::hall::{Caller, DirectedLink};
 use crate::limits::{CONTROLS, SPARE};
 use crate::manner::Manner;
+use crate::paces::Paces;
 use crate::queue::Queue;
 use crate::seats::{Door, Seat};
 use crate::teller::Teller;
@@ -208,6 +209,7 @@ pub fn tellers_of<'a>(
             control,
             journal: journals.get(centre as usize),
             queue: Queue::new(),
+            paces: Paces::new(alloc, line, manner.rate)?,
             name,
         })?;
     }

@@ -1,3 +1,4 @@
+use crate::paces::Paces;
 use crate::queue::Queue;
 use crate::seats::Door;
 use rbc_centre::{Outcome, Word};
@@ -18,6 +19,8 @@ pub struct Teller<'a> {
     pub journal: Option<&'a Journal>,
     /// Who waits for that journal.
     pub queue: Queue,
+    /// How fast messages come to the centre.
+    pub paces: Paces,
     /// The name of the centre.
     pub name: &'a str,
 }
