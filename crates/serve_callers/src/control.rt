@@ -5,7 +5,7 @@ use crate::sending::{Sent, send};
 use rbc_node::Share;
 use serve_control::{Command, CommandFault, command_of};
 use serve_hall::{Hall, Seat};
-use serve_show::{Notes, Roster};
+use serve_show::{Kind, Notes, Roster};
 use std::net::TcpStream;
 use std::sync::Wait;
 use std::sync::atomic::Ordering;
@@ -31,7 +31,10 @@ pub(crate) fn serve_control<R: Wait + Clock, N: Notes>(
     stream: &TcpStream,
 ) {
     let number = seat.number;
-    notes.note(format_args!("control: connection {number} begins"));
+    notes.often(
+        Kind::Begin,
+        format_args!("control: connection {number} begins"),
+    );
     let rest = Duration::from_millis(CONTROL_REST_MS);
     set_waits(stream, rest, rest);
     let mut shares = seat.shares.lock(rt);
@@ -39,7 +42,10 @@ pub(crate) fn serve_control<R: Wait + Clock, N: Notes>(
         notes.note(format_args!("control: connection {number} says stop"));
         hall.stop();
     }
-    notes.note(format_args!("control: connection {number} ends"));
+    notes.often(
+        Kind::End,
+        format_args!("control: connection {number} ends"),
+    );
 }
 
 // Answers the lines of a connection, until none comes any more, or all sessions have ended.
@@ -97,7 +103,10 @@ fn answer_row<R: Wait + Clock, N: Notes>(
     stream: &TcpStream,
 ) -> Next {
     if is_of_another_protocol(row) {
-        notes.note("control: a connection is ended, it speaks another protocol");
+        notes.often(
+            Kind::Line,
+            "control: a connection is ended, it speaks another protocol",
+        );
         return Next::End;
     }
     let Ok(row) = std::str::from_utf8(row) else {
@@ -107,7 +116,7 @@ fn answer_row<R: Wait + Clock, N: Notes>(
         Ok(Command::Stop) => return Next::Stop,
         Ok(command) => command,
         Err(CommandFault::Form) => {
-            notes.note("control: a line is refused, script fault");
+            notes.often(Kind::Line, "control: a line is refused, script fault");
             return answered(send(rt, stream, SCRIPT_FAULT.as_bytes()));
         }
         Err(CommandFault::Memory) => return Next::End,

@@ -3,7 +3,7 @@ use crate::entrance::{Entrance, is_idle};
 use crate::limits::{DEAF_REST_MS, GRACE_RESTS, LEAVING_RESTS};
 use crate::sessions::serve_train;
 use serve_hall::{Caller, DOOR_REST_MS, Door, Hall, Seat, Watch};
-use serve_show::{Life, Notes};
+use serve_show::{Kind, Life, Notes};
 use std::alloc::Global;
 use std::net::TcpStream;
 use std::sync::atomic::Ordering;
@@ -109,7 +109,8 @@ fn attend_here<R: Threads + Wait + Sync + Clock, N: Notes + Sync>(
 ) {
     seat.leave(rt);
     let Some(reserve) = reserve_for(rt, door, &stream) else {
-        notes.note("a connection is refused, no thread could be made");
+        let text = "a connection is ended, no thread could be made";
+        notes.often(Kind::Thread, text);
         return;
     };
     attend(rt, hall, notes, door.caller, reserve, stream);
@@ -147,15 +148,19 @@ fn next_caller<'a, R: Wait, N: Notes>(
     if let Caller::Trains(centre) = door.caller {
         if hall.is_stuck(rt, centre) {
             let name = hall.name(door.caller);
-            notes.note(format_args!(
-                "{name}: a connection is refused, the journal can't be written"
-            ));
+            notes.often(
+                Kind::Refusal,
+                format_args!("{name}: a connection is refused, the journal can't be written"),
+            );
             return None;
         }
     }
     let Some(seat) = seat_for(rt, hall, door) else {
         let name = hall.name(door.caller);
-        notes.note(format_args!("{name}: a connection is refused, there are too many"));
+        notes.often(
+            Kind::Refusal,
+            format_args!("{name}: a connection is refused, there are too many"),
+        );
         return None;
     };
     seat.heard.store(hall.state.hear(), Ordering::SeqCst);
@@ -176,7 +181,10 @@ fn rest_after<R: Wait, N: Notes>(
         return;
     }
     let name = hall.name(door.caller);
-    notes.note(format_args!("{name}: no connection can be taken now: {error}"));
+    notes.often(
+        Kind::Device,
+        format_args!("{name}: no connection can be taken now: {error}"),
+    );
     door.bell
         .park_timeout(rt, Duration::from_millis(DEAF_REST_MS));
 }

@@ -1,7 +1,7 @@
 use rbc_centre::Outcome;
 use serve_connections::Wire;
 use serve_hall::Teller;
-use serve_show::Notes;
+use serve_show::{Kind, Notes};
 use serve_workers::Outlet;
 use std::sync::Wait;
 
@@ -18,9 +18,12 @@ impl<N: Notes> Outlet for NotedWire<'_, N> {
         self.wire.opened(rt, nid_engine);
         let name = self.teller.name;
         let number = self.wire.number;
-        self.notes.note(format_args!(
-            "{name}: train {nid_engine} opens its session over train connection {number}"
-        ));
+        self.notes.often(
+            Kind::Session,
+            format_args!(
+                "{name}: train {nid_engine} opens its session over train connection {number}"
+            ),
+        );
     }
 
     fn answered<R: Wait>(&self, rt: &R, outcome: &Outcome) {

@@ -7,7 +7,7 @@ use crossbeam_channel::{Receiver, bounded};
 use rbc_node::{Node, Open};
 use serve_connections::{Connection, Exchange, Shared, Wire};
 use serve_hall::{Hall, Seat};
-use serve_show::Notes;
+use serve_show::{Kind, Notes};
 use serve_workers::{SessionEnd, run_session};
 use serve_writing::{Pipe, Reply, run_writer};
 use std::alloc::{AllocError, Global};
@@ -34,10 +34,16 @@ pub(crate) fn serve_train<R: Threads + Wait + Sync + Clock, N: Notes + Sync>(
     };
     let exchange = teller.exchange;
     let Ok(ends) = entered(rt, hall.alloc, exchange, number, stream) else {
-        notes.note(format_args!("{name}: a train is refused, memory ran out"));
+        notes.often(
+            Kind::Refusal,
+            format_args!("{name}: a train is refused, memory ran out"),
+        );
         return;
     };
-    notes.note(format_args!("{name}: train connection {number} begins"));
+    notes.often(
+        Kind::Begin,
+        format_args!("{name}: train connection {number} begins"),
+    );
     let noted = NotedWire {
         wire: Wire { exchange, number },
         teller,
@@ -45,9 +51,10 @@ pub(crate) fn serve_train<R: Threads + Wait + Sync + Clock, N: Notes + Sync>(
     };
     match read_and_write(rt, hall, node, seat, &ends, &noted) {
         Some(end) => tell_end(notes, name, number, end),
-        None => notes.note(format_args!(
-            "{name}: train connection {number} is ended, no thread could be made"
-        )),
+        None => notes.often(
+            Kind::Thread,
+            format_args!("{name}: train connection {number} is ended, no thread could be made"),
+        ),
     }
 }
 
@@ -157,9 +164,15 @@ fn write_replies<R: Wait>(rt: &R, ends: &Ends) {
 fn tell_end<N: Notes>(notes: &N, name: &str, number: usize, end: End) {
     match ending(end) {
         (told, Some(fault)) => {
-            notes.note(format_args!("{name}: train connection {number} {told} {fault}"));
+            notes.often(
+                Kind::End,
+                format_args!("{name}: train connection {number} {told} {fault}"),
+            );
         }
-        (told, None) => notes.note(format_args!("{name}: train connection {number} {told}")),
+        (told, None) => notes.often(
+            Kind::End,
+            format_args!("{name}: train connection {number} {told}"),
+        ),
     }
 }
 

@@ -12,12 +12,11 @@ use serve_hall::{
     journals_of, links_of, nodes_of, tellers_of,
 };
 use serve_journal::JournalFile;
-use serve_show::{Notes, Queued, write_notes};
+use serve_show::{Backlog, Notes, Queued, write_notes};
 use std::alloc::{AllocError, Global};
 use std::fs::OpenFile;
 use std::io::{Seek, Write};
 use std::sync::Wait;
-use std::sync::atomic::AtomicU64;
 use std::thread;
 use std::thread::Threads;
 use std::time::Clock;
@@ -44,11 +43,11 @@ pub fn serve<
     out: &mut O,
 ) -> Result<(), ServeFault> {
     let (queue, waiting) = bounded(alloc, NOTES)?;
-    let lost = AtomicU64::new(0);
+    let backlog = Backlog::new();
     thread::scope(thread::scope_env(), rt, |scope| {
-        let lost = &lost;
+        let backlog = &backlog;
         if scope
-            .spawn(move || write_notes(rt, notes, &waiting, lost))
+            .spawn(move || write_notes(rt, notes, &waiting, backlog))
             .is_err()
         {
             return Err(ServeFault::from(AllocError));
@@ -57,7 +56,7 @@ pub fn serve<
             rt,
             alloc,
             queue,
-            lost,
+            backlog,
         };
         serve_noted(rt, alloc, line, doors, record, manner, &queued, out)
     })
