@@ -170,7 +170,7 @@ async function follow(){
   try{
     if(!line){line=await ask('/line.json');for(const name of ['tracks','centres','sections'])line[name]=rows(line[name])}
     const now=await ask('/now?since='+at);
-    if(now){at=now.events;present(now)}
+    if(now){at=now.version;present(now)}
     seen=new Date().toTimeString().slice(0,8);lost.textContent=''
   }catch(e){lost.textContent='No answer from the centres since '+(seen||'the start')+': what stands here is old'}
   setTimeout(follow,1e3)}

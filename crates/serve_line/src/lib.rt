@@ -4,6 +4,7 @@
 //! Bodies are free. What goes over a connection is fixed by docs/FORMATS.md.
 #![tactic(auto)]
 
+mod browsers;
 mod journals;
 mod links;
 mod pages;

@@ -1,6 +1,7 @@
+use crate::browsers::PageDoor;
 use crate::journals::{Record, keep, resume_noted};
 use crate::links::carry;
-use crate::pages::{PageDoor, run_pages};
+use crate::pages::run_pages;
 use crate::tally::Tally;
 use crossbeam_channel::bounded;
 use rbc_line::Line;
