@@ -42,10 +42,7 @@ pub(crate) fn serve_control<R: Wait + Clock, N: Notes>(
         notes.note(format_args!("control: connection {number} says stop"));
         hall.stop();
     }
-    notes.often(
-        Kind::End,
-        format_args!("control: connection {number} ends"),
-    );
+    notes.often(Kind::End, format_args!("control: connection {number} ends"));
 }
 
 // Answers the lines of a connection, until none comes any more, or all sessions have ended.
@@ -142,5 +139,7 @@ fn is_of_another_protocol(row: &[u8]) -> bool {
     let row = row.strip_suffix(b"\r").unwrap_or(row);
     row.ends_with(b" HTTP/1.0")
         || row.ends_with(b" HTTP/1.1")
-        || row.iter().any(|byte| byte.is_ascii_control() && *byte != b'\t')
+        || row
+            .iter()
+            .any(|byte| byte.is_ascii_control() && *byte != b'\t')
 }

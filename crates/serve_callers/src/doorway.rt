@@ -1,6 +1,6 @@
 use crate::control::serve_control;
 use crate::entrance::{Entrance, is_idle};
-use crate::limits::{DEAF_REST_MS, GRACE_RESTS, LEAVING_RESTS};
+use crate::limits::{DEAF_REST_MS, GRACE_RESTS, LEAVING_RESTS, NEXT_RESTS};
 use crate::sessions::serve_train;
 use serve_hall::{Caller, DOOR_REST_MS, Door, Hall, Seat, Watch};
 use serve_show::{Kind, Life, Notes};
@@ -82,13 +82,7 @@ impl Looks {
         }
     }
 
-    fn look<R: Wait + Clock, N: Notes>(
-        &mut self,
-        rt: &R,
-        hall: &Hall<'_>,
-        notes: &N,
-        door: &Door,
-    ) {
+    fn look<R: Wait + Clock, N: Notes>(&mut self, rt: &R, hall: &Hall<'_>, notes: &N, door: &Door) {
         let (Some(node), Some(teller)) = (hall.node(door.caller), hall.teller(door.caller)) else {
             return;
         };
@@ -196,24 +190,30 @@ fn rest<R: Wait>(rt: &R, door: &Door) {
 }
 
 // A seat for a new connection. If all are taken, another connection leaves its own: of those of trains the first that
-// serves no train, of those of the interlocking the one that has been silent longest. If it does not leave in time, as
-// when it waits for the disk, the interlocking gets the reserve seat.
+// serves no train, of those of the interlocking the one that has been silent longest. If that one does not leave, as when
+// it waits for the disk, the next one of the interlocking has to; and if none does, the reserve seat is taken.
 fn seat_for<'a, R: Wait>(rt: &R, hall: &Hall<'_>, door: &'a Door) -> Option<&'a Seat> {
-    if let Some(seat) = door.free_seat(rt) {
-        return Some(seat);
-    }
-    match dispensable(rt, hall, door) {
-        Some(seat) => seat.shut(rt),
-        None if !door.is_awaiting_leave() => return door.free_seat(rt),
-        None => {}
-    }
-    for _ in 0..LEAVING_RESTS {
+    let each = match door.caller {
+        Caller::Trains(_) => LEAVING_RESTS,
+        Caller::Interlocking => NEXT_RESTS,
+    };
+    for turn in 0..LEAVING_RESTS {
         if let Some(seat) = door.free_seat(rt) {
             return Some(seat);
         }
+        if turn % each == 0 {
+            match dispensable(rt, hall, door) {
+                Some(seat) => seat.shut(rt),
+                None if !door.is_awaiting_leave() => break,
+                None => {}
+            }
+        }
         rest(rt, door);
     }
-    door.reserve_seat(rt)
+    match door.free_seat(rt) {
+        Some(seat) => Some(seat),
+        None => door.reserve_seat(rt),
+    }
 }
 
 // The seat whose connection has to leave it for a new one.

@@ -73,9 +73,7 @@ impl Watch {
         let since = *self.since.get_or_insert(now);
         let is_long = now.duration_since(since) >= Duration::from_secs(LONG_S);
         if is_long && !queue.is_long.swap(true, Ordering::SeqCst) {
-            notes.note(format_args!(
-                "{name}: an event has waited for the journal for {LONG_S} s"
-            ));
+            notes.note(format_args!("{name}: an event has waited for the journal for {LONG_S} s"));
         }
     }
 }

@@ -1,8 +1,8 @@
-use serve_glance::Glance;
-use serve_hall::{DOOR_REST_MS, Door, Listening};
 use cli_status::Fault;
 use rbc_line::Line;
 use rbc_node::Node;
+use serve_glance::Glance;
+use serve_hall::{DOOR_REST_MS, Door, Listening};
 use std::alloc::Global;
 use std::net::{Shutdown, SocketAddr, TcpListener, TcpStream};
 use std::sync::atomic::{AtomicBool, AtomicU64, Ordering};
@@ -88,11 +88,7 @@ impl PageDoor {
 
     /// A place for a new connection. If all are taken, the connection that came first ends. Only the thread at the door
     /// calls it.
-    pub fn place_for<R: Wait>(
-        &self,
-        rt: &R,
-        stream: &Arc<TcpStream, Global>,
-    ) -> Option<&Place> {
+    pub fn place_for<R: Wait>(&self, rt: &R, stream: &Arc<TcpStream, Global>) -> Option<&Place> {
         let shared = Arc::try_clone(stream).ok()?;
         let place = self.free_place(rt)?;
         let number = self.came.fetch_add(1, Ordering::SeqCst);

@@ -16,4 +16,4 @@ pub use running::serve;
 pub use serve_control::ServeFault;
 pub use serve_hall::{Doors, Manner};
 pub use serve_journal::JournalFile;
-pub use serve_show::{Loud, Notes, Quiet};
+pub use serve_show::{Kind, Loud, Notes, Quiet};

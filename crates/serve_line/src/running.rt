@@ -85,13 +85,7 @@ fn serve_noted<
     let (listening, page) = doors.all();
     let doors = doors_of(alloc, line, &nodes, listening)?;
     let page = match page {
-        Some(listening) => Some(PageDoor::new(
-            rt,
-            alloc,
-            (line, &nodes),
-            &doors,
-            listening,
-        )?),
+        Some(listening) => Some(PageDoor::new(rt, alloc, (line, &nodes), &doors, listening)?),
         None => None,
     };
     let links = links_of(alloc, line, &nodes)?;

@@ -70,11 +70,7 @@ pub fn answer(
         Asked::Page => found(alloc, HTML, live_page(alloc, layout, now)?.as_str()),
         Asked::Line => found(alloc, JSON, line_json(alloc, layout)?.as_str()),
         Asked::Now { since: Some(seen) } if seen == version => String::from_str(alloc, SAME),
-        Asked::Now { .. } => found(
-            alloc,
-            JSON,
-            now_json(alloc, layout, now, version)?.as_str(),
-        ),
+        Asked::Now { .. } => found(alloc, JSON, now_json(alloc, layout, now, version)?.as_str()),
     }
 }
 

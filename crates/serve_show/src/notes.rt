@@ -108,7 +108,7 @@ impl<R: Wait + Clock> Notes for Queued<'_, R> {
 }
 
 // Writes a note after the time, if the clock tells it.
-fn write_timed<T: Clock, D: Display>(clock: &T, note: &mut Vec<u8>, text: D) -> Option<()> {
+fn write_timed<T: Clock, D: Display + Drop>(clock: &T, note: &mut Vec<u8>, text: D) -> Option<()> {
     match utc(clock) {
         Some(time) => write!(note, "{time} {text}").ok(),
         None => write!(note, "{text}").ok(),

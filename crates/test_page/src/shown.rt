@@ -84,7 +84,8 @@ fn sections_alike_are_one_row(rt: HostRuntime) -> Result<(), Fail> {
     Ok(())
 }
 
-static OF_TRAIN: [&str; 6] = ["{\"version\":512,\"events\":5,\"stopped\":false,\n\"trains\":",
+static OF_TRAIN: [&str; 6] = [
+    "{\"version\":512,\"events\":5,\"stopped\":false,\n\"trains\":",
     "[19,\"A\",\"B\",\"main\",null,123.4,0,1,null,null,null,0]",
     "[19,\"A\",\"up\"]",
     "[\"A\",21000,4,4,1,9,0]",
