@@ -29,24 +29,18 @@ pub fn run_door<R: Threads + Wait + Sync + Clock, N: Notes + Sync>(
             if hall.state.is_stopped() {
                 break;
             }
+            looks.look(rt, hall, notes, door);
             let Some((stream, seat)) = next_caller(rt, hall, notes, door, &mut entrance) else {
-                looks.look(rt, hall, notes, door);
-                continue;
-            };
-            if seat.is_reserve {
-                attend(rt, hall, notes, door.caller, seat, stream);
-                continue;
-            }
-            let Ok(own) = Arc::try_clone(&stream) else {
-                seat.leave(rt);
                 continue;
             };
             let caller = door.caller;
-            if scope
+            if seat.is_reserve {
+                attend(rt, hall, notes, caller, seat, stream);
+            } else if scope
                 .spawn(move || attend(rt, hall, notes, caller, seat, stream))
                 .is_err()
             {
-                attend_here(rt, hall, notes, door, seat, own);
+                attend_here(rt, hall, notes, door, seat);
             }
         }
         drop(entrance);
@@ -67,7 +61,7 @@ fn entrance_of<R: Wait>(rt: &R, door: &Door) -> Option<Entrance> {
     Some(Entrance::new(listener, has_reserve))
 }
 
-/// What is looked at of a centre while nobody comes to its door.
+/// What the thread of a door looks at now and then.
 #[derive(Clone, Copy)]
 struct Looks {
     life: Life,
@@ -91,18 +85,18 @@ impl Looks {
     }
 }
 
-// Serves a connection for which no thread can be made: one of the interlocking in the thread of the door, so that `stop`
-// is always heard. One of a train ends.
+// Serves the connection of a seat for which no thread can be made: one of the interlocking in the thread of the door, so
+// that `stop` is always heard. One of a train ends.
 fn attend_here<R: Threads + Wait + Sync + Clock, N: Notes + Sync>(
     rt: &R,
     hall: &Hall<'_>,
     notes: &N,
     door: &Door,
     seat: &Seat,
-    stream: Arc<TcpStream, Global>,
 ) {
+    let stream = seat.stream.lock(rt).take();
     seat.leave(rt);
-    let Some(reserve) = reserve_for(rt, door, &stream) else {
+    let Some((stream, reserve)) = reserve_for(rt, door, stream) else {
         let text = "a connection is ended, no thread could be made";
         notes.often(Kind::Thread, text);
         return;
@@ -110,16 +104,17 @@ fn attend_here<R: Threads + Wait + Sync + Clock, N: Notes + Sync>(
     attend(rt, hall, notes, door.caller, reserve, stream);
 }
 
-// The reserve seat of a door for this connection, if it has one.
+// A connection at the reserve seat of a door, if the door has one.
 fn reserve_for<'a, R: Wait>(
     rt: &R,
     door: &'a Door,
-    stream: &Arc<TcpStream, Global>,
-) -> Option<&'a Seat> {
-    let shared = Arc::try_clone(stream).ok()?;
+    stream: Option<Arc<TcpStream, Global>>,
+) -> Option<(Arc<TcpStream, Global>, &'a Seat)> {
+    let stream = stream?;
+    let shared = Arc::try_clone(&stream).ok()?;
     let seat = door.reserve_seat(rt)?;
     *seat.stream.lock(rt) = Some(shared);
-    Some(seat)
+    Some((stream, seat))
 }
 
 // Who comes through a door now, with a seat. It rests a while where nobody comes, and refuses who finds no seat.

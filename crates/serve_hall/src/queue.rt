@@ -29,9 +29,13 @@ impl Queue {
         self.entered.fetch_add(1, Ordering::SeqCst);
     }
 
-    /// An event waits no longer.
-    pub(crate) fn leave(&self) {
-        self.left.fetch_add(1, Ordering::SeqCst);
+    /// An event waits no longer. If it is not written, the queue has not moved.
+    pub(crate) fn leave(&self, is_written: bool) {
+        if is_written {
+            self.left.fetch_add(1, Ordering::SeqCst);
+        } else {
+            self.entered.fetch_sub(1, Ordering::SeqCst);
+        }
     }
 
     /// Whether events wait, and none of them has gone on for a second.

@@ -38,7 +38,7 @@ impl Teller<'_> {
         };
         self.queue.enter();
         let may_tell = journal.keeps_up(rt, outcome.stamp);
-        self.queue.leave();
+        self.queue.leave(may_tell);
         may_tell
     }
 
@@ -50,7 +50,7 @@ impl Teller<'_> {
         };
         self.queue.enter();
         let reaches = journal.reaches(rt, stamp);
-        self.queue.leave();
+        self.queue.leave(reaches);
         reaches
     }
 
@@ -61,7 +61,7 @@ impl Teller<'_> {
         };
         self.queue.enter();
         let comes_to = journal.comes_to(rt, stamp);
-        self.queue.leave();
+        self.queue.leave(comes_to);
         comes_to
     }
 
