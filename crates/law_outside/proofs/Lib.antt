@@ -1,8 +1,1 @@
-pub mod Spans
-pub mod Marks
-pub mod Tied
-pub mod Standstill
-pub mod Follows
-pub mod Heard
-pub mod Pieces
-pub mod Arrives
+pub mod Seen

@@ -1,2 +1,2 @@
 pub mod Outside
-pub mod Arrival
+pub mod Scenes

@@ -1,7 +1,7 @@
--- What the world outside sees of the centres of a line: what trains say and are told, and what the interlocking does
--- and is told. No state of a centre occurs here, no frame, and no word of the one line centre. What is told never takes
--- back, and what a train says takes back only what it was told before that. "In advance of" is further on in the
--- direction of travel, "in rear of" is further back.
+-- What the world outside sees of the centres of a line: the messages of trains and the answers to them, and the events
+-- of the interlocking and the answers to them. No state of a centre occurs here, and no frame. A message to a train
+-- never takes anything back from it. A message of a train takes back only what the train was told before it sent that
+-- message. "In advance of" is further on in the direction of travel, "in rear of" is further back.
 use Rattle.std.specs.Prelude.{◌≡◌, ℕ, zero, suc, ◌+◌, ◌*◌, ◌==◌, Bool, true, false, ◌&&◌, if◌then◌else◌, List, [], ◌∷◌, ◌++◌, map, min, max, Option, Some, None, option_map, option_and_then, is_none, nat_lt, nat_le, ℤ, pos, int_lt, Ok}
 use Rattle.std.specs.Option.{option_map_or}
 use Rattle.rbc_spec.specs.Maps.{has, put, put_pair}
@@ -12,14 +12,14 @@ use Rattle.rbc_spec.specs.Message.{TrainMessage, TrainBody, Report, ShorteningGr
 use Rattle.rbc_spec.specs.Outcome.{Saying, Word, Done, Told}
 use Rattle.rbc_spec.specs.World.{World, Event, Bytes, Set, Unset, centre_of, Answer, Answered, new_world, world_run}
 
--- a request to shorten that stands: by which centre, its T_TRAIN, and where the authority would end
+-- a pending request to shorten: the centre that sent it, its T_TRAIN, and where the authority would end
 pub record Shortening : Type 0 where
   pub centre : ℕ
   pub stamp : ℕ
   pub end : ℕ
 
--- how far a train may run: on this track, from its safe rear end, in decimetres, to the farthest end that it was told,
--- in metres; T_TRAIN of its message that was so answered last; and the request to shorten that it was told since
+-- how far a train may run: the track, its safe rear end in decimetres, the farthest end that it was told in metres;
+-- T_TRAIN of its last message that was answered by an authority or a start; and the request to shorten since then
 pub record Stretch : Type 0 where
   pub track : ℕ
   pub rear : ℤ
@@ -27,9 +27,9 @@ pub record Stretch : Type 0 where
   pub since : ℕ
   pub asked : Option Shortening
 
--- of each train how far it may run; of each train and centre how far its start of mission reaches, which has no answer
--- yet; of each section whether the interlocking has released it and not had it back; and whether a train was ever told
--- what it can't place
+-- how far each train may run; for each train and centre how far its start of mission reaches, if that has no answer
+-- yet; which sections the interlocking has released and not taken back; and whether a train was ever told something
+-- that it cannot place
 pub record View : Type 0 where
   pub stretch : ℕ → Option Stretch
   pub start : ℕ → ℕ → Option Stretch
@@ -39,7 +39,7 @@ pub record View : Type 0 where
 abbrev pub nothing_seen : View
 nothing_seen = record { stretch = λ t. None; start = λ t c. None; released = λ s. false; stray = false }
 
--- the section lies in the stretch
+-- the section is in the stretch, or a part of it is
 abbrev pub is_in : Line → ℕ → Stretch → Bool
 is_in line s x = (is_on line x.track s && nat_lt (start line s) x.end) && int_lt x.rear (pos (10 * end line s))
 
@@ -47,14 +47,14 @@ is_in line s x = (is_on line x.track s && nat_lt (start line s) x.end) && int_lt
 abbrev pub may_run_over : Line → View → ℕ → ℕ → Bool
 may_run_over line v t s = has (is_in line s) (v.stretch t)
 
--- of the first n sections the last of the place's track that begins before the place's front: where it ends
+-- the end of the section of the front: of the first n sections, the last on the track that begins in rear of the front
 unfoldable pub front_end : Line → Place → ℕ → Option ℕ
 front_end line place zero = None
 front_end line place (suc n) =
     if is_on line place.track n && nat_lt (10 * start line n) place.front then Some (end line n)
     else front_end line place n
 
--- ## What a train says that is heard
+-- ## Messages of a train
 
 -- a report takes back what lies in rear of its safe rear end
 abbrev pub cleared : Place → Stretch → Stretch
@@ -83,14 +83,14 @@ position_of (EndOfMission position) = Some position
 position_of (ShorteningGranted stamp position) = Some position
 position_of body = None
 
--- what is left behind a message of this T_TRAIN: only one that was sent after the last that was answered takes back
+-- the rest after a message: it takes back only if the train sent it after the last one that was answered
 abbrev pub after_message : Line → ℕ → ℕ → TrainBody → Stretch → Stretch
 after_message line c t_train body x =
     option_map_or
     (λ place. if (place.track == x.track) && nat_lt x.since t_train then takes_back line c body place x else x)
     (option_and_then (extent line) (position_of body)) x
 
--- from a place where a train starts: to the end of the section of its front
+-- a start reaches from the rear end to the end of the section of the front
 abbrev pub begun : Line → ℕ → Place → Option Stretch
 begun line stamp place =
     option_and_then (λ rear. option_map
@@ -112,9 +112,9 @@ says line c m body v =
           (option_map (after_message line c m.t_train body) (v.stretch m.nid_engine));
     }
 
--- ## What it is told
+-- ## Messages to a train
 
--- a train that may still run goes on, and over all that its start reaches; on another track it can't
+-- a train that may still run keeps that, and gets what its start reaches; not on another track
 abbrev pub accepted : Option Stretch → Stretch → Option Stretch
 accepted None y = Some y
 accepted (Some x) y =
@@ -127,30 +127,30 @@ accepted (Some x) y =
     }) else None)
     else Some y
 
--- the train may run so now; what it can't place is stray
+-- the train may run so far now; what it cannot place is stray
 abbrev pub gets : ℕ → Option Stretch → View → View
 gets t None v = record v { stray = true }
 gets t (Some x) v = record v { stretch = put v.stretch t (Some x) }
 
--- so many metres in advance of a group of the train's track
+-- this many metres in advance of a balise group of the train's track
 abbrev pub metres_from : Line → ℕ → ℕ → Stretch → Option ℕ
 metres_from line group metres x =
     option_and_then (λ s. if is_on line x.track s then Some (start line s + metres) else None)
     (section_of_group line group)
 
--- T_TRAIN of the train's message that is answered
+-- T_TRAIN of the message of train t that the event is
 abbrev pub stamp_of : Event → ℕ → Option ℕ
 stamp_of (Bytes c (Ok m)) t = if m.nid_engine == t then Some m.t_train else None
 stamp_of event t = None
 
--- the end of its authority: the farthest counts, and it answers a message of the train
+-- an authority: the farthest end counts, and it answers a message of the train
 abbrev pub extended : Line → Event → ℕ → ℕ → ℕ → Stretch → Option Stretch
 extended line event t group metres x =
     option_and_then (λ stamp. option_map
     (λ e. record x { end = max x.end e; since = max x.since stamp; asked = None }) (metres_from line group metres x))
     (stamp_of event t)
 
--- a request to shorten: what it would leave is not taken back yet
+-- a request to shorten takes nothing back until it is granted
 abbrev pub asked_for : Line → ℕ → ℕ → ℕ → ℕ → Stretch → Option Stretch
 asked_for line c stamp group metres x =
     option_map (λ e. record x { asked = Some (record { centre = c; stamp = stamp; end = e }) })
@@ -171,7 +171,7 @@ is_told line event p (ShorteningRequest l) v =
     (v.stretch p.nid_engine)) v
 is_told line event p body v = v
 
--- ## What the interlocking is told
+-- ## Words to the interlocking
 
 abbrev pub hears : Event → Word → View → View
 hears (Set c e) (Done s) v = if s == e then record v { released = put v.released s true } else v
@@ -179,7 +179,7 @@ hears (Unset c e) (Done s) v = record v { released = put v.released e false }
 hears event (Told s) v = record v { released = put v.released s false }
 hears event word v = v
 
--- ## A list of events and what is spoken behind them
+-- ## A list of events, and the messages and words after each
 
 abbrev pub all_told : Line → Event → List Saying → View → View
 all_told line event [] v = v
@@ -189,14 +189,14 @@ abbrev pub all_heard : Event → List Word → View → View
 all_heard event [] v = v
 all_heard event (w ∷ ws) v = all_heard event ws (hears event w v)
 
--- what leaves the line after an event, where a centre took a step: whether a message was heard, what is told to trains
--- and to the interlocking
+-- what leaves the line if a centre takes a step: whether the message was heard, messages to trains, words to the
+-- interlocking
 pub record Spoken : Type 0 where
   pub is_heard : Bool
   pub sayings : List Saying
   pub words : List Word
 
--- the message that an event brings, where it was heard
+-- the message of an event, if it was heard
 abbrev pub said_by : Line → Event → Bool → View → View
 said_by line (Bytes c (Ok m)) true v = says line c m m.body v
 said_by line event is_heard v = v
@@ -206,34 +206,33 @@ sees line event (Some o) v =
     all_heard event o.words (all_told line event o.sayings (said_by line event o.is_heard v))
 sees line event None v = v
 
--- each event has what was spoken after it
+-- the lists are equally long: the second has what left the line after each event
 abbrev pub sees_all : Line → List Event → List (Option Spoken) → View → View
 sees_all line [] [] v = v
 sees_all line (event ∷ events) (spoken ∷ others) v = sees_all line events others (sees line event spoken v)
 sees_all line events others v = record v { stray = true }
 
--- ## What is claimed
+-- ## The promise
 
--- no two trains may run over one section, and none over a section that the interlocking has not released, or has had
+-- no two trains may run over one section, and none over a section that the interlocking has not released, or has taken
 -- back; and each train could place what it was told
 pub record IsSafeOutside (line : Line) (v : View) : Type 0 where
   pub one_train : (t u s : ℕ) → may_run_over line v t s ≡ true → may_run_over line v u s ≡ true → t ≡ u
   pub released : (t s : ℕ) → may_run_over line v t s ≡ true → v.released s ≡ true
   pub founded : v.stray ≡ false
 
--- what leaves the line with an answer
+-- the messages and words of an answer
 abbrev pub spoken_of : Answer → Option Spoken
 spoken_of (Answered o) = Some (record { is_heard = is_none o.silence; sayings = o.sayings; words = o.words })
 spoken_of answer = None
 
--- whatever comes to the centres of a line, in any order, late, twice or never
+-- the promise holds after every list of events, with frames late, twice, out of turn or never
 abbrev pub OutsideTheorem : Type 0
 OutsideTheorem = (line : Line) (events : List Event) (answers : List Answer) (w : World)
     → IsLine line → world_run line (new_world line) events ≡ Ok (answers, w)
     → IsSafeOutside line (sees_all line events (map spoken_of answers) nothing_seen)
 
--- whatever events led from the line's beginning to this world: with this event and its answer after them, what is seen
--- is safe
+-- the promise holds after this event, whatever events led to the world before it
 abbrev pub StaysSafeOutside : Line → World → Event → Answer → Type 0
 StaysSafeOutside line w event answer =
     (events : List Event) (answers : List Answer) → world_run line (new_world line) events ≡ Ok (answers, w)

@@ -1,1 +1,8 @@
 pub mod Promised
+pub mod Spans
+pub mod Marks
+pub mod Tied
+pub mod Standstill
+pub mod Follows
+pub mod Heard
+pub mod Pieces

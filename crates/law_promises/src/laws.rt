@@ -1,13 +1,14 @@
 //! Laws of promises.
 
-ghost use Rattle.std.specs.Prelude.{◌≡◌, ℕ, Contains, List, true, false, Ok};
+ghost use Rattle.std.specs.Prelude.{◌≡◌, ℕ, Contains, List, map, true, false, Ok};
 ghost use Rattle.rbc_spec.specs.Line.{Line, IsLine, is_home};
 ghost use Rattle.rbc_spec.specs.Outcome.{Outcome, Told, Done};
-ghost use Rattle.rbc_spec.specs.LineCentre.{Given, is_given_to};
+ghost use Rattle.rbc_spec.specs.LineCentre.{Given, LineState, is_given_to, line_beginning};
 ghost use Rattle.rbc_spec.specs.World.{World, Event, Unset, Answer, Answered, new_world, world_step, world_run};
 ghost use Rattle.rbc_spec.specs.ReadOff.{read_off};
 ghost use Rattle.rbc_spec.specs.Promises.{MayFree};
-ghost use Rattle.law_outside.specs.Outside.{OutsideTheorem};
+ghost use Rattle.rbc_spec.specs.Run.{Run};
+ghost use Rattle.law_outside.specs.Outside.{IsSafeOutside, OutsideTheorem, sees_all, nothing_seen, spoken_of};
 ghost use Rattle.law_promises.specs.Promised.{IsFreedWithin, IsTakenBack};
 
 /// Behind any list of events, a section that the line shows as given to a train is so behind the next event too, but
@@ -49,4 +50,12 @@ pub fn a_section_told_back_is_nobodys()
 /// released, or has had back.
 pub fn what_the_world_sees_is_safe()
     ensures { OutsideTheorem }
+{}
+
+/// The same of each run of the one line centre: by all that they were told no two trains may run over one section, and
+/// none over a section that the interlocking has not released, or has taken back.
+pub fn what_is_told_is_safe()
+    ensures { (line : Line) (events : List Event) (answers : List Answer) (v : LineState) → IsLine line
+        → Run line line_beginning events answers v
+        → IsSafeOutside line (sees_all line events (map spoken_of answers) nothing_seen) }
 {}

@@ -11,7 +11,7 @@ use Rattle.law_logs.specs.Logs.{LogEntry, IsInOrder, ComesBefore, IsMerge, IsWor
 use Rattle.law_logs.proofs.Sorted.{merges}
 use Rattle.law_logs.proofs.Merged.{family}
 use Rattle.rbc_spec.specs.ReadOff.{IsLineRun}
-use Rattle.law_outside.proofs.Pieces.{run_safe}
+use Rattle.law_promises.proofs.Pieces.{run_safe}
 use Rattle.law_refinement.proofs.Lines.{the_run}
 use Rattle.law_refinement.proofs.Promises.{run_sound}
 use Rattle.rbc_log.specs.Entries.{entry_of, written_of}

@@ -1,5 +1,5 @@
 -- A run of a world as it goes on, and what a whole one is.
-use Rattle.std.proofs.Common.{◌≡◌, ℕ, ◌+◌, ◌<◌, ◌≤◌, zero, suc, List, [], ◌∷◌, ◌++◌, length, map, drop, get_or, Result, Ok, Err, refl, sym, ap, arith}
+use Rattle.std.proofs.Common.{◌≡◌, ℕ, ◌+◌, ◌<◌, ◌≤◌, zero, suc, List, [], ◌∷◌, ◌++◌, length, map, drop, get_or, Option, Result, Ok, Err, refl, sym, subst, ap, arith}
 use Rattle.std.specs.Result.{IfOk, IfErr}
 use Rattle.rbc_spec.specs.Line.{Line, IsLine}
 use Rattle.rbc_spec.specs.Step.{ClockEnd as AtClockEnd, LinkFull as AtLinkFull}
@@ -9,8 +9,8 @@ use Rattle.rbc_spec.specs.Run.{Run}
 use Rattle.rbc_spec.specs.ReadOff.{IsLineRun, read_off}
 use Rattle.rbc_spec.specs.Promises.{IsSound}
 use Rattle.rbc_spec.specs.Theorems.{IsOneCentreLine, IsOneCentreRun, ForcedRun}
-use Rattle.law_outside.specs.Outside.{IsSafeOutside, sees_all, nothing_seen, spoken_of}
-use Rattle.law_outside.proofs.Pieces.{run_safe}
+use Rattle.law_outside.specs.Outside.{Spoken, IsSafeOutside, sees_all, nothing_seen, spoken_of}
+use Rattle.law_promises.proofs.Pieces.{run_safe}
 use Rattle.law_reached.proofs.Whole.{Reaches, at_start, stops_at, run_names, run_refused, run_read, the_run, run_sound}
 use Rattle.law_reached.proofs.Forced as forced
 use Rattle.rbc_centre.specs.declared.fault.StepFault.{StepFault}
@@ -53,9 +53,12 @@ module _ {X : Type 0} (line : Line) (events : List Event) (answers : X → List 
     is_line_run (Ok o) e = the_run line ok events (answers o) (world o) e
     is_line_run (Err fault) e = tt
 
-    pub is_safe_outside : (result : Result X StepFault) → Runs result → IfOk result (λ o. IsSafeOutside line (sees_all line events (map spoken_of (answers o)) nothing_seen))
-    is_safe_outside (Ok o) e = let h = the_run line ok events (answers o) (world o) e in run_safe line ok events (answers o) h.last h.is_run
-    is_safe_outside (Err fault) e = tt
+    pub is_safe_outside : (spoken : X → List (Option Spoken)) → ((o : X) → map spoken_of (answers o) ≡ spoken o) → (result : Result X StepFault) → Runs result
+        → IfOk result (λ o. IsSafeOutside line (sees_all line events (spoken o) nothing_seen))
+    is_safe_outside spoken same (Ok o) e =
+        let h = the_run line ok events (answers o) (world o) e in
+        subst (λ (all : List (Option Spoken)). IsSafeOutside line (sees_all line events all nothing_seen)) (same o) (run_safe line ok events (answers o) h.last h.is_run)
+    is_safe_outside spoken same (Err fault) e = tt
 
     pub is_sound : (result : Result X StepFault) → Runs result → IfOk result (λ o. IsSound line (world o))
     is_sound (Ok o) e = run_sound line ok events (answers o) (world o) e

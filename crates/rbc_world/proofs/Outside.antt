@@ -1,14 +1,20 @@
--- What the world outside sees of a step behind whatever events led to it.
-use Rattle.std.proofs.Common.{[], ◌∷◌, ◌++◌, Result, Ok, Err}
+-- What the world outside sees of a step after whatever events led to it, and of a list of answers.
+use Rattle.std.proofs.Common.{◌≡◌, ◌∙◌, Bool, List, [], ◌∷◌, ◌++◌, map, Option, Some, None, option_map, is_none, Result, Ok, Err, refl, ap}
 use Rattle.std.specs.Result.{IfOk}
 use Rattle.rbc_spec.specs.Line.{Line, IsLine}
+use Rattle.rbc_spec.specs.Outcome.{Told}
 use Rattle.rbc_spec.specs.World.{World, Answer, new_world, world_step}
-use Rattle.law_outside.specs.Outside.{StaysSafeOutside}
-use Rattle.law_outside.proofs.Pieces.{run_safe}
+use Rattle.law_outside.specs.Outside.{Spoken, StaysSafeOutside, spoken_of}
+use Rattle.law_promises.proofs.Pieces.{run_safe}
 use Rattle.law_reached.proofs.Whole.{the_run}
 use Rattle.rbc_centre.specs.declared.fault.StepFault.{StepFault}
 use Rattle.rbc_world.specs.Answers.{Gives}
-use Rattle.rbc_world.specs.Views.{event_of}
+use Rattle.rbc_train.specs.Reasons.{reason_of}
+use Rattle.rbc_train.specs.Sayings.{saying_of}
+use Rattle.rbc_centre.specs.Views.{words_of}
+use Rattle.rbc_world.specs.Views.{event_of, answer_of, spoken_by}
+use Rattle.rbc_world.specs.declared.event.Answer.{Answer as AnswerCode}
+use Rattle.rbc_world.specs.declared.event.Answer.TheVariants as answer
 use Rattle.rbc_world.specs.declared.event.WorldEvent.{WorldEvent}
 use Rattle.rbc_world.proofs.Reached.{run_on}
 
@@ -19,3 +25,25 @@ step_outside answer line ok w new e (Ok x) s = λ events answers led.
     (run_on line events (new_world line) w new answers (event_of e) (answer x) led s) in
     run_safe line ok (events ++ event_of e ∷ []) (answers ++ answer x ∷ []) h.last h.is_run
 step_outside answer line ok w new e (Err fault) s = tt
+
+-- ## The messages and words of answers
+
+none_if_none : {X Y : Type 0} (f : X → Y) (o : Option X) → is_none (option_map f o) ≡ is_none o
+none_if_none f None = refl
+none_if_none f (Some x) = refl
+
+spoken_same : (a : AnswerCode) → spoken_of (answer_of a) ≡ spoken_by a
+spoken_same (answer.Outcome o) =
+    ap (λ (is_heard : Bool). Some (record {
+      is_heard = is_heard;
+      sayings = map saying_of o.sayings.items;
+      words = words_of o.word ++ map (λ s. Told s) o.told;
+    })) (none_if_none reason_of o.silence)
+spoken_same answer.NoCentre = refl
+spoken_same answer.NotSent = refl
+spoken_same (answer.Fault fault) = refl
+
+pub all_spoken : (answers : List AnswerCode) → map spoken_of (map answer_of answers) ≡ map spoken_by answers
+all_spoken [] = refl
+all_spoken (a ∷ answers) =
+    ap (λ (first : Option Spoken). first ∷ map spoken_of (map answer_of answers)) (spoken_same a) ∙ ap (λ (rest : List (Option Spoken)). spoken_by a ∷ rest) (all_spoken answers)

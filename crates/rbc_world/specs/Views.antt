@@ -1,15 +1,18 @@
 -- What events and answers stand for.
-use Rattle.std.specs.Prelude.{◌≡◌, ◌≢◌, ℕ, Result, Ok, Err}
+use Rattle.std.specs.Prelude.{◌≡◌, ◌≢◌, ℕ, ◌++◌, map, Option, Some, None, is_none, Result, Ok, Err}
 use Rattle.rbc_spec.specs.Message.{TrainMessage}
 use Rattle.rbc_spec.specs.World.{Event, Bytes, Set, Unset, Delivery}
+use Rattle.rbc_spec.specs.Outcome.{Told}
 use Rattle.rbc_spec.specs.World as world
+use Rattle.law_outside.specs.Outside.{Spoken}
 use Rattle.rbc_msgs.specs.TrainText.{TrainText}
 use Rattle.rbc_msgs.specs.StepMessage.{step_message}
 use Rattle.rbc_msgs.specs.Faults.{fault_number}
 use Rattle.rbc_msgs.specs.TrainReading.{read_train}
 use Rattle.rbc_msgs.specs.declared.fault.MsgFault.{MsgFault}
 use Rattle.rbc_msgs.specs.declared.fault.MsgFault.TheVariants.{Memory}
-use Rattle.rbc_centre.specs.Views.{outcome_of}
+use Rattle.rbc_train.specs.Sayings.{saying_of}
+use Rattle.rbc_centre.specs.Views.{outcome_of, words_of}
 use Rattle.rbc_world.specs.declared.event.WorldEvent.{WorldEvent}
 use Rattle.rbc_world.specs.declared.event.WorldEvent.TheVariants as event
 use Rattle.rbc_world.specs.declared.event.Answer.{Answer}
@@ -35,6 +38,15 @@ answer_of (answer.Outcome o) = world.Answered (outcome_of o)
 answer_of answer.NoCentre = world.NoCentre
 answer_of answer.NotSent = world.NotSent
 answer_of (answer.Fault fault) = world.Fault (fault_number fault)
+
+-- the messages and words that leave the line with an answer
+abbrev pub spoken_by : Answer → Option Spoken
+spoken_by (answer.Outcome o) = Some (record {
+  is_heard = is_none o.silence;
+  sayings = map saying_of o.sayings.items;
+  words = words_of o.word ++ map (λ s. Told s) o.told;
+})
+spoken_by answer = None
 
 -- the answer that a reply makes with the outcome that was written
 abbrev pub answer_by : Reply → Outcome → world.Answer

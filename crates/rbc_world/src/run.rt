@@ -5,9 +5,9 @@ ghost use Rattle.rbc_spec.specs.Run as line_run;
 ghost use Rattle.rbc_spec.specs.ReadOff.{IsLineRun, read_off};
 ghost use Rattle.rbc_spec.specs.Promises.{IsSound};
 ghost use Rattle.rbc_spec.specs.Theorems.{IsOneCentreLine, IsOneCentreRun, ForcedRun};
-ghost use Rattle.law_outside.specs.Outside.{IsSafeOutside, sees_all, nothing_seen, spoken_of};
+ghost use Rattle.law_outside.specs.Outside.{IsSafeOutside, sees_all, nothing_seen};
 ghost use Rattle.rbc_world.specs.World.{state_of};
-ghost use Rattle.rbc_world.specs.Views.{event_of, answer_of};
+ghost use Rattle.rbc_world.specs.Views.{event_of, answer_of, spoken_by};
 ghost use Rattle.rbc_world.specs.Answers.{Gives, IsRefusedRun};
 
 use crate::event::{Answer, WorldEvent};
@@ -42,9 +42,9 @@ impl World {
         ensures run { IfOk result
             (λ o. IsLineRun line.now (map event_of events.now) (map answer_of o.answers.items) (state_of o.world)) }
         // By what they were told no two trains may run over one section, and none over one that the interlocking has
-        // not released, or has had back.
+        // not released, or has taken back.
         ensures outside { IfOk result (λ o. IsSafeOutside line.now
-            (sees_all line.now (map event_of events.now) (map spoken_of (map answer_of o.answers.items)) nothing_seen)) }
+            (sees_all line.now (map event_of events.now) (map spoken_by o.answers.items) nothing_seen)) }
         // It ends in the state that is read off them.
         ensures last { IfOk result
             (λ o. line_run.Run line.now line_beginning (map event_of events.now) (map answer_of o.answers.items)

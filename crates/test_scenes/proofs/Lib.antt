@@ -27,4 +27,3 @@ pub mod StrayFrames
 pub mod PlacesMet
 pub mod NotAllowed
 pub mod OnePlaces
-pub mod SeenOutside

@@ -19,4 +19,3 @@ pub mod StrayFrames
 pub mod PlaceMoves
 pub mod NotAllowed
 pub mod OnePlaces
-pub mod Outside

@@ -10,7 +10,6 @@
 mod late;
 mod not_allowed;
 mod one_places;
-mod outside;
 
 ghost use Rattle.std.specs.Prelude.{◌≡◌, [], ◌∷◌, None, Some, Ok, Err};
 ghost use Rattle.rbc_spec.specs.Centre.{beginning};
@@ -37,10 +36,6 @@ ghost use Rattle.test_scenes.specs.Limits.{asks_behind, run_items, set_and_sessi
 pub use late::{late_frames, races_met};
 pub use not_allowed::{moves_not_allowed, two_yields_on_the_way};
 pub use one_places::each_thing_stays_in_one_place;
-pub use outside::{
-    a_lost_authority_is_seen, answers_that_forget_are_seen, trains_side_by_side_are_seen,
-    what_trains_take_back_is_seen, wrong_answers_are_seen,
-};
 
 /// What the interlocking is told, how sessions are opened and ended, and how missions start at the registrar and
 /// elsewhere.

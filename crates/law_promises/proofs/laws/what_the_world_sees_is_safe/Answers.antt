@@ -1,5 +1,5 @@
 use Rattle.law_refinement.proofs.Promises.{whole_line}
-use Rattle.law_outside.proofs.Pieces.{run_safe}
+use Rattle.law_promises.proofs.Pieces.{run_safe}
 use Rattle.law_promises.proofs.laws.what_the_world_sees_is_safe.Goals as goal
 
 pub returns : goal.returns

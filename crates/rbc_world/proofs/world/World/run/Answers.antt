@@ -1,14 +1,17 @@
 use Rattle.std.proofs.Common.{map}
 use Rattle.rbc_world.specs.World.{state_of}
-use Rattle.rbc_world.specs.Views.{event_of, answer_of}
+use Rattle.rbc_world.specs.Views.{event_of, answer_of, spoken_by}
 use Rattle.rbc_world.proofs.Loop.{names_trains, is_refused, is_line_run, is_safe_outside, is_sound, ends_read, is_one_centre_run, ends_forced}
+use Rattle.rbc_world.proofs.Outside.{all_spoken}
 use Rattle.rbc_world.proofs.world.World.run.Goals as goal
 
 pub returns-clause-run : goal.returns-clause-run
 returns-clause-run c = is_line_run c.args.line.now (map event_of c.args.events.now) (λ o. map answer_of o.answers.items) (λ o. state_of o.world) c.known_line.ensures c.outputs.result c.outputs.ensures
 
 pub returns-clause-outside : goal.returns-clause-outside
-returns-clause-outside c = is_safe_outside c.args.line.now (map event_of c.args.events.now) (λ o. map answer_of o.answers.items) (λ o. state_of o.world) c.known_line.ensures c.outputs.result c.outputs.ensures
+returns-clause-outside c =
+    is_safe_outside c.args.line.now (map event_of c.args.events.now) (λ o. map answer_of o.answers.items) (λ o. state_of o.world) c.known_line.ensures
+    (λ o. map spoken_by o.answers.items) (λ o. all_spoken o.answers.items) c.outputs.result c.outputs.ensures
 
 pub returns-clause-sound : goal.returns-clause-sound
 returns-clause-sound c = is_sound c.args.line.now (map event_of c.args.events.now) (λ o. map answer_of o.answers.items) (λ o. state_of o.world) c.known_line.ensures c.outputs.result c.outputs.ensures

@@ -1,0 +1,2 @@
+pub mod Arrives
+pub mod Seen
