@@ -18,7 +18,7 @@ const DUE: [(&str, u16); 16] = [
     ("GET /line.json HTTP/1.0\r\nHost: 127.0.0.1:1\r\n\r\n", 200),
     ("GET /now HTTP/1.1\r\nHost: localhost:1\r\n\r\nGET / HTTP/1.1\r\n\r\n", 200),
     ("POST / HTTP/1.1\r\nHost: localhost\r\nContent-Length: 3\r\n\r\nabc", 405),
-    ("HEAD / HTTP/1.1\r\nHost: localhost\r\n\r\n", 405),
+    ("HEAD / HTTP/1.1\r\nHost: localhost\r\n\r\n", 200),
     ("CONNECT localhost:1 HTTP/1.1\r\nHost: localhost\r\n\r\n", 405),
     ("GET /stop HTTP/1.1\r\nHost: localhost\r\n\r\n", 404),
     ("GET http://localhost/ HTTP/1.1\r\nHost: localhost\r\n\r\n", 404),

@@ -168,7 +168,7 @@ fn flood(soak: Soak, port: u16) {
     while soak.goes_on() {
         if let Ok(mut stream) = connect(port) {
             while soak.goes_on() && stream.write_all(&bytes).is_ok() {}
-            // It is not let in again at once, since each connection has a burst.
+            // It rests before it comes again. All connections of such engines share one allowance.
             thread::sleep(Duration::from_secs(60).min(soak.until.saturating_duration_since(Instant::now())));
         }
     }

@@ -154,7 +154,7 @@ fn part<'a>(alloc: Global, name: &'static str, value: &'static str, help: &'stat
         .help(help)
 }
 
-// What `serve` takes besides its words: the page's port, how fast each train may be, and where the journals lie.
+// The options of `serve` with a value: the page's port, how fast messages may come, and where the journals are.
 static DOORS: [(&str, &str, &str); 5] = [
     (
         "page",
@@ -164,9 +164,9 @@ static DOORS: [(&str, &str, &str); 5] = [
     (
         "rate",
         "N",
-        "How many messages a second a train's connection may say, one behind another",
+        "How many messages of a train each centre takes in a second",
     ),
-    ("burst", "N", "How many it may say at once"),
+    ("burst", "N", "How many of them it takes at once"),
     (
         "journal",
         "FOLDER",

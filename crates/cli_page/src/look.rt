@@ -149,6 +149,7 @@ function present(raw){
   for(const name of ['trains','sections','sessions','centres','links','last'])now[name]=rows(raw[name]);
   if(now.stopped)alerts.push('stop was said: no connection is taken any more');
   for(const it of now.centres){
+    if(it.stuck)alerts.push(`journal of ${it.centre}: it can't be written. Only written events are shown`);
     if(it.entries>=8e5)alerts.push(`log of ${it.centre}: ${it.entries} of 1000000 entries`);
     if(it.connections>=it.seats)alerts.push(`${it.centre}: all ${it.seats} seats are taken`)}
   for(const it of now.links)if(it.sent>=52429)alerts.push(`link ${it.from} → ${it.to}: ${it.sent} of 65536 frames`);
@@ -169,7 +170,7 @@ async function follow(){
   try{
     if(!line){line=await ask('/line.json');for(const name of ['tracks','centres','sections'])line[name]=rows(line[name])}
     const now=await ask('/now?since='+at);
-    if(now){at=now.events;present(now)}
+    if(now){at=now.version;present(now)}
     seen=new Date().toTimeString().slice(0,8);lost.textContent=''
   }catch(e){lost.textContent='No answer from the centres since '+(seen||'the start')+': what stands here is old'}
   setTimeout(follow,1e3)}

@@ -36,14 +36,19 @@ fn add_names(
     sheet.end()
 }
 
-/// What is so now.
-pub fn now_json(alloc: Global, layout: &Layout, now: &LineNow) -> Result<String, AllocError> {
+/// What is so now, and its version: another one each time that anything of it changes.
+pub fn now_json(
+    alloc: Global,
+    layout: &Layout,
+    now: &LineNow,
+    version: u64,
+) -> Result<String, AllocError> {
     let mut sheet = Sheet::new(alloc, Form::Json);
     add_now(&mut sheet, layout, now)?;
     let events = now.events;
     let stopped = now.is_stopped;
     let rest = sheet.into_text();
-    format!(in alloc; "{{\"events\":{events},\"stopped\":{stopped}{rest}}}\n")
+    format!(in alloc; "{{\"version\":{version},\"events\":{events},\"stopped\":{stopped}{rest}}}\n")
 }
 
 /// The whole page. It loads nothing from elsewhere. Its script draws what it asks for once a second; without it, the

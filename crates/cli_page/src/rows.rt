@@ -133,7 +133,15 @@ pub(crate) fn words_of(phase: Phase) -> Cell<'static> {
     })
 }
 
-static CENTRE: [&str; 6] = ["centre", "port", "entries", "clock", "connections", "seats"];
+static CENTRE: [&str; 7] = [
+    "centre",
+    "port",
+    "entries",
+    "clock",
+    "connections",
+    "seats",
+    "stuck",
+];
 
 fn add_centres(sheet: &mut Sheet, layout: &Layout, now: &LineNow) -> Result<(), AllocError> {
     sheet.begin("centres", &CENTRE)?;
@@ -148,6 +156,7 @@ fn add_centres(sheet: &mut Sheet, layout: &Layout, now: &LineNow) -> Result<(), 
             Cell::Number(u64::from(centre.clock)),
             Cell::Number(centre.taken),
             Cell::Number(centre.seats),
+            Cell::Number(u64::from(centre.is_stuck)),
         ])?;
     }
     sheet.end()

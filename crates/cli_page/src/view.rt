@@ -120,6 +120,8 @@ pub struct CentreNow {
     pub taken: u64,
     /// How many seats there are.
     pub seats: u64,
+    /// Its journal can't be written now.
+    pub is_stuck: bool,
 }
 
 /// How much of a link's life is used.

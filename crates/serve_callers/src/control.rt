@@ -1,17 +1,17 @@
 use crate::answer::{SCRIPT_FAULT, answer};
-use crate::limits::{CONTROL_REST_MS, set_waits};
+use crate::limits::{CONTROL_REST_MS, RESERVE_RESTS, set_waits};
 use crate::rows::{Came, RowReader};
+use crate::sending::{Sent, send};
 use rbc_node::Share;
 use serve_control::{Command, CommandFault, command_of};
 use serve_hall::{Hall, Seat};
-use serve_show::{Notes, Roster};
-use std::io::Write;
+use serve_show::{Kind, Notes, Roster};
 use std::net::TcpStream;
 use std::sync::Wait;
 use std::sync::atomic::Ordering;
-use std::time::Duration;
+use std::time::{Clock, Duration};
 
-/// How a connection of the interlocking went on behind a line, and how it ended.
+/// How a connection of the interlocking went on after a line, and how it ended.
 #[derive(Clone, Copy, PartialEq, Eq)]
 enum Next {
     /// The next line may come.
@@ -23,7 +23,7 @@ enum Next {
 }
 
 /// Serves a connection of the interlocking to its end.
-pub(crate) fn serve_control<R: Wait, N: Notes>(
+pub(crate) fn serve_control<R: Wait + Clock, N: Notes>(
     rt: &R,
     hall: &Hall<'_>,
     notes: &N,
@@ -31,18 +31,22 @@ pub(crate) fn serve_control<R: Wait, N: Notes>(
     stream: &TcpStream,
 ) {
     let number = seat.number;
-    notes.note(format_args!("control: connection {number} begins"));
-    set_waits(stream, Duration::from_millis(CONTROL_REST_MS));
+    notes.often(
+        Kind::Begin,
+        format_args!("control: connection {number} begins"),
+    );
+    let rest = Duration::from_millis(CONTROL_REST_MS);
+    set_waits(stream, rest, rest);
     let mut shares = seat.shares.lock(rt);
     if answer_rows(rt, hall, notes, seat, shares.as_mut_slice(), stream) == Next::Stop {
         notes.note(format_args!("control: connection {number} says stop"));
         hall.stop();
     }
-    notes.note(format_args!("control: connection {number} ends"));
+    notes.often(Kind::End, format_args!("control: connection {number} ends"));
 }
 
 // Answers the lines of a connection, until none comes any more, or all sessions have ended.
-fn answer_rows<R: Wait, N: Notes>(
+fn answer_rows<R: Wait + Clock, N: Notes>(
     rt: &R,
     hall: &Hall<'_>,
     notes: &N,
@@ -54,61 +58,88 @@ fn answer_rows<R: Wait, N: Notes>(
         return Next::End;
     };
     let mut rows = RowReader::new(hall.alloc, stream);
+    let mut rests = 0u32;
     for _ in rt.forever() {
         let next = match rows.next() {
             Came::Row(row) => {
+                rests = 0;
                 seat.heard.store(hall.state.hear(), Ordering::SeqCst);
-                answer_row(rt, hall, notes, shares, &mut roster, &row, stream)
+                answer_row(rt, hall, notes, (seat, shares), &mut roster, &row, stream)
             }
             Came::Nothing if hall.state.is_empty() => Next::End,
-            Came::Nothing => Next::Listen,
+            Came::Nothing => {
+                rests = rests.saturating_add(1);
+                Next::Listen
+            }
             Came::End => Next::End,
         };
-        let told = send(stream, seat.take_told(rt, hall.alloc).as_slice());
+        let told = send(rt, stream, seat.take_told(rt, hall.alloc).as_slice());
         if next != Next::Listen {
             return next;
         }
-        if told != Next::Listen {
-            return told;
+        if told == Sent::Short || seat.is_reserve && is_over(hall, rests) {
+            return Next::End;
         }
     }
     unreachable!()
 }
 
+// Whether the reserve connection ends: the thread of the door serves it, and others wait.
+fn is_over(hall: &Hall<'_>, rests: u32) -> bool {
+    rests >= RESERVE_RESTS || hall.state.is_stopped()
+}
+
 // Answers one line.
-fn answer_row<R: Wait, N: Notes>(
+fn answer_row<R: Wait + Clock, N: Notes>(
     rt: &R,
     hall: &Hall<'_>,
     notes: &N,
-    shares: &mut [Share],
+    (seat, shares): (&Seat, &mut [Share]),
     roster: &mut Roster,
     row: &[u8],
     stream: &TcpStream,
 ) -> Next {
+    if is_of_another_protocol(row) {
+        notes.often(
+            Kind::Line,
+            "control: a connection is ended, it speaks another protocol",
+        );
+        return Next::End;
+    }
     let Ok(row) = std::str::from_utf8(row) else {
-        return send(stream, SCRIPT_FAULT.as_bytes());
+        return answered(send(rt, stream, SCRIPT_FAULT.as_bytes()));
     };
     let command = match command_of(hall.alloc, hall.line, row) {
         Ok(Command::Stop) => return Next::Stop,
         Ok(command) => command,
         Err(CommandFault::Form) => {
-            notes.note("control: a line is refused, script fault");
-            return send(stream, SCRIPT_FAULT.as_bytes());
+            notes.often(Kind::Line, "control: a line is refused, script fault");
+            return answered(send(rt, stream, SCRIPT_FAULT.as_bytes()));
         }
         Err(CommandFault::Memory) => return Next::End,
     };
     let mut text = Vec::new(hall.alloc);
-    match answer(rt, hall, shares, roster, command, &mut text) {
-        Ok(()) => send(stream, text.as_slice()),
+    match answer(rt, hall, (seat, shares), roster, command, &mut text) {
+        Ok(()) => answered(send(rt, stream, text.as_slice())),
         Err(_) => Next::End,
     }
 }
 
-// Writes an answer. A connection that does not take it ends.
-fn send(stream: &TcpStream, text: &[u8]) -> Next {
-    let mut out = stream;
-    match out.write_all(text) {
-        Ok(()) => Next::Listen,
-        Err(_) => Next::End,
+// How a connection goes on after an answer.
+fn answered(sent: Sent) -> Next {
+    match sent {
+        Sent::Whole => Next::Listen,
+        Sent::Short => Next::End,
     }
+}
+
+// Whether a line is the first of a request of HTTP/1, or has a control character: a browser sends it, perhaps for a page
+// of another site. What follows it is not the interlocking's.
+fn is_of_another_protocol(row: &[u8]) -> bool {
+    let row = row.strip_suffix(b"\r").unwrap_or(row);
+    row.ends_with(b" HTTP/1.0")
+        || row.ends_with(b" HTTP/1.1")
+        || row
+            .iter()
+            .any(|byte| byte.is_ascii_control() && *byte != b'\t')
 }

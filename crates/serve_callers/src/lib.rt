@@ -6,11 +6,15 @@
 
 mod answer;
 mod control;
+mod cutter;
 mod doorway;
+mod entrance;
 mod limits;
 mod noted;
 mod pace;
+mod paced;
 mod rows;
+mod sending;
 mod sessions;
 
 pub use doorway::run_door;

@@ -1,46 +1,42 @@
 use crate::limits::UNWRITTEN;
-use crate::pace::Pace;
 use rbc_centre::Outcome;
 use serve_connections::Wire;
 use serve_hall::Teller;
-use serve_show::Notes;
+use serve_show::{Kind, Notes};
 use serve_workers::Outlet;
 use std::sync::Wait;
 use std::sync::atomic::{AtomicU32, Ordering};
-use std::time::Clock;
 
-/// A train's connection as the session over it sees it, which notes each train that opens its session, and holds one
-/// back that is too fast.
+/// A train's connection as the session over it sees it, which notes each train that opens its session.
 #[derive(Drop)]
-pub(crate) struct NotedWire<'a, T, N> {
+pub(crate) struct NotedWire<'a, N> {
     pub wire: Wire<'a>,
     pub teller: &'a Teller<'a>,
-    pub pace: Pace<'a, T>,
     pub notes: &'a N,
     /// How many events of the connection were answered.
     pub events: AtomicU32,
 }
 
-impl<T, N> NotedWire<'_, T, N> {
+impl<N> NotedWire<'_, N> {
     // Waits for the journal after each `UNWRITTEN`th event: so answers that wait for the disk have room.
     fn keep_near<R: Wait>(&self, rt: &R, stamp: u32) {
-        let Some(journal) = self.teller.journal else {
-            return;
-        };
         if self.events.fetch_add(1, Ordering::SeqCst) % UNWRITTEN == UNWRITTEN - 1 {
-            let _ = journal.reaches(rt, stamp);
+            let _ = self.teller.reaches(rt, stamp);
         }
     }
 }
 
-impl<T: Clock, N: Notes> Outlet for NotedWire<'_, T, N> {
+impl<N: Notes> Outlet for NotedWire<'_, N> {
     fn opened<R: Wait>(&self, rt: &R, nid_engine: u32) {
         self.wire.opened(rt, nid_engine);
         let name = self.teller.name;
         let number = self.wire.number;
-        self.notes.note(format_args!(
-            "{name}: train {nid_engine} opens its session over train connection {number}"
-        ));
+        self.notes.often(
+            Kind::Session,
+            format_args!(
+                "{name}: train {nid_engine} opens its session over train connection {number}"
+            ),
+        );
     }
 
     fn answered<R: Wait>(&self, rt: &R, outcome: &Outcome) {
@@ -49,6 +45,5 @@ impl<T: Clock, N: Notes> Outlet for NotedWire<'_, T, N> {
             self.teller.tell(rt, outcome);
         }
         self.keep_near(rt, outcome.stamp);
-        self.pace.hold(rt);
     }
 }

@@ -1,49 +1,43 @@
-use serve_hall::Seat;
-use serve_reading::{Bucket, Rate};
-use std::sync::{Mutex, Wait};
+use rbc_line::Line;
+use serve_hall::{Paces, Seat};
+use std::sync::Wait;
 use std::thread;
 use std::time::{Clock, Duration};
 
-/// Holds the thread that reads a train's connection back, where its messages come too fast.
+/// How long a thread sleeps at most before it looks whether its connection has to leave, in milliseconds.
+const MOST_SLEEP_MS: u64 = 100;
+
+/// Holds the thread that reads a train's connection back if messages come too fast.
 #[derive(Drop)]
-pub(crate) struct Pace<'a, T> {
-    clock: &'a T,
-    seat: &'a Seat,
-    bucket: Mutex<Bucket>,
+pub(crate) struct Pace<'a, R> {
+    pub rt: &'a R,
+    pub line: &'a Line,
+    pub paces: &'a Paces,
+    pub seat: &'a Seat,
 }
 
-impl<'a, T: Clock> Pace<'a, T> {
-    /// Of a connection that has this seat now. The bucket has what its first message takes.
-    pub fn new(clock: &'a T, seat: &'a Seat, rate: Rate) -> Pace<'a, T> {
-        let mut bucket = Bucket::new(rate);
-        if let Some(now) = now_of(clock) {
-            let _ = bucket.ask(now);
-        }
-        Pace {
-            clock,
-            seat,
-            bucket: Mutex::new(bucket),
-        }
-    }
-
-    /// Waits until one more message may pass, or the connection has to leave its seat.
-    pub fn hold<R: Wait>(&self, rt: &R) {
-        let mut bucket = self.bucket.lock(rt);
-        for _ in rt.forever() {
-            let Some(now) = now_of(self.clock) else {
-                return;
+impl<R: Wait + Clock> Pace<'_, R> {
+    /// Waits until a message of this engine may pass. It returns false if the connection has to leave its seat before.
+    pub fn admits(&self, nid_engine: u32) -> bool {
+        let bucket = self.paces.bucket(self.line, nid_engine);
+        for _ in self.rt.forever() {
+            let Some(now) = now_of(self.rt) else {
+                return true;
             };
-            match bucket.ask(now) {
-                Err(wait) if !self.seat.is_leaving() => {
-                    thread::sleep(self.clock, Duration::from_millis(wait));
-                }
-                _ => return,
+            let asked = bucket.lock(self.rt).ask(now);
+            let Err(wait) = asked else {
+                return true;
+            };
+            if self.seat.is_leaving() {
+                return false;
             }
+            thread::sleep(self.rt, Duration::from_millis(wait.min(MOST_SLEEP_MS)));
         }
+        unreachable!()
     }
 }
 
-// The time in milliseconds, where the clock tells it.
+// The time in milliseconds, if the clock tells it.
 fn now_of<T: Clock>(clock: &T) -> Option<u64> {
     let now = clock.monotonic().ok()?;
     Some(

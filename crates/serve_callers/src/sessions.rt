@@ -1,13 +1,13 @@
-use crate::limits::{REPLIES, SILENCE_S, set_waits};
+use crate::limits::{PATIENCE_S, REPLIES, SILENCE_S, set_waits};
 use crate::noted::NotedWire;
 use crate::pace::Pace;
+use crate::paced::Paced;
 use cli_print::name_of;
 use crossbeam_channel::{Receiver, bounded};
 use rbc_node::{Node, Open};
 use serve_connections::{Connection, Shared, Wire};
 use serve_hall::{Hall, Seat, Teller};
-use serve_reading::Reads;
-use serve_show::Notes;
+use serve_show::{Kind, Notes};
 use serve_workers::{SessionEnd, run_session};
 use serve_writing::{Pipe, Reply, run_held_writer, run_writer};
 use std::alloc::{AllocError, Global};
@@ -35,22 +35,28 @@ pub(crate) fn serve_train<R: Threads + Wait + Sync + Clock, N: Notes + Sync>(
     };
     let exchange = teller.exchange;
     let Ok(ends) = entered(rt, hall.alloc, teller, number, stream) else {
-        notes.note(format_args!("{name}: a train is refused, memory ran out"));
+        notes.often(
+            Kind::Refusal,
+            format_args!("{name}: a train is refused, memory ran out"),
+        );
         return;
     };
-    notes.note(format_args!("{name}: train connection {number} begins"));
+    notes.often(
+        Kind::Begin,
+        format_args!("{name}: train connection {number} begins"),
+    );
     let noted = NotedWire {
         wire: Wire { exchange, number },
         teller,
         events: AtomicU32::new(0),
-        pace: Pace::new(rt, seat, hall.manner.rate),
         notes,
     };
-    match read_and_write(rt, hall.alloc, node, seat, &ends, &noted) {
+    match read_and_write(rt, hall, node, seat, &ends, &noted) {
         Some(end) => tell_end(notes, name, number, end),
-        None => notes.note(format_args!(
-            "{name}: train connection {number} is ended, no thread could be made"
-        )),
+        None => notes.often(
+            Kind::Thread,
+            format_args!("{name}: train connection {number} is ended, no thread could be made"),
+        ),
     }
 }
 
@@ -78,7 +84,11 @@ fn entered<R: Wait>(
     number: usize,
     stream: Arc<TcpStream, Global>,
 ) -> Result<Ends, AllocError> {
-    set_waits(&stream, Duration::from_secs(SILENCE_S));
+    set_waits(
+        &stream,
+        Duration::from_secs(SILENCE_S),
+        Duration::from_secs(PATIENCE_S),
+    );
     let (ends, mut connection) = ends_of(alloc, stream)?;
     if teller.journal.is_some() {
         connection = connection.held();
@@ -107,11 +117,11 @@ fn ends_of(
 // read, and there is no end to tell.
 fn read_and_write<R: Threads + Wait + Sync + Clock, N: Notes + Sync>(
     rt: &R,
-    alloc: Global,
+    hall: &Hall<'_>,
     node: &Node,
     seat: &Seat,
     ends: &Ends,
-    noted: &NotedWire<'_, R, N>,
+    noted: &NotedWire<'_, N>,
 ) -> Option<End> {
     thread::scope(thread::scope_env(), rt, |scope| {
         let teller = noted.teller;
@@ -122,25 +132,31 @@ fn read_and_write<R: Threads + Wait + Sync + Clock, N: Notes + Sync>(
             noted.wire.exchange.leave(rt, seat.number);
             return None;
         }
-        Some(read_messages(rt, alloc, node, seat, &ends.stream, noted))
+        Some(read_messages(rt, hall, node, seat, &ends.stream, noted))
     })
 }
 
 // Commits what the train says, and says how the session ended.
 fn read_messages<R: Wait + Clock, N: Notes>(
     rt: &R,
-    alloc: Global,
+    hall: &Hall<'_>,
     node: &Node,
     seat: &Seat,
     stream: &TcpStream,
-    noted: &NotedWire<'_, R, N>,
+    noted: &NotedWire<'_, N>,
 ) -> End {
     let mut shares = seat.shares.lock(rt);
     let Some(share) = shares.first_mut() else {
         return End::Cut;
     };
-    let mut source = Reads::new(stream);
-    let end = run_session(rt, alloc, node, &Open, share, &mut source, noted);
+    let pace = Pace {
+        rt,
+        line: hall.line,
+        paces: &noted.teller.paces,
+        seat,
+    };
+    let mut source = Paced::new(stream, pace);
+    let end = run_session(rt, hall.alloc, node, &Open, share, &mut source, noted);
     if noted.wire.exchange.leave(rt, seat.number) {
         End::Session(end)
     } else {
@@ -162,9 +178,15 @@ fn write_replies<R: Wait>(rt: &R, ends: &Ends, teller: &Teller<'_>) {
 fn tell_end<N: Notes>(notes: &N, name: &str, number: usize, end: End) {
     match ending(end) {
         (told, Some(fault)) => {
-            notes.note(format_args!("{name}: train connection {number} {told} {fault}"));
+            notes.often(
+                Kind::End,
+                format_args!("{name}: train connection {number} {told} {fault}"),
+            );
         }
-        (told, None) => notes.note(format_args!("{name}: train connection {number} {told}")),
+        (told, None) => notes.often(
+            Kind::End,
+            format_args!("{name}: train connection {number} {told}"),
+        ),
     }
 }
 

@@ -9,7 +9,7 @@ use rbc_node::Node;
 use std::alloc::{AllocError, Global};
 use std::sync::Wait;
 
-/// The line as it was seen last.
+/// The line as the page shows it.
 #[derive(Drop)]
 pub struct Glance {
     pub layout: Layout,
@@ -29,14 +29,15 @@ impl Glance {
         })
     }
 
-    /// Looks at the centres, one after another. Nobody has a seat in what is seen.
+    /// Looks at the centres, one after another. In the result nobody has a seat, and each journal is written. The page
+    /// shows it once it is `now`.
     pub fn look<R: Wait>(
         &mut self,
         rt: &R,
         alloc: Global,
         line: &Line,
         nodes: &[Node],
-    ) -> Result<(), Fault<'static>> {
+    ) -> Result<LineNow, Fault<'static>> {
         let mut now = nothing_of(alloc, line)?;
         for node in nodes {
             let look = node.look(rt);
@@ -48,8 +49,7 @@ impl Glance {
         self.sent.add_handovers(&mut now);
         mark_given(&mut now);
         now.last = self.news.tell(alloc, line)?;
-        self.now = now;
-        Ok(())
+        Ok(now)
     }
 }
 
@@ -101,6 +101,7 @@ const UNUSED: CentreNow = CentreNow {
     clock: 0,
     taken: 0,
     seats: 0,
+    is_stuck: false,
 };
 
 fn links_of(alloc: Global, line: &Line) -> Result<Vec<LinkNow>, AllocError> {

@@ -2,6 +2,8 @@ use crate::doors::Listening;
 use crate::hall::{Caller, DirectedLink};
 use crate::limits::{CONTROLS, SPARE};
 use crate::manner::Manner;
+use crate::paces::Paces;
+use crate::queue::Queue;
 use crate::seats::{Door, Seat};
 use crate::teller::Teller;
 use cli_print::name_of;
@@ -51,15 +53,14 @@ fn door_of(
     number: usize,
     listening: Listening,
 ) -> Result<Door, AllocError> {
-    let (caller, count, reached) = match nodes.get(number) {
-        Some(node) => (
-            Caller::Trains(node.share().centre()),
-            most_trains(line),
-            &nodes[number..=number],
-        ),
-        None => (Caller::Interlocking, CONTROLS, nodes),
+    let (caller, seats) = match nodes.get(number) {
+        Some(node) => {
+            let reached = &nodes[number..=number];
+            let caller = Caller::Trains(node.share().centre());
+            (caller, seats_of(alloc, most_trains(line), reached)?)
+        }
+        None => (Caller::Interlocking, control_seats(alloc, nodes)?),
     };
-    let seats = seats_of(alloc, count, reached)?;
     Ok(Door {
         listener: Mutex::new(Some(listening.listener)),
         address: listening.address,
@@ -69,23 +70,36 @@ fn door_of(
     })
 }
 
+// The seats of the control door, and the reserve seat.
+fn control_seats(alloc: Global, nodes: &[Node]) -> Result<Vec<Seat>, AllocError> {
+    let mut seats = seats_of(alloc, CONTROLS, nodes)?;
+    seats.push(seat_of(alloc, CONTROLS, true, nodes)?)?;
+    Ok(seats)
+}
+
 // So many seats, from which these nodes are reached.
 fn seats_of(alloc: Global, count: usize, nodes: &[Node]) -> Result<Vec<Seat>, AllocError> {
     let mut seats = Vec::with_capacity(alloc, count)?;
     for number in 0..count {
-        seats.push(seat_of(alloc, number, nodes)?)?;
+        seats.push(seat_of(alloc, number, false, nodes)?)?;
     }
     Ok(seats)
 }
 
 // The seat of this number, which is free.
-fn seat_of(alloc: Global, number: usize, nodes: &[Node]) -> Result<Seat, AllocError> {
+fn seat_of(
+    alloc: Global,
+    number: usize,
+    is_reserve: bool,
+    nodes: &[Node],
+) -> Result<Seat, AllocError> {
     let mut shares = Vec::with_capacity(alloc, nodes.len())?;
     for node in nodes {
         shares.push(node.share())?;
     }
     Ok(Seat {
         number,
+        is_reserve,
         is_taken: AtomicBool::new(false),
         is_leaving: AtomicBool::new(false),
         heard: AtomicU64::new(0),
@@ -194,6 +208,8 @@ pub fn tellers_of<'a>(
             exchange,
             control,
             journal: journals.get(centre as usize),
+            queue: Queue::new(),
+            paces: Paces::new(alloc, line, manner.rate)?,
             name,
         })?;
     }

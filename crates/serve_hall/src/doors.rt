@@ -70,6 +70,14 @@ impl Doors {
         }
     }
 
+    /// The address of the page, if there is one.
+    pub fn page_address(&self) -> Option<SocketAddr> {
+        match &self.1 {
+            Some(page) => Some(page.address),
+            None => None,
+        }
+    }
+
     /// The ports, by the centres' numbers, and at last that of the control door; and that of the page, if there is one.
     pub fn all(self) -> (Vec<Listening>, Option<Listening>) {
         (self.0, self.1)

@@ -102,6 +102,15 @@ impl State {
     }
 }
 
+// The stamp of the last event that a centre has taken; 0 if it has taken none.
+fn last_stamp<R: Wait>(rt: &R, node: &Node) -> u32 {
+    let look = node.look(rt);
+    match look.log().entries().last() {
+        Some(entry) => entry.outcome.stamp,
+        None => 0,
+    }
+}
+
 /// All that the workers share.
 #[derive(Drop)]
 pub struct Hall<'a> {
@@ -152,6 +161,17 @@ impl Hall<'_> {
         }
     }
 
+    /// Waits until the journals have each event that the centres have taken so far. It returns false if one of them
+    /// can't be written now.
+    pub fn await_journals<R: Wait>(&self, rt: &R) -> bool {
+        for (node, teller) in self.nodes.iter().zip(self.tellers.iter()) {
+            if !teller.comes_to(rt, last_stamp(rt, node)) {
+                return false;
+            }
+        }
+        true
+    }
+
     /// The journal of a centre is given up: nothing that it lacks is answered.
     pub fn lose<R: Wait>(&self, rt: &R, centre: u8) {
         self.state.has_lost.store(true, Ordering::SeqCst);
@@ -176,12 +196,17 @@ impl Hall<'_> {
         }
     }
 
+    /// Where the answers of the centre go on to that a caller comes to, if it comes to one.
+    pub fn teller(&self, caller: Caller) -> Option<&Teller<'_>> {
+        match caller {
+            Caller::Trains(centre) => self.tellers.get(centre as usize),
+            Caller::Interlocking => None,
+        }
+    }
+
     /// Whether the connection with this number serves a train.
     pub fn is_serving<R: Wait>(&self, rt: &R, caller: Caller, number: usize) -> bool {
-        let Caller::Trains(centre) = caller else {
-            return false;
-        };
-        match self.tellers.get(centre as usize) {
+        match self.teller(caller) {
             Some(teller) => teller.exchange.is_serving(rt, number),
             None => false,
         }

@@ -9,6 +9,8 @@ mod doors;
 mod hall;
 mod limits;
 mod manner;
+mod paces;
+mod queue;
 mod seats;
 mod teller;
 
@@ -17,5 +19,7 @@ pub use doors::{Doors, Listening};
 pub use hall::{Caller, DirectedLink, Hall, State};
 pub use limits::DOOR_REST_MS;
 pub use manner::Manner;
+pub use paces::Paces;
+pub use queue::{Queue, Watch};
 pub use seats::{Door, Seat};
 pub use teller::Teller;

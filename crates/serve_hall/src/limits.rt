@@ -7,11 +7,11 @@ pub(crate) const SPARE: usize = 8;
 /// How many connections the control door serves at once.
 pub(crate) const CONTROLS: usize = 4;
 
-/// How many messages a train's connection may say in a second, one behind another.
+/// How many messages of a train a centre takes in a second, and as many of all other engines together.
 pub(crate) const PER_SECOND: u32 = 50;
 
-/// How many it may say at once.
-pub(crate) const BURST: u32 = 20_000;
+/// How many it takes at once.
+pub(crate) const BURST: u32 = 100;
 
 /// How many bytes of lines of which the interlocking is told wait for one of its connections at most. More, and the
 /// connection ends.

@@ -4,7 +4,7 @@ use serve_reading::Rate;
 /// How the centres of a line are served, beside its ports.
 #[derive(Clone, Copy, Debug)]
 pub struct Manner {
-    /// How many messages each train's connection may say.
+    /// How many messages of each train a centre takes, and how many of all other engines together.
     pub rate: Rate,
     /// Whether each control connection is told of a section that was wished back and is shut, once it is.
     pub is_telling: bool,

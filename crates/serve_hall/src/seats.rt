@@ -14,6 +14,8 @@ use std::thread::Parker;
 pub struct Seat {
     /// Which of its door's seats this is, from 0 on.
     pub number: usize,
+    /// The thread of the door serves its connection. It is taken if no other seat gets free, or no thread can be made.
+    pub is_reserve: bool,
     /// Whether a connection has it.
     pub is_taken: AtomicBool,
     /// Its connection has to leave it.
@@ -91,8 +93,17 @@ pub struct Door {
 impl Door {
     /// A seat that is free, which is taken now. Only the thread at the door calls it.
     pub fn free_seat<R: Wait>(&self, rt: &R) -> Option<&Seat> {
+        self.free_seat_of(rt, false)
+    }
+
+    /// The reserve seat, which is taken now, if the door has one. Only the thread at the door calls it.
+    pub fn reserve_seat<R: Wait>(&self, rt: &R) -> Option<&Seat> {
+        self.free_seat_of(rt, true)
+    }
+
+    fn free_seat_of<R: Wait>(&self, rt: &R, is_reserve: bool) -> Option<&Seat> {
         for seat in &self.seats {
-            if !seat.is_taken.load(Ordering::SeqCst) {
+            if seat.is_reserve == is_reserve && !seat.is_taken.load(Ordering::SeqCst) {
                 seat.told.lock(rt).clear();
                 seat.is_leaving.store(false, Ordering::SeqCst);
                 seat.is_taken.store(true, Ordering::SeqCst);
@@ -100,6 +111,16 @@ impl Door {
             }
         }
         None
+    }
+
+    /// Whether a connection has to leave its seat, and has not left it yet.
+    pub fn is_awaiting_leave(&self) -> bool {
+        for seat in &self.seats {
+            if seat.is_leaving() && seat.is_taken.load(Ordering::SeqCst) {
+                return true;
+            }
+        }
+        false
     }
 
     /// Whether no connection has a seat.

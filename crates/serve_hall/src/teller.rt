@@ -1,3 +1,5 @@
+use crate::paces::Paces;
+use crate::queue::Queue;
 use crate::seats::Door;
 use rbc_centre::{Outcome, Word};
 use serve_connections::Exchange;
@@ -17,6 +19,10 @@ pub struct Teller<'a> {
     pub control: Option<&'a Door>,
     /// The centre's journal, if it keeps one.
     pub journal: Option<&'a Journal>,
+    /// Who waits for that journal.
+    pub queue: Queue,
+    /// How fast messages come to the centre.
+    pub paces: Paces,
     /// The name of the centre.
     pub name: &'a str,
 }
@@ -25,14 +31,39 @@ impl Teller<'_> {
     /// Waits until this answer may go on, and returns whether it may: not if the journal was given up before its event
     /// was written. Without a word to the interlocking it waits only if the journal is late or can't be written.
     pub fn may_tell<R: Wait>(&self, rt: &R, outcome: &Outcome) -> bool {
+        if !outcome.words().is_empty() {
+            return self.reaches(rt, outcome.stamp);
+        }
         let Some(journal) = self.journal else {
             return true;
         };
-        if outcome.words().is_empty() {
-            journal.keeps_up(rt, outcome.stamp)
-        } else {
-            journal.reaches(rt, outcome.stamp)
-        }
+        self.queue.enter();
+        let may_tell = journal.keeps_up(rt, outcome.stamp);
+        self.queue.leave(may_tell);
+        may_tell
+    }
+
+    /// Waits until the journal has the event with this stamp, if the centre keeps one. It returns false if the journal
+    /// was given up before.
+    pub fn reaches<R: Wait>(&self, rt: &R, stamp: u32) -> bool {
+        let Some(journal) = self.journal else {
+            return true;
+        };
+        self.queue.enter();
+        let reaches = journal.reaches(rt, stamp);
+        self.queue.leave(reaches);
+        reaches
+    }
+
+    /// As `reaches`, but it also returns false if the journal can't be written now.
+    pub(crate) fn comes_to<R: Wait>(&self, rt: &R, stamp: u32) -> bool {
+        let Some(journal) = self.journal else {
+            return true;
+        };
+        self.queue.enter();
+        let comes_to = journal.comes_to(rt, stamp);
+        self.queue.leave(comes_to);
+        comes_to
     }
 
     /// Tells the interlocking of each section that was wished back, and is shut now.
@@ -64,9 +95,6 @@ impl Outlet for Teller<'_> {
 impl Release for Teller<'_> {
     // A message to a train may be written once its event is in the journal.
     fn is_released<R: Wait>(&self, rt: &R, stamp: u32) -> bool {
-        match self.journal {
-            Some(journal) => journal.reaches(rt, stamp),
-            None => true,
-        }
+        self.reaches(rt, stamp)
     }
 }

@@ -4,6 +4,7 @@
 //! Bodies are free. What goes over a connection is fixed by docs/FORMATS.md.
 #![tactic(auto)]
 
+mod browsers;
 mod journals;
 mod links;
 mod pages;
@@ -15,4 +16,4 @@ pub use running::serve;
 pub use serve_control::ServeFault;
 pub use serve_hall::{Doors, Manner};
 pub use serve_journal::JournalFile;
-pub use serve_show::{Loud, Notes, Quiet};
+pub use serve_show::{Kind, Loud, Notes, Quiet};

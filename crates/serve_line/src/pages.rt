@@ -1,20 +1,16 @@
+use crate::browsers::{PageDoor, Seen};
 use cli_status::Fault;
-use rbc_line::Line;
-use serve_glance::Glance;
-use serve_hall::{Caller, DOOR_REST_MS, Door, Hall, Listening};
-use serve_page::{Asked, CentreNow, Refusal, answer, asked_of, refusal};
+use serve_hall::{Caller, Door, Hall};
+use serve_page::{Asked, LineNow, Refusal, answer, asked_of, refusal};
 use serve_show::Notes;
-use std::alloc::{AllocError, Global};
+use std::alloc::Global;
 use std::io::{ErrorKind, Read, Write};
-use std::net::{Shutdown, SocketAddr, TcpListener, TcpStream};
-use std::sync::atomic::{AtomicBool, Ordering};
-use std::sync::{Mutex, Wait};
+use std::net::{Shutdown, TcpStream};
+use std::sync::atomic::Ordering;
+use std::sync::{Arc, Wait};
 use std::thread;
-use std::thread::{Parker, Threads};
+use std::thread::Threads;
 use std::time::{Clock, Duration, Instant};
-
-/// How many browsers are answered at once.
-const BROWSERS: usize = 8;
 
 /// How long a read or a write of a browser's connection waits, in milliseconds.
 const PAGE_REST_MS: u64 = 250;
@@ -25,60 +21,6 @@ const TURNS: u32 = 16;
 /// How long the line counts as seen, in milliseconds: however many ask, the centres are looked at four times a second
 /// at most.
 const FRESH_MS: u64 = 250;
-
-/// The port at which browsers ask for the page of the line.
-#[derive(Drop)]
-pub(crate) struct PageDoor {
-    listener: TcpListener,
-    address: SocketAddr,
-    seats: Vec<AtomicBool>,
-    bell: Parker,
-    seen: Mutex<Seen>,
-}
-
-// The line as it was seen last, and when.
-#[derive(Drop)]
-struct Seen {
-    at: Option<Instant>,
-    glance: Glance,
-}
-
-impl PageDoor {
-    pub fn new(
-        alloc: Global,
-        line: &Line,
-        doors: &[Door],
-        listening: Listening,
-    ) -> Result<PageDoor, AllocError> {
-        let mut seats = Vec::new(alloc);
-        for _ in 0..BROWSERS {
-            seats.push(AtomicBool::new(false))?;
-        }
-        let mut ports = Vec::new(alloc);
-        for door in doors {
-            ports.push(door.address.port())?;
-        }
-        let glance = Glance::new(alloc, line, ports)?;
-        Ok(PageDoor {
-            listener: listening.listener,
-            address: listening.address,
-            seats,
-            bell: Parker::new(),
-            seen: Mutex::new(Seen { at: None, glance }),
-        })
-    }
-
-    // A seat that is free, which is taken now. Only the thread at the door calls it.
-    fn free_seat(&self) -> Option<&AtomicBool> {
-        for seat in &self.seats {
-            if !seat.load(Ordering::SeqCst) {
-                seat.store(true, Ordering::SeqCst);
-                return Some(seat);
-            }
-        }
-        None
-    }
-}
 
 /// Answers browsers until all sessions have ended.
 pub(crate) fn run_pages<R: Threads + Wait + Sync + Clock, N: Notes + Sync>(
@@ -93,26 +35,39 @@ pub(crate) fn run_pages<R: Threads + Wait + Sync + Clock, N: Notes + Sync>(
             if hall.state.is_empty() {
                 break;
             }
-            let Ok((stream, _)) = door.listener.accept() else {
-                door.bell
-                    .park_timeout(rt, Duration::from_millis(DOOR_REST_MS));
+            let Some(stream) = next_browser(rt, hall, door) else {
                 continue;
             };
-            let Some(seat) = door.free_seat() else {
+            let Some(place) = door.place_for(rt, &stream) else {
                 refuse(&stream);
                 continue;
             };
             if scope
                 .spawn(move || {
                     serve_browser(rt, hall, door, &stream);
-                    seat.store(false, Ordering::SeqCst);
+                    place.leave(rt);
                 })
                 .is_err()
             {
-                seat.store(false, Ordering::SeqCst);
+                place.leave(rt);
             }
         }
     });
+}
+
+// A connection that waits to be taken. It rests a while if there is none.
+fn next_browser<R: Wait>(
+    rt: &R,
+    hall: &Hall<'_>,
+    door: &PageDoor,
+) -> Option<Arc<TcpStream, Global>> {
+    match door.listener.accept() {
+        Ok((stream, _)) => Arc::new(hall.alloc, stream).ok(),
+        Err(_) => {
+            door.rest(rt);
+            None
+        }
+    }
 }
 
 // Says that too many ask. It never waits: the connection is new, so that it has room for this.
@@ -127,19 +82,31 @@ fn serve_browser<R: Wait + Clock>(rt: &R, hall: &Hall<'_>, door: &PageDoor, stre
     let _ = stream.set_nodelay(true);
     let _ = stream.set_read_timeout(Some(Duration::from_millis(PAGE_REST_MS)));
     let _ = stream.set_write_timeout(Some(Duration::from_millis(PAGE_REST_MS)));
-    let Some(asked) = read_request(hall, stream) else {
+    let Some((asked, has_body)) = read_request(hall, stream) else {
         return;
     };
     let Ok(text) = answer_to(rt, hall, door, asked) else {
         return;
     };
-    write_bounded(stream, text.as_bytes());
+    write_bounded(stream, part_of(text.as_str(), has_body).as_bytes());
     let _ = stream.shutdown(Shutdown::Write);
     drain(stream);
 }
 
-// What is asked for, as soon as it has come whole. None where the connection ends before.
-fn read_request(hall: &Hall<'_>, stream: &TcpStream) -> Option<Asked> {
+// The answer, or its head with the empty line.
+fn part_of(text: &str, has_body: bool) -> &str {
+    if has_body {
+        return text;
+    }
+    match text.find("\r\n\r\n") {
+        Some(end) => text.get(..end.saturating_add(4)).unwrap_or(text),
+        None => text,
+    }
+}
+
+// What is asked for, as soon as it has come whole, and whether the answer has a body: to HEAD it has none. `None` if the
+// connection ends before.
+fn read_request(hall: &Hall<'_>, stream: &TcpStream) -> Option<(Asked, bool)> {
     let mut bytes: Vec<u8> = Vec::new(hall.alloc);
     let mut source = stream;
     for _ in 0..TURNS {
@@ -150,14 +117,15 @@ fn read_request(hall: &Hall<'_>, stream: &TcpStream) -> Option<Asked> {
                 bytes.extend_from_slice(piece.get(..count)?).ok()?;
                 match asked_of(&bytes) {
                     Asked::More => {}
-                    asked => return Some(asked),
+                    asked => return Some((asked, !bytes.starts_with(b"HEAD "))),
                 }
             }
             Err(error) if is_rest(error.kind()) && !hall.state.is_empty() => {}
             Err(_) => return None,
         }
     }
-    Some(Asked::Refused(Refusal::Time))
+    let has_body = !bytes.starts_with(b"HEAD ");
+    Some((Asked::Refused(Refusal::Time), has_body))
 }
 
 // Whether a device only says that nothing could be done now.
@@ -180,10 +148,12 @@ fn answer_to<R: Wait + Clock>(
         refresh(rt, hall, &mut seen)?;
     }
     let glance = &seen.glance;
-    Ok(answer(hall.alloc, &glance.layout, &glance.now, asked)?)
+    let version = seen.version;
+    Ok(answer(hall.alloc, &glance.layout, &glance.now, version, asked)?)
 }
 
-// Looks at the centres again, where the last look is old.
+// Looks at the centres again if the last look is old. The page goes on showing that one while a journal can't be
+// written: nobody is shown an event that no journal has.
 fn refresh<R: Wait + Clock>(
     rt: &R,
     hall: &Hall<'_>,
@@ -198,27 +168,60 @@ fn refresh<R: Wait + Clock>(
         }
     }
     seen.at = Some(time);
-    seen.glance.look(rt, hall.alloc, hall.line, hall.nodes)?;
-    seen.glance.now.is_stopped = hall.state.is_stopped();
-    for door in hall.doors {
-        if let Caller::Trains(centre) = door.caller {
-            if let Some(place) = seen.glance.now.centres.get_mut(centre as usize) {
-                count_seats(door, place);
-            }
-        }
+    let now = seen.glance.look(rt, hall.alloc, hall.line, hall.nodes)?;
+    let shown = &mut seen.glance.now;
+    let mut has_changed = false;
+    if hall.await_journals(rt) {
+        has_changed = now.events != shown.events;
+        let before = std::mem::replace(shown, now);
+        copy_marks(&before, shown);
+    }
+    if mark_doors(rt, hall, shown) || has_changed {
+        seen.version = seen.version.saturating_add(1);
     }
     Ok(())
 }
 
+// Copies what the doors showed before.
+fn copy_marks(before: &LineNow, now: &mut LineNow) {
+    now.is_stopped = before.is_stopped;
+    for (place, old) in now.centres.iter_mut().zip(before.centres.iter()) {
+        place.taken = old.taken;
+        place.seats = old.seats;
+        place.is_stuck = old.is_stuck;
+    }
+}
+
+// Marks whether connections are taken, how many there are, and which journals can't be written. The result is whether
+// anything of that has changed.
+fn mark_doors<R: Wait>(rt: &R, hall: &Hall<'_>, now: &mut LineNow) -> bool {
+    let is_stopped = hall.state.is_stopped();
+    let mut has_changed = is_stopped != now.is_stopped;
+    now.is_stopped = is_stopped;
+    for door in hall.doors {
+        let Caller::Trains(centre) = door.caller else {
+            continue;
+        };
+        let Some(place) = now.centres.get_mut(centre as usize) else {
+            continue;
+        };
+        let marks = (taken_in(door), hall.is_stuck(rt, centre));
+        has_changed = has_changed || marks != (place.taken, place.is_stuck);
+        (place.taken, place.is_stuck) = marks;
+        place.seats = door.seats.len() as u64;
+    }
+    has_changed
+}
+
 // How many of a door's seats are taken.
-fn count_seats(door: &Door, place: &mut CentreNow) {
-    place.seats = door.seats.len() as u64;
-    place.taken = 0;
+fn taken_in(door: &Door) -> u64 {
+    let mut taken = 0u64;
     for seat in &door.seats {
         if seat.is_taken.load(Ordering::SeqCst) {
-            place.taken = place.taken.saturating_add(1);
+            taken = taken.saturating_add(1);
         }
     }
+    taken
 }
 
 // Writes what a browser takes in so many turns.

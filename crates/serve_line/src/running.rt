@@ -1,6 +1,7 @@
+use crate::browsers::PageDoor;
 use crate::journals::{Record, keep, resume_noted};
 use crate::links::carry;
-use crate::pages::{PageDoor, run_pages};
+use crate::pages::run_pages;
 use crate::tally::Tally;
 use crossbeam_channel::bounded;
 use rbc_line::Line;
@@ -12,12 +13,11 @@ use serve_hall::{
     journals_of, links_of, nodes_of, tellers_of,
 };
 use serve_journal::JournalFile;
-use serve_show::{Notes, Queued, write_notes};
+use serve_show::{Backlog, Notes, Queued, write_notes};
 use std::alloc::{AllocError, Global};
 use std::fs::OpenFile;
 use std::io::{Seek, Write};
 use std::sync::Wait;
-use std::sync::atomic::AtomicU64;
 use std::thread;
 use std::thread::Threads;
 use std::time::Clock;
@@ -44,11 +44,11 @@ pub fn serve<
     out: &mut O,
 ) -> Result<(), ServeFault> {
     let (queue, waiting) = bounded(alloc, NOTES)?;
-    let lost = AtomicU64::new(0);
+    let backlog = Backlog::new();
     thread::scope(thread::scope_env(), rt, |scope| {
-        let lost = &lost;
+        let backlog = &backlog;
         if scope
-            .spawn(move || write_notes(rt, notes, &waiting, lost))
+            .spawn(move || write_notes(rt, notes, &waiting, backlog))
             .is_err()
         {
             return Err(ServeFault::from(AllocError));
@@ -57,7 +57,7 @@ pub fn serve<
             rt,
             alloc,
             queue,
-            lost,
+            backlog,
         };
         serve_noted(rt, alloc, line, doors, record, manner, &queued, out)
     })
@@ -85,7 +85,7 @@ fn serve_noted<
     let (listening, page) = doors.all();
     let doors = doors_of(alloc, line, &nodes, listening)?;
     let page = match page {
-        Some(listening) => Some(PageDoor::new(alloc, line, &doors, listening)?),
+        Some(listening) => Some(PageDoor::new(rt, alloc, (line, &nodes), &doors, listening)?),
         None => None,
     };
     let links = links_of(alloc, line, &nodes)?;

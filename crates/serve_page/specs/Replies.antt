@@ -25,12 +25,12 @@ answer_of head body = head ++ decimal (length body) ++ constants.END.now ++ body
 abbrev pub HasBody : List ℕ → List ℕ → Type 0
 HasBody head text = (body : List ℕ) × (text ≡ answer_of head body)
 
--- what a request is answered where so many events have come: a refused one a fixed text, and one for what is so now of
--- which nothing is new that nothing is new. Any other answer has the length of its body in its head
+-- the answer to a request if the line is shown in this version: a refused one has a fixed text, and one for what is so
+-- now says that nothing is new if it names this version. Any other answer has the length of its body in its head
 abbrev pub IsAnswer : ℕ → Asked → List ℕ → Type 0
-IsAnswer events asked.More text = text ≡ []
-IsAnswer events (asked.Refused why) text = text ≡ refusal_text why
-IsAnswer events asked.Page text = HasBody constants.HTML.now text
-IsAnswer events asked.Line text = HasBody constants.JSON.now text
-IsAnswer events (asked.Now since) text =
-    ((since ≡ Some events) × (text ≡ constants.SAME.now)) ⊎ HasBody constants.JSON.now text
+IsAnswer version asked.More text = text ≡ []
+IsAnswer version (asked.Refused why) text = text ≡ refusal_text why
+IsAnswer version asked.Page text = HasBody constants.HTML.now text
+IsAnswer version asked.Line text = HasBody constants.JSON.now text
+IsAnswer version (asked.Now since) text =
+    ((since ≡ Some version) × (text ≡ constants.SAME.now)) ⊎ HasBody constants.JSON.now text

@@ -32,6 +32,10 @@ has_name name host = bytes_eq (take (length name) host) name && is_port_part (dr
 abbrev pub is_loopback : List ℕ → Bool
 is_loopback host = has_name (codes "localhost") host || has_name (codes "127.0.0.1") host
 
+-- a method that only reads
+abbrev pub is_reading : List ℕ → Bool
+is_reading method = bytes_eq method (codes "GET") || bytes_eq method (codes "HEAD")
+
 -- a target that asks for what is so now
 abbrev pub is_now : List ℕ → Bool
 is_now target = bytes_eq target (codes "/now") || bytes_eq (take 11 target) (codes "/now?since=")
@@ -57,8 +61,8 @@ HasHost h is_ours = (host : List ℕ × List ℕ) × (hosts_in h ≡ host ∷ []
 abbrev pub IsAskedBy : RequestHead → Asked → Type 0
 IsAskedBy h (asked.Refused refusal.Form) = length (hosts_in h) ≢ 1
 IsAskedBy h (asked.Refused refusal.Host) = HasHost h false
-IsAskedBy h (asked.Refused refusal.Method) = HasHost h true × (h.method ≢ codes "GET")
-IsAskedBy h other = HasHost h true × (h.method ≡ codes "GET") × IsAskedAt h.target other
+IsAskedBy h (asked.Refused refusal.Method) = HasHost h true × (is_reading h.method ≡ false)
+IsAskedBy h other = HasHost h true × (is_reading h.method ≡ true) × IsAskedAt h.target other
 
 -- more is waited for only where a head may come yet and few bytes have come; and nothing is given but to a whole head
 -- that asks for it

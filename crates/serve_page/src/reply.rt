@@ -25,7 +25,7 @@ const ADDRESS: &str =
     "HTTP/1.1 404 Not Found\r\nContent-Type: text/plain\r\nConnection: close\r\nContent-Length: 10\r\n\r\nnot found\n";
 
 const METHOD: &str =
-    "HTTP/1.1 405 Method Not Allowed\r\nAllow: GET\r\nContent-Type: text/plain\r\nConnection: close\r\nContent-Length: 9\r\n\r\nonly GET\n";
+    "HTTP/1.1 405 Method Not Allowed\r\nAllow: GET, HEAD\r\nContent-Type: text/plain\r\nConnection: close\r\nContent-Length: 9\r\n\r\nonly GET\n";
 
 const TIME: &str =
     "HTTP/1.1 408 Request Timeout\r\nContent-Type: text/plain\r\nConnection: close\r\nContent-Length: 9\r\n\r\ntoo slow\n";
@@ -54,24 +54,23 @@ pub fn refusal(why: Refusal) -> &'static str
     }
 }
 
-/// The answer to a request, which is nothing where it has not come whole.
+/// The answer to a request, if the line is shown in this version. It is empty if the request has not come whole.
 pub fn answer(
     alloc: Global,
     layout: &Layout,
     now: &LineNow,
+    version: u64,
     asked: Asked,
 ) -> Result<String, AllocError>
-    ensures { IfOk result (λ text. IsAnswer now.now.events asked (string_bytes text)) }
+    ensures { IfOk result (λ text. IsAnswer version asked (string_bytes text)) }
 {
     match asked {
         Asked::More => Ok(String::new(alloc)),
         Asked::Refused(why) => String::from_str(alloc, refusal(why)),
         Asked::Page => found(alloc, HTML, live_page(alloc, layout, now)?.as_str()),
         Asked::Line => found(alloc, JSON, line_json(alloc, layout)?.as_str()),
-        Asked::Now {
-            since: Some(events),
-        } if events == now.events => String::from_str(alloc, SAME),
-        Asked::Now { .. } => found(alloc, JSON, now_json(alloc, layout, now)?.as_str()),
+        Asked::Now { since: Some(seen) } if seen == version => String::from_str(alloc, SAME),
+        Asked::Now { .. } => found(alloc, JSON, now_json(alloc, layout, now, version)?.as_str()),
     }
 }
 

@@ -4,7 +4,7 @@ ghost use Rattle.std.specs.Prelude.{◌≡◌, ◌≤◌, ℕ, List, ◌∷◌, 
 ghost use Rattle.httparse.specs.declared.spans.HeaderSpan.{HeaderSpan};
 ghost use Rattle.httparse.specs.Grammar.{RequestHead, ReadsRequest};
 ghost use Rattle.httparse.specs.Spans.{span_bytes, IsRequestAt};
-ghost use Rattle.serve_page.specs.Requests.{names_host, has_name, is_loopback, named_in, AreHosts, AreHostsOf, IsAsked, IsAskedAt, IsAskedBy};
+ghost use Rattle.serve_page.specs.Requests.{names_host, has_name, is_loopback, is_reading, named_in, AreHosts, AreHostsOf, IsAsked, IsAskedAt, IsAskedBy};
 
 use httparse::Status;
 use httparse::spans::{EMPTY_HEADER_SPAN, HeaderSpan, RequestSpans, Span, parse_request};
@@ -24,7 +24,7 @@ pub enum Asked {
     Page,
     /// The layout of the line.
     Line,
-    /// What is so now. Nothing of it is wanted where no event came behind so many.
+    /// What is so now; nothing, if it is shown in this version still.
     Now { since: Option<u64> },
     /// Nothing that there is.
     Refused(Refusal),
@@ -37,7 +37,7 @@ pub enum Refusal {
     Form,
     /// It is for another host than this one.
     Host,
-    /// It is for another method than GET.
+    /// It is for another method than GET or HEAD.
     Method,
     /// It is for another address.
     Address,
@@ -75,7 +75,7 @@ fn asked_by(bytes: &[u8], head: &RequestSpans, fields: &[HeaderSpan]) -> Asked
     if !is_loopback(part(bytes, host)) {
         return Asked::Refused(Refusal::Host);
     }
-    if part(bytes, head.method) != b"GET".as_slice() {
+    if !is_reading(part(bytes, head.method)) {
         return Asked::Refused(Refusal::Method);
     }
     asked_at(part(bytes, head.path))
@@ -102,8 +102,11 @@ fn asked_at(target: &[u8]) -> Asked
     }
 }
 
-// The number that these digits write, if 64 bits hold it.
+// The number that these digits write, if 64 bits hold it. A sign is no digit.
 fn number_of(digits: &[u8]) -> Option<u64> {
+    if digits.first() == Some(&b'+') {
+        return None;
+    }
     std::str::from_utf8(digits).ok()?.parse().ok()
 }
 
@@ -155,6 +158,13 @@ fn is_host(name: &[u8]) -> bool
     ensures { result ≡ names_host name.now }
 {
     name.eq_ignore_ascii_case(b"host")
+}
+
+// Whether a method only reads.
+fn is_reading(method: &[u8]) -> bool
+    ensures { result ≡ is_reading method.now }
+{
+    method == b"GET".as_slice() || method == b"HEAD".as_slice()
 }
 
 // Whether a host goes by a name that means this host everywhere, with a port or without.

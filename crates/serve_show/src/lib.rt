@@ -4,12 +4,14 @@
 //! Bodies are free. What is shown is fixed by docs/FORMATS.md.
 #![tactic(auto)]
 
+mod kinds;
 mod life;
 mod notes;
 mod roster;
 mod sight;
 
+pub use kinds::Kind;
 pub use life::{Life, write_life};
-pub use notes::{Loud, Notes, Queued, Quiet, write_notes};
+pub use notes::{Backlog, Loud, Notes, Queued, Quiet, write_notes};
 pub use roster::Roster;
 pub use sight::show;

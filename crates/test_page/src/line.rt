@@ -108,6 +108,7 @@ fn add_lives(now: &mut LineNow) -> Result<(), AllocError> {
             clock: 4,
             taken: 1,
             seats: 9,
+            is_stuck: entries == 1,
         })?;
     }
     now.links.push(LinkNow {

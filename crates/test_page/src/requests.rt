@@ -21,13 +21,16 @@ fn status_of(alloc: Global, method: &str, target: &str, host: &str) -> Result<u1
     status(alloc, text.as_bytes())
 }
 
-static ADDRESSES: [(&str, u16); 14] = [
+static ADDRESSES: [(&str, u16); 17] = [
     ("/", 200),
     ("/line.json", 200),
     ("/now", 200),
     ("/now?since=", 200),
-    ("/now?since=4", 200),
-    ("/now?since=5", 304),
+    ("/now?since=511", 200),
+    ("/now?since=512", 304),
+    ("/now?since=0512", 304),
+    ("/now?since=+512", 200),
+    ("/now?since=5", 200),
     ("/now?since=99999999999999999999", 200),
     ("/now?since=-5", 200),
     ("/nowhere", 404),
@@ -50,11 +53,22 @@ fn three_addresses_are_known(rt: HostRuntime) -> Result<(), Fail> {
 }
 
 static METHODS: [&str; 8] = [
-    "POST", "PUT", "DELETE", "OPTIONS", "CONNECT", "TRACE", "get", "HEAD",
+    "POST", "PUT", "DELETE", "OPTIONS", "CONNECT", "TRACE", "get", "HEADS",
 ];
 
 #[test]
-fn only_get_is_answered(rt: HostRuntime) -> Result<(), Fail> {
+fn head_is_answered_as_get(rt: HostRuntime) -> Result<(), Fail> {
+    for (target, expected) in &ADDRESSES {
+        assert!(rt;
+            status_of(rt.alloc(), "HEAD", target, "localhost:1")? == *expected,
+            "{target}"
+        );
+    }
+    Ok(())
+}
+
+#[test]
+fn no_other_method_is_answered(rt: HostRuntime) -> Result<(), Fail> {
     for method in &METHODS {
         assert!(rt;
             status_of(rt.alloc(), method, "/", "localhost:1")? == 405,

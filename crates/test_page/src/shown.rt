@@ -6,6 +6,9 @@ use serve_page::{Asked, Refusal, answer, refusal};
 use std::alloc::{AllocError, Global};
 use std::test::*;
 
+// The version in which the line is shown.
+const VERSION: u64 = 512;
+
 /// The head and the body of the answer.
 pub fn answered(alloc: Global, asked: Asked) -> Result<String, AllocError> {
     let layout = layout(alloc)?;
@@ -14,7 +17,7 @@ pub fn answered(alloc: Global, asked: Asked) -> Result<String, AllocError> {
 
 fn answered_on(alloc: Global, layout: &Layout, asked: Asked) -> Result<String, AllocError> {
     let now = now(alloc)?;
-    answer(alloc, layout, &now, asked)
+    answer(alloc, layout, &now, VERSION, asked)
 }
 
 /// The first of these texts that is not in the text.
@@ -81,10 +84,12 @@ fn sections_alike_are_one_row(rt: HostRuntime) -> Result<(), Fail> {
     Ok(())
 }
 
-static OF_TRAIN: [&str; 4] = [
+static OF_TRAIN: [&str; 6] = [
+    "{\"version\":512,\"events\":5,\"stopped\":false,\n\"trains\":",
     "[19,\"A\",\"B\",\"main\",null,123.4,0,1,null,null,null,0]",
     "[19,\"A\",\"up\"]",
-    "[\"A\",21000,4,4,1,9]",
+    "[\"A\",21000,4,4,1,9,0]",
+    "[\"B\",21001,1,4,1,9,1]",
     "[\"A\",\"B\",3,2]",
 ];
 

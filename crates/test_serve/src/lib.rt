@@ -5,6 +5,8 @@
 
 pub mod client;
 #[cfg(test)]
+mod doors;
+#[cfg(test)]
 mod driving;
 #[cfg(test)]
 mod initiations;

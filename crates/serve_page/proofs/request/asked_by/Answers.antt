@@ -1,6 +1,6 @@
 use Rattle.std.proofs.Common.{sym, ◌∙◌, ap}
 use Rattle.httparse.specs.Spans.{span_bytes}
-use Rattle.serve_page.specs.Requests.{is_loopback}
+use Rattle.serve_page.specs.Requests.{is_loopback, is_reading}
 use Rattle.serve_page.proofs.request.asked_by.Goals as goal
 
 pub returns-then-not-is_loopback : goal.returns-then-not-is_loopback

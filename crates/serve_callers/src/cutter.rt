@@ -1,0 +1,46 @@
+/// How many bytes the first fields of a message fill: NID_MESSAGE (8 bits), L_MESSAGE (10), T_TRAIN (32) and NID_ENGINE
+/// (24).
+const HEAD: usize = 10;
+
+/// Finds the last byte of each message of a stream, and the engine that the message names. In bytes with a fault it may
+/// find none: then the stream finds the fault.
+#[derive(Clone, Copy)]
+pub(crate) struct Cutter {
+    // What has come of the message, at most its first fields.
+    head: [u8; HEAD],
+    // How many bytes of the message have come.
+    count: usize,
+}
+
+impl Cutter {
+    /// Before the first byte of a message.
+    pub fn new() -> Cutter {
+        Cutter {
+            head: [0; HEAD],
+            count: 0,
+        }
+    }
+
+    /// Takes the next byte. The result is the NID_ENGINE of the message that it ends, if it ends one.
+    pub fn take(&mut self, byte: u8) -> Option<u32> {
+        if let Some(place) = self.head.get_mut(self.count) {
+            *place = byte;
+        }
+        self.count = self.count.saturating_add(1);
+        if self.count < HEAD || self.count != self.l_message() {
+            return None;
+        }
+        let nid_engine = self.nid_engine();
+        *self = Cutter::new();
+        Some(nid_engine)
+    }
+
+    fn l_message(&self) -> usize {
+        usize::from(u16::from_be_bytes([self.head[1], self.head[2]]) >> 6)
+    }
+
+    fn nid_engine(&self) -> u32 {
+        let [_, _, _, _, _, _, first, second, third, fourth] = self.head;
+        (u32::from_be_bytes([first, second, third, fourth]) >> 6) & 0xFF_FFFF
+    }
+}

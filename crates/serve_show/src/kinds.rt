@@ -1,0 +1,126 @@
+/// How many notes of a kind are written in a second. Of further ones only the number is.
+const EACH_SECOND: u32 = 10;
+
+/// A kind of note of which many may come in a short time.
+#[derive(Clone, Copy, Debug, PartialEq, Eq)]
+pub enum Kind {
+    /// A connection begins.
+    Begin,
+    /// A connection ends.
+    End,
+    /// A train opens its session.
+    Session,
+    /// A line of the interlocking is refused.
+    Line,
+    /// A connection is refused.
+    Refusal,
+    /// A connection gets no thread.
+    Thread,
+    /// The system gives no connection.
+    Device,
+}
+
+/// All kinds.
+pub(crate) const KINDS: [Kind; 7] = [
+    Kind::Begin,
+    Kind::End,
+    Kind::Session,
+    Kind::Line,
+    Kind::Refusal,
+    Kind::Thread,
+    Kind::Device,
+];
+
+impl Kind {
+    /// The words after the number of notes that were left out.
+    pub(crate) fn words(self) -> &'static str {
+        match self {
+            Kind::Begin => "connections begin",
+            Kind::End => "connections end",
+            Kind::Session => "sessions are opened",
+            Kind::Line => "lines are refused",
+            Kind::Refusal => "connections are refused",
+            Kind::Thread => "connections are ended, no thread could be made",
+            Kind::Device => "times no connection can be taken",
+        }
+    }
+}
+
+/// How many notes of each kind were written in its last second, and how many were left out.
+#[derive(Drop)]
+pub(crate) struct Counts {
+    counts: [Count; 7],
+}
+
+#[derive(Clone, Copy)]
+struct Count {
+    // The second, by the monotonic clock.
+    second: u64,
+    written: u32,
+    left_out: u64,
+}
+
+/// What becomes of a note.
+#[derive(Clone, Copy)]
+pub(crate) struct Taken {
+    pub is_written: bool,
+    /// How many notes of its kind were left out in an earlier second.
+    pub left_out: u64,
+}
+
+impl Counts {
+    /// No note came yet.
+    pub fn new() -> Counts {
+        let count = Count {
+            second: 0,
+            written: 0,
+            left_out: 0,
+        };
+        Counts { counts: [count; 7] }
+    }
+
+    /// Takes a note of this kind in this second.
+    pub fn take(&mut self, kind: Kind, second: u64) -> Taken {
+        let Some(count) = self.counts.get_mut(kind as usize) else {
+            return Taken {
+                is_written: true,
+                left_out: 0,
+            };
+        };
+        let left_out = count.turn(second);
+        let is_written = count.written < EACH_SECOND;
+        if is_written {
+            count.written = count.written.saturating_add(1);
+        } else {
+            count.left_out = count.left_out.saturating_add(1);
+        }
+        Taken {
+            is_written,
+            left_out,
+        }
+    }
+
+    /// How many notes of this kind were left out in a second before this one, and not reported yet.
+    pub fn left_out(&mut self, kind: Kind, second: u64) -> u64 {
+        match self.counts.get_mut(kind as usize) {
+            Some(count) => count.turn(second),
+            None => 0,
+        }
+    }
+}
+
+impl Count {
+    // Begins this second, if it is another one. The result is how many notes were left out before.
+    fn turn(&mut self, second: u64) -> u64 {
+        if self.second == second {
+            return 0;
+        }
+        let left_out = self.left_out;
+        *self = Count {
+            second,
+            written: 0,
+            left_out: 0,
+        };
+        left_out
+    }
+}
