@@ -6,3 +6,4 @@ pub mod Reached
 pub mod Runs
 pub mod Seen
 pub mod Speaks
+pub mod Within

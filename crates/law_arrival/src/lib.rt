@@ -12,4 +12,7 @@ mod laws;
 mod scenes;
 
 pub use laws::{received_messages_are_safe, trains_do_not_meet, what_comes_is_safe};
-pub use scenes::{a_lost_acceptance_is_seen, a_lost_authority_is_seen, wrong_trains_are_seen};
+pub use scenes::{
+    a_lost_acceptance_is_seen, a_lost_authority_is_seen, trains_within_are_seen,
+    wrong_trains_are_seen,
+};
