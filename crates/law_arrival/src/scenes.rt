@@ -1,7 +1,7 @@
 //! Messages that are lost, and trains that break a requirement.
 
 ghost use Rattle.std.specs.Prelude.{◌≡◌, true, false};
-ghost use Rattle.law_outside.specs.Outside.{may_run_over, nothing_seen};
+ghost use Rattle.law_outside.specs.Outside.{may_run_over, nothing_seen, IsSafeOutside};
 ghost use Rattle.law_outside.specs.Scenes.{line, events_of, spoken_after, seen_of, side_by_side, train_1_runs, the_authority_is_lost, granted};
 ghost use Rattle.law_arrival.specs.Arrival.{Arrive, IsSafeByWhatCame};
 ghost use Rattle.law_arrival.specs.Received.{AreReceived, nothing_known};
@@ -26,13 +26,15 @@ pub fn a_lost_acceptance_is_seen()
     ensures runs { may_run_over line (seen_of accepted_at_last) 1 2 ≡ true }
 {}
 
-/// Both requirements on trains are needed. If an authority comes to a train whose last acceptance was lost, two trains
-/// may run over one section. If a train grants a request that did not come to it, it may run over a section that the
-/// interlocking has back. Neither list of messages is received as it has to be.
+/// Both requirements on trains are needed: all that is told is safe here, and the part that comes is not. If an
+/// authority comes to a train whose last acceptance was lost, two trains may run over one section. If a train grants a
+/// request that did not come to it, it may run over a section that the interlocking has back.
 pub fn wrong_trains_are_seen()
+    ensures told { IsSafeOutside line (seen_of moved_on) }
     ensures authority { AreReceived nothing_known (events_of moved_on) (spoken_after moved_on)
         (spoken_after the_second_acceptance_is_lost) → ⊥ }
     ensures two_trains { IsSafeByWhatCame line (seen_of the_second_acceptance_is_lost) → ⊥ }
+    ensures granted { IsSafeOutside line (seen_of granted) }
     ensures grant { AreReceived nothing_known (events_of granted) (spoken_after granted)
         (spoken_after the_request_is_lost) → ⊥ }
     ensures had_back { IsSafeByWhatCame line (seen_of the_request_is_lost) → ⊥ }
