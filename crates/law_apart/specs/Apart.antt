@@ -3,7 +3,7 @@ use Rattle.std.specs.Prelude.{◌≡◌, ℕ, true, Ok}
 use Rattle.std.specs.List.{All}
 use Rattle.rbc_spec.specs.Line.{Line}
 use Rattle.rbc_spec.specs.Message.{TrainMessage}
-use Rattle.rbc_spec.specs.Outcome.{Outcome}
+use Rattle.rbc_spec.specs.Outcome.{Outcome, Word, Told}
 use Rattle.rbc_spec.specs.Centre.{Centre, is_used_for}
 use Rattle.rbc_spec.specs.World.{World, Bytes, Answered, world_step}
 use Rattle.law_walk.specs.Trains.{train_of}
@@ -23,14 +23,20 @@ pub record IsSameOf (u : ℕ) (k new : Centre) : Type 0 where
   pub used : (s : ℕ) → is_used_for u (new.book s) ≡ is_used_for u (k.book s)
   pub entries : (s : ℕ) → is_used_for u (k.book s) ≡ true → new.book s ≡ k.book s
 
--- of a step that takes a message of train t: of no other train anything changes anywhere, and all that is said to
--- trains and sent to other centres is of t
-pub record IsOfTrain (t : ℕ) (w : World) (outcome : Outcome) (new : World) : Type 0 where
+-- the word reports to the interlocking that a section is shut, and the section was in use for train t
+abbrev pub IsToldOf : ℕ → Centre → Word → Type 0
+IsToldOf t k (Told s) = is_used_for t (k.book s) ≡ true
+IsToldOf t k word = ⊥
+
+-- centre c takes a message of train t. Of no other train anything changes at any centre; all messages to trains and all
+-- frames to other centres are of t; and all words to the interlocking are of sections that were in use for t at c
+pub record IsOfTrain (c t : ℕ) (w : World) (outcome : Outcome) (new : World) : Type 0 where
   pub others : (u : ℕ) → (u ≡ t → ⊥) → (d : ℕ) → IsSameOf u (w.at d) (new.at d)
   pub sayings : All (λ p. p.nid_engine ≡ t) outcome.sayings
   pub frames : (d : ℕ) → All (λ f. train_of f.body ≡ t) (outcome.frames d)
+  pub words : All (IsToldOf t (w.at c)) outcome.words
 
 -- no train takes anything from another, whatever it says, in whatever state the centres are
 abbrev pub IsolationTheorem : Type 0
 IsolationTheorem = (line : Line) (w new : World) (c : ℕ) (m : TrainMessage) (outcome : Outcome)
-    → world_step line w (Bytes c (Ok m)) ≡ Ok (Answered outcome, new) → IsOfTrain m.nid_engine w outcome new
+    → world_step line w (Bytes c (Ok m)) ≡ Ok (Answered outcome, new) → IsOfTrain c m.nid_engine w outcome new

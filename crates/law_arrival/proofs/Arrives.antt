@@ -29,10 +29,10 @@ pub record Lies (y x : Stretch) : Type 0 where
   pub since : y.since ≤ x.since
   pub past : (n : ℕ) → int_lt y.rear (pos n) ≡ true → int_lt x.rear (pos n) ≡ true
 
-lies_itself : (x : Stretch) → Lies x x
+pub lies_itself : (x : Stretch) → Lies x x
 lies_itself x = record { track = refl; end = (omega arith); since = (omega arith); past = λ n is. is }
 
-lies_then : (z y x : Stretch) → Lies z y → Lies y x → Lies z x
+pub lies_then : (z y x : Stretch) → Lies z y → Lies y x → Lies z x
 lies_then z y x one two = record {
   track = one.track ∙ two.track;
   end = (let a = one.end in let b = two.end in omega (arith, a, b));
@@ -59,7 +59,7 @@ front_lies : (o : Option ℕ) (y : Stretch) → Lies (option_map_or (up_to y) o 
 front_lies None y = lies_itself y
 front_lies (Some e) y = up_to_lies y e
 
-back_lies : (line : Line) (c : ℕ) (body : TrainBody) (place : Place) (y : Stretch) → Lies (takes_back line c body place y) y
+pub back_lies : (line : Line) (c : ℕ) (body : TrainBody) (place : Place) (y : Stretch) → Lies (takes_back line c body place y) y
 back_lies line c InitiationOfSession place y = lies_itself y
 back_lies line c TerminationOfSession place y = lies_itself y
 back_lies line c SessionEstablished place y = lies_itself y
@@ -153,7 +153,7 @@ module _ (line : Line) (c : ℕ) (y x : Stretch) (lies : Lies y x) where
       by_asked None is = lies_then (after y y.asked) y x (back_lies line c (ShorteningGranted stamp position) place y) lies
       by_asked (Some a) is = kept a (((a.centre == c) && (a.stamp == stamp)) && nat_le place.front (10 * a.end)) refl is
 
-  message_both : (n : ℕ) (body : TrainBody) → ((stamp : ℕ) (position : Position) (a : Shortening) → body ≡ ShorteningGranted stamp position → a.stamp ≡ stamp → a.centre ≡ c → x.asked ≡ Some a → y.asked ≡ Some a)
+  pub message_both : (n : ℕ) (body : TrainBody) → ((stamp : ℕ) (position : Position) (a : Shortening) → body ≡ ShorteningGranted stamp position → a.stamp ≡ stamp → a.centre ≡ c → x.asked ≡ Some a → y.asked ≡ Some a)
       → Lies (after_message line c n body y) (after_message line c n body x)
   message_both n body came = by_place (option_and_then (extent line) (position_of body))
     where
@@ -176,10 +176,10 @@ module _ (line : Line) (c : ℕ) (y x : Stretch) (lies : Lies y x) where
 
 -- ## Being told
 
-hull : Stretch → Stretch → Stretch
+pub hull : Stretch → Stretch → Stretch
 hull x f = record f { rear = if int_lt x.rear f.rear then x.rear else f.rear; end = max x.end f.end; since = max x.since f.since }
 
-start_in_hull : (x f : Stretch) → Lies f (hull x f)
+pub start_in_hull : (x f : Stretch) → Lies f (hull x f)
 unfolding hull
 start_in_hull x f = record { track = refl; end = (omega arith); since = (omega arith); past = by_rear (int_lt x.rear f.rear) refl }
   where
@@ -203,10 +203,10 @@ hull_both y x f lies = record {
     by_rears false false one two n past = past
 
 -- a stretch that has run out is no more than one that has not
-runs_both : (y x : Stretch) → Lies y x → int_lt y.rear (pos (10 * y.end)) ≡ true → int_lt x.rear (pos (10 * x.end)) ≡ true
+pub runs_both : (y x : Stretch) → Lies y x → int_lt y.rear (pos (10 * y.end)) ≡ true → int_lt x.rear (pos (10 * x.end)) ≡ true
 runs_both y x lies runs = let le = lies.end in lt_up x.rear (10 * y.end) (10 * x.end) (omega (arith, le)) (lies.past (10 * y.end) runs)
 
-accepted_both : (o : Option Stretch) (x : Option Stretch) (f z : Stretch) → ((y : Stretch) → o ≡ Some y → (x' : Stretch) × (x ≡ Some x') × Lies y x') → accepted x f ≡ Some z → (y : Stretch) × (accepted o f ≡ Some y) × Lies y z
+pub accepted_both : (o : Option Stretch) (x : Option Stretch) (f z : Stretch) → ((y : Stretch) → o ≡ Some y → (x' : Stretch) × (x ≡ Some x') × Lies y x') → accepted x f ≡ Some z → (y : Stretch) × (accepted o f ≡ Some y) × Lies y z
 unfolding hull
 accepted_both None None f z within is = (f, refl, subst (Lies f) (same_Some f z is) (lies_itself f))
 accepted_both None (Some x) f z within is = (f, refl, by_runs (int_lt x.rear (pos (10 * x.end))) (x.track == f.track) is)
@@ -326,7 +326,7 @@ said_within line (Delivery from to number) b v w old grants = old
 
 -- ## What is stray
 
-true_false : {P : Type 0} → ◌≡◌ {A = Bool} true false → P
+pub true_false : {P : Type 0} → ◌≡◌ {A = Bool} true false → P
 true_false is = cc
 
 gets_stray : (t : ℕ) (o : Option Stretch) (v : View) → (gets t o v).stray ≡ false → v.stray ≡ false
@@ -382,14 +382,14 @@ all_seen_stray line (event ∷ events) (o ∷ os) v is = sees_stray line event o
 -- ## What trains are told
 
 -- what is told to a train's stretch grows it, and lies in what is told to a greater one
-record Grows (grow : Stretch → Option Stretch) : Type 0 where
-  both : (y x z : Stretch) → Lies y x → grow x ≡ Some z → (k : Stretch) × (grow y ≡ Some k) × Lies k z
-  more : (x z : Stretch) → grow x ≡ Some z → Lies x z
+pub record Grows (grow : Stretch → Option Stretch) : Type 0 where
+  pub both : (y x z : Stretch) → Lies y x → grow x ≡ Some z → (k : Stretch) × (grow y ≡ Some k) × Lies k z
+  pub more : (x z : Stretch) → grow x ≡ Some z → Lies x z
 
-metres_same : (line : Line) (group l : ℕ) (y x : Stretch) → y.track ≡ x.track → metres_from line group l y ≡ metres_from line group l x
+pub metres_same : (line : Line) (group l : ℕ) (y x : Stretch) → y.track ≡ x.track → metres_from line group l y ≡ metres_from line group l x
 metres_same line group l y x same = ap (λ (k : ℕ). option_and_then (λ s. if is_on line k s then Some (start line s + l) else None) (section_of_group line group)) same
 
-extended_grows : (line : Line) (event : Event) (t group l : ℕ) → Grows (extended line event t group l)
+pub extended_grows : (line : Line) (event : Event) (t group l : ℕ) → Grows (extended line event t group l)
 extended_grows line event t group l = record { both = both_of; more = more_of }
   where
     longer : ℕ → ℕ → Stretch → Stretch
@@ -425,7 +425,7 @@ extended_grows line event t group l = record { both = both_of; more = more_of }
     more_of : (x z : Stretch) → extended line event t group l x ≡ Some z → Lies x z
     more_of x z is = more_stamp (stamp_of event t) x z is
 
-asked_grows : (line : Line) (c stamp group l : ℕ) → Grows (asked_for line c stamp group l)
+pub asked_grows : (line : Line) (c stamp group l : ℕ) → Grows (asked_for line c stamp group l)
 asked_grows line c stamp group l = record { both = both_of; more = λ x z is. by_more (metres_from line group l x) x z is }
   where
     standing : ℕ → Stretch → Stretch
@@ -558,7 +558,7 @@ word_both (Delivery from to number) (Asked e) v w same s = same s
 word_both (Delivery from to number) (NotHome e) v w same s = same s
 word_both (Delivery from to number) (Told e) v w same s = put_both v.released w.released e false same s
 
-words_both : (event : Event) (words : List Word) (v w : View) → ((s : ℕ) → w.released s ≡ v.released s) → (s : ℕ) → (all_heard event words w).released s ≡ (all_heard event words v).released s
+pub words_both : (event : Event) (words : List Word) (v w : View) → ((s : ℕ) → w.released s ≡ v.released s) → (s : ℕ) → (all_heard event words w).released s ≡ (all_heard event words v).released s
 words_both event [] v w same s = same s
 words_both event (word ∷ words) v w same s = words_both event words (outside.hears event word v) (outside.hears event word w) (word_both event word v w same) s
 

@@ -1,1 +1,4 @@
 pub mod Arrival
+pub mod Meeting
+pub mod Received
+pub mod Scenes

@@ -1,8 +1,11 @@
-use Rattle.law_arrival.proofs.Seen.{lost_part, lost_third, lost_first}
-use Rattle.law_arrival.proofs.laws.a_lost_authority_is_seen.Goals as goal
+use Rattle.law_arrival.proofs.Seen.{lost_part, lost_received, lost_third, lost_first}
+use Rattle.law_arrival.proofs.scenes.a_lost_authority_is_seen.Goals as goal
 
 pub returns-clause-part : goal.returns-clause-part
 returns-clause-part c = lost_part
+
+pub returns-clause-received : goal.returns-clause-received
+returns-clause-received c = lost_received
 
 pub returns-clause-waits : goal.returns-clause-waits
 returns-clause-waits c = lost_third
