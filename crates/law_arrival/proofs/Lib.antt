@@ -6,3 +6,5 @@ pub mod Reached
 pub mod Runs
 pub mod Seen
 pub mod Speaks
+pub mod Told
+pub mod Within

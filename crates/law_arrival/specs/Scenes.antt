@@ -1,9 +1,10 @@
 -- Scenes of messages that are lost, and of trains that do what is not required of them.
-use Rattle.std.specs.Prelude.{List, [], ◌∷◌, ◌++◌, true}
+use Rattle.std.specs.Prelude.{ℕ, ◌==◌, if◌then◌else◌, List, [], ◌∷◌, ◌++◌, true, Option, Some, None, pos}
 use Rattle.rbc_spec.specs.Message.{StartOfMission, Request, Report, Authority, TrainAccepted}
 use Rattle.rbc_spec.specs.Outcome.{Asked}
 use Rattle.rbc_spec.specs.World.{Unset}
 use Rattle.law_outside.specs.Scenes.{Exchange, in_section, exchange, talk, released, starts_in_1, train_1_runs, train_1_grants, train_2_starts}
+use Rattle.law_arrival.specs.Meeting.{Extent}
 
 -- train 1 starts in section 1 and is accepted, starts there again and is accepted again, and gets an authority to the
 -- end of section 2
@@ -40,3 +41,16 @@ the_second_acceptance_is_lost = moves_on (talk 1 3 (StartOfMission true (in_sect
 -- train 1 is asked to stop at the end of section 2, which it grants, but the request is lost
 abbrev pub the_request_is_lost : List Exchange
 the_request_is_lost = train_1_runs ++ exchange (Unset 0 3) 1 5 [] (Asked 3 ∷ []) ∷ train_1_grants ∷ []
+
+-- ## Where trains truly are
+
+-- a train of 200 m with its front at 620 m of section 1, and another so in section 2
+abbrev pub in_1 : Extent
+in_1 = record { track = 0; rear = pos 14200; front = 16200 }
+
+abbrev pub in_2 : Extent
+in_2 = record { track = 0; rear = pos 24200; front = 26200 }
+
+-- trains 1 and 2 are there
+abbrev pub two_trains : (first second : Extent) → ℕ → Option Extent
+two_trains first second t = if t == 1 then Some first else if t == 2 then Some second else None
