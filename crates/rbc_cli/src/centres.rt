@@ -1,6 +1,6 @@
 //! The centres of a line that run.
 
-use crate::record::locked;
+use crate::record::lock_journals;
 use cli_commands::disk::Disk;
 use cli_commands::line_file::{LineFile, line_file_in};
 use cli_commands::words::ServeWords;
@@ -67,7 +67,7 @@ fn run_noted<
     out: &mut O,
 ) -> Result<(), ServeFault> {
     let journals = match words.journal {
-        Some(journal) => Some(locked(rt, given, journal, notes)?),
+        Some(journal) => Some(lock_journals(rt, given, journal, notes)?),
         None => None,
     };
     let mut doors = Doors::open(rt, rt.alloc(), &given.line, port, notes)?;

@@ -35,7 +35,7 @@ pub struct Locked<'a> {
 
 /// Opens and locks the journals that are there, and then reads them. To go on, all of them have to be there. To begin,
 /// none of them may have an event. Nothing is changed. A note names the journal that is refused.
-pub fn locked<'a, R: Files<File = File> + Clock + AllocGlobal, N: Notes>(
+pub fn lock_journals<'a, R: Files<File = File> + Clock + AllocGlobal, N: Notes>(
     rt: &R,
     given: &LineFile,
     words: JournalWords<'a>,
