@@ -75,8 +75,8 @@ impl<R: Wait + Clock> Pieces<'_, R> {
         false
     }
 
-    // Gives bytes that were read, up to the last byte of a message. That one is given first, after a wait. The result is
-    // their number; `None` if the connection has to leave its seat.
+    // Gives bytes that were read, up to the last byte of a message. That one is given first, after a wait. The result
+    // is their number; `None` if the connection has to leave its seat.
     fn give(&mut self, buffer: &mut [u8]) -> Option<usize> {
         let mut count = 0usize;
         for place in buffer.iter_mut() {
