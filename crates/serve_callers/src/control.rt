@@ -133,8 +133,8 @@ fn answered(sent: Sent) -> Next {
     }
 }
 
-// Whether a line is the first of a request of HTTP/1, or has a control character: a browser sends it, perhaps for a page
-// of another site. What follows it is not the interlocking's.
+// Whether a line is the first of a request of HTTP/1, or has a control character. A browser sends it, perhaps for a
+// page of another site: the lines that follow are not the interlocking's.
 fn is_of_another_protocol(row: &[u8]) -> bool {
     let row = row.strip_suffix(b"\r").unwrap_or(row);
     row.ends_with(b" HTTP/1.0")

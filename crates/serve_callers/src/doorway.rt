@@ -85,8 +85,8 @@ impl Looks {
     }
 }
 
-// Serves the connection of a seat for which no thread can be made: one of the interlocking in the thread of the door, so
-// that `stop` is always heard. One of a train ends.
+// Serves the connection of a seat for which no thread can be made. One of the interlocking is served in the thread of
+// the door, so that `stop` can be sent. One of a train ends.
 fn attend_here<R: Threads + Wait + Sync + Clock, N: Notes + Sync>(
     rt: &R,
     hall: &Hall<'_>,
@@ -185,8 +185,8 @@ fn rest<R: Wait>(rt: &R, door: &Door) {
 }
 
 // A seat for a new connection. If all are taken, another connection leaves its own: of those of trains the first that
-// serves no train, of those of the interlocking the one that has been silent longest. If that one does not leave, as when
-// it waits for the disk, the next one of the interlocking has to; and if none does, the reserve seat is taken.
+// serves no train, of those of the interlocking the one that has been silent longest. If that one does not leave, as
+// when it waits for the disk, the next one of the interlocking has to. If none does, the reserve seat is taken.
 fn seat_for<'a, R: Wait>(rt: &R, hall: &Hall<'_>, door: &'a Door) -> Option<&'a Seat> {
     let each = match door.caller {
         Caller::Trains(_) => LEAVING_RESTS,

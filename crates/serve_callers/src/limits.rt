@@ -12,8 +12,8 @@ pub(crate) const UNWRITTEN: u32 = 64;
 /// How many bytes a line at the control door has at most.
 pub(crate) const MOST_ROW: usize = 4_096;
 
-/// How long a write to a train may wait for one that reads nothing, and an answer to the interlocking for its last byte,
-/// in seconds. Then the connection is cut.
+/// How long a write to a train may wait for one that reads nothing, in seconds. Then the connection is cut. An answer
+/// to the interlocking has this time as a whole.
 pub(crate) const PATIENCE_S: u64 = 10;
 
 /// How long a train may say nothing, in seconds. Then its connection counts as lost.

@@ -1,4 +1,4 @@
-ghost use Rattle.std.specs.Prelude.{◌≡◌, ◌≤◌, length, IfSome};
+ghost use Rattle.std.specs.Prelude.{◌≡◌};
 
 use crate::cutter::Cutter;
 use crate::pace::Pace;
@@ -15,14 +15,20 @@ const PIECE: usize = 4_096;
 /// more: until then it waits, and what follows it.
 #[derive(Drop)]
 pub(crate) struct Paced<'a, R> {
+    pieces: Pieces<'a, R>,
+    failed: u64,
+}
+
+/// The pieces that are read of the connection.
+#[derive(Drop)]
+struct Pieces<'a, R> {
     stream: &'a TcpStream,
     pace: Pace<'a, R>,
     cutter: Cutter,
-    // What was read, and how much of it was given.
+    // What was read last, and how much of it was given.
     piece: [u8; PIECE],
     end: usize,
     given: usize,
-    failed: u64,
 }
 
 impl<'a, R: Wait + Clock> Paced<'a, R> {
@@ -30,17 +36,19 @@ impl<'a, R: Wait + Clock> Paced<'a, R> {
     pub fn new(stream: &'a TcpStream, pace: Pace<'a, R>) -> Paced<'a, R>
         ensures failures { result.failed ≡ 0 }
     {
-        Paced {
+        let pieces = Pieces {
             stream,
             pace,
             cutter: Cutter::new(),
             piece: [0; PIECE],
             end: 0,
             given: 0,
-            failed: 0,
-        }
+        };
+        Paced { pieces, failed: 0 }
     }
+}
 
+impl<R: Wait + Clock> Pieces<'_, R> {
     // The byte that is given next, if one was read.
     fn next(&self) -> Option<u8> {
         if self.given >= self.end {
@@ -51,9 +59,7 @@ impl<'a, R: Wait + Clock> Paced<'a, R> {
 
     // Reads a piece, and returns whether the connection gave one, or ended. A read that the system interrupts is tried
     // again.
-    fn fill(&mut self) -> bool
-        ensures { self.new.failed ≡ self.old.failed }
-    {
+    fn fill(&mut self) -> bool {
         for _ in 0..u64::MAX {
             let mut reader = self.stream;
             match reader.read(&mut self.piece) {
@@ -69,12 +75,9 @@ impl<'a, R: Wait + Clock> Paced<'a, R> {
         false
     }
 
-    // Gives bytes that were read, up to the last byte of a message. That one is given first, after a wait. The result is
-    // their number; `None` if the connection has to leave its seat.
-    fn give(&mut self, buffer: &mut [u8]) -> Option<usize>
-        ensures bound { IfSome result (λ n. n ≤ length buffer.new) }
-        ensures failed { self.new.failed ≡ self.old.failed }
-    {
+    // Gives bytes that were read, up to the last byte of a message. That one is given first, after a wait. The result
+    // is their number; `None` if the connection has to leave its seat.
+    fn give(&mut self, buffer: &mut [u8]) -> Option<usize> {
         let mut count = 0usize;
         for place in buffer.iter_mut() {
             let Some(byte) = self.next() else {
@@ -94,7 +97,7 @@ impl<'a, R: Wait + Clock> Paced<'a, R> {
             self.given = self.given.saturating_add(1);
             count = count.saturating_add(1);
         }
-        Some(count.min(buffer.len()))
+        Some(count)
     }
 }
 
@@ -106,9 +109,9 @@ impl<R: Wait + Clock> Source for Paced<'_, R> {
     ghost failures = { λ s. s.failed };
 
     fn read(&mut self, buffer: &mut [u8]) -> Result<usize, ReadFailed> {
-        if self.next().is_some() || self.fill() {
-            if let Some(count) = self.give(buffer) {
-                return Ok(count);
+        if self.pieces.next().is_some() || self.pieces.fill() {
+            if let Some(count) = self.pieces.give(buffer) {
+                return Ok(count.min(buffer.len()));
             }
         }
         self.failed += 1;

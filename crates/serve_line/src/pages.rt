@@ -104,8 +104,8 @@ fn part_of(text: &str, has_body: bool) -> &str {
     }
 }
 
-// What is asked for, as soon as it has come whole, and whether the answer has a body: to HEAD it has none. `None` if the
-// connection ends before.
+// What is asked for, as soon as it has come whole, and whether the answer has a body: to HEAD it has none. `None` if
+// the connection ends before.
 fn read_request(hall: &Hall<'_>, stream: &TcpStream) -> Option<(Asked, bool)> {
     let mut bytes: Vec<u8> = Vec::new(hall.alloc);
     let mut source = stream;

@@ -4,17 +4,17 @@ ghost use Rattle.serve_reading.specs.Rates.{Ask, Answers, held_at, last_time, pa
 /// What one message takes of a bucket, in thousandths of a message.
 const MESSAGE: u64 = 1000;
 
-/// How many messages may pass.
+/// How many messages a connection may say.
 #[derive(Clone, Copy, Debug, PartialEq, Eq)]
 pub struct Rate {
-    /// In a second.
+    /// In a second, one behind another.
     pub per_second: u32,
-    /// At once, if none came for long enough before.
+    /// At once, where it was silent for long enough before.
     pub burst: u32,
 }
 
-/// How many messages may pass now. It fills with time, and each message takes from it: in any span of time it lets
-/// through no more than a burst, and what its rate gives in that time (`a_bucket_keeps_to_its_rate`).
+/// What a connection may still say at once. It fills with time, and each message takes from it: in any span of time it
+/// lets through no more than a burst, and what its rate gives in that time (`a_bucket_keeps_to_its_rate`).
 #[derive(Clone, Copy, Debug)]
 pub struct Bucket {
     rate: Rate,
