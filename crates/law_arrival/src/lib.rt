@@ -1,8 +1,8 @@
 //! What trains go by if only a part of their messages comes to them: that is safe too.
 //!
 //! `specs/Received.antt` has the law of the centres of a line: any message may be lost. `specs/Meeting.antt` says what
-//! that means for trains that stay within what they go by. `specs/Arrival.antt` has the law of any centres whose answers
-//! are safe, if no acceptance is lost.
+//! that means for trains that stay within what they go by. `specs/Arrival.antt` has the law of any centres whose
+//! answers are safe, if no acceptance is lost.
 //!
 //! No code: what `laws.rt` states stays, and how it is proved is free. The scenes show messages that are lost, and what
 //! each premise keeps out.
