@@ -5,8 +5,6 @@
 
 pub mod client;
 #[cfg(test)]
-mod doors;
-#[cfg(test)]
 mod driving;
 #[cfg(test)]
 mod initiations;
