@@ -22,7 +22,7 @@ pub struct Record<F: Drop> {
 }
 
 impl<F: Drop> Record<F> {
-    /// Nothing is written down, and the line begins anew.
+    /// Nothing is written down, and the line begins again.
     pub fn none(alloc: Global) -> Record<F> {
         Record {
             files: Vec::new(alloc),
@@ -46,15 +46,15 @@ pub(crate) fn resume_noted<R: Wait, N: Notes>(
                 let count = share.receipts().len();
                 if count > 0 {
                     let name = name_of(line, share.centre());
-                    notes.note(format_args!("{name}: goes on behind {count} events"));
+                    notes.note(format_args!("{name}: goes on after {count} events"));
                 }
             }
             Ok(shares)
         }
         Err(ResumeFault::Memory) => Err(AllocError.into()),
-        Err(ResumeFault::Unfit(centre, number)) => {
+        Err(ResumeFault::Unfit(centre, row)) => {
             let name = name_of(line, centre);
-            notes.note(format_args!("{name}: event {number} of the journal does not fit"));
+            notes.note(format_args!("{name}: line {row} of the journal does not fit"));
             Err(ServeFault::Journal)
         }
     }
