@@ -74,7 +74,7 @@ pub fn served_with<
         || served(rt, alloc, line, doors, record, manner),
         || {
             let played = play(addresses);
-            stop(rt, addresses)?;
+            stop(rt, addresses);
             played
         },
     );
@@ -108,11 +108,10 @@ fn served<R: Threads + Wait + Sync + Clock, F: Write + Seek + OpenFile + Drop + 
     }
 }
 
-// Says `stop`, unless it was said already: then the door is closed.
-fn stop<R: Net<Stream = TcpStream>>(rt: &R, addresses: Addresses) -> Done<()> {
-    match connect(rt, addresses.control) {
-        Ok(control) => say(&control, b"stop\n"),
-        Err(_) => Ok(()),
+// Says `stop`. If the centres have ended already, the door is closed, or closes before it takes the line.
+fn stop<R: Net<Stream = TcpStream>>(rt: &R, addresses: Addresses) {
+    if let Ok(control) = connect(rt, addresses.control) {
+        let _ = say(&control, b"stop\n");
     }
 }
 
