@@ -14,28 +14,49 @@ pub(crate) const SCRIPT_FAULT: &str = "script fault\n";
 /// event was written.
 const JOURNAL_FAULT: &str = "journal fault\n";
 
+/// A connection at the control door, and what it reaches.
+#[derive(Clone, Copy)]
+pub(crate) struct Served<'a, 'h> {
+    pub hall: &'a Hall<'h>,
+    pub seat: &'a Seat,
+}
+
 /// Does what a line at the control door asks for, and writes what a run prints of it. A commit that is refused is told
 /// with its number.
 pub(crate) fn answer<R: Wait>(
     rt: &R,
-    hall: &Hall<'_>,
-    (seat, shares): (&Seat, &mut [Share]),
+    served: Served<'_, '_>,
+    shares: &mut [Share],
     roster: &mut Roster,
     command: Command,
     text: &mut Vec<u8>,
 ) -> Result<(), Fault<'static>> {
     match command {
         Command::Nothing | Command::Stop => Ok(()),
-        Command::Show => show_written(rt, hall, seat, roster, text),
+        Command::Show => show_written(rt, served.hall, served.seat, roster, text),
         Command::Set { centre, section } => {
-            let printed = WorldEvent::Set { centre, section };
-            let event = (Event::Set(section), &printed);
-            commit(rt, hall, (seat, shares), centre, event, text)
+            let event = WorldEvent::Set { centre, section };
+            commit(
+                rt,
+                served,
+                shares,
+                centre,
+                Event::Set(section),
+                &event,
+                text,
+            )
         }
         Command::Unset { centre, section } => {
-            let printed = WorldEvent::Unset { centre, section };
-            let event = (Event::Unset(section), &printed);
-            commit(rt, hall, (seat, shares), centre, event, text)
+            let event = WorldEvent::Unset { centre, section };
+            commit(
+                rt,
+                served,
+                shares,
+                centre,
+                Event::Unset(section),
+                &event,
+                text,
+            )
         }
     }
 }
@@ -63,12 +84,14 @@ fn show_written<R: Wait>(
 // Commits an event of the interlocking at a centre.
 fn commit<R: Wait>(
     rt: &R,
-    hall: &Hall<'_>,
-    (seat, shares): (&Seat, &mut [Share]),
+    served: Served<'_, '_>,
+    shares: &mut [Share],
     centre: u8,
-    (event, printed): (Event, &WorldEvent),
+    event: Event,
+    printed: &WorldEvent,
     text: &mut Vec<u8>,
 ) -> Result<(), Fault<'static>> {
+    let Served { hall, seat } = served;
     let (Some(desk), Some(share)) = (hall.desk(centre), shares.get_mut(centre as usize)) else {
         return Ok(());
     };

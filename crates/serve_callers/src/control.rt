@@ -1,4 +1,4 @@
-use crate::answer::{SCRIPT_FAULT, answer};
+use crate::answer::{SCRIPT_FAULT, Served, answer};
 use crate::limits::{CONTROL_REST_MS, RESERVE_RESTS, set_waits};
 use crate::rows::{Came, RowReader};
 use crate::sending::{Sent, send};
@@ -58,13 +58,14 @@ fn answer_rows<R: Wait + Clock, N: Notes>(
         return Next::End;
     };
     let mut rows = RowReader::new(hall.alloc, stream);
+    let served = Served { hall, seat };
     let mut rests = 0u32;
     for _ in rt.forever() {
         let next = match rows.next() {
             Came::Row(row) => {
                 rests = 0;
                 seat.heard.store(hall.state.hear(), Ordering::SeqCst);
-                answer_row(rt, hall, notes, (seat, shares), &mut roster, &row, stream)
+                answer_row(rt, served, notes, shares, &mut roster, &row, stream)
             }
             Came::Nothing if hall.state.is_empty() => Next::End,
             Came::Nothing => {
@@ -92,9 +93,9 @@ fn is_over(hall: &Hall<'_>, rests: u32) -> bool {
 // Answers one line.
 fn answer_row<R: Wait + Clock, N: Notes>(
     rt: &R,
-    hall: &Hall<'_>,
+    served: Served<'_, '_>,
     notes: &N,
-    (seat, shares): (&Seat, &mut [Share]),
+    shares: &mut [Share],
     roster: &mut Roster,
     row: &[u8],
     stream: &TcpStream,
@@ -109,6 +110,7 @@ fn answer_row<R: Wait + Clock, N: Notes>(
     let Ok(row) = std::str::from_utf8(row) else {
         return answered(send(rt, stream, SCRIPT_FAULT.as_bytes()));
     };
+    let Served { hall, .. } = served;
     let command = match command_of(hall.alloc, hall.line, row) {
         Ok(Command::Stop) => return Next::Stop,
         Ok(command) => command,
@@ -119,7 +121,7 @@ fn answer_row<R: Wait + Clock, N: Notes>(
         Err(CommandFault::Memory) => return Next::End,
     };
     let mut text = Vec::new(hall.alloc);
-    match answer(rt, hall, (seat, shares), roster, command, &mut text) {
+    match answer(rt, served, shares, roster, command, &mut text) {
         Ok(()) => answered(send(rt, stream, text.as_slice())),
         Err(_) => Next::End,
     }
