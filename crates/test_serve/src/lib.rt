@@ -7,8 +7,6 @@ pub mod client;
 #[cfg(test)]
 mod driving;
 #[cfg(test)]
-mod initiations;
-#[cfg(test)]
 mod interlocking;
 #[cfg(test)]
 mod journals;
