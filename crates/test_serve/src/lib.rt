@@ -25,11 +25,7 @@ mod railway;
 #[cfg(test)]
 mod refusing;
 #[cfg(test)]
-mod replies;
-#[cfg(test)]
 mod seats;
-#[cfg(test)]
-mod sessions;
 #[cfg(test)]
 mod sheet;
 #[cfg(test)]

@@ -1,0 +1,296 @@
+//! What the nodes of two centres took, gathered, and merged into one run.
+
+use crate::centres::centre::start;
+use crate::centres::held::Held;
+use crate::centres::logs::stamps_of;
+use crate::centres::world::run;
+use crate::line::{A, B, START};
+use crate::nodes::{both, node_of};
+use rbc_centre::{Body, Event, Frame};
+use rbc_log::{Entry, merge};
+use rbc_node::{Family, GatherFault, Node, Open, Share, gather};
+use rbc_world::{Answer, WorldEvent};
+use std::alloc::Global;
+use std::sync::Wait;
+use std::sync::atomic::Ordering;
+use std::test::*;
+use std::thread;
+use std::thread::Threads;
+use test_codec::bytes::bytes_of;
+
+// Gathers the logs of two nodes, and merges them.
+fn merged(alloc: Global, a: (Node, Share), b: (Node, Share)) -> Result<Vec<Entry>, Fail> {
+    let nodes = vec![in alloc; b.0, a.0]?;
+    let shares = vec![in alloc; a.1, b.1]?;
+    gathered(alloc, nodes, shares)
+}
+
+fn gathered(alloc: Global, nodes: Vec<Node>, shares: Vec<Share>) -> Result<Vec<Entry>, Fail> {
+    let family = gather(alloc, nodes, shares)
+        .ok()
+        .ok_or("the logs are a family")?;
+    entries_of(alloc, &family)
+}
+
+// Merges the logs of a family.
+fn entries_of(alloc: Global, family: &Family) -> Result<Vec<Entry>, Fail> {
+    let (Some(first), Some(second)) = (family.logs().first(), family.logs().get(1)) else {
+        return Err("there is a log of each centre".into());
+    };
+    Ok(
+        merge(alloc, &[second, first])
+            .ok()
+            .ok_or("the logs are merged")?,
+    )
+}
+
+// Whether the world answers the events as the entries have it.
+fn is_run(alloc: Global, events: &[WorldEvent], entries: &[Entry]) -> Result<bool, Fail> {
+    let outputs = run(alloc, events)?;
+    let answers = outputs.answers.as_slice();
+    Ok(answers.len() == entries.len() && answers.iter().zip(entries).all(|(a, e)| is_answer(a, e)))
+}
+
+// The same, and whether the entries have these centres and stamps.
+fn is_run_with(
+    alloc: Global,
+    events: &[WorldEvent],
+    entries: &[Entry],
+    stamps: &[(u8, u32)],
+) -> Result<bool, Fail> {
+    let seen = stamps_of(alloc, entries)?;
+    Ok(seen.as_slice() == stamps && is_run(alloc, events, entries)?)
+}
+
+fn is_answer(answer: &Answer, entry: &Entry) -> bool {
+    match answer {
+        Answer::Outcome(outcome) => outcome.is_same(&entry.outcome),
+        Answer::NoCentre | Answer::NotSent | Answer::Fault(_) => false,
+    }
+}
+
+// A takes a set that is held back, and B takes one meanwhile: whether each is taken.
+fn set_side_by_side<R: Threads + Wait + Sync>(
+    rt: &R,
+    gate: &Held,
+    a: (&Node, &mut Share),
+    b: (&Node, &mut Share),
+) -> (bool, bool) {
+    let (a, of_a) = a;
+    let (b, of_b) = b;
+    thread::join(
+        rt,
+        || a.commit(rt, gate, of_a, Event::Set(0)).is_ok(),
+        || {
+            gate.wait_for(&gate.is_begun);
+            let answer = b.commit(rt, gate, of_b, Event::Set(2));
+            gate.is_other_answered.store(true, Ordering::SeqCst);
+            gate.is_next_answered.store(true, Ordering::SeqCst);
+            answer.is_ok()
+        },
+    )
+}
+
+// What the nodes took side by side, merged; whether the gate gave up; and whether the sets were taken.
+fn side_by_side<R: Threads + Wait + Sync>(
+    rt: &R,
+    alloc: Global,
+) -> Result<(Vec<Entry>, bool, (bool, bool)), Fail> {
+    let (a, b) = both(alloc)?;
+    let mut of_a = a.share();
+    let mut of_b = b.share();
+    let gate = Held::new();
+    let taken = set_side_by_side(rt, &gate, (&a, &mut of_a), (&b, &mut of_b));
+    let entries = merged(alloc, (a, of_a), (b, of_b))?;
+    Ok((entries, gate.gave_up.load(Ordering::SeqCst), taken))
+}
+
+// The same two sets, as the world takes them.
+fn sets_in_the_world(alloc: Global) -> Result<Vec<WorldEvent>, Fail> {
+    let mut events = Vec::new(alloc);
+    for (centre, section) in [(A, 0), (B, 2)] {
+        events.push(WorldEvent::Set { centre, section })?;
+    }
+    Ok(events)
+}
+
+// Whether the entries are those of the two sets.
+fn are_the_sets(alloc: Global, entries: &[Entry]) -> Result<bool, Fail> {
+    let events = sets_in_the_world(alloc)?;
+    is_run_with(alloc, &events, entries, &[(A, 1), (B, 1)])
+}
+
+#[test]
+fn what_two_centres_take_side_by_side_is_one_run(rt: HostRuntime) -> Result<(), Fail> {
+    let (entries, gave_up, taken) = side_by_side(&rt, rt.alloc())?;
+    assert!(rt; (gave_up, taken) == (false, (true, true)));
+    assert!(rt; are_the_sets(rt.alloc(), &entries)?);
+    Ok(())
+}
+
+// A start at A of a train that B registers, as the world takes it, with the frames that then ask for the right and give
+// it.
+fn start_in_the_world(alloc: Global) -> Result<Vec<WorldEvent>, Fail> {
+    let set = WorldEvent::Set {
+        centre: A,
+        section: 1,
+    };
+    let mut events = vec![in alloc; set]?;
+    for text in &START {
+        let bytes = bytes_of(alloc, text)?;
+        events.push(WorldEvent::Train { centre: A, bytes })?;
+    }
+    for (from, to) in [(A, B), (B, A)] {
+        events.push(WorldEvent::Deliver {
+            from,
+            to,
+            number: 1,
+        })?;
+    }
+    Ok(events)
+}
+
+fn commit_all<R: Wait>(
+    rt: &R,
+    node: &Node,
+    share: &mut Share,
+    events: Vec<Event>,
+) -> Result<(), Fail> {
+    for event in events {
+        commit(rt, node, share, event)?;
+    }
+    Ok(())
+}
+
+fn commit<R: Wait>(rt: &R, node: &Node, share: &mut Share, event: Event) -> Result<(), Fail> {
+    node.commit(rt, &Open, share, event)
+        .ok()
+        .ok_or("the centre takes the event")?;
+    Ok(())
+}
+
+/// The frames to a centre under the numbers 0, 1 and 2.
+type Shown = [Option<Frame>; 3];
+
+const NOTHING: Shown = [None, None, None];
+
+fn first_alone(frame: Frame) -> Shown {
+    [None, Some(frame), None]
+}
+
+// The frames that the node shows to a centre.
+fn frames_to<R: Wait>(rt: &R, node: &Node, to: u8) -> Shown {
+    [
+        node.frame(rt, to, 0),
+        node.frame(rt, to, 1),
+        node.frame(rt, to, 2),
+    ]
+}
+
+// The node takes the frame, where there is one.
+fn take_frame<R: Wait>(
+    rt: &R,
+    node: (&Node, &mut Share),
+    from: u8,
+    frame: Option<Frame>,
+) -> Result<(), Fail> {
+    let (node, share) = node;
+    let frame = frame.ok_or("the frame was sent")?;
+    commit(rt, node, share, Event::Deliver { from, frame })
+}
+
+// The nodes take a start at A of a train that B registers, and the frames in which the right is asked for and given:
+// the frames from A to B before and behind the start, those from A to itself, and those from B to A.
+fn begun<R: Wait>(
+    rt: &R,
+    alloc: Global,
+    a: (&Node, &mut Share),
+    b: (&Node, &mut Share),
+) -> Result<[Shown; 4], Fail> {
+    let (a, of_a) = a;
+    let before = frames_to(rt, a, B);
+    commit_all(rt, a, of_a, start(alloc)?)?;
+    let asks = frames_to(rt, a, B);
+    let own = frames_to(rt, a, A);
+    let (b, of_b) = b;
+    take_frame(rt, (b, of_b), A, asks[1])?;
+    let gives = frames_to(rt, b, A);
+    take_frame(rt, (a, of_a), B, gives[1])?;
+    Ok([before, asks, own, gives])
+}
+
+// The same, with what the nodes took, merged.
+fn begun_and_merged<R: Wait>(rt: &R, alloc: Global) -> Result<([Shown; 4], Vec<Entry>), Fail> {
+    let (a, b) = both(alloc)?;
+    let mut of_a = a.share();
+    let mut of_b = b.share();
+    let frames = begun(rt, alloc, (&a, &mut of_a), (&b, &mut of_b))?;
+    let entries = merged(alloc, (a, of_a), (b, of_b))?;
+    Ok((frames, entries))
+}
+
+// Whether the entries are those of the start.
+fn are_the_start(alloc: Global, entries: &[Entry]) -> Result<bool, Fail> {
+    let events = start_in_the_world(alloc)?;
+    let stamps = [(A, 1), (A, 2), (A, 3), (A, 4), (B, 5), (A, 6)];
+    is_run_with(alloc, &events, entries, &stamps)
+}
+
+#[test]
+fn a_node_shows_the_frame_that_it_sent(rt: HostRuntime) -> Result<(), Fail> {
+    let (frames, entries) = begun_and_merged(&rt, rt.alloc())?;
+    let asks = Frame::new(1, 4, Body::AskRight { engine: 2 });
+    let gives = Frame::new(1, 5, Body::GiveRight { engine: 2 });
+    assert!(rt; frames == [NOTHING, first_alone(asks), NOTHING, first_alone(gives)]);
+    assert!(rt; are_the_start(rt.alloc(), &entries)?);
+    Ok(())
+}
+
+// What keeps the logs of these nodes from being a family.
+fn fault_of(alloc: Global, nodes: Vec<Node>, shares: Vec<Share>) -> Result<GatherFault, Fail> {
+    Ok(
+        gather(alloc, nodes, shares)
+            .err()
+            .ok_or("the logs are no family")?,
+    )
+}
+
+fn fault_of_two(alloc: Global, a: Node, b: Node, shares: Vec<Share>) -> Result<GatherFault, Fail> {
+    let nodes = vec![in alloc; a, b]?;
+    fault_of(alloc, nodes, shares)
+}
+
+#[test]
+fn a_family_lacks_a_share(rt: HostRuntime) -> Result<(), Fail> {
+    let (a, b) = both(rt.alloc())?;
+    commit(&rt, &a, &mut a.share(), Event::Set(0))?;
+    let fault = fault_of_two(rt.alloc(), a, b, Vec::new(rt.alloc()))?;
+    assert!(rt; fault == GatherFault::Shares);
+    Ok(())
+}
+
+// A share of the node, which takes a frame that A did not send.
+fn shared<R: Wait>(rt: &R, node: &Node) -> Result<Share, Fail> {
+    let mut share = node.share();
+    let frame = Frame::new(1, 4, Body::AskRight { engine: 2 });
+    take_frame(rt, (node, &mut share), A, Some(frame))?;
+    Ok(share)
+}
+
+#[test]
+fn a_family_has_a_frame_that_nobody_sent(rt: HostRuntime) -> Result<(), Fail> {
+    let (a, b) = both(rt.alloc())?;
+    let share = shared(&rt, &b)?;
+    let fault = fault_of_two(rt.alloc(), a, b, vec![in rt.alloc(); share]?)?;
+    assert!(rt; fault == GatherFault::Foreign);
+    Ok(())
+}
+
+#[test]
+fn a_family_lacks_a_centre(rt: HostRuntime) -> Result<(), Fail> {
+    let alloc = rt.alloc();
+    let a = node_of(alloc, A)?;
+    let fault = fault_of(alloc, vec![in alloc; a]?, Vec::new(alloc))?;
+    assert!(rt; fault == GatherFault::Centres);
+    Ok(())
+}

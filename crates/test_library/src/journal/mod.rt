@@ -1,0 +1,14 @@
+//! Tests of journals, over texts in memory: what is written, what is read of a text that ends anywhere, or is damaged,
+//! and several journals in one order. Some are of files: locks, and files that are removed or cut while they are
+//! written.
+//!
+//! Digests and checksums are those that `sha256sum` gives of the line file and of what stands behind the checksum.
+#[cfg(test)]
+mod files;
+pub mod line;
+#[cfg(test)]
+mod order;
+#[cfg(test)]
+mod reading;
+#[cfg(test)]
+mod writing;

@@ -1,0 +1,5 @@
+//! Tests of what serves a connection, over bytes in memory: its session, its pipe, and the order of a train's answers.
+
+mod order;
+mod replies;
+mod sessions;

@@ -1,0 +1,153 @@
+//! The pipe of a connection, over bytes in memory.
+
+use crate::line::{ACCEPTED, VERSION};
+use crossbeam_channel::{Receiver, Sender, bounded};
+use rbc_msgs::decode_track;
+use serve_writing::{Pipe, Reply, WriteFailed, run_writer};
+use std::alloc::Global;
+use std::io;
+use std::io::{ErrorKind, Write};
+use std::sync::{Mutex, Wait};
+use std::test::*;
+use test_codec::bytes::bytes_of;
+
+/// Keeps what is written, five bytes a time. Where it is faulty, its second write fails, and no other.
+#[derive(Drop)]
+struct Tape<'a> {
+    kept: &'a Mutex<Vec<u8>>,
+    is_faulty: bool,
+}
+
+impl Write for Tape<'_> {
+    fn write(&mut self, bytes: &[u8]) -> io::Result<usize> {
+        let Some(mut kept) = self.kept.try_lock() else {
+            return Err(io::Error::from(ErrorKind::Other));
+        };
+        if self.is_faulty && !kept.is_empty() {
+            self.is_faulty = false;
+            return Err(io::Error::from(ErrorKind::BrokenPipe));
+        }
+        let count = bytes.len().min(5);
+        match kept.extend_from_slice(&bytes[..count]) {
+            Ok(()) => Ok(count),
+            Err(_) => Err(io::Error::from(ErrorKind::OutOfMemory)),
+        }
+    }
+
+    fn flush(&mut self) -> io::Result<()> {
+        Ok(())
+    }
+}
+
+fn pipe_over(kept: &Mutex<Vec<u8>>, is_faulty: bool) -> Pipe<Tape<'_>> {
+    Pipe::new(Tape { kept, is_faulty })
+}
+
+fn reply_of(alloc: Global, digits: &str) -> Result<Reply, Fail> {
+    let bytes = bytes_of(alloc, digits)?;
+    let message = decode_track(&bytes).ok().ok_or("it is a message")?;
+    Ok(Reply::new(alloc, message).ok().ok_or("there is memory")?)
+}
+
+// The bytes of one message behind another.
+fn row_of(alloc: Global, first: &str, second: &str) -> Result<Vec<u8>, Fail> {
+    let mut row = bytes_of(alloc, first)?;
+    let behind = bytes_of(alloc, second)?;
+    row.extend_from_slice(&behind)?;
+    Ok(row)
+}
+
+// A queue in which the reply stands.
+fn queued<R: Wait>(
+    rt: &R,
+    alloc: Global,
+    reply: Reply,
+) -> Result<(Sender<Reply>, Receiver<Reply>), Fail> {
+    let (sender, replies) = bounded(alloc, 1)?;
+    if sender.try_send(rt, reply).is_err() {
+        return Err("there is room for the reply".into());
+    }
+    Ok((sender, replies))
+}
+
+// The writer writes the reply, and ends with the queue.
+fn written<R: Wait>(
+    rt: &R,
+    alloc: Global,
+    pipe: &Pipe<Tape<'_>>,
+    reply: Reply,
+) -> Result<Result<(), WriteFailed>, Fail> {
+    let (sender, replies) = queued(rt, alloc, reply)?;
+    drop(sender);
+    Ok(run_writer(rt, &replies, &mut pipe.end(rt)))
+}
+
+/// What a write is answered: none where it was not this reply's turn.
+type Answer = Option<Result<(), WriteFailed>>;
+
+// A reply is written at once, if none waits.
+fn written_now(pipe: &Pipe<Tape<'_>>, reply: &Reply) -> Answer {
+    Some(pipe.turn()?.write(reply))
+}
+
+#[test]
+fn a_reply_is_written_at_once_where_none_waits(rt: HostRuntime) -> Result<(), Fail> {
+    let version = reply_of(rt.alloc(), VERSION)?;
+    let wanted = bytes_of(rt.alloc(), VERSION)?;
+    let kept = Mutex::new(Vec::new(rt.alloc()));
+    let answer = written_now(&pipe_over(&kept, false), &version);
+    assert!(rt; answer == Some(Ok(())));
+    assert!(rt; kept.lock(&rt).as_slice() == wanted.as_slice());
+    Ok(())
+}
+
+#[test]
+fn no_reply_overtakes_one_that_waits(rt: HostRuntime) -> Result<(), Fail> {
+    let wanted = row_of(rt.alloc(), ACCEPTED, VERSION)?;
+    let kept = Mutex::new(Vec::new(rt.alloc()));
+    let now = overtaken(&rt, rt.alloc(), &pipe_over(&kept, false), &kept)?;
+    assert!(rt; now == (None, true, Ok(()), Some(Ok(()))));
+    assert!(rt; kept.lock(&rt).as_slice() == wanted.as_slice());
+    Ok(())
+}
+
+// A version comes while an acceptance waits, and again behind it: what the first is answered, whether nothing is kept
+// then, what the writer of the acceptance is answered, and what the second version is.
+fn overtaken<R: Wait>(
+    rt: &R,
+    alloc: Global,
+    pipe: &Pipe<Tape<'_>>,
+    kept: &Mutex<Vec<u8>>,
+) -> Result<(Answer, bool, Result<(), WriteFailed>, Answer), Fail> {
+    let version = reply_of(alloc, VERSION)?;
+    let accepted = reply_of(alloc, ACCEPTED)?;
+    pipe.expect(&accepted);
+    let first = written_now(pipe, &version);
+    let is_empty = kept.lock(rt).is_empty();
+    let waiting = written(rt, alloc, pipe, accepted)?;
+    let second = written_now(pipe, &version);
+    Ok((first, is_empty, waiting, second))
+}
+
+#[test]
+fn nothing_is_written_behind_a_failed_write(rt: HostRuntime) -> Result<(), Fail> {
+    let kept = Mutex::new(Vec::new(rt.alloc()));
+    let (now, waiting) = failed(&rt, rt.alloc(), &pipe_over(&kept, true))?;
+    assert!(rt; now == [Some(Err(WriteFailed)), Some(Err(WriteFailed))]);
+    assert!(rt; (waiting, kept.lock(&rt).len()) == (Err(WriteFailed), 5));
+    Ok(())
+}
+
+// A version comes twice, and once more where the writer writes it: what the first two are answered, and how the writer
+// ends.
+fn failed<R: Wait>(
+    rt: &R,
+    alloc: Global,
+    pipe: &Pipe<Tape<'_>>,
+) -> Result<([Answer; 2], Result<(), WriteFailed>), Fail> {
+    let version = reply_of(alloc, VERSION)?;
+    let now = [written_now(pipe, &version), written_now(pipe, &version)];
+    pipe.expect(&version);
+    let (_sender, replies) = queued(rt, alloc, version)?;
+    Ok((now, run_writer(rt, &replies, &mut pipe.end(rt))))
+}
