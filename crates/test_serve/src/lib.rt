@@ -7,6 +7,8 @@ pub mod client;
 #[cfg(test)]
 mod driving;
 #[cfg(test)]
+mod initiations;
+#[cfg(test)]
 mod interlocking;
 #[cfg(test)]
 mod journals;

@@ -115,8 +115,8 @@ fn wait_for(flag: &AtomicBool) -> Done<()> {
     Err(Missed::NoAnswer)
 }
 
-// All that comes until the other side ends the connection.
-fn heard_to_the_end(alloc: Global, stream: &TcpStream) -> Done<Vec<u8>> {
+/// All that comes until the other side ends the connection.
+pub fn heard_to_the_end(alloc: Global, stream: &TcpStream) -> Done<Vec<u8>> {
     let mut heard = Vec::new(alloc);
     let mut piece = [0u8; 256];
     let mut input = stream;

@@ -1,0 +1,223 @@
+//! Which connection serves a train that initiates its session more than once, whichever answer is handed in first: the
+//! answers of a centre are handed in by hand, over loopback.
+
+use crate::client::{Done, Missed, connect};
+use crate::line::{INITIATION_OF_ONE, VERSION, bytes_of, node_of_a, two_centres};
+use crate::order::heard_to_the_end;
+use crossbeam_channel::{Receiver, bounded};
+use rbc_centre::{Event, Outcome};
+use rbc_msgs::decode_train;
+use rbc_node::{Node, Open, Share};
+use serve_connections::{Connection, Exchange, Shared, Wire};
+use serve_workers::Outlet;
+use serve_writing::{Pipe, Reply, run_writer};
+use std::alloc::Global;
+use std::io::Write;
+use std::net::{IpAddr, Ipv4Addr, Net, Shutdown, SocketAddr, TcpListener, TcpStream};
+use std::sync::{Arc, Wait};
+use std::test::*;
+
+// Train 1 initiates its session again, with T_TRAIN 2, 3 and 4.
+const SECOND_INITIATION: &str = "9B028000000080000040";
+
+const THIRD_INITIATION: &str = "9B0280000000C0000040";
+
+const FOURTH_INITIATION: &str = "9B028000000100000040";
+
+// It establishes the session with T_TRAIN 2 and 3, and terminates it with T_TRAIN 3 and 4.
+const SECOND_ESTABLISHED: &str = "9F028000000080000040";
+
+const THIRD_ESTABLISHED: &str = "9F0280000000C0000040";
+
+const THIRD_TERMINATION: &str = "9C0280000000C0000040";
+
+const FOURTH_TERMINATION: &str = "9C028000000100000040";
+
+// Message 32 with T_TRAIN 2 and 3, and message 39 with T_TRAIN 2 and 3.
+const SECOND_VERSION: &str = "2002C00000009FFFFFE800";
+
+const THIRD_VERSION: &str = "2002C0000000DFFFFFE800";
+
+const SECOND_TERMINATED: &str = "2702800000009FFFFFE0";
+
+const THIRD_TERMINATED: &str = "270280000000DFFFFFE0";
+
+// What is written last to each connection: it comes over those alone that were not ended before.
+const LAST: &str = "21";
+
+/// Who hands in an answer, a connection by its number or another thread; and which message of the train it answers.
+type Turn = (Option<usize>, usize);
+
+/// A connection: what its writer has of it, and the train's end.
+#[derive(Drop)]
+struct Ends {
+    stream: Arc<TcpStream, Global>,
+    pipe: Arc<Pipe<Shared>, Global>,
+    replies: Receiver<Reply>,
+    train: TcpStream,
+}
+
+// What centre A answers to these messages, one after another.
+fn answered<R: Wait>(rt: &R, alloc: Global, said: &[&str]) -> Result<Vec<Outcome>, Fail> {
+    let node = node_of_a(alloc)?;
+    let mut share = node.share();
+    let mut outcomes = Vec::new(alloc);
+    for digits in said {
+        outcomes.push(answer(rt, alloc, &node, &mut share, digits)?)?;
+    }
+    Ok(outcomes)
+}
+
+fn answer<R: Wait>(
+    rt: &R,
+    alloc: Global,
+    node: &Node,
+    share: &mut Share,
+    digits: &str,
+) -> Result<Outcome, Fail> {
+    let bytes = bytes_of(alloc, digits)?;
+    let message = decode_train(alloc, &bytes).ok().ok_or("it is a message")?;
+    let taken = node.commit(rt, &Open, share, Event::Train(message));
+    Ok(taken.ok().ok_or("the message is taken")?)
+}
+
+// A connection of this number at the exchange.
+fn entered<R: Net<Stream = TcpStream, Listener = TcpListener> + Wait>(
+    rt: &R,
+    alloc: Global,
+    exchange: &Exchange<'_>,
+    number: usize,
+) -> Result<Ends, Fail> {
+    let loopback = SocketAddr::new(IpAddr::V4(Ipv4Addr::LOCALHOST), 0);
+    let listener = TcpListener::bind(rt, loopback)?;
+    let train = connect(rt, listener.local_addr()?)?;
+    let (stream, _) = listener.accept()?;
+    let stream = Arc::new(alloc, stream)?;
+    let pipe = Arc::new(alloc, Pipe::new(Shared(Arc::try_clone(&stream)?)))?;
+    let (sender, replies) = bounded(alloc, 8)?;
+    let connection = Connection::new(sender, Arc::try_clone(&pipe)?, Arc::try_clone(&stream)?);
+    exchange.enter(rt, number, connection)?;
+    Ok(Ends {
+        stream,
+        pipe,
+        replies,
+        train,
+    })
+}
+
+// What two connections bring to the train, where the answers to these messages are handed in so.
+fn played<R: Net<Stream = TcpStream, Listener = TcpListener> + Wait>(
+    rt: &R,
+    alloc: Global,
+    said: &[&str],
+    turns: &[Turn],
+) -> Result<(Vec<u8>, Vec<u8>), Fail> {
+    let line = two_centres(alloc)?;
+    let outcomes = answered(rt, alloc, said)?;
+    let exchange = Exchange::new(alloc, &line, 2, &[])?;
+    let first = entered(rt, alloc, &exchange, 0)?;
+    let second = entered(rt, alloc, &exchange, 1)?;
+    for (own, number) in turns {
+        let outcome = outcomes.get(*number).ok_or("it is answered")?;
+        hand_in(rt, &exchange, *own, outcome);
+    }
+    let first = brought(rt, alloc, &exchange, 0, first)?;
+    let second = brought(rt, alloc, &exchange, 1, second)?;
+    Ok((first, second))
+}
+
+fn hand_in<R: Wait>(rt: &R, exchange: &Exchange<'_>, own: Option<usize>, outcome: &Outcome) {
+    match own {
+        Some(number) => Wire { exchange, number }.answered(rt, outcome),
+        None => exchange.answered(rt, outcome),
+    }
+}
+
+// The connection leaves the exchange, and its writer writes the answers that wait, and the last bytes.
+fn brought<R: Wait>(
+    rt: &R,
+    alloc: Global,
+    exchange: &Exchange<'_>,
+    number: usize,
+    ends: Ends,
+) -> Done<Vec<u8>> {
+    exchange.leave(rt, number);
+    let _ = run_writer(rt, &ends.replies, &mut ends.pipe.end(rt));
+    let last = bytes_of(alloc, LAST)?;
+    let mut out: &TcpStream = &ends.stream;
+    let _ = out.write(&last);
+    let _ = ends.stream.shutdown(Shutdown::Both);
+    heard_to_the_end(alloc, &ends.train)
+}
+
+// The bytes that these digits spell, in order.
+fn row_of(alloc: Global, messages: &[&str]) -> Done<Vec<u8>> {
+    let mut row = Vec::new(alloc);
+    for digits in messages {
+        let bytes = bytes_of(alloc, digits)?;
+        row.extend_from_slice(&bytes).ok().ok_or(Missed::Memory)?;
+    }
+    Ok(row)
+}
+
+// The train initiates its session over the first connection, and then over the second, over which it ends the session.
+static OVER_TWO: [&str; 4] = [
+    INITIATION_OF_ONE,
+    SECOND_INITIATION,
+    THIRD_ESTABLISHED,
+    FOURTH_TERMINATION,
+];
+
+#[test]
+fn the_later_initiation_serves_the_train(rt: HostRuntime) -> Result<(), Fail> {
+    let turns = [(Some(0), 0), (Some(1), 1), (Some(1), 3)];
+    let (first, second) = played(&rt, rt.alloc(), &OVER_TWO, &turns)?;
+    let opened = row_of(rt.alloc(), &[VERSION])?;
+    let served = row_of(rt.alloc(), &[SECOND_VERSION, THIRD_TERMINATED, LAST])?;
+    assert!(rt; (first.as_slice(), second.as_slice()) == (opened.as_slice(), served.as_slice()));
+    Ok(())
+}
+
+#[test]
+fn an_overtaken_initiation_ends_its_own_connection(rt: HostRuntime) -> Result<(), Fail> {
+    let turns = [(Some(1), 1), (Some(0), 0), (Some(1), 3)];
+    let (first, second) = played(&rt, rt.alloc(), &OVER_TWO, &turns)?;
+    let served = row_of(rt.alloc(), &[SECOND_VERSION, THIRD_TERMINATED, LAST])?;
+    assert!(rt; (first.as_slice(), second.as_slice()) == (&[], served.as_slice()));
+    Ok(())
+}
+
+// The train initiates its session, ends it, and initiates it again over the same connection. The thread that reads the
+// connection hands in the last answer before another thread hands in the one before.
+static OVER_ONE: [&str; 4] = [
+    INITIATION_OF_ONE,
+    SECOND_ESTABLISHED,
+    THIRD_TERMINATION,
+    FOURTH_INITIATION,
+];
+
+#[test]
+fn a_second_initiation_over_one_connection_leaves_nothing_out(rt: HostRuntime) -> Result<(), Fail> {
+    let turns = [(Some(0), 0), (Some(0), 3), (None, 2)];
+    let (first, second) = played(&rt, rt.alloc(), &OVER_ONE, &turns)?;
+    let served = row_of(
+        rt.alloc(),
+        &[VERSION, SECOND_TERMINATED, THIRD_VERSION, LAST],
+    )?;
+    let other = row_of(rt.alloc(), &[LAST])?;
+    assert!(rt; (first.as_slice(), second.as_slice()) == (served.as_slice(), other.as_slice()));
+    Ok(())
+}
+
+// The second connection has ended the first one, over which a further initiation came before it ended.
+static OVER_AN_ENDED_ONE: [&str; 3] = [INITIATION_OF_ONE, SECOND_INITIATION, THIRD_INITIATION];
+
+#[test]
+fn a_connection_that_was_ended_serves_no_train_again(rt: HostRuntime) -> Result<(), Fail> {
+    let turns = [(Some(0), 0), (Some(1), 1), (Some(0), 2)];
+    let (first, second) = played(&rt, rt.alloc(), &OVER_AN_ENDED_ONE, &turns)?;
+    let opened = row_of(rt.alloc(), &[VERSION])?;
+    let served = row_of(rt.alloc(), &[SECOND_VERSION, THIRD_VERSION, LAST])?;
+    assert!(rt; (first.as_slice(), second.as_slice()) == (opened.as_slice(), served.as_slice()));
+    Ok(())
+}
