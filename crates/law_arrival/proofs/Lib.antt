@@ -1,5 +1,4 @@
 pub mod Arrives
-pub mod Followed
 pub mod Meets
 pub mod Parts
 pub mod Reached

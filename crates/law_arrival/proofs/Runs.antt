@@ -17,24 +17,14 @@ use Rattle.law_outside.specs.Outside as outside
 use Rattle.law_outside.specs.Outside.{View, Stretch, Spoken, is_told, all_told, all_heard, said_by, sees, sees_all, nothing_seen, may_run_over, is_in, IsSafeOutside, spoken_of}
 use Rattle.law_promises.proofs.Spans.{Ends}
 use Rattle.law_promises.proofs.Tied.{not_under_way}
-use Rattle.law_promises.proofs.Follows.{Follows, heard_as, wait_still, after_none, quiet_follows}
-use Rattle.law_promises.proofs.Pieces.{SameTrains, all_same, run_safe}
+use Rattle.law_promises.proofs.Follows.{Follows, quiet_follows}
+use Rattle.law_promises.proofs.Pieces.{all_same, follows_as, told_both, steps_follow, sets_follow, unsets_follow, run_safe}
 use Rattle.law_arrival.specs.Arrival.{IsSafeByWhatCame}
 use Rattle.law_arrival.specs.Received.{Known, nothing_known, after_coming, after_loss, Reaches, none_left, reaches, lost, PartReaches, nothing_spoken, part_reaches, may_happen, AreReceived}
 use Rattle.law_arrival.proofs.Arrives.{words_both}
-use Rattle.law_arrival.proofs.Followed.{steps_follow, sets_follow, unsets_follow}
 use Rattle.law_arrival.proofs.Reached.{Rel, Fit, is_part, is_nothing, covers_less, rel_said}
 use Rattle.law_arrival.proofs.Parts.{rel_came, rel_lost}
 use Rattle.law_arrival.proofs.Speaks.{Speaks, no_word, one_word, said_rises, quiet_speaks, own_speaks, sets_say, unsets_say, IsStart}
-
-follows_as : (line : Line) (v : LineState) (x y : View) → SameTrains x y → Follows line v x → Follows line v y
-follows_as line v x y same old =
-    let later = heard_as line v x old v refl in
-    after_none line v x old v y (same.stray ∙ old.founded) old.keep (wait_still line v x old v y refl same.start later) (λ u s. refl) refl same.stretch later
-
-told_both : (line : Line) (event : Event) (ps qs : List Saying) (x : View) → all_told line event (ps ++ qs) x ≡ all_told line event qs (all_told line event ps x)
-told_both line event [] qs x = refl
-told_both line event (p ∷ ps) qs x = told_both line event ps qs (is_told line event p p.message.body x)
 
 -- each stretch ends where a section of its track ends
 ends_there : (line : Line) (v : LineState) (x : View) → Follows line v x → (t : ℕ) (y : Stretch) → x.stretch t ≡ Some y → Ends line y

@@ -69,7 +69,7 @@ all_same event (w ∷ ws) x =
     let two = all_same event ws (outside.hears event w x) in
     record { stretch = two.stretch ∙ one.stretch; start = two.start ∙ one.start; stray = two.stray ∙ one.stray }
 
-follows_as : (line : Line) (v : LineState) (x y : View) → SameTrains x y → Follows line v x → Follows line v y
+pub follows_as : (line : Line) (v : LineState) (x y : View) → SameTrains x y → Follows line v x → Follows line v y
 follows_as line v x y same old =
     let later = heard_as line v x old v refl in
     after_none line v x old v y (same.stray ∙ old.founded) old.keep (wait_still line v x old v y refl same.start later) (λ u s. refl) refl same.stretch later
@@ -106,7 +106,7 @@ says_released line c m (ShorteningRejected stamp position) x = refl
 says_released line c m (EndOfMission position) x = refl
 says_released line c m (ShorteningGranted stamp position) x = refl
 
-told_both : (line : Line) (event : Event) (ps qs : List Saying) (x : View) → all_told line event (ps ++ qs) x ≡ all_told line event qs (all_told line event ps x)
+pub told_both : (line : Line) (event : Event) (ps qs : List Saying) (x : View) → all_told line event (ps ++ qs) x ≡ all_told line event qs (all_told line event ps x)
 told_both line event [] qs x = refl
 told_both line event (p ∷ ps) qs x = told_both line event ps qs (is_told line event p p.message.body x)
 
@@ -250,7 +250,7 @@ module _ (line : Line) (ok : IsLine line) where
     pub released : Released v x
 
   module _ (v : LineState) (x : View) (old : Follows line v x) (c : ℕ) (at_centre : is_centre line c ≡ true) (t_train t : ℕ) where
-    abbrev message : TrainBody → TrainMessage
+    abbrev pub message : TrainBody → TrainMessage
     message body = record { t_train = t_train; nid_engine = t; body = body }
 
     abbrev after_hearing : TrainBody → LineState
@@ -369,10 +369,10 @@ module _ (line : Line) (ok : IsLine line) where
     fresh_if_listened (ShorteningRejected stamp position) may = cc
     fresh_if_listened (EndOfMission position) may = cc
 
-    abbrev spoken : TrainBody → Option Reason → View
+    abbrev pub spoken : TrainBody → Option Reason → View
     spoken body why = said_by line (Bytes c (Ok (message body))) (is_none why) x
 
-    steps_follow : (body : TrainBody) (said : Said) (mid : LineState) (why : Option Reason) → Steps line v c (message body) said mid why → Follows line mid (all_told line (Bytes c (Ok (message body))) said.sayings (spoken body why))
+    pub steps_follow : (body : TrainBody) (said : Said) (mid : LineState) (why : Option Reason) → Steps line v c (message body) said mid why → Follows line mid (all_told line (Bytes c (Ok (message body))) said.sayings (spoken body why))
     steps_follow body said mid why (silent reason is so none new) =
         subst (λ (o : Option Reason). Follows line mid (all_told line (Bytes c (Ok (message body))) said.sayings (spoken body o))) (sym so)
         (subst (λ (p : Said). Follows line mid (all_told line (Bytes c (Ok (message body))) p.sayings x)) (sym none) (subst (λ (w : LineState). Follows line w x) (sym new) old))
@@ -425,7 +425,7 @@ module _ (line : Line) (ok : IsLine line) where
     no_sayings : (event : Event) (words : List Word) (said : Said) (mid : LineState) → said ≡ record { sayings = []; words = words } → Follows line mid x → Follows line mid (all_told line event said.sayings x)
     no_sayings event words said mid is h = subst (λ (p : Said). Follows line mid (all_told line event p.sayings x)) (sym is) h
 
-    sets_follow : (c s : ℕ) (said : Said) (mid : LineState) → Sets line v c s said mid → Follows line mid (all_told line (Set c s) said.sayings x)
+    pub sets_follow : (c s : ℕ) (said : Said) (mid : LineState) → Sets line v c s said mid → Follows line mid (all_told line (Set c s) said.sayings x)
     sets_follow c s said mid h = by_test (is_home line c s) _ _
         (λ _ n. no_sayings (Set c s) (Done s ∷ []) said mid n.said_is (by_use (is_unused_mark (v.mark s)) refl n.new_is))
         (λ _ n. no_sayings (Set c s) (NotHome s ∷ []) said mid n.said_is (subst (λ (w : LineState). Follows line w x) (sym n.new_is) old)) h
@@ -434,7 +434,7 @@ module _ (line : Line) (ok : IsLine line) where
         by_use true unused is = entered s Open mid refl unused is
         by_use false used is = wished s false mid is
 
-    unsets_follow : (c s : ℕ) (said : Said) (mid : LineState) → Unsets line v c s said mid → Follows line mid (all_told line (Unset c s) said.sayings x)
+    pub unsets_follow : (c s : ℕ) (said : Said) (mid : LineState) → Unsets line v c s said mid → Follows line mid (all_told line (Unset c s) said.sayings x)
     unsets_follow c s said mid h = by_test (is_home line c s) _ _
         (λ _ n. by_test (is_unused_mark (v.mark s)) _ _
         (λ unused q. no_sayings (Unset c s) (Done s ∷ []) said mid q.said_is (entered s Shut mid refl unused q.new_is))
