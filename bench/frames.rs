@@ -137,7 +137,7 @@ fn frame_in(bytes: &[u8]) -> Option<Frame> {
     Some(Frame { number: count, stamp, body: body_in(bytes)? })
 }
 
-// The kind and the fields behind it, from place 8 on.
+// The kind and the fields after it, from place 8 on.
 fn put(bytes: &mut Vec<u8>, kind: u8, fields: &[u32]) {
     bytes.push(kind);
     for field in fields {

@@ -23,7 +23,7 @@ impl Reader<'_> {
         Some(word >> (64 - n))
     }
 
-    /// Eight bytes from this one on; zeros stand behind the last byte.
+    /// Eight bytes from this one on; zeros follow the last byte.
     #[inline(always)]
     fn eight(&self, first: usize) -> u64 {
         let last = self.bytes.len();

@@ -59,7 +59,7 @@ fn at_home(line: &Line, world: &World, draw: &mut Draw) -> (u8, u16) {
     let i = draw.below(line.trains.len() as u32) as usize;
     let any = draw.below(line.sections.len() as u32) as u16;
     let section = match mission_of(world, i) {
-        Some(mission) if draw.one_in(2) => (mission.hand.behind() + draw.below(4) as u16).saturating_sub(2),
+        Some(mission) if draw.one_in(2) => (mission.hand.next_after() + draw.below(4) as u16).saturating_sub(2),
         _ => any,
     };
     let home = line.sections.get(section as usize).map_or(0, |it| it.home);
@@ -122,7 +122,7 @@ fn said(line: &Line, world: &World, centre: u8, i: usize, draw: &mut Draw) -> Sa
     }
 }
 
-/// Mostly within a few sections behind the first of the hand, or in the area of the centre that it is said to.
+/// Mostly within a few sections after the first of the hand, or in the area of the centre that it is said to.
 fn report(line: &Line, draw: &mut Draw, mission: Option<Mission>, centre: u8) -> Report {
     let count = line.sections.len() as u32;
     let s = match mission {

@@ -45,7 +45,7 @@ fn event(line: &Line, world: &World, time: &mut u32, draw: &mut Draw) -> Event {
     }
 }
 
-/// Any section, and one past the last at times; as often as not one behind the first of some hand.
+/// Any section, and one past the last at times; as often as not one in advance of the first of some hand.
 fn section(line: &Line, world: &World, draw: &mut Draw) -> u16 {
     let i = draw.below(line.trains.len() as u32) as usize;
     let any = draw.below(line.sections.len() as u32 + 1) as u16;
@@ -93,7 +93,7 @@ fn said(line: &Line, world: &World, centre: u8, i: usize, draw: &mut Draw) -> Sa
     }
 }
 
-/// Mostly within a few sections behind the first of the hand.
+/// Mostly within a few sections after the first of the hand.
 fn report(line: &Line, draw: &mut Draw, first: Option<u16>) -> Report {
     let count = line.sections.len() as u32;
     let s = match first {

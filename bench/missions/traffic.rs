@@ -22,7 +22,7 @@ pub fn line_of(sections: u16, trains: u8, draw: &mut Draw) -> Line {
     Line::new(5, 2, list, trains)
 }
 
-/// One event of a mission; the numbers are of the eight sections. `Start` is behind its section's release at once.
+/// One event of a mission; the numbers are of the eight sections. `Start` follows its section's release at once.
 #[derive(Clone, Copy)]
 enum Deed {
     Initiation,
@@ -122,7 +122,8 @@ pub fn missions(line: &Line, count: usize, draw: &mut Draw) -> Vec<(Event, Meant
     events
 }
 
-/// Each second section behind those that trains run over is opened: no other line has so many runs of sections that are used alike.
+/// Each second section in advance of those that trains run over is opened: no other line has so many runs of sections
+/// that are used alike.
 pub fn each_second(line: &Line) -> Vec<(Event, Meant)> {
     let first = SECTIONS_EACH * line.trains.len() as u16 + 1;
     let sections = (first..line.sections.len() as u16).step_by(2);

@@ -1,4 +1,5 @@
-// What plain Rust radio block centres (`../peer`) have before the first event of a run and behind each, for the page of a print.
+// What plain Rust radio block centres (`../peer`) have before the first event of a run and after each, for the page of
+// a print.
 //
 // `pages` reads lines: `nid_c 5`, `centres 2`, `section TRACK HOME BALISE START END` and `engine ENGINE REGISTRAR` by their order, all in numbers,
 // and then the events: `train CENTRE HEX`, `set CENTRE SECTION`, `unset CENTRE SECTION`, `deliver FROM TO NUMBER`. It writes a line of JSON for

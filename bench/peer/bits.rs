@@ -28,7 +28,7 @@ impl<'a> Reader<'a> {
         Some(field as u32)
     }
 
-    /// Eight bytes from this one on; zeros stand behind the last byte.
+    /// Eight bytes from this one on; zeros follow the last byte.
     #[inline(always)]
     fn eight(&self, first: usize) -> u64 {
         let last = self.bytes.len();

@@ -81,7 +81,7 @@ impl Centre {
             return;
         }
         let follows = |mission: &Mission| {
-            !mission.is_ended && mission.hand.behind() == run.first && line.is_on(mission.place.track, run.first)
+            !mission.is_ended && mission.hand.next_after() == run.first && line.is_on(mission.place.track, run.first)
         };
         match self.trains[i].mission.as_mut().filter(|mission| follows(mission)) {
             Some(mission) => mission.pool = run,
@@ -92,7 +92,7 @@ impl Centre {
     fn route_withdrawn(&mut self, line: &Line, i: usize, s: u16, said: &mut Said) {
         let Some(mission) = &mut self.trains[i].mission else { return };
         if mission.pool.has(s) {
-            said.go_home(Run { first: s, count: mission.pool.behind() - s });
+            said.go_home(Run { first: s, count: mission.pool.next_after() - s });
             mission.pool.count = s - mission.pool.first;
         } else {
             self.propose(line, i, s, said);
@@ -134,7 +134,7 @@ impl Centre {
             said.reply_at(order, place.group);
             said.send(next, Body::Announce { number: self.announced, track: place.track });
         }
-        let first = hand.behind();
+        let first = hand.next_after();
         let is_wanted = line.is_on(place.track, first) && line.is_home(next, first);
         if is_wanted && hand.count < MOST_SECTIONS && mission.pool.count == 0 && self.trains[i].route_ask.is_none() {
             self.trains[i].route_ask = Some(first);
@@ -204,7 +204,7 @@ impl Centre {
         train.expected[from as usize] = None;
         train.heard = train.heard.max(Some(yielded.heard));
         let Yielded { place, hand, has_data, is_ended, .. } = yielded;
-        let pool = Run { first: hand.behind(), count: 0 };
+        let pool = Run { first: hand.next_after(), count: 0 };
         train.mission = Some(Mission { place, hand, pool, has_data, is_ended, proposal: None, handing: None });
         let own = part_of(line, self.number, hand).unwrap_or(pool);
         for s in own.numbers() {

@@ -214,6 +214,6 @@ impl Centre {
 /// Those sections of a run that are of this home.
 pub fn part_of(line: &Line, home: u8, run: Run) -> Option<Run> {
     let first = run.numbers().find(|s| line.is_home(home, *s))?;
-    let count = (first..run.behind()).take_while(|s| line.is_home(home, *s)).count() as u16;
+    let count = (first..run.next_after()).take_while(|s| line.is_home(home, *s)).count() as u16;
     Some(Run { first, count })
 }

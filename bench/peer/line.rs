@@ -28,16 +28,16 @@ pub struct Run {
 }
 
 impl Run {
-    pub fn behind(self) -> u16 {
+    pub fn next_after(self) -> u16 {
         self.first + self.count
     }
 
     pub fn has(self, s: u16) -> bool {
-        self.first <= s && s < self.behind()
+        self.first <= s && s < self.next_after()
     }
 
     pub fn numbers(self) -> std::ops::Range<u16> {
-        self.first..self.behind()
+        self.first..self.next_after()
     }
 }
 
@@ -81,7 +81,7 @@ pub struct Line {
     /// The section of each balise, by its number in the country.
     balises: Vec<u16>,
     engines: HashMap<u32, u8, BuildHasherDefault<Multiply>>,
-    /// By track and centre: the home of the first section behind those of the centre.
+    /// By track and centre: the home of the first section in advance of those of the centre.
     next: Vec<[Option<u8>; 8]>,
 }
 
@@ -108,7 +108,7 @@ impl Line {
         Line { nid_c, centres, sections, trains, tracks, balises, engines, next }
     }
 
-    /// The centre behind this one on the track.
+    /// The centre beyond this one on the track.
     #[allow(dead_code)] // where there is one centre
     pub fn next_centre(&self, centre: u8, track: u8) -> Option<u8> {
         self.next[track as usize][centre as usize]
@@ -118,7 +118,7 @@ impl Line {
     #[allow(dead_code)] // where there is one centre
     pub fn front_section(&self, place: &Place) -> Option<u16> {
         let on_track = self.tracks[place.track as usize];
-        let sections = &self.sections[on_track.first as usize..on_track.behind() as usize];
+        let sections = &self.sections[on_track.first as usize..on_track.next_after() as usize];
         let passed = sections.partition_point(|section| 10 * section.end < place.front);
         (place.front > 0 && passed < sections.len()).then_some(on_track.first + passed as u16)
     }
@@ -171,7 +171,7 @@ impl Line {
     /// The sections that a train may stand in which is between these ends.
     fn covered(&self, track: u8, rear: i32, front: u32) -> Run {
         let on_track = self.tracks[track as usize];
-        let sections = &self.sections[on_track.first as usize..on_track.behind() as usize];
+        let sections = &self.sections[on_track.first as usize..on_track.next_after() as usize];
         let passed = sections.partition_point(|section| 10 * section.end as i32 <= rear);
         let reached = sections.partition_point(|section| 10 * section.start < front);
         Run { first: on_track.first + passed as u16, count: reached.saturating_sub(passed) as u16 }
@@ -180,7 +180,7 @@ impl Line {
     /// The sections under a train that starts a mission at the place, where that may be.
     pub fn start_at(&self, place: &Place) -> Option<Run> {
         let rear = place.rear?;
-        let track_end = self.sections[self.tracks[place.track as usize].behind() as usize - 1].end;
+        let track_end = self.sections[self.tracks[place.track as usize].next_after() as usize - 1].end;
         if rear < 0 || rear >= place.front as i32 || place.front > 10 * track_end {
             return None;
         }

@@ -121,7 +121,7 @@ fn required(r: &mut Reader, number: u32) -> Result<(), Fault> {
     if r.take(8) == Some(number) { Ok(()) } else { Err(Fault::Missing) }
 }
 
-/// The bits of a packet behind its number.
+/// The bits of a packet after its number.
 fn packet<'a>(r: &mut Reader<'a>) -> Result<Reader<'a>, Fault> {
     let length = r.take(13).ok_or(Fault::Packet)? as usize;
     if length < 21 {
@@ -166,12 +166,12 @@ fn position_in(word: u128, n: usize) -> Result<Position, Fault> {
     if n < 93 {
         return Err(Fault::Packet);
     }
-    let (length, behind) = match at(75, 2) {
+    let (length, after) = match at(75, 2) {
         1 | 2 => (Some(at(77, 15)), 92),
         _ => (None, 77),
     };
-    let level = at(behind + 13, 3);
-    let end = behind + 16 + if level == 1 { 8 } else { 0 };
+    let level = at(after + 13, 3);
+    let end = after + 16 + if level == 1 { 8 } else { 0 };
     if n != end as usize {
         return Err(Fault::Packet);
     }
@@ -183,7 +183,7 @@ fn position_in(word: u128, n: usize) -> Result<Position, Fault> {
         doubt_over: at(45, 15),
         doubt_under: at(60, 15),
         length,
-        is_still: at(behind, 7) == 0,
+        is_still: at(after, 7) == 0,
         is_level_2: level == 3,
     })
 }

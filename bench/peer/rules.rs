@@ -121,7 +121,7 @@ impl Centre {
     }
 
     pub fn admit(&mut self, i: usize, place: Place, hand: Run, said: &mut Said) {
-        let pool = Run { first: hand.behind(), count: 0 };
+        let pool = Run { first: hand.next_after(), count: 0 };
         let mission = Mission { place, hand, pool, has_data: false, is_ended: false, proposal: None, handing: None };
         self.trains[i].mission = Some(mission);
         said.reply(Reply::Accepted);
@@ -170,7 +170,7 @@ impl Centre {
 
     /// The sections that may follow in the hand: free ones of this home, and those of the pool.
     fn extension(&self, line: &Line, mission: &Mission, place: &Place) -> Run {
-        let first = mission.hand.behind();
+        let first = mission.hand.next_after();
         let limit = place.group_start + MOST_METRES;
         let may_follow = |s: u16| {
             line.is_on(place.track, s)
@@ -263,7 +263,7 @@ impl Centre {
         Ok(said)
     }
 
-    /// So many sections of the hand are kept, if it has as many; what lies behind them and the pool are given up.
+    /// So many sections of the hand are kept, if it has as many; what follows them and the pool are given up.
     fn cut(&mut self, line: &Line, i: usize, count: u16, said: &mut Said) {
         let Some(Mission { hand, pool, handing, .. }) = self.trains[i].mission else { return };
         let count = count.min(hand.count);
@@ -299,5 +299,5 @@ impl Centre {
 
 /// Where the last section of the hand ends.
 fn hand_end(line: &Line, hand: Run) -> u32 {
-    line.sections[hand.behind() as usize - 1].end
+    line.sections[hand.next_after() as usize - 1].end
 }

@@ -159,14 +159,14 @@ impl Said {
         self.frames.push((to, body));
     }
 
-    /// These go home too; they lie behind those that do already.
+    /// These go home too; they follow those that do already.
     pub fn go_home(&mut self, run: Run) {
         if run.count == 0 {
             return;
         }
         match &mut self.home {
             [None, _] => self.home[0] = Some(run),
-            [Some(before), None] if before.behind() == run.first => before.count += run.count,
+            [Some(before), None] if before.next_after() == run.first => before.count += run.count,
             [Some(_), None] => self.home[1] = Some(run),
             [_, Some(before)] => before.count += run.count,
         }

@@ -2,7 +2,7 @@
 
 use super::bits::Writer;
 
-/// A position report: the front is so far behind the balise group, in metres, with doubts of 5 m both ways.
+/// A position report: the front is so far in advance of the balise group, in metres, with doubts of 5 m both ways.
 #[derive(Clone, Copy)]
 pub struct Report {
     pub group: u32,

@@ -81,7 +81,7 @@ impl<'a> World<'a> {
         Ok(Answer::Outcome(to, self.centres[to as usize].deliver(self.line, from, number, &frame)?))
     }
 
-    /// What is answered, as lines of text behind the stamp of the step.
+    /// What is answered, as lines of text after the stamp of the step.
     pub fn print_answer(&self, answer: &Answer, text: &mut String) {
         match answer {
             Answer::Outcome(centre, outcome) => self.print_outcome(*centre, outcome, text).unwrap(),
@@ -99,8 +99,8 @@ impl<'a> World<'a> {
         for (k, to) in outcome.sent.iter().enumerate() {
             let frames = &self.centres[centre as usize].sent[*to as usize];
             // This frame is not the last to its receiver, if more follow in the same step.
-            let behind = outcome.sent[k + 1..].iter().filter(|it| *it == to).count();
-            let number = frames.len() - behind;
+            let after = outcome.sent[k + 1..].iter().filter(|it| *it == to).count();
+            let number = frames.len() - after;
             let frame = &frames[number - 1];
             let engine = self.line.trains[frame.train as usize].engine;
             writeln!(text, "=> {to} {}", hex(&frames::encode(number as u32, frame, engine)))?;

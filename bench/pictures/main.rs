@@ -1,4 +1,4 @@
-// What plain Rust radio block centres (`../peer`) have behind each event of a run, for comparison with a picture of it.
+// What plain Rust radio block centres (`../peer`) have after each event of a run, for comparison with a picture of it.
 //
 // `pictures FOLDER EVENTS SEED` writes line.toml and script, events in any order on a small line of three centres, and so.txt: a line an
 // event. On it stand the sections that are in use, as `3:given:10`, `4:kept:10` or `4:kept:10:wished`; who supervises each train that has a

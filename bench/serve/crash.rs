@@ -11,7 +11,7 @@ use std::thread;
 use std::time::Duration;
 
 /// Lets all trains run missions until their connections are lost: what each of them heard. The messages of a train
-/// begin behind this stamp.
+/// begin after this stamp.
 pub fn run(first_port: u16, time: u32) -> Vec<Heard> {
     thread::scope(|scope| {
         let trains: Vec<_> = (0..TRAINS).map(|number| scope.spawn(move || ride(first_port, number, time))).collect();

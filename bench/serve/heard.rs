@@ -10,7 +10,7 @@ use std::fmt::Write;
 #[derive(Default)]
 pub struct Heard {
     pub lines: Vec<String>,
-    /// How many answers were not the next that the centre said behind the one before.
+    /// How many answers were not the next that the centre said after the one before.
     pub out_of_order: u32,
     /// T_TRAIN of the last answer.
     last: u32,
@@ -29,7 +29,7 @@ impl Ear for Heard {
     }
 }
 
-/// T_TRAIN: the 32 bits behind NID_MESSAGE and L_MESSAGE.
+/// T_TRAIN: the 32 bits after NID_MESSAGE and L_MESSAGE.
 fn stamp_of(message: &[u8]) -> u32 {
     let bits = message[2..7].iter().fold(0u64, |bits, byte| bits << 8 | u64::from(*byte));
     (bits >> 6) as u32

@@ -1,5 +1,5 @@
-// A line of eight centres and 64 trains. Each train has eight sections at its centre: those that are released, one that never is, and behind it
-// the spare one, which no train comes to.
+// A line of eight centres and 64 trains. Each train has eight sections at its centre: those that are released, one that
+// never is, and after it the spare one, which no train comes to.
 
 use std::fmt::Write;
 

@@ -26,7 +26,7 @@ pub struct Plan {
     pub first_port: u16,
     pub seconds: u64,
     pub window: u32,
-    /// The stamp behind which the trains' messages begin.
+    /// The stamp after which the trains' messages begin.
     pub time: u32,
 }
 
@@ -56,7 +56,7 @@ fn drive(other: Other, plan: Plan, number: usize, answered: &AtomicU64, start: &
     let stream = connect(train.port(plan.first_port));
     start.wait();
     let mut stream = stream?;
-    // Nothing is left in it behind the last answer of a mission's requests.
+    // Nothing is left in it after the last answer of a mission's requests.
     let mut input = BufReader::with_capacity(4096, stream.try_clone()?);
     let until = Instant::now() + Duration::from_secs(plan.seconds);
     while Instant::now() < until {

@@ -41,7 +41,8 @@ pub struct Browsed {
     pub crowded: AtomicU64,
 }
 
-/// Makes trouble at the page until then. Whoever is answered is answered what is due; and behind it all the page answers again.
+/// Makes trouble at the page until then. Whoever is answered is answered what is due; and after it all the page answers
+/// again.
 pub fn trouble(port: u16, until: Instant) -> io::Result<Browsed> {
     let browsed = Browsed::default();
     let done: io::Result<()> = thread::scope(|scope| {
@@ -88,7 +89,7 @@ fn status(port: u16, bytes: &[u8]) -> io::Result<u16> {
     text.get(9..12).and_then(|digits| digits.parse().ok()).ok_or_else(|| other("no status"))
 }
 
-// Asks one request behind another, and looks at each answer. A page that is crowded may close a connection.
+// Asks one request after another, and looks at each answer. A page that is crowded may close a connection.
 fn ask_all(port: u16, browsed: &Browsed) -> io::Result<()> {
     for (request, due) in DUE {
         match status(port, request.as_bytes()) {

@@ -77,7 +77,7 @@ pub fn connect(port: u16) -> io::Result<TcpStream> {
     Ok(stream)
 }
 
-/// Reads one whole message; L_MESSAGE, the ten bits behind NID_MESSAGE, is its length.
+/// Reads one whole message; L_MESSAGE, the ten bits after NID_MESSAGE, is its length.
 pub fn read_message(stream: &mut impl Read) -> io::Result<Vec<u8>> {
     let mut head = [0; 3];
     stream.read_exact(&mut head)?;

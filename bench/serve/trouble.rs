@@ -74,7 +74,7 @@ fn told<T>(number: usize, done: io::Result<T>) -> io::Result<T> {
     done.map_err(|error| other(&format!("train {number}: {error}")))
 }
 
-// Missions one behind another, a request each few milliseconds.
+// Missions one after another, a request each few milliseconds.
 fn train(soak: Soak, number: usize) -> io::Result<Heard> {
     let mut train = Train::new(number);
     let mut heard = Heard::default();
@@ -126,7 +126,7 @@ fn opened(soak: Soak, train: &mut Train, heard: &mut Heard) -> io::Result<TcpStr
     Err(other("no connection is taken"))
 }
 
-// Bytes that mean nothing, half of them behind the head of a message. The connection ends at their fault, or is cut.
+// Bytes that mean nothing, half of them after the head of a message. The connection ends at their fault, or is cut.
 fn random_bytes(soak: Soak, port: u16, seed: u64) {
     let mut draw = Draw::new(1000 + seed);
     while soak.goes_on() {

@@ -21,7 +21,7 @@ pub struct Audit<'a> {
     /// How many lines have come.
     rows: usize,
     events: u64,
-    /// Why the run stopped: a refused step, or want of memory. Nothing is played behind it.
+    /// Why the run stopped: a refused step, or want of memory. Nothing is played after it.
     refused: Option<StepFault>,
     /// The number of the first line whose script has no form that a script may have. Later lines are only counted.
     faulty: Option<usize>,
@@ -99,7 +99,7 @@ impl<'a> Audit<'a> {
         }
     }
 
-    // Behind all lines of an event the lines that end the print may come.
+    // After all lines of an event the lines that end the print may come.
     fn know_ending(&mut self) {
         if self.refused.is_some() || !self.comparison.wants_ending() {
             return;

@@ -50,7 +50,7 @@ abbrev pub GivesNoRun : (List ℕ → Option (List ℕ) → Type 0) → List ℕ
 GivesNoRun gives file script why =
     GivesNoLine gives file why ⊎ ((line : Line) × GivesLine gives file line × GivesNoEntries gives line script why)
 
--- What `run` leaves. Behind what the writer had stands the print of the line and the entries that the files gave, whole
+-- What `run` leaves. After what the writer had stands the print of the line and the entries that the files gave, whole
 -- or up to the event whose step is refused. Where they gave none, nothing is written. Nothing is said of what is
 -- written where the writer refuses a write or memory runs out.
 abbrev pub LeavesRun : (List ℕ → Option (List ℕ) → Type 0) → List ℕ → List ℕ → Result (Unit {0}) Fault

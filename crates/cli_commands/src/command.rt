@@ -16,7 +16,7 @@ use std::alloc::Global;
 use std::convert::AsStr;
 use std::io::Write;
 
-/// Does what the words behind the program's name ask for, and gives the exit status: 0 done, 1 an audit that found a
+/// Does what the words after the program's name ask for, and gives the exit status: 0 done, 1 an audit that found a
 /// difference, 2 words refused (help too), 3 a file that can't be read, a script fault or journals, 4 a line fault, 5 a
 /// refused step, 6 a refused write, or a command that wants sockets, 7 a fault of a message.
 pub fn command<S: AsStr, F: Files, O: Write, E: Write>(

@@ -10,7 +10,7 @@ use std::alloc::Global;
 use std::io::Write;
 
 /// Draws what `run` or `serve` has printed for a line, or what its journals hold, as far as the cut says: the
-/// time-distance diagram as an SVG document, or an HTML page with the line behind each event.
+/// time-distance diagram as an SVG document, or an HTML page with the line after each event.
 pub fn draw_printed<'a, F: Files, O: Write>(
     alloc: Global,
     file: &'a str,

@@ -76,7 +76,7 @@ fn path_of(name: &str) -> &str {
     if name == "-" { STANDARD_INPUT } else { name }
 }
 
-/// The words behind the program's name.
+/// The words after the program's name.
 pub fn words_of<R: Env + AllocGlobal>(rt: &R) -> Result<Vec<String>, Fault<'static>> {
     match env::args(rt) {
         Ok(words) => Ok(words.skip(1).collect(rt.alloc())?),

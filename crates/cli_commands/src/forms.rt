@@ -1,9 +1,9 @@
-//! The commands of `rbcline`, and the words behind each.
+//! The commands of `rbcline`, and the words after each.
 
 use clap::{Arg, ArgAction, Command};
 use std::alloc::{AllocError, Global};
 
-/// A command: what it does, and the words behind it, each with what it is.
+/// A command: what it does, and the words after it, each with what it is.
 struct Form {
     name: &'static str,
     about: &'static str,

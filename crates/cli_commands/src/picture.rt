@@ -52,7 +52,7 @@ fn metres_of(line: &Line, track: u8) -> u32 {
     metres
 }
 
-/// The numbers of a track's sections in a row, behind the name of their home, with a bar at each border.
+/// The numbers of a track's sections in a row, after the name of their home, with a bar at each border.
 fn print_row<W: Write>(out: &mut W, line: &Line, track: u8) -> io::Result<()> {
     let mut home = None;
     for number in 0..line.section_count() {

@@ -11,7 +11,7 @@ use rbc_line::Line;
 use std::alloc::{AllocError, Global};
 use std::io::{BufWriter, Write};
 
-/// Runs a script on a line as `run` does, with four drawn deliveries behind each event.
+/// Runs a script on a line as `run` does, with four drawn deliveries after each event.
 pub fn run_storm<'a, F: Files, O: Write>(
     alloc: Global,
     file: &'a str,

@@ -24,7 +24,7 @@ pub enum Request<'a> {
         file: &'a str,
         script: &'a str,
     },
-    /// Run the script on the line, with drawn deliveries behind each event.
+    /// Run the script on the line, with drawn deliveries after each event.
     Storm {
         file: &'a str,
         script: &'a str,
@@ -40,7 +40,7 @@ pub enum Request<'a> {
         file: &'a str,
         printed: &'a str,
     },
-    /// Let the centres of the line run: the first listens at this port, the others behind it.
+    /// Let the centres of the line run: the first listens at this port, the others after it.
     Serve {
         file: &'a str,
         port: u16,
@@ -101,7 +101,7 @@ pub struct JournalWords<'a> {
     pub is_synced: bool,
 }
 
-/// Reads the words behind the program's name.
+/// Reads the words after the program's name.
 pub fn requested<'a, S: AsStr>(alloc: Global, words: &'a [S]) -> Result<Request<'a>, Fault<'a>> {
     let matches = match matched(alloc, words) {
         Ok(matches) => matches,

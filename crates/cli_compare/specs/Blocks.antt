@@ -14,7 +14,7 @@ differs_in n [] = None
 differs_in n (block ∷ blocks) =
     option_or (first_difference n block.due block.rows) (differs_in (n + length block.rows) blocks)
 
--- a part and those behind it; the lines that end a print have to stand in the last part
+-- a part and those after it; the lines that end a print have to stand in the last part
 abbrev pub blocks_from : List (List ℕ) → List (List ℕ) → List (List ℕ) → List Block → List Block
 blocks_from due rows ending [] = record { due = due ++ ending; rows = rows } ∷ []
 blocks_from due rows ending (block ∷ blocks) = record { due = due; rows = rows } ∷ block ∷ blocks

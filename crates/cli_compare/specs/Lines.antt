@@ -7,7 +7,7 @@ abbrev pub with_byte : ℕ → List (List ℕ) → List (List ℕ)
 with_byte b [] = []
 with_byte b (row ∷ rows) = (b ∷ row) ∷ rows
 
--- the lines of a text, each without the line feed that ends it; what stands behind the last line feed is no line
+-- the lines of a text, each without the line feed that ends it; what follows the last line feed is no line
 abbrev pub lines_of : List ℕ → List (List ℕ)
 lines_of [] = []
 lines_of (b ∷ bs) = if b == 10 then [] ∷ lines_of bs else with_byte b (lines_of bs)
@@ -30,10 +30,10 @@ abbrev pub is_next : List ℕ → List (List ℕ) → Bool
 is_next row [] = false
 is_next row (due ∷ dues) = bytes_eq due row
 
--- the lines that have to come behind a line that came
-abbrev pub left_behind : List ℕ → List (List ℕ) → List (List ℕ)
-left_behind row [] = []
-left_behind row (due ∷ dues) = if bytes_eq due row then dues else due ∷ dues
+-- the lines that have to come after a line that came
+abbrev pub left_after : List ℕ → List (List ℕ) → List (List ℕ)
+left_after row [] = []
+left_after row (due ∷ dues) = if bytes_eq due row then dues else due ∷ dues
 
 -- the first line of a text ends there, where the text has one
 abbrev pub Ends : List ℕ → Option ℕ → Type 0

@@ -4,15 +4,15 @@ use Rattle.std.specs.Option.{option_or}
 use Rattle.cli_compare.specs.declared.part.Part.{Part}
 use Rattle.cli_compare.specs.declared.comparison.Comparison.{Comparison}
 use Rattle.cli_compare.specs.Lines.{is_over}
-use Rattle.cli_compare.specs.Part.{found, found_behind}
+use Rattle.cli_compare.specs.Part.{found, found_after}
 use Rattle.cli_compare.specs.Blocks.{Block, differs_in}
 
 -- in the last part: the lines that end the print are known, or these have to
 abbrev pub found_at_end : Option Part → Part → ℕ → List (List ℕ) → List (List ℕ) → Option ℕ
 found_at_end (Some ending) part n rows other = found ending n rows
-found_at_end None part n rows other = found_behind part.differs (part.due ++ other) n rows
+found_at_end None part n rows other = found_after part.differs (part.due ++ other) n rows
 
--- in the part, and in those behind it
+-- in the part, and in those after it
 abbrev pub found_in : Comparison → List (List ℕ) → List (List ℕ) → List Block → Option ℕ
 found_in c rows ending [] = found_at_end c.ending c.part c.next rows ending
 found_in c rows ending (block ∷ blocks) =

@@ -7,13 +7,13 @@ use crate::part::Part;
 use std::alloc::Global;
 
 /// A print that is held against the lines that have to stand in it, while both come. It is held part by part: a part
-/// begins with the line of an event. Behind the lines of the last event stand those that end a print.
+/// begins with the line of an event. After the lines of the last event stand those that end a print.
 #[derive(Drop)]
 pub struct Comparison {
     /// The number of the next line.
     next: u64,
     part: Part,
-    /// What comes behind all lines of the part, held against the lines that end a print.
+    /// What follows all lines of the part, held against the lines that end a print.
     ending: Option<Part>,
     /// The number of the first line that differs in the parts before.
     differs: Option<u64>,

@@ -1,5 +1,5 @@
 ghost use Rattle.std.specs.Prelude.{◌≡◌, ◌≤◌, ℕ, List, drop, length};
-ghost use Rattle.cli_compare.specs.Lines.{Ends, is_next, is_over, left_behind, lines_of};
+ghost use Rattle.cli_compare.specs.Lines.{Ends, is_next, is_over, left_after, lines_of};
 
 use std::marker::Model;
 
@@ -39,7 +39,7 @@ impl Due {
     /// come as it is.
     pub fn takes(&mut self, row: &str) -> bool
         ensures answer { result ≡ is_next row.now self.old }
-        ensures left { self.new ≡ left_behind row.now self.old }
+        ensures left { self.new ≡ left_after row.now self.old }
     {
         let rest = &self.text[self.come..];
         let Some(end) = line_end(rest) else {

@@ -1,6 +1,6 @@
 ghost use Rattle.std.specs.Prelude.{◌≡◌, ℕ, ◌+◌, ◌&&◌, List, [], ◌∷◌, is_none};
 ghost use Rattle.cli_compare.specs.Lines.{is_over, lines_of};
-ghost use Rattle.cli_compare.specs.Part.{differs_behind, due_behind, found, fresh};
+ghost use Rattle.cli_compare.specs.Part.{differs_after, due_after, found, fresh};
 
 use crate::due::Due;
 
@@ -34,8 +34,8 @@ impl Part {
     pub fn row(&mut self, number: u64, row: &str)
         ensures told { (rows : List (List ℕ))
             → found self.old number (row.now ∷ rows) ≡ found self.new (number + 1) rows }
-        ensures differs { self.new.differs ≡ differs_behind number row.now self.old.differs self.old.due }
-        ensures due { self.new.due ≡ due_behind row.now self.old.differs self.old.due }
+        ensures differs { self.new.differs ≡ differs_after number row.now self.old.differs self.old.due }
+        ensures due { self.new.due ≡ due_after row.now self.old.differs self.old.due }
     {
         if self.differs.is_none() && !self.due.takes(row) {
             self.differs = Some(number);

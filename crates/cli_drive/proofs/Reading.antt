@@ -23,7 +23,7 @@ by_length : (row : List ℕ) (front : List (List ℕ)) (last : List ℕ) (t : Bo
 by_length row front last true = refl
 by_length row front last false = refl
 
--- what stands behind the last line feed is a line where something stands there
+-- what follows the last line feed is a line where something stands there
 pub whole_rows-append : (front : List (List ℕ)) (last : List ℕ) → whole_rows (front ++ last ∷ []) ≡ cond (length last == 0) front (front ++ last ∷ [])
 whole_rows-append [] last = refl
 whole_rows-append (row ∷ []) last = by_length row [] last (length last == 0)

@@ -36,11 +36,11 @@ row_asks row = asked (slice_split (λ b. b == 32) row)
 abbrev pub is_faulty : List ℕ → Bool
 is_faulty row = is_none (row_asks row)
 
--- what stands between the line feeds of a text, and behind the last
+-- what stands between the line feeds of a text, and after the last
 abbrev pub rows : List ℕ → List (List ℕ)
 rows text = slice_split (λ b. b == 10) text
 
--- the lines: behind the last line feed there is one only where something stands there
+-- the lines: after the last line feed there is one only where something stands there
 abbrev pub whole_rows : List (List ℕ) → List (List ℕ)
 whole_rows [] = []
 whole_rows (row ∷ []) = if length row == 0 then [] else row ∷ []

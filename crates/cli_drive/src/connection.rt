@@ -87,7 +87,7 @@ fn print_next<C: Read, O: Write>(
     Ok(())
 }
 
-// L_MESSAGE: the ten bits behind NID_MESSAGE.
+// L_MESSAGE: the ten bits after NID_MESSAGE.
 fn length_of(second: u8, third: u8) -> usize {
     usize::from(second) * 4 + usize::from(third) / 64
 }

@@ -73,7 +73,7 @@ pub fn steps_of(alloc: Global, text: &str) -> Result<Vec<Step>, StepsFault>
     steps_in(alloc, whole_rows_of(&rows))
 }
 
-/// The lines: behind the last line feed there is one only where something stands there.
+/// The lines: after the last line feed there is one only where something stands there.
 fn whole_rows_of<'a, 't>(rows: &'a [&'t str]) -> &'a [&'t str]
     ensures { map (λ row. row.now) result.now ≡ whole_rows (map (λ row. row.now) rows.now) }
 {

@@ -14,7 +14,7 @@ struct Homes<'a> {
 }
 
 impl<'a> Homes<'a> {
-    /// One more section of this home: whether the home comes again, behind another.
+    /// One more section of this home: whether the home comes again, after another.
     fn comes_again(&mut self, home: &'a str) -> Result<bool, AllocError> {
         if self.last == Some(home) {
             return Ok(false);
@@ -84,7 +84,7 @@ impl<'a> Inspection<'a> {
         Ok(())
     }
 
-    /// A track, whose first section has this number: the number of the section behind it.
+    /// A track, whose first section has this number: the number of the section after it.
     fn track(
         &mut self,
         alloc: Global,

@@ -22,7 +22,7 @@ use Rattle.cli_journal.specs.Reading.{Lacks, Noted, noted_of, IsNote, Follows, B
 use Rattle.cli_journal.specs.declared.entry.Entry.{Entry}
 use Rattle.cli_journal.proofs.Asking.{words_of, three, name_is_word}
 use Rattle.cli_journal.proofs.Letters.{lacks_append, word_of_number}
-use Rattle.cli_journal.proofs.Lines.{told_of, line_of, lines_of, one_reading, no_reading, cut_lines, cut_behind, one_cut, no_cut, lacks_take, digest_is_word, checksum_is_word, words_read, some_same}
+use Rattle.cli_journal.proofs.Lines.{told_of, line_of, lines_of, one_reading, no_reading, cut_lines, cut_after, one_cut, no_cut, lacks_take, digest_is_word, checksum_is_word, words_read, some_same}
 
 -- three words, and a line feed
 three_ended : (a b r : List ℕ) → a ++ (codes " " ++ (b ++ (codes " " ++ (r ++ 10 ∷ [])))) ≡ three a b r ++ 10 ∷ []
@@ -114,7 +114,7 @@ cut_following line good c es n h =
 
 pub cut_journal : (line : Line) → IsLine line → (c : ℕ) (file : List ℕ) (es : List Entry) (n : ℕ) → AllByRecursion (λ e. IsNote line c (noted_of e)) es →
     (k : ℕ) × Begins line c file (take n (journal line c file es)) (take k es)
-cut_journal line good c file es n h = elim (cut_behind (first_line line c file) (flat_map (entry_line line) es) n) [
+cut_journal line good c file es n h = elim (cut_after (first_line line c file) (flat_map (entry_line line) es) n) [
   | inl e ↦ (0, early n e refl)
   | inr d ↦ let cut = cut_following line good c es d.0 h in (cut.0, torn (take d.0 (flat_map (entry_line line) es)) d.1 cut.1)
 ]

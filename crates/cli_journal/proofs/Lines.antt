@@ -142,11 +142,11 @@ lacks_take c (suc n) [] h = tt
 lacks_take c (suc n) (x ∷ xs) h = (h.0, lacks_take c n xs h.1)
 
 -- a text that is cut at n is all of a front with a line feed, and something of the rest, or something of the front
-pub cut_behind : (a x : List ℕ) (n : ℕ) → (take n (a ++ 10 ∷ x) ≡ take n a) ⊎ ((m : ℕ) × (take n (a ++ 10 ∷ x) ≡ a ++ 10 ∷ take m x))
-cut_behind [] x zero = inl refl
-cut_behind [] x (suc n) = inr (n, refl)
-cut_behind (p ∷ a) x zero = inl refl
-cut_behind (p ∷ a) x (suc n) = elim (cut_behind a x n) [
+pub cut_after : (a x : List ℕ) (n : ℕ) → (take n (a ++ 10 ∷ x) ≡ take n a) ⊎ ((m : ℕ) × (take n (a ++ 10 ∷ x) ≡ a ++ 10 ∷ take m x))
+cut_after [] x zero = inl refl
+cut_after [] x (suc n) = inr (n, refl)
+cut_after (p ∷ a) x zero = inl refl
+cut_after (p ∷ a) x (suc n) = elim (cut_after a x n) [
   | inl e ↦ inl (ap (λ (t : List ℕ). p ∷ t) e)
   | inr d ↦ inr (d.0, ap (λ (t : List ℕ). p ∷ t) d.1)
 ]
@@ -158,7 +158,7 @@ take_none (suc n) = refl
 pub cut_lines : (line : Line) → IsLine line → (c : ℕ) (xs : List Noted) (n : ℕ) → AllByRecursion (IsNote line c) xs →
     (k : ℕ) × (rest : List ℕ) × Lacks 10 rest × (take n (lines_of line xs) ≡ lines_of line (take k xs) ++ rest)
 cut_lines line good c [] n m = (0, [], tt, take_none n)
-cut_lines line good c (x ∷ xs) n m = elim (cut_behind (line_of line x) (lines_of line xs) n) [
+cut_lines line good c (x ∷ xs) n m = elim (cut_after (line_of line x) (lines_of line xs) n) [
   | inl e ↦ (0, take n (line_of line x), lacks_take 10 n _ (line_feed line good c x m.0), ap (take n) (joined (line_of line x) (lines_of line xs)) ∙ e)
   | inr d ↦
       let more = cut_lines line good c xs d.0 m.1 in (

@@ -13,8 +13,8 @@ use Rattle.cli_journal.specs.declared.entry.Entry.{Entry}
 use Rattle.cli_journal.proofs.Lines.{lacks_take, line_of}
 use Rattle.cli_journal.proofs.Entries.{entry_line_is, first_feed}
 
-get_behind : (n : ℕ) (xs : List ℕ) (i : ℕ) → get_or (drop n xs) i 0 ≡ get_or xs (n + i) 0
-get_behind n xs i = get_or-drop n xs i 0
+get_after : (n : ℕ) (xs : List ℕ) (i : ℕ) → get_or (drop n xs) i 0 ≡ get_or xs (n + i) 0
+get_after n xs i = get_or-drop n xs i 0
 
 -- ## What is left of a journal
 
@@ -22,9 +22,9 @@ last_at : (front rest : List ℕ) → get_or (front ++ 10 ∷ rest) (length fron
 last_at [] rest = refl
 last_at (x ∷ xs) rest = last_at xs rest
 
-behind_at : (front rest : List ℕ) (j : ℕ) → get_or (front ++ 10 ∷ rest) (length front + 1 + j) 0 ≡ get_or rest j 0
-behind_at [] rest j = let e : 1 + j ≡ suc j = omega arith in rw e refl
-behind_at (x ∷ xs) rest j = let e : suc (length xs) + 1 + j ≡ suc (length xs + 1 + j) = omega arith in rw e (behind_at xs rest j)
+after_at : (front rest : List ℕ) (j : ℕ) → get_or (front ++ 10 ∷ rest) (length front + 1 + j) 0 ≡ get_or rest j 0
+after_at [] rest j = let e : 1 + j ≡ suc j = omega arith in rw e refl
+after_at (x ∷ xs) rest j = let e : suc (length xs) + 1 + j ≡ suc (length xs + 1 + j) = omega arith in rw e (after_at xs rest j)
 
 take_front : (front rest : List ℕ) → take (length front + 1) (front ++ 10 ∷ rest) ≡ front ++ 10 ∷ []
 take_front [] rest = refl
@@ -43,7 +43,7 @@ not_sooner front rest n whole low =
     let at : n + (length front - n) ≡ length front = omega (arith, low) in
     let left : length (drop n text) ≡ length text - n = length-drop n text in
     lacks_at 10 (drop n text) whole.unended (length front - n) (omega (arith, low, long, left))
-    (get_behind n text (length front - n) ∙ ap (λ (i : ℕ). get_or text i 0) at ∙ last_at front rest)
+    (get_after n text (length front - n) ∙ ap (λ (i : ℕ). get_or text i 0) at ∙ last_at front rest)
 
 not_later : (front rest : List ℕ) (n : ℕ) → Lacks 10 rest → AreWhole (front ++ 10 ∷ rest) n → length front + 1 < n → ⊥
 not_later front rest n clean whole high =
@@ -53,7 +53,7 @@ not_later front rest n clean whole high =
     elim whole.ended [
       | inl none ↦ absurd (let never : ⊥ = omega (arith, none, high) in never)
       | inr feed ↦ lacks_at 10 rest clean (n - (length front + 2)) (omega (arith, long, high, whole.within))
-          (sym (behind_at front rest (n - (length front + 2))) ∙ ap (λ (i : ℕ). get_or text i 0) at ∙ feed)
+          (sym (after_at front rest (n - (length front + 2))) ∙ ap (λ (i : ℕ). get_or text i 0) at ∙ feed)
     ]
 
 between : (n m : ℕ) → (n ≤ m → ⊥) → (m + 1 < n → ⊥) → n ≡ m + 1
@@ -67,7 +67,7 @@ cut_whole front rest n clean whole =
     let is : n ≡ length front + 1 = between n (length front) (not_sooner front rest n whole) (not_later front rest n clean whole) in
     ap (λ (m : ℕ). take m (front ++ 10 ∷ rest)) is ∙ take_front front rest
 
--- the line feed of a first line, and the lines behind it, end with a line feed
+-- the line feed of a first line, and the lines after it, end with a line feed
 lines_end : (line : Line) (es : List Entry) → (front : List ℕ) × (10 ∷ flat_map (entry_line line) es ≡ front ++ 10 ∷ [])
 lines_end line [] = ([], refl)
 lines_end line (e ∷ es) =

@@ -1,4 +1,4 @@
--- The format of a journal: behind a first line one for each event that a centre took.
+-- The format of a journal: after a first line one for each event that a centre took.
 use Rattle.std.specs.Prelude.{ℕ, List, ◌∷◌, ◌++◌, codes, take}
 use Rattle.std.specs.List.{flat_map}
 use Rattle.std.specs.Fmt.{decimal}

@@ -40,7 +40,7 @@ pub record IsNote (line : Line) (c : ℕ) (x : Noted) : Type 0 where
 
 -- ## Texts
 
--- The text is the lines of these entries, and behind them what is not ended by a line feed
+-- The text is the lines of these entries, and after them what is not ended by a line feed
 pub record Follows (line : Line) (c : ℕ) (text : List ℕ) (es : List Entry) : Type 0 where
   pub rest : List ℕ
   pub each : AllByRecursion (λ e. IsNote line c (noted_of e)) es

@@ -20,7 +20,7 @@ pub fn a_text_begins_one_journal()
         → Begins line c file text es → Begins line c file text fs → map noted_of es ≡ map noted_of fs }
 {}
 
-/// What is left of a journal is cut behind its whole lines: then it is the journal of the entries that it begins with.
+/// What is left of a journal is cut after its whole lines: then it is the journal of the entries that it begins with.
 pub fn whole_lines_are_a_journal()
     ensures { (line : Line) (c : ℕ) (file text : List ℕ) (es : List Entry) (n : ℕ)
         → IsLine line → is_centre line c ≡ true → Begins line c file text es → AreWhole text n → 0 < n

@@ -48,7 +48,7 @@ pub fn read_journal(
     }
 }
 
-// The entries behind the first line.
+// The entries after the first line.
 fn entries_in(
     alloc: Global,
     line: &Line,

@@ -71,7 +71,7 @@ fn guessed(alloc: Global, line: &Line, row: &str) -> Result<Entry, EntryFault>
     }
 }
 
-// The stamp and the words of the event, behind the checksum and the sign of an event.
+// The stamp and the words of the event, after the checksum and the sign of an event.
 fn parts(row: &str) -> Option<(&str, &str)>
     ensures { ArePartsOf row.now result }
 {

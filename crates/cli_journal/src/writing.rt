@@ -17,7 +17,7 @@ pub fn first_line(alloc: Global, line: &Line, centre: u8, file: &str) -> Result<
     format!(in alloc; "journal 1 {name} {digits}")
 }
 
-/// Writes the line of an entry, with the line feed that ends it, behind the text. An error leaves the text as it was.
+/// Writes the line of an entry, with the line feed that ends it, after the text. An error leaves the text as it was.
 pub fn add_entry(
     alloc: Global,
     line: &Line,

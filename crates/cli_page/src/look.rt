@@ -16,7 +16,7 @@ pub(crate) const SEALED: &str =
     "<meta http-equiv='Content-Security-Policy' content='default-src &#39;none&#39;; style-src &#39;unsafe-inline&#39;; script-src &#39;unsafe-inline&#39;; img-src data:'>
 ";
 
-/// The style, and what stands behind it.
+/// The style, and what follows it.
 pub(crate) const STYLE: &str = "<style>
 *{box-sizing:border-box}
 body{font:14px/1.35 system-ui,sans-serif;color:#1a1f26;background:#f4f5f7;margin:0 auto;padding:10px 16px;max-width:1500px}
@@ -178,7 +178,7 @@ async function follow(){
 follow();
 ";
 
-/// How the slider of a print shows the line behind an event: of each section, train and session the last row so far
+/// How the slider of a print shows the line after an event: of each section, train and session the last row so far
 /// counts.
 pub(crate) const REPLAY: &str = "
 const run=JSON.parse(document.getElementById('run').textContent),nav=document.querySelector('nav'),range=nav.querySelector('input');

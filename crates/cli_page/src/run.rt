@@ -1,4 +1,4 @@
-//! The page of a print: the line behind each of its events, in one file that loads nothing.
+//! The page of a print: the line after each of its events, in one file that loads nothing.
 
 use crate::look::{DRAW, HEAD, REPLAY, SEALED, SLIDER, STYLE};
 use crate::page::add_line;

@@ -41,7 +41,7 @@ impl Sheet {
         self.end_row()
     }
 
-    /// Begins a table, each row of which stands behind the number of an event.
+    /// Begins a table, each row of which follows the number of an event.
     pub fn begin_at(&mut self, name: &str, columns: &[&str]) -> Result<(), AllocError> {
         self.name(name)?;
         self.heads(0, &["event"])?;
@@ -56,7 +56,7 @@ impl Sheet {
         self.end_row()
     }
 
-    /// Writes a row behind the number of an event.
+    /// Writes a row after the number of an event.
     pub fn row_at(&mut self, event: u64, cells: &[Cell<'_>]) -> Result<(), AllocError> {
         self.begin_row()?;
         self.cells(0, &[Cell::Number(event)])?;

@@ -1,5 +1,5 @@
 //! The time-distance diagram of a run, as railways draw it: the line from left to right, the events downward. The
-//! events of a print are played again on the line's centres, and what is drawn behind each is what the line has then:
+//! events of a print are played again on the line's centres, and what is drawn after each is what the line has then:
 //! sections in authorities and kept ones, fronts, who supervises each train, and what was asked of it.
 //!
 //! Bodies are free. What is printed, and each exit status, is fixed by docs/FORMATS.md.

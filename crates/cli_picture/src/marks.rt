@@ -106,11 +106,11 @@ fn last_kept_in(mission: Option<MissionView>) -> Option<(u32, u16)> {
     Some((proposal.stamp, proposal.last_kept))
 }
 
-/// The number of the section behind a hand: the end of a train's authority. A train without a mission has no end that
-/// counts.
+/// The number of the section in advance of a hand: the end of a train's authority. A train without a mission has no end
+/// that counts.
 fn end_of(mission: Option<MissionView>) -> u32 {
     match mission {
-        Some(mission) => mission.hand.behind(),
+        Some(mission) => mission.hand.next_after(),
         None => u32::MAX,
     }
 }

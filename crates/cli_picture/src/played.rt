@@ -17,8 +17,8 @@ pub fn played<'a>(
 ) -> Result<Run<'a>, Fault<'static>> {
     let only = train_in(line, cut)?;
     let events = events_in(alloc, line, printed)?;
-    let (first, behind) = cut.places(events.len()).ok_or(Fault::Words)?;
-    part_of(alloc, line, &events, (first, behind), only)
+    let (first, after) = cut.places(events.len()).ok_or(Fault::Words)?;
+    part_of(alloc, line, &events, (first, after), only)
 }
 
 // The events from the first one on, up to the last that is drawn.
@@ -26,11 +26,11 @@ fn part_of<'a>(
     alloc: Global,
     line: &'a Line,
     events: &[WorldEvent],
-    (first, behind): (usize, usize),
+    (first, after): (usize, usize),
     only: Option<u8>,
 ) -> Result<Run<'a>, Fault<'static>> {
     let mut world = world_at(alloc, line, events, first)?;
-    run_from(alloc, line, &mut world, events, (first, behind), only)
+    run_from(alloc, line, &mut world, events, (first, after), only)
 }
 
 // The run from where the centres are.
@@ -39,7 +39,7 @@ fn run_from<'a>(
     line: &'a Line,
     world: &mut World,
     events: &[WorldEvent],
-    (first, behind): (usize, usize),
+    (first, after): (usize, usize),
     only: Option<u8>,
 ) -> Result<Run<'a>, Fault<'static>> {
     let mut run = Run {
@@ -51,7 +51,7 @@ fn run_from<'a>(
         before: world.view(alloc)?,
         views: Vec::new(alloc),
     };
-    play(alloc, world, events, behind, &mut run)?;
+    play(alloc, world, events, after, &mut run)?;
     Ok(run)
 }
 
@@ -79,10 +79,10 @@ fn play(
     alloc: Global,
     world: &mut World,
     events: &[WorldEvent],
-    behind: usize,
+    after: usize,
     run: &mut Run<'_>,
 ) -> Result<(), Fault<'static>> {
-    for event in events.iter().take(behind).skip(run.skipped) {
+    for event in events.iter().take(after).skip(run.skipped) {
         let what = told(alloc, world, run.line, event)?;
         run.events.push(what)?;
         let view = world.view(alloc)?;

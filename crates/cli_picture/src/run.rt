@@ -46,7 +46,7 @@ pub struct Event {
     pub border: Option<Border>,
 }
 
-/// The events that are drawn, and the line as it stands behind each.
+/// The events that are drawn, and the line as it is after each.
 #[derive(Drop)]
 pub struct Run<'a> {
     pub line: &'a Line,
@@ -58,7 +58,7 @@ pub struct Run<'a> {
     pub events: Vec<Event>,
     /// The line before the first event that is drawn.
     pub before: LineView,
-    /// The line behind each of them.
+    /// The line after each of them.
     pub views: Vec<LineView>,
 }
 
@@ -94,7 +94,7 @@ impl Run<'_> {
         }
     }
 
-    /// The mission of a train before each event and behind it.
+    /// The mission of a train before each event and after it.
     pub fn missions(&self, event: usize, train: u8) -> (Option<MissionView>, Option<MissionView>) {
         let after = match self.views.get(event) {
             Some(view) => mission_in(view, train),

@@ -88,7 +88,7 @@ impl<'a> Scale<'a> {
         self.top.saturating_add(place)
     }
 
-    /// Where something ends: in an event, or behind the last at the lower edge.
+    /// Where something ends: in an event, or after the last at the lower edge.
     pub fn until(&self, event: usize) -> u64 {
         if event < self.event_count {
             self.y(event)

@@ -1,3 +1,3 @@
 mod Rows
 mod Seats
-mod Behind
+mod After

@@ -1,4 +1,4 @@
--- Rows one behind another.
+-- Consecutive rows.
 use Rattle.std.proofs.Common.{◌≡◌, ℕ, ◌+◌, ◌<◌, List, [], ◌∷◌, ◌++◌, map, take, length, get_or, refl, sym, ap, ◌∙◌, append_assoc, append-nil}
 use Rattle.std.proofs.lemmas.List.{map-append, take_more}
 use Rattle.rbc_spec.specs.Outcome.{Saying}
@@ -6,7 +6,7 @@ use Rattle.rbc_train.specs.Sayings.{saying_of}
 use Rattle.rbc_train.specs.declared.saying.Saying.{Saying as SayingCode}
 use Rattle.cli_print.specs.Answers.{IsSayingRow, AreSayingRows}
 
--- the row of one more message stands behind the others
+-- the row of one more message follows the others
 pub saying_more : (centre : List ℕ) (sayings : List Saying) (s : Saying) (text row : List ℕ) →
     AreSayingRows centre sayings text → IsSayingRow centre s row → AreSayingRows centre (sayings ++ s ∷ []) (text ++ row)
 saying_more centre [] s text row none is = (row, [], ap (λ xs. xs ++ row) none ∙ sym (append-nil row), is, refl)

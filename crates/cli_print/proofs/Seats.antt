@@ -11,14 +11,14 @@ use Rattle.rbc_world.specs.declared.view.MissionView.{MissionView}
 use Rattle.rbc_world.specs.declared.view.LineView.{LineView}
 use Rattle.cli_print.specs.Shown.{seat_at, seat_in}
 
--- what is not found in a front is looked for behind it
-find_behind : (p : TrainView → Bool) (xs ys : List TrainView) → find p xs ≡ None → find p (xs ++ ys) ≡ find p ys
-find_behind p [] ys none = refl
-find_behind p (x ∷ xs) ys none = by (find_behind p xs ys) (p x) none
+-- what is not found in a front is looked for after it
+find_after : (p : TrainView → Bool) (xs ys : List TrainView) → find p xs ≡ None → find p (xs ++ ys) ≡ find p ys
+find_after p [] ys none = refl
+find_after p (x ∷ xs) ys none = by (find_after p xs ys) (p x) none
   where
     by : (find p xs ≡ None → find p (xs ++ ys) ≡ find p ys) → (b : Bool) → cond b (Some x) (find p xs) ≡ None → cond b (Some x) (find p (xs ++ ys)) ≡ find p ys
-    by behind true is = cc
-    by behind false is = behind is
+    by after true is = cc
+    by after false is = after is
 
 module _ (t : ℕ) (xs : List TrainView) (i : ℕ) (d : TrainView) (low : i < length xs) (none : find (λ x. x.nid_engine == t) (take i xs) ≡ None) where
   abbrev is_it : TrainView → Bool
@@ -27,12 +27,12 @@ module _ (t : ℕ) (xs : List TrainView) (i : ℕ) (d : TrainView) (low : i < le
   -- the train at the next place is another, or is found
   none_more : (get_or xs i d).nid_engine ≢ t → find is_it (take (i + 1) xs) ≡ None
   none_more other =
-      ap (find is_it) (take_more xs i d low) ∙ find_behind is_it (take i xs) (get_or xs i d ∷ []) none
+      ap (find is_it) (take_more xs i d low) ∙ find_after is_it (take i xs) (get_or xs i d ∷ []) none
       ∙ ap (λ (b : Bool). cond b (Some (get_or xs i d)) None) (ne_eqb (get_or xs i d).nid_engine t other)
 
   some_here : (get_or xs i d).nid_engine ≡ t → find is_it xs ≡ Some (get_or xs i d)
   some_here same =
-      ap (find is_it) (sym (take-append-drop i xs)) ∙ find_behind is_it (take i xs) (drop i xs) none ∙ ap (find is_it) (drop_more xs i d low)
+      ap (find is_it) (sym (take-append-drop i xs)) ∙ find_after is_it (take i xs) (drop i xs) none ∙ ap (find is_it) (drop_more xs i d low)
       ∙ ap (λ (b : Bool). cond b (Some (get_or xs i d)) (find is_it (drop (i + 1) xs))) (eq-eqb (get_or xs i d).nid_engine t same)
 
   -- the same of a train that is the one at that place

@@ -1,4 +1,4 @@
--- The rows that are printed, of one thing each, and behind each a line feed.
+-- The rows that are printed, of one thing each, and after each a line feed.
 use Rattle.std.specs.Prelude.{ℕ, ◌++◌, Bool, List, if◌then◌else◌, Option, codes, slice_get}
 use Rattle.std.specs.Option.{option_map_or}
 use Rattle.std.specs.Fmt.{decimal}
@@ -16,7 +16,7 @@ name_at line c = option_map_or (λ p. p.name) (slice_get line.centres c) (codes 
 
 -- ## Events, as rows of a script
 
--- what stands behind `> `: a word, the name of a centre, and the rest
+-- what follows `> `: a word, the name of a centre, and the rest
 abbrev pub script_row : List ℕ → List ℕ → List ℕ → List ℕ
 script_row word centre rest = codes "> " ++ (word ++ (codes " " ++ (centre ++ (codes " " ++ (rest ++ codes "\n")))))
 

@@ -60,7 +60,7 @@ pub fn print_event<W: Write>(
     }
 }
 
-// A line of a script: its word, the centre that it names, and what stands behind that.
+// A line of a script: its word, the centre that it names, and what follows that.
 fn print_row<W: Write, D: Display + Drop>(
     out: &mut W,
     word: &str,

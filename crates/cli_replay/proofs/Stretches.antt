@@ -34,7 +34,7 @@ pub record AreMade (seen : List SectionView) (i since : ℕ) (xs : List Stretch)
   pub same : (e : ℕ) → since ≤ e → e < i → slice_get seen e ≡ slice_get seen i
   pub sound : All (IsSeen seen) xs
   pub below : (e : ℕ) → e < since → shown_at e xs ≡ slice_get seen e
-  pub behind : (e : ℕ) → since ≤ e → shown_at e xs ≡ None
+  pub after : (e : ℕ) → since ≤ e → shown_at e xs ≡ None
 
 -- The stretch from `since` to event i, whose next event is another or none.
 abbrev pub made_of : ℕ → ℕ → SectionView → Stretch
@@ -46,8 +46,8 @@ same_to seen i since xs v now m e a b = elim (cases_lt e i) [ inl h ↦ m.same e
 before : (seen : List SectionView) (xs ys : List Stretch) (e : ℕ) (v : SectionView) → shown_at e xs ≡ Some v → shown_at e (xs ++ ys) ≡ Some v
 before seen xs ys e v h = shown-append e xs ys ∙ ap (λ o. first_of_two o (shown_at e ys)) h
 
-behind_all : (xs ys : List Stretch) (e : ℕ) → shown_at e xs ≡ None → shown_at e (xs ++ ys) ≡ shown_at e ys
-behind_all xs ys e h = shown-append e xs ys ∙ ap (λ o. first_of_two o (shown_at e ys)) h
+after_all : (xs ys : List Stretch) (e : ℕ) → shown_at e xs ≡ None → shown_at e (xs ++ ys) ≡ shown_at e ys
+after_all xs ys e h = shown-append e xs ys ∙ ap (λ o. first_of_two o (shown_at e ys)) h
 
 seen_at : (seen : List SectionView) (e : ℕ) → e < length seen → (v : SectionView) × (slice_get seen e ≡ Some v)
 seen_at (v ∷ seen) zero h = (v, refl)
@@ -65,18 +65,18 @@ made_more seen i since xs v now m = record {
         let inside : e < length seen = omega (arith, m.order) in
         let it = seen_at seen e inside in
         before seen xs (made_of since i v ∷ []) e it.0 (m.below e a ∙ it.1) ∙ sym it.1
-    | inr a ↦ behind_all xs (made_of since i v ∷ []) e (m.behind e a) ∙ over since (i + 1) e v a h ∙ sym (same_to seen i since xs v now m e a h)
+    | inr a ↦ after_all xs (made_of since i v ∷ []) e (m.after e a) ∙ over since (i + 1) e v a h ∙ sym (same_to seen i since xs v now m e a h)
   ];
-  behind = λ e a. behind_all xs (made_of since i v ∷ []) e (m.behind e (omega (arith, m.order))) ∙ past since (i + 1) e v a;
+  after = λ e a. after_all xs (made_of since i v ∷ []) e (m.after e (omega (arith, m.order))) ∙ past since (i + 1) e v a;
 }
 
--- Behind the last event nothing is open.
+-- After the last event nothing is open.
 pub made_all : (seen : List SectionView) (since : ℕ) (xs : List Stretch) → AreMade seen (length seen) since xs → AreStretchesOf seen xs
 made_all seen since xs m = record {
   sound = m.sound;
   whole = λ e. elim (cases_lt e since) [
     | inl a ↦ m.below e a
-    | inr a ↦ m.behind e a ∙ sym (slice_get_past seen e (ended e a))
+    | inr a ↦ m.after e a ∙ sym (slice_get_past seen e (ended e a))
   ];
 }
   where

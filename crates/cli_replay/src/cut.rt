@@ -12,7 +12,7 @@ pub struct Cut {
 }
 
 impl Cut {
-    /// The places of the first event that is drawn, and of the one behind the last, in a run of so many events. None
+    /// The places of the first event that is drawn, and of the one after the last, in a run of so many events. None
     /// where no event would
     /// be drawn of those that there are, or an event is named that there is not.
     pub fn places(self, events: usize) -> Option<(usize, usize)>
@@ -28,10 +28,10 @@ impl Cut {
         if first >= events && self.from.is_some() {
             return None;
         }
-        let behind = match self.to {
+        let after = match self.to {
             Some(to) => events.min(to as usize),
             None => events,
         };
-        Some((first, behind))
+        Some((first, after))
     }
 }

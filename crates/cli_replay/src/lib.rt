@@ -1,5 +1,5 @@
 //! A print played again on the line's centres: its events, the part of them that is shown, in which events a section is
-//! seen as the same, and the page that shows the line behind each. What a page is told of a running line by the same
+//! seen as the same, and the page that shows the line after each. What a page is told of a running line by the same
 //! rules stands here too: where the line lies, its handovers, its trains and events in words.
 //!
 //! Bodies are free. What is shown is fixed by docs/FORMATS.md.

@@ -18,7 +18,7 @@ const MOST_EVENTS: usize = 10_000;
 /// How many of the last events are told where no script runs.
 const TOLD: usize = 24;
 
-/// The page of a print: the line before the first event that the cut shows and behind each, with a slider. Only the
+/// The page of a print: the line before the first event that the cut shows and after each, with a slider. Only the
 /// lines that begin with `> ` are read. Errors: the cut names a train that is not of the line, or no event; a line has
 /// no form of a script; a step is refused.
 pub fn page_of(
@@ -29,15 +29,15 @@ pub fn page_of(
 ) -> Result<String, Fault<'static>> {
     train_in(line, cut)?;
     let events = events_in(alloc, line, printed)?;
-    let (first, behind) = cut.places(events.len()).ok_or(Fault::Words)?;
-    let behind = behind.min(first.saturating_add(MOST_EVENTS));
+    let (first, after) = cut.places(events.len()).ok_or(Fault::Words)?;
+    let after = after.min(first.saturating_add(MOST_EVENTS));
     let part = Part {
         first: (first as u64).saturating_add(1),
-        last: behind as u64,
+        last: after as u64,
         all: events.len() as u64,
         marked: cut.train,
     };
-    let shown = events.get(..behind).unwrap_or(&events);
+    let shown = events.get(..after).unwrap_or(&events);
     page_of_part(alloc, line, shown, first, part)
 }
 
@@ -99,7 +99,7 @@ fn finished(
     sheet.page(alloc, layout, part, &now)
 }
 
-// The number of an event, by its place behind the one of the number `first`.
+// The number of an event, by its place after the one of the number `first`.
 fn number(first: u64, place: usize) -> u64 {
     first.saturating_add(place as u64)
 }
@@ -219,7 +219,7 @@ fn phase_in(view: &LineView, train: u8, centre: u8) -> Option<Phase> {
     phase_now(session.phase, session.waiting.is_some())
 }
 
-// The line behind the last event, with the last events in words.
+// The line after the last event, with the last events in words.
 fn last_of(alloc: Global, part: Part, run: &Played) -> Result<LineNow, AllocError> {
     let mut now = LineNow {
         events: part.last,

@@ -1,4 +1,4 @@
-//! The line as it stands before the first event that is shown, and behind each.
+//! The line as it stands before the first event that is shown, and after each.
 
 use crate::events::centre_of;
 use crate::handovers::Handovers;

@@ -4,7 +4,7 @@ ghost use Rattle.cli_replay.specs.Stretches.{seen_in, AreStretchesOf};
 use rbc_world::{LineView, Mark, SectionView};
 use std::alloc::{AllocError, Global};
 
-/// Events one behind another in which a section is seen as the same, by the first event and the one behind the last.
+/// Consecutive events in which a section is seen as the same, by the first event and the one after the last.
 #[derive(Clone, Copy)]
 pub struct Stretch {
     pub seen: SectionView,

@@ -20,7 +20,7 @@ pub(crate) fn event_in_words(
     Ok(rows_in_words(alloc, line, printed.as_slice())?)
 }
 
-/// What printed rows say, one behind another.
+/// What printed rows say, in order.
 pub fn rows_in_words(alloc: Global, line: &Line, printed: &[u8]) -> Result<String, AllocError> {
     let mut words = String::new(alloc);
     let Ok(printed) = std::str::from_utf8(printed) else {

@@ -15,7 +15,7 @@ use Rattle.cli_rerun.specs.declared.fault.RerunFault.TheVariants.{Unfit, Refused
 abbrev pub asks : Entry → Asked
 asks e = Event e.event
 
--- so much was written behind what the writer had: the print of a script of these events
+-- so much was written after what the writer had: the print of a script of these events
 abbrev pub PrintsRun : Line → List Entry → Option (List ℕ) → Option (List ℕ) → Type 0
 PrintsRun line es before after = (text : List ℕ) × IsPrint line (map asks es) text × Appends before after text
 

@@ -18,7 +18,7 @@ pub(crate) fn missing_sender(answer: &Answer, event: &WorldEvent) -> Option<u8> 
     }
 }
 
-/// The line of a centre's journal that is next behind the first of these entries, which are of all centres. The first
+/// The line of a centre's journal that is next after the first of these entries, which are of all centres. The first
 /// line of a journal is no entry.
 pub(crate) fn next_row(entries: &[Entry], at: usize, centre: u8) -> usize {
     entries

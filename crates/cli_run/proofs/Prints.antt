@@ -29,7 +29,7 @@ module _ {T N : Type 0} (name : T → N) (line_at : T → Line) (held : T → Op
   abbrev pub Tells : T → Telling → T → Type 0
   Tells t telling u = (name u ≡ name t) × (line_at u ≡ line_at t) × IsTold (line_at t) telling (held t) (held u)
 
-  -- what is printed of entries that are played, behind a text
+  -- what is printed of entries that are played, after a text
   pub record Prints (w : World) (t : T) (entries : List Entry) (v : World) (u : T) (before : List ℕ) : Type 0 where
     pub rows : List ℕ
     pub played : IsPlayed (Adds line) line w before entries v (before ++ rows)
@@ -80,7 +80,7 @@ module _ {T N : Type 0} (name : T → N) (line_at : T → Line) (held : T → Op
         writer = more.writer ∙ answers.0 ∙ comes.0;
       }
 
-  -- all entries were played, and the line is printed behind them, over the writer that there was
+  -- all entries were played, and the line is printed after them, over the writer that there was
   pub prints_all : (F : Type 0) (l : Line) (w : World) (t : T) (entries : List Entry) (v : World) (u : T) (n : N) (after : Option (List ℕ)) → line ≡ l → line_at t ≡ line → w ≡ new_world line
       → IsPlayed Tells l w t entries v u → n ≡ name u → (line_at u ≡ l → Appends (held u) after (line_text (line_at u) v)) → PrintsAll {F = F} line entries (Ok tt) (name t) n (held t) after
   prints_all F l w t entries v u n after of at begins played same last =

@@ -19,18 +19,18 @@ AreRows line (Showing l w) text = text ≡ codes "> show\n" ++ line_text l w
 AreRows line (Coming event) text = text ≡ event_row line event
 AreRows line (Answering event answer) text = IsAnswerPrint line (centre_of (event_of event)) answer text
 
--- so much is written behind what a writer had, by who prints of this line, where something is told
+-- so much is written after what a writer had, by who prints of this line, where something is told
 abbrev pub IsTold : Line → Telling → Option (List ℕ) → Option (List ℕ) → Type 0
 IsTold line (Showing l w) before after = line ≡ l → Appends before after (codes "> show\n" ++ line_text l w)
 IsTold line (Coming event) before after = Appends before after (event_row line event)
 IsTold line (Answering event answer) before after =
     (rows : List ℕ) × IsAnswerPrint line (centre_of (event_of event)) answer rows × Appends before after rows
 
--- the rows stand behind what was printed before
+-- the rows follow what was printed before
 abbrev pub Adds : Line → List ℕ → Telling → List ℕ → Type 0
 Adds line before telling after = (rows : List ℕ) × AreRows line telling rows × (after ≡ before ++ rows)
 
--- The print of a script: the rows of each of its entries, one behind another, as the centres answer them from the
+-- The print of a script: the rows of each of its entries, in order, as the centres answer them from the
 -- line's beginning; and the line as they leave it
 abbrev pub IsPrint : Line → List Entry → List ℕ → Type 0
 IsPrint line entries text =
@@ -42,7 +42,7 @@ abbrev pub IsPrintUntil : Line → List Entry → StepFault → List ℕ → Typ
 IsPrintUntil line entries fault text =
     (last : World) × IsStopped (Adds line) line (new_world line) [] entries fault last text
 
--- so much was written behind what the writer had; nothing is said where it refused a write, or memory ran out for the
+-- so much was written after what the writer had; nothing is said where it refused a write, or memory ran out for the
 -- print
 abbrev pub LeavesPrint : {F : Type 0} → Line → List Entry → Result (Unit {0}) (PlayFault F)
     → Option (List ℕ) → Option (List ℕ) → Type 0

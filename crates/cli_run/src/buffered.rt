@@ -1,6 +1,6 @@
 ghost use Rattle.cli_run.specs.Printed.{LeavesPrint};
 
-use crate::behind::Behind;
+use crate::underlying::Underlying;
 use crate::played::print_played;
 use cli_script::play::PlayFault;
 use cli_script::script::Entry;
@@ -9,7 +9,7 @@ use rbc_line::Line;
 use std::alloc::{AllocError, Global};
 use std::io::{BufWriter, Write};
 
-/// Prints so too, with a buffer in front of the writer, which is empty behind it. Where the writer refused a write, it
+/// Prints so too, with a buffer in front of the writer, which is empty after it. Where the writer refused a write, it
 /// may have any part of the print.
 pub fn print_buffered<O: Write>(
     alloc: Global,
@@ -19,15 +19,15 @@ pub fn print_buffered<O: Write>(
 ) -> Result<(), PlayFault<Fault<'static>>>
     ensures { LeavesPrint line.now entries.now result (O.contents out.old) (O.contents out.new) }
 {
-    let Ok(mut held) = BufWriter::new(alloc, Behind { out }) else {
+    let Ok(mut held) = BufWriter::new(alloc, Underlying { out }) else {
         return Err(PlayFault::Untold(AllocError.into()));
     };
     let done = print_played(alloc, line, entries, &mut held);
     if held.flush().is_err() {
         return Err(PlayFault::Untold(Fault::Write));
     }
-    let (behind, _) = held.into_parts();
-    let Behind { out } = behind;
+    let (underlying, _) = held.into_parts();
+    let Underlying { out } = underlying;
     // No effect at run time. The proof reads what the writer holds from this use of it.
     let _ = &*out;
     done

@@ -4,7 +4,7 @@
 //! Bodies are free. What is printed is fixed by docs/FORMATS.md.
 #![tactic(auto)]
 
-mod behind;
+mod underlying;
 mod buffered;
 mod played;
 mod printer;

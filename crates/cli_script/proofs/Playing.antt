@@ -22,7 +22,7 @@ module _ {T : Type 0} (tells : T → Telling → T → Type 0) (line : Line) (w 
   then_played (entry.Event event) left x y v s r u (answer, z, p, q, done, comes, answers, (same, one)) rest =
       (answer, z, p, q, done, comes, answers, subst (λ a. IsPlayed tells line a q left v u) same (subst (λ a. IsPlayed tells line y a left v u) one rest))
 
-  -- and so where it stops behind it
+  -- and so where it stops after it
   then_stopped : (e : Entry) (left : List Entry) (x y v : World) (s r u : T) (fault : StepFault) → IsPlayed tells line x s (e ∷ []) y r → IsStopped tells line y r left fault v u → IsStopped tells line x s (e ∷ left) fault v u
   then_stopped e left x y v s r u fault is (front, rest, event, q, cut, played, comes, refused) =
       (e ∷ front, rest, event, q, ap (λ (es : List Entry). e ∷ es) cut, then_played e front x y v s r q is played, comes, refused)

@@ -30,7 +30,7 @@ IsPlayed {T} tells line w t (entry.Event event ∷ rest) v u =
     (answer : spec.Answer) × (x : World) × (s r : T) × (world_step line w (event_of event) ≡ Ok (answer, x))
     × tells t (Coming event) s × tells s (Answering event answer) r × IsPlayed tells line x r rest v u
 
--- The entries up to one are played so. Then its event is told to come, and its step is refused; nothing behind it is
+-- The entries up to one are played so. Then its event is told to come, and its step is refused; nothing after it is
 -- told, and the world is left as it was before the step.
 abbrev pub IsStopped : {T : Type 0} → (T → Telling → T → Type 0) → Line → World → T → List Entry → StepFault → World → T
     → Type 0

@@ -41,7 +41,7 @@ pub enum PlayFault<F> {
 }
 
 /// Plays a script's entries on a world, one after another, and tells each as it comes. It stops at the first event that
-/// is refused: all in front of it is told then, and nothing behind it.
+/// is refused: all in front of it is told then, and nothing after it.
 pub fn play<T: Teller>(
     world: &mut World,
     entries: &[Entry],

@@ -1,4 +1,4 @@
--- Parts that are played one behind another.
+-- Parts that are played one after another.
 use Rattle.std.proofs.Common.{◌≡◌, ℕ, ◌<◌, ◌+◌, suc, List, [], ◌∷◌, Option, Some, Result, Ok, Err, length, get_or, drop, sym, ap, subst, ◌∙◌}
 use Rattle.std.specs.Result.{OnOk}
 use Rattle.std.proofs.lemmas.List.{drop_more}
@@ -11,7 +11,7 @@ use Rattle.cli_script.specs.declared.play.PlayFault.{PlayFault}
 use Rattle.cli_script.specs.declared.play.PlayFault.TheVariants.{Refused, Untold}
 use Rattle.cli_script.specs.Played.{Telling, IsPlayed, Leaves}
 use Rattle.cli_script.proofs.Playing.{Goes, goes_on, stops}
-use Rattle.cli_storm.specs.Storm.{Passes, Continues, Rest, behind, with_drawn, with_delivery, deliveries, played_by, storm}
+use Rattle.cli_storm.specs.Storm.{Passes, Continues, Rest, after, with_drawn, with_delivery, deliveries, played_by, storm}
 
 module _ {T : Type 0} (tells : T → Telling → T → Type 0) (line : Line) where
   -- nothing was played
@@ -47,16 +47,16 @@ module _ {T : Type 0} (tells : T → Telling → T → Type 0) (line : Line) whe
 
   -- what was drawn is played, whatever was to follow
   pub delivered : {F : Type 0} (event : WorldEvent) (w v : World) (t u : T) (y z : ℕ) (d : Option WorldEvent × ℕ) → (Some event, y) ≡ d → z ≡ y
-      → (result : Result (Unit {0}) (PlayFault F)) → OnOk result (v ≡ behind line w event) → Leaves {F = F} tells line w t (entry.Event event ∷ []) result v u
+      → (result : Result (Unit {0}) (PlayFault F)) → OnOk result (v ≡ after line w event) → Leaves {F = F} tells line w t (entry.Event event ∷ []) result v u
       → Continues {F = F} tells line w t (with_drawn line w d) result v u z
   delivered event w v t u y z d is same (Ok done) left told = λ rest.
       subst (λ (q : Option WorldEvent × ℕ). Passes tells line w t (with_drawn line w q rest) v u (rest v z)) is
-      (subst (λ (x : World). Passes tells line w t (entry.Event event ∷ rest (behind line w event) y) v u (rest x z)) (sym left)
-      (subst (λ n. Passes tells line w t (entry.Event event ∷ rest (behind line w event) y) v u (rest (behind line w event) n)) (sym same)
-      (passes_one (entry.Event event) (rest (behind line w event) y) w v t u told)))
+      (subst (λ (x : World). Passes tells line w t (entry.Event event ∷ rest (after line w event) y) v u (rest x z)) (sym left)
+      (subst (λ n. Passes tells line w t (entry.Event event ∷ rest (after line w event) y) v u (rest (after line w event) n)) (sym same)
+      (passes_one (entry.Event event) (rest (after line w event) y) w v t u told)))
   delivered {F} event w v t u y z d is same (Err fault) left told = λ rest.
       subst (λ (q : Option WorldEvent × ℕ). Leaves {F = F} tells line w t (with_drawn line w q rest) (Err fault) v u) is
-      (one_fails {F = F} (entry.Event event) (rest (behind line w event) y) w v t u fault told)
+      (one_fails {F = F} (entry.Event event) (rest (after line w event) y) w v t u fault told)
 
   -- none is left to come
   pub all_delivered : (first w : World) (begun t : T) (x : ℕ) (all : Rest → List Entry) (n : ℕ) → n ≡ 0 → ((rest : Rest) → Passes tells line first begun (all rest) w t (deliveries n line w x rest))
@@ -99,17 +99,17 @@ module _ {T : Type 0} (tells : T → Telling → T → Type 0) (line : Line) whe
 
   -- ## One entry of a script
 
-  -- an event is played, and then the deliveries behind it
-  pub event_then : {F : Type 0} (l : Line) → l ≡ line → (event : WorldEvent) (w v z : World) (t u s : T) (x k y : ℕ) → k ≡ x → v ≡ behind line w event → IsPlayed tells line w t (entry.Event event ∷ []) v u
+  -- an event is played, and then the deliveries after it
+  pub event_then : {F : Type 0} (l : Line) → l ≡ line → (event : WorldEvent) (w v z : World) (t u s : T) (x k y : ℕ) → k ≡ x → v ≡ after line w event → IsPlayed tells line w t (entry.Event event ∷ []) v u
       → (result : Result (Unit {0}) (PlayFault F)) → Continues {F = F} tells l v u (deliveries 4 l v k) result z s y
       → Continues {F = F} tells line w t (played_by line w x (entry.Event event)) result z s y
   event_then l same event w v z t u s x k y kept left told (Ok done) more = λ rest.
-      passes_both (entry.Event event ∷ deliveries 4 line (behind line w event) x rest) (deliveries 4 line v x rest) (rest z y) w v z t u s
+      passes_both (entry.Event event ∷ deliveries 4 line (after line w event) x rest) (deliveries 4 line v x rest) (rest z y) w v z t u s
       (subst (λ (q : World). Passes tells line w t (entry.Event event ∷ deliveries 4 line q x rest) v u (deliveries 4 line v x rest)) left
       (passes_one (entry.Event event) (deliveries 4 line v x rest) w v t u told))
       (subst (λ (it : Line). Passes tells it v u (deliveries 4 it v x rest) z s (rest z y)) same (subst (λ n. Passes tells l v u (deliveries 4 l v n rest) z s (rest z y)) kept (more rest)))
   event_then {F} l same event w v z t u s x k y kept left told (Err fault) more = λ rest.
-      then_fails {F = F} (entry.Event event ∷ deliveries 4 line (behind line w event) x rest) (deliveries 4 line v x rest) w v z t u s fault
+      then_fails {F = F} (entry.Event event ∷ deliveries 4 line (after line w event) x rest) (deliveries 4 line v x rest) w v z t u s fault
       (subst (λ (q : World). Passes tells line w t (entry.Event event ∷ deliveries 4 line q x rest) v u (deliveries 4 line v x rest)) left
       (passes_one (entry.Event event) (deliveries 4 line v x rest) w v t u told))
       (subst (λ (it : Line). Leaves {F = F} tells it v u (deliveries 4 it v x rest) (Err fault) z s) same (subst (λ n. Leaves {F = F} tells l v u (deliveries 4 l v n rest) (Err fault) z s) kept (more rest)))
@@ -117,7 +117,7 @@ module _ {T : Type 0} (tells : T → Telling → T → Type 0) (line : Line) whe
   -- the event is not played
   pub event_fails : {F : Type 0} (event : WorldEvent) (w v : World) (t u : T) (x y : ℕ) (fault : PlayFault F) → Leaves {F = F} tells line w t (entry.Event event ∷ []) (Err fault) v u
       → Continues {F = F} tells line w t (played_by line w x (entry.Event event)) (Err fault) v u y
-  event_fails {F} event w v t u x y fault told = λ rest. one_fails {F = F} (entry.Event event) (deliveries 4 line (behind line w event) x rest) w v t u fault told
+  event_fails {F} event w v t u x y fault told = λ rest. one_fails {F = F} (entry.Event event) (deliveries 4 line (after line w event) x rest) w v t u fault told
 
   -- the line is shown
   pub shown : {F : Type 0} (w v : World) (t u : T) (x y : ℕ) → v ≡ w → y ≡ x → (result : Result (Unit {0}) (PlayFault F)) → Leaves {F = F} tells line w t (entry.Show ∷ []) result v u

@@ -41,12 +41,12 @@ abbrev pub last_number : ℕ → List Frame → ℕ
 last_number n [] = n
 last_number n (f ∷ frames) = last_number f.number frames
 
--- a link behind a step of this centre that sent these frames
+-- a link after a step of this centre that sent these frames
 abbrev pub counted : ℕ → (ℕ → List Frame) → Link → Link
 counted c frames l =
     if l.from == c then record { from = l.from; to = l.to; sent = last_number l.sent (frames l.to) } else l
 
--- the links behind an answer at this centre
+-- the links after an answer at this centre
 abbrev pub counted_by : ℕ → Answer → List Link → List Link
 counted_by c (Answered o) ls = map (counted c o.frames) ls
 counted_by c NoCentre ls = ls

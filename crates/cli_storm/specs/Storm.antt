@@ -16,9 +16,9 @@ abbrev pub world_of : World → Result (Answer × World) Refusal → World
 world_of w (Ok x) = x.1
 world_of w (Err why) = w
 
--- the world behind an event; where its step is refused nothing is played behind it
-abbrev pub behind : Line → World → WorldEvent → World
-behind line w event = world_of w (world_step line w (event_of event))
+-- the world after an event; where its step is refused nothing is played after it
+abbrev pub after : Line → World → WorldEvent → World
+after line w event = world_of w (world_step line w (event_of event))
 
 -- What follows an entry is a function of the world and of what the draws have left by then.
 abbrev pub Rest : Type 0
@@ -26,7 +26,7 @@ Rest = World → ℕ → List Entry
 
 abbrev pub with_drawn : Line → World → Option WorldEvent × ℕ → Rest → List Entry
 with_drawn line w (None, x) rest = rest w x
-with_drawn line w (Some event, x) rest = entry.Event event ∷ rest (behind line w event) x
+with_drawn line w (Some event, x) rest = entry.Event event ∷ rest (after line w event) x
 
 -- a delivery, if one is drawn, and the rest
 abbrev pub with_delivery : Line → World → ℕ → Rest → List Entry
@@ -37,11 +37,11 @@ abbrev pub deliveries : ℕ → Line → World → ℕ → Rest → List Entry
 deliveries zero line w x rest = rest w x
 deliveries (suc n) line w x rest = with_delivery line w x (λ v y. deliveries n line v y rest)
 
--- an entry of the script with what is drawn behind it, and the rest: four deliveries behind an event, none behind
+-- an entry of the script with what is drawn after it, and the rest: four deliveries after an event, none after
 -- `show`
 abbrev pub played_by : Line → World → ℕ → Entry → Rest → List Entry
 played_by line w x entry.Show rest = entry.Show ∷ rest w x
-played_by line w x (entry.Event event) rest = entry.Event event ∷ deliveries 4 line (behind line w event) x rest
+played_by line w x (entry.Event event) rest = entry.Event event ∷ deliveries 4 line (after line w event) x rest
 
 -- all entries of the script
 abbrev pub storm : Line → World → ℕ → List Entry → List Entry

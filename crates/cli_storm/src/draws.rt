@@ -9,7 +9,7 @@ const INCREMENT: u64 = 1_442_695_040_888_963_407;
 /// The numbers that a storm draws: the same for the same seed.
 #[derive(Clone, Copy)]
 pub struct Draws {
-    /// The seed, and behind a draw what it left.
+    /// The seed, and after a draw what it left.
     pub x: u64,
 }
 

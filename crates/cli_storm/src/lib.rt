@@ -1,4 +1,4 @@
-//! A storm over a script: behind each event of the script come four deliveries that are drawn by lot, old, early and
+//! A storm over a script: after each event of the script come four deliveries that are drawn by lot, old, early and
 //! repeated ones among them.
 //!
 //! Bodies are free. What is drawn, and what is printed of it, is fixed by docs/FORMATS.md.

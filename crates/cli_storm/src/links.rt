@@ -40,7 +40,7 @@ pub fn links_of(alloc: Global, line: &Line) -> Result<Vec<Link>, AllocError>
     Ok(links)
 }
 
-// What the links have sent behind an event at centre `from` that was answered so.
+// What the links have sent after an event at centre `from` that was answered so.
 pub(crate) fn count_answer(links: &mut Vec<Link>, from: u8, answer: &Answer)
     ensures { links.new.items ≡ counted_by from (answer_of answer.now) links.old.items }
 {
@@ -50,7 +50,7 @@ pub(crate) fn count_answer(links: &mut Vec<Link>, from: u8, answer: &Answer)
     }
 }
 
-// What the links have sent behind a step of centre `from` that sent these frames.
+// What the links have sent after a step of centre `from` that sent these frames.
 fn count_frames(links: &mut Vec<Link>, from: u8, frames: &Frames)
     ensures { links.new.items ≡ map (counted from (frames_to frames.now)) links.old.items }
 {

@@ -6,7 +6,7 @@ ghost use Rattle.rbc_world.specs.Answers.{Gives};
 ghost use Rattle.cli_script.specs.declared.script.Entry.TheVariants as entry;
 ghost use Rattle.cli_script.specs.Played.{Leaves};
 ghost use Rattle.cli_storm.specs.Links.{all_links};
-ghost use Rattle.cli_storm.specs.Storm.{Continues, behind, deliveries, played_by, storm, with_delivery};
+ghost use Rattle.cli_storm.specs.Storm.{Continues, after, deliveries, played_by, storm, with_delivery};
 
 use crate::draws::Draws;
 use crate::links::{Link, count_answer, draw_delivery, links_of};
@@ -17,7 +17,7 @@ use rbc_line::Line;
 use rbc_world::{Answer, World, WorldEvent};
 use std::alloc::{AllocError, Global};
 
-/// How many deliveries are drawn behind an event of the script.
+/// How many deliveries are drawn after an event of the script.
 const DELIVERIES: u8 = 4;
 
 /// The centres of a line in a storm.
@@ -50,7 +50,7 @@ impl Storm {
         &self.world
     }
 
-    /// Plays a script's entries, one after another, and four drawn deliveries behind each event. Each is told as it
+    /// Plays a script's entries, one after another, and four drawn deliveries after each event. Each is told as it
     /// comes, as `play` does it, and it stops at the first event that is refused.
     pub fn play<T: Teller>(
         &mut self,
@@ -98,7 +98,7 @@ impl Storm {
         }
     }
 
-    // The deliveries that are drawn behind an event of the script.
+    // The deliveries that are drawn after an event of the script.
     fn deliver<T: Teller>(&mut self, teller: &mut T) -> Result<(), PlayFault<T::Fault>>
         ensures line { line_of self.new.world ≡ line_of self.old.world }
         ensures told { Continues T.tells (line_of self.old.world) (state_of self.old.world) teller.old
@@ -133,7 +133,7 @@ impl Storm {
         ensures line { line_of self.new.world ≡ line_of self.old.world }
         ensures draws { self.new.draws ≡ self.old.draws }
         ensures left { OnOk result
-            (state_of self.new.world ≡ behind (line_of self.old.world) (state_of self.old.world) event.now) }
+            (state_of self.new.world ≡ after (line_of self.old.world) (state_of self.old.world) event.now) }
         ensures told { Leaves T.tells (line_of self.old.world) (state_of self.old.world) teller.old
             (entry.Event event.now ∷ []) result (state_of self.new.world) teller.new }
     {

@@ -50,7 +50,7 @@ pub fn track_in_words(
     }
 }
 
-/// What stands behind the number and the name, if anything does.
+/// What follows the number and the name, if anything does.
 fn order_in_words(
     alloc: Global,
     line: &Line,

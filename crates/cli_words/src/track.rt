@@ -10,7 +10,7 @@ use std::alloc::AllocError;
 /// T_TRAIN of this value is unknown.
 pub const UNKNOWN_TIME: u64 = 4_294_967_295;
 
-/// What stands behind NID_MESSAGE and L_MESSAGE.
+/// What follows NID_MESSAGE and L_MESSAGE.
 pub fn add_track(fields: &mut Fields, message: &TrackMsg) -> Result<(), AllocError> {
     let count = u64::from(message.t_train());
     fields.words(

@@ -9,10 +9,10 @@ use rbc_packets::Opaque;
 use rbc_vars::{QMarqstreason, QStatus, TTrain};
 use std::alloc::AllocError;
 
-// A packet has at most 8 170 bits behind its header.
+// A packet has at most 8 170 bits after its header.
 const MOST_LINES: u32 = 256;
 
-/// What stands behind NID_MESSAGE and L_MESSAGE.
+/// What follows NID_MESSAGE and L_MESSAGE.
 pub fn add_train(fields: &mut Fields, message: &TrainMsg) -> Result<(), AllocError> {
     let meaning = Meaning::Count {
         count: 10 * u64::from(message.t_train()),

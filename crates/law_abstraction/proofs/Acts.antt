@@ -17,7 +17,7 @@ use Rattle.law_network.specs.Keeping.{nothing_came, came_with}
 use Rattle.rbc_spec.proofs.Held.{contains_more}
 use Rattle.law_abstraction.specs.Acts.{IsAct}
 
--- what is on the way behind an act was on the way, or the act sent it
+-- what is on the way after an act was on the way, or the act sent it
 sent_or_on_way : (w : Flow) (c : ℕ) (y : Centre) (frames : ℕ → List Body) → IsCounted w → (i j : ℕ) (f : Body)
     → Contains (way (acted w c y frames) i j) f → Contains (way w i j) f ⊎ ((i ≡ c) × Contains (frames j) f)
 sent_or_on_way w c y frames counted i j f is = ⊎_elim

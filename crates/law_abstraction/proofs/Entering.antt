@@ -14,7 +14,7 @@ use Rattle.law_network.specs.Flow.{Flow, centre_count}
 use Rattle.law_network.specs.Counts.{tokens}
 use Rattle.law_network.specs.Sound.{IsFlowSound}
 use Rattle.law_network.proofs.Basics.{one_home, some_cap}
-use Rattle.law_abstraction.specs.Acts.{IsAct, hand_before, hand_behind}
+use Rattle.law_abstraction.specs.Acts.{IsAct, hand_before, hand_after}
 use Rattle.law_abstraction.specs.After.{MarkAfter}
 use Rattle.law_abstraction.specs.After.MarkAfter.{is_given, is_kept, is_opened, is_shut}
 use Rattle.law_abstraction.proofs.Hands.{was, given, left, state_here, state_elsewhere}
@@ -22,7 +22,7 @@ use Rattle.law_abstraction.proofs.Marks.{in_use}
 
 module _ (line : Line) (w : Flow) (c : ℕ) (came : Resource Centre Body → ℕ) (y : Centre) (frames : ℕ → List Body) (new : Flow) (s d : ℕ)
     (act : IsAct line w c came y frames new) (home : is_home line d s ≡ true) where
-  -- the home's entry behind the act: the acting centre's, or as it was
+  -- the home's entry after the act: the acting centre's, or as it was
   pub entry_here : is_home line c s ≡ true → (new.at d).book s ≡ y.book s
   entry_here here = ap (λ x. (new.at x).book s) (one_home line d c s home here) ∙ ap (λ (z : Centre). z.book s) (state_here line w c came y frames new act)
 
@@ -48,14 +48,14 @@ module _ (line : Line) (w : Flow) (c : ℕ) (came : Resource Centre Body → ℕ
 
   -- of train t
   module _ (t : ℕ) (old : Mark) where
-    pub enters_here : is_home line c s ≡ true → is_used_for t (y.book s) ≡ true → 0 < hand_behind line c t s y frames → MarkAfter line w new s d old (line_centre.Given t)
+    pub enters_here : is_home line c s ≡ true → is_used_for t (y.book s) ≡ true → 0 < hand_after line c t s y frames → MarkAfter line w new s d old (line_centre.Given t)
     enters_here here used has = is_given t refl (ap (is_used_for t) (entry_here here) ∙ used) (given line w c came y frames new t s act has)
 
-    pub enters_elsewhere : IsFlowSound line w → is_home line c s ≡ false → 0 < (tokens line t s).held c (w.at c) + came (tokens line t s) → 0 < hand_behind line c t s y frames
+    pub enters_elsewhere : IsFlowSound line w → is_home line c s ≡ false → 0 < (tokens line t s).held c (w.at c) + came (tokens line t s) → 0 < hand_after line c t s y frames
         → MarkAfter line w new s d old (line_centre.Given t)
     enters_elsewhere sound away token has = is_given t refl (ap (is_used_for t) (entry_elsewhere away) ∙ token_used t sound token) (given line w c came y frames new t s act has)
 
-    pub leaves_elsewhere : IsFlowSound line w → is_home line c s ≡ false → 0 < hand_before t s (w.at c) came → hand_behind line c t s y frames ≡ 0
+    pub leaves_elsewhere : IsFlowSound line w → is_home line c s ≡ false → 0 < hand_before t s (w.at c) came → hand_after line c t s y frames ≡ 0
         → MarkAfter line w new s d old (line_centre.Kept t)
     leaves_elsewhere sound away had gone = is_kept t refl
         (ap (is_used_for t) (entry_elsewhere away) ∙ in_use line w t s d sound (was line w c came y frames new t s act had) home)

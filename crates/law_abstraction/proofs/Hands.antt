@@ -1,4 +1,4 @@
--- Sections in hands behind an act, and their marks.
+-- Sections in hands after an act, and their marks.
 use Rattle.std.proofs.Common.{◌≡◌, ◌≢◌, ℕ, ◌+◌, ◌<◌, ◌≤◌, ◌==◌, ◌&&◌, if◌then◌else◌, nat_lt, Bool, true, false, List, Option, Some, None, refl, sym, ap, ◌∙◌, arith, ⊎_elim}
 use Rattle.std.proofs.lemmas.Bool.{lt-ltb, cond-false, eqb-true, cases_lt}
 use Rattle.law_counting.specs.Sums.{one_if, sum_below}
@@ -19,7 +19,7 @@ use Rattle.law_network.specs.Sound.{IsFlowSound}
 use Rattle.law_network.specs.Shows.{shown, is_in_hand}
 use Rattle.law_network.proofs.Basics.{one_home, itself}
 use Rattle.law_network.proofs.Stands.{in_hand_tokens, given_shown}
-use Rattle.law_abstraction.specs.Acts.{IsAct, SendsNone, hand_before, hand_behind}
+use Rattle.law_abstraction.specs.Acts.{IsAct, SendsNone, hand_before, hand_after}
 use Rattle.law_abstraction.proofs.Frames.{sends_none}
 use Rattle.law_abstraction.specs.After.{MarkAfter, stays, is_given, is_kept, is_opened, is_shut}
 
@@ -53,10 +53,10 @@ one_token line t s n w = one_home_counts line s n (λ c. is_used_for t ((w.at c)
 -- ## In hands
 
 module _ (line : Line) (w : Flow) (c : ℕ) (came : Resource Centre Body → ℕ) (y : Centre) (frames : ℕ → List Body) (new : Flow) (t s : ℕ) (act : IsAct line w c came y frames new) where
-  pub counted : placed (hands t s) (centre_count line) new + hand_before t s (w.at c) came ≡ placed (hands t s) (centre_count line) w + hand_behind line c t s y frames
+  pub counted : placed (hands t s) (centre_count line) new + hand_before t s (w.at c) came ≡ placed (hands t s) (centre_count line) w + hand_after line c t s y frames
   counted = act.changes (hands t s)
 
-  pub same : hand_behind line c t s y frames ≡ hand_before t s (w.at c) came → is_in_hand line new s t ≡ is_in_hand line w s t
+  pub same : hand_after line c t s y frames ≡ hand_before t s (w.at c) came → is_in_hand line new s t ≡ is_in_hand line w s t
   same as_before = ap (nat_lt 0) (omega (arith, counted, as_before))
 
   pub unchanged : hand_has (y.mission t) s ≡ hand_has ((w.at c).mission t) s → came (hands t s) ≡ 0 → SendsNone (hands t s) c frames → is_in_hand line new s t ≡ is_in_hand line w s t
@@ -65,10 +65,10 @@ module _ (line : Line) (w : Flow) (c : ℕ) (came : Resource Centre Body → ℕ
   pub was : 0 < hand_before t s (w.at c) came → is_in_hand line w s t ≡ true
   was had = lt-ltb 0 (placed (hands t s) (centre_count line) w) (omega (arith, had, act.had (hands t s)))
 
-  pub given : 0 < hand_behind line c t s y frames → is_in_hand line new s t ≡ true
+  pub given : 0 < hand_after line c t s y frames → is_in_hand line new s t ≡ true
   given has = lt-ltb 0 (placed (hands t s) (centre_count line) new) (omega (arith, has, counted, act.had (hands t s)))
 
-  pub left : IsFlowSound line w → 0 < hand_before t s (w.at c) came → hand_behind line c t s y frames ≡ 0 → is_in_hand line new s t ≡ false
+  pub left : IsFlowSound line w → 0 < hand_before t s (w.at c) came → hand_after line c t s y frames ≡ 0 → is_in_hand line new s t ≡ false
   left sound had gone = ap (nat_lt 0) (let none : placed (hands t s) (centre_count line) new ≡ 0 = omega (
     arith,
     had,
@@ -105,7 +105,7 @@ mark_shown line w new s d old mark (is_kept t is used hand) before = is ∙ sym 
 mark_shown line w new s d old mark (is_opened is book) before = is ∙ sym (ap (λ (e : Entry). shown e (is_in_hand line new s)) book)
 mark_shown line w new s d old mark (is_shut is book) before = is ∙ sym (ap (λ (e : Entry). shown e (is_in_hand line new s)) book)
 
--- the states behind an act
+-- the states after an act
 pub state_here : (line : Line) (w : Flow) (c : ℕ) (came : Resource Centre Body → ℕ) (y : Centre) (frames : ℕ → List Body) (new : Flow) → IsAct line w c came y frames new → new.at c ≡ y
 state_here line w c came y frames new act = ap (λ (g : ℕ → Centre). g c) act.at ∙ put_here w.at c c y refl
 
@@ -115,6 +115,6 @@ state_elsewhere line w c came y frames new d act apart = ap (λ (g : ℕ → Cen
 
 pub mark_stays : (line : Line) (w : Flow) (c : ℕ) (came : Resource Centre Body → ℕ) (y : Centre) (frames : ℕ → List Body) (new : Flow) (s d : ℕ) (old : Mark)
     → IsAct line w c came y frames new → y.book s ≡ (w.at c).book s
-    → ((t : ℕ) → is_used_for t ((w.at d).book s) ≡ true → hand_behind line c t s y frames ≡ hand_before t s (w.at c) came) → MarkAfter line w new s d old old
+    → ((t : ℕ) → is_used_for t ((w.at d).book s) ≡ true → hand_after line c t s y frames ≡ hand_before t s (w.at c) came) → MarkAfter line w new s d old old
 mark_stays line w c came y frames new s d old act book hand =
     stays refl (ap (λ (g : ℕ → Centre). (g d).book s) act.at ∙ put_keeps (λ (z : Centre). z.book s) w.at c y book d) (λ t used. same line w c came y frames new t s act (hand t used))

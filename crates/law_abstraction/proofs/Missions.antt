@@ -1,4 +1,4 @@
--- The mission of a train behind an act.
+-- The mission of a train after an act.
 use Rattle.std.proofs.Common.{◌≡◌, ◌≢◌, ℕ, ◌+◌, ◌<◌, ◌≤◌, ◌==◌, Bool, true, false, List, Option, Some, None, option_map, is_some, refl, sym, ap, ◌∙◌, inl, inr, arith, ⊎_elim, ltb-true}
 use Rattle.std.specs.Prelude.{Contains}
 use Rattle.std.proofs.lemmas.Bool.{cases_eq}
@@ -56,7 +56,7 @@ module _ (line : Line) (w : Flow) (c : ℕ) (came : Resource Centre Body → ℕ
       nowhere : placed (missions t) (centre_count line) w ≡ 0
       nowhere = omega (arith, alone, act.had (rights_alone t), rights_split line t (centre_count line) w, (sound.rights t).law, one_registrar line t (centre_count line) w)
 
-  -- ## Behind the act
+  -- ## After the act
 
   module _ (at : is_centre line c ≡ true) (old mission : Option LineMission) (before : ShowsMission line w t old) where
     below : c < centre_count line
@@ -112,7 +112,7 @@ module _ (line : Line) (w : Flow) (c : ℕ) (came : Resource Centre Body → ℕ
         by_centres false b from to = absurd (nothing_sent w i j (sound.no_sent i j (inl from)) f is)
         by_centres true false from to = absurd (nothing_sent w i j (sound.no_sent i j (inr to)) f is)
 
-    -- one mission behind the act for one before
+    -- one mission after the act for one before
     shown_stays : mission ≡ old → option_map (seen c) (y.mission t) ≡ option_map (seen c) ((w.at c).mission t) → came (missions t) ≡ 0 → SendsNone (missions t) c frames
         → ShowsMission line new t mission
     shown_stays as_old same none sends = record {

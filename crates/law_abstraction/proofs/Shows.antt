@@ -1,4 +1,4 @@
--- What is shown behind an act, put together of its fields.
+-- What is shown after an act, put together of its fields.
 use Rattle.std.proofs.Common.{◌≡◌, ◌≢◌, ℕ, ◌==◌, Bool, true, false, List, Option, arith, refl, sym, ap, ◌∙◌, ⊎_elim}
 use Rattle.std.proofs.lemmas.Bool.{cases_eq}
 use Rattle.law_counting.specs.Sums.{one_if}

@@ -1,4 +1,4 @@
--- The flow behind an act of one centre, by itself or at the head of a link.
+-- The flow after an act of one centre, by itself or at the head of a link.
 use Rattle.std.specs.Prelude.{◌≡◌, ◌⊎◌, ℕ, ◌+◌, ◌≤◌, ◌==◌, ◌&&◌, List, Contains, is_some}
 use Rattle.law_counting.specs.Sums.{one_if}
 use Rattle.law_counting.specs.Network.{way}
@@ -28,13 +28,13 @@ pub record IsAct (line : Line) (w : Flow) (c : ℕ) (came : Resource Centre Body
 abbrev pub SendsNone : Resource Centre Body → ℕ → (ℕ → List Body) → Type 0
 SendsNone r c frames = (d : ℕ) → carried r c d (frames d) ≡ 0
 
--- ## What the centre has of it before, with what came, and behind, with what it sends
+-- ## What the centre has of it before, with what came, and after, with what it sends
 
 abbrev pub hand_before : ℕ → ℕ → Centre → (Resource Centre Body → ℕ) → ℕ
 hand_before t s k came = one_if (hand_has (k.mission t) s) + came (hands t s)
 
-abbrev pub hand_behind : Line → ℕ → ℕ → ℕ → Centre → (ℕ → List Body) → ℕ
-hand_behind line c t s y frames = one_if (hand_has (y.mission t) s) + sent_by (hands t s) (centre_count line) c frames
+abbrev pub hand_after : Line → ℕ → ℕ → ℕ → Centre → (ℕ → List Body) → ℕ
+hand_after line c t s y frames = one_if (hand_has (y.mission t) s) + sent_by (hands t s) (centre_count line) c frames
 
 -- no other centre has the train's mission, and no other frame on the way
 abbrev pub IsMissionHere : Line → Flow → ℕ → (Resource Centre Body → ℕ) → ℕ → Type 0

@@ -1,4 +1,4 @@
--- What the one line centre shows behind an act of one centre: what changes of it, and that all else is as before.
+-- What the one line centre shows after an act of one centre: what changes of it, and that all else is as before.
 use Rattle.std.specs.Prelude.{◌≡◌, ◌≢◌, ℕ, ◌<◌, Bool, true, false, List, Option, Some, None, option_map, Contains}
 use Rattle.law_counting.specs.Network.{way}
 use Rattle.law_counting.specs.Resource.{Resource, sent_by, placed}
@@ -54,7 +54,7 @@ pub record ShowsMission (line : Line) (w : Flow) (t : ℕ) (mission : Option Lin
       → mission ≡ Some (parted heard has_data is_ended place)
   pub none : placed (missions t) (centre_count line) w ≡ 0 → mission ≡ None
 
--- The mission of train t behind an act of c. It stays where the line sees the centre's as before; else it is the
+-- The mission of train t after an act of c. It stays where the line sees the centre's as before; else it is the
 -- centre's, set or changed or taken over; or it is on the way in a Yield that the centre sends; or it ended
 pub data MissionAfter (line : Line) (w : Flow) (c : ℕ) (came : Resource Centre Body → ℕ) (y : Centre)
     (frames : ℕ → List Body) (t : ℕ) (old mission : Option LineMission) : Type 0 where

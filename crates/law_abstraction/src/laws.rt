@@ -22,7 +22,7 @@ ghost use Rattle.law_network.specs.Counts.{tokens, hands, missions};
 ghost use Rattle.law_network.specs.Keeping.{nothing_came, came_with};
 ghost use Rattle.law_network.specs.Sound.{IsFlowSound};
 ghost use Rattle.law_network.specs.Shows.{Shows, shown, is_in_hand, parted};
-ghost use Rattle.law_abstraction.specs.Acts.{IsAct, SendsNone, IsMissionHere, hand_before, hand_behind, rights_alone, tokens_aside};
+ghost use Rattle.law_abstraction.specs.Acts.{IsAct, SendsNone, IsMissionHere, hand_before, hand_after, rights_alone, tokens_aside};
 ghost use Rattle.law_abstraction.specs.After.{IsUnseen, PartAfter, PartStays, PartChanges, MarkAfter, ShowsMission, MissionAfter, ShowsAfter};
 
 /// What one centre does by itself, and what it does at the head of a link, is an act of one centre.
@@ -75,17 +75,17 @@ pub fn what_frames_carry()
 {}
 
 /// How often a section is in a hand of a train changes by an act as the centre's own hand does, with what came and what
-/// is sent. So it is in a hand as before where that is as much, it is where the centre has it behind or sends it, and
-/// it is in none where the centre had it and has it no more.
+/// is sent. So it is in a hand as before where that is as much, it is where the centre has it afterwards or sends it,
+/// and it is in none where the centre had it and has it no more.
 pub fn hands_after()
     ensures counted { (line : Line) (w : Flow) (c : ℕ) (came : Resource Centre Body → ℕ) (y : Centre)
         (frames : ℕ → List Body) (new : Flow) (t s : ℕ)
         → IsAct line w c came y frames new
         → placed (hands t s) (centre_count line) new + hand_before t s (w.at c) came
-        ≡ placed (hands t s) (centre_count line) w + hand_behind line c t s y frames }
+        ≡ placed (hands t s) (centre_count line) w + hand_after line c t s y frames }
     ensures same { (line : Line) (w : Flow) (c : ℕ) (came : Resource Centre Body → ℕ) (y : Centre)
         (frames : ℕ → List Body) (new : Flow) (t s : ℕ)
-        → IsAct line w c came y frames new → hand_behind line c t s y frames ≡ hand_before t s (w.at c) came
+        → IsAct line w c came y frames new → hand_after line c t s y frames ≡ hand_before t s (w.at c) came
         → is_in_hand line new s t ≡ is_in_hand line w s t }
     ensures unchanged { (line : Line) (w : Flow) (c : ℕ) (came : Resource Centre Body → ℕ) (y : Centre)
         (frames : ℕ → List Body) (new : Flow) (t s : ℕ)
@@ -97,15 +97,15 @@ pub fn hands_after()
         → IsAct line w c came y frames new → 0 < hand_before t s (w.at c) came → is_in_hand line w s t ≡ true }
     ensures given { (line : Line) (w : Flow) (c : ℕ) (came : Resource Centre Body → ℕ) (y : Centre)
         (frames : ℕ → List Body) (new : Flow) (t s : ℕ)
-        → IsAct line w c came y frames new → 0 < hand_behind line c t s y frames → is_in_hand line new s t ≡ true }
+        → IsAct line w c came y frames new → 0 < hand_after line c t s y frames → is_in_hand line new s t ≡ true }
     ensures left { (line : Line) (w : Flow) (c : ℕ) (came : Resource Centre Body → ℕ) (y : Centre)
         (frames : ℕ → List Body) (new : Flow) (t s : ℕ)
         → IsFlowSound line w → IsAct line w c came y frames new → 0 < hand_before t s (w.at c) came
-        → hand_behind line c t s y frames ≡ 0
+        → hand_after line c t s y frames ≡ 0
         → is_in_hand line new s t ≡ false }
 {}
 
-/// The mark of a section is what its home's book and the hands make of it, before and behind an act. It stays where the
+/// The mark of a section is what its home's book and the hands make of it, before and after an act. It stays where the
 /// acting centre changes neither its entry nor how often it is in the hand of the train that it is in use for.
 pub fn mark_after()
     ensures shown { (line : Line) (w new : Flow) (s d : ℕ) (old mark : Mark) → MarkAfter line w new s d old mark
@@ -115,7 +115,7 @@ pub fn mark_after()
         (frames : ℕ → List Body) (new : Flow) (s d : ℕ) (old : Mark)
         → IsAct line w c came y frames new → y.book s ≡ (w.at c).book s
         → ((t : ℕ) → is_used_for t ((w.at d).book s) ≡ true
-        → hand_behind line c t s y frames ≡ hand_before t s (w.at c) came)
+        → hand_after line c t s y frames ≡ hand_before t s (w.at c) came)
         → MarkAfter line w new s d old old }
 {}
 
@@ -126,12 +126,12 @@ pub fn a_section_enters_or_leaves_a_hand()
     ensures enters { (line : Line) (w : Flow) (c : ℕ) (came : Resource Centre Body → ℕ) (y : Centre)
         (frames : ℕ → List Body) (new : Flow) (s d t : ℕ) (old : Mark)
         → IsAct line w c came y frames new → is_home line d s ≡ true → is_home line c s ≡ true
-        → is_used_for t (y.book s) ≡ true → 0 < hand_behind line c t s y frames
+        → is_used_for t (y.book s) ≡ true → 0 < hand_after line c t s y frames
         → MarkAfter line w new s d old (Given t) }
     ensures enters_lent { (line : Line) (w : Flow) (c : ℕ) (came : Resource Centre Body → ℕ) (y : Centre)
         (frames : ℕ → List Body) (new : Flow) (s d t : ℕ) (old : Mark)
         → IsAct line w c came y frames new → is_home line d s ≡ true → IsFlowSound line w → is_home line c s ≡ false
-        → 0 < (tokens line t s).held c (w.at c) + came (tokens line t s) → 0 < hand_behind line c t s y frames
+        → 0 < (tokens line t s).held c (w.at c) + came (tokens line t s) → 0 < hand_after line c t s y frames
         → MarkAfter line w new s d old (Given t) }
     ensures token { (line : Line) (w : Flow) (c : ℕ) (came : Resource Centre Body → ℕ) (y : Centre)
         (frames : ℕ → List Body) (new : Flow) (s d t : ℕ)
@@ -148,7 +148,7 @@ pub fn a_section_enters_or_leaves_a_hand()
     ensures leaves_lent { (line : Line) (w : Flow) (c : ℕ) (came : Resource Centre Body → ℕ) (y : Centre)
         (frames : ℕ → List Body) (new : Flow) (s d t : ℕ) (old : Mark)
         → IsAct line w c came y frames new → is_home line d s ≡ true → IsFlowSound line w → is_home line c s ≡ false
-        → 0 < hand_before t s (w.at c) came → hand_behind line c t s y frames ≡ 0
+        → 0 < hand_before t s (w.at c) came → hand_after line c t s y frames ≡ 0
         → MarkAfter line w new s d old (Kept t) }
 {}
 
@@ -170,7 +170,7 @@ pub fn where_a_mission_is()
         → IsMissionHere line w c came t × (placed (missions t) (centre_count line) w ≡ 0) }
 {}
 
-/// A train's mission is shown behind an act as it was before, where it stays so; as the centre has it, as the centre's
+/// A train's mission is shown after an act as it was before, where it stays so; as the centre has it, as the centre's
 /// Yield carries it, or as none.
 pub fn mission_after()
     ensures { (line : Line) (w : Flow) (c : ℕ) (came : Resource Centre Body → ℕ) (y : Centre) (frames : ℕ → List Body)
@@ -200,7 +200,7 @@ pub fn one_part_after()
     ensures wait { PartStays (Option Place) × PartChanges (Option Place) }
 {}
 
-/// What shows a sound flow, with each field changed as the act of one centre changes it, shows the flow behind the act:
+/// What shows a sound flow, with each field changed as the act of one centre changes it, shows the flow after the act:
 /// by itself, and at the head of a link.
 pub fn what_an_act_shows()
     ensures act { (line : Line) (w : Flow) (c : ℕ) (came : Resource Centre Body → ℕ) (y : Centre)

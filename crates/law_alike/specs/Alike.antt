@@ -21,7 +21,7 @@ seen (Ok answer) = Ok (answer_of answer)
 seen (Err fault) = Err fault
 
 -- the clauses `line`, `exact` and `err` of World::step, of what its memory stands for: the line and world before it,
--- the event, what is returned, and the line and world behind it. What is returned and the world that is left are what
+-- the event, what is returned, and the line and world after it. What is returned and the world that is left are what
 -- the definition gives; but of want of memory nothing is said
 pub record IsStep (line : Line) (w : World) (event : Event) (result : Result Answer StepFault) (left : Line)
     (new : World) : Type 0 where
@@ -38,7 +38,7 @@ AreSteps line w events results new = ⊥
 
 -- ## Bytes
 
--- the messages to trains as bytes, each behind its NID_ENGINE, in order
+-- the messages to trains as bytes, each after its NID_ENGINE, in order
 abbrev pub AreMessagesWritten : List Saying → List (ℕ × List ℕ) → Type 0
 AreMessagesWritten [] [] = Unit {0}
 AreMessagesWritten (s ∷ sayings) (m ∷ messages) =

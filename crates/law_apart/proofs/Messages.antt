@@ -5,7 +5,7 @@ use Rattle.std.specs.List.{All}
 use Rattle.std.proofs.lemmas.Bool.Decides.{eqb_tells}
 use Rattle.std.proofs.lemmas.List.Elements.{All-nil, All-cons, All-head, All-tail, All-weaker}
 use Rattle.rbc_spec.specs.Maps.{put}
-use Rattle.rbc_spec.specs.SectionRuns.{SectionRun, no_run, within, behind, is_empty, part_before, part_from, joined, all_of}
+use Rattle.rbc_spec.specs.SectionRuns.{SectionRun, no_run, within, next_after, is_empty, part_before, part_from, joined, all_of}
 use Rattle.rbc_spec.specs.Line.{Line, is_centre, next_centre, registrar, start}
 use Rattle.rbc_spec.specs.Sections.{nid_rbc}
 use Rattle.rbc_spec.specs.Place.{Place, Position, covered, group_start, place_on, fit_place}
@@ -91,7 +91,7 @@ module _ (takes : Bool) (line : Line) (c t : ℕ) where
       (its_say takes t group (Transition (start line (part_at line d m.place.track m.hand).first - group_start line m.place) line.nid_c (nid_rbc line d))) k
 
   its_ask_route : (d : ℕ) (m : Mission) → Its takes t (ask_route t d m)
-  its_ask_route d m = its_then takes t _ _ (its_send takes t d (RouteAsk t (behind m.hand) _) refl) (its_route (Some (behind m.hand)))
+  its_ask_route d m = its_then takes t _ _ (its_send takes t d (RouteAsk t (next_after m.hand) _) refl) (its_route (Some (next_after m.hand)))
 
   its_border : (d : ℕ) → Its takes t (at_border line c t d)
   its_border d = its_then takes t (announce_if_due line t d) (ask_route_if_due line t d)
@@ -150,9 +150,9 @@ module _ (line : Line) (c t : ℕ) where
   its_clear : (m : Mission) (place : Place) → Its false t (clear line c t m place)
   its_clear m place =
       let r = cleared line place m in
-      its_if false t (r.count == m.hand.count) (leave line c t m.place.track (joined m.hand m.pool) >> close line c t m) (leave line c t m.place.track r >> set_mission t (Some (record m { place = place; hand = part_from (behind r) m.hand })))
+      its_if false t (r.count == m.hand.count) (leave line c t m.place.track (joined m.hand m.pool) >> close line c t m) (leave line c t m.place.track r >> set_mission t (Some (record m { place = place; hand = part_from (next_after r) m.hand })))
       (its_then false t (leave line c t m.place.track (joined m.hand m.pool)) (close line c t m) (its_leave m.place.track (joined m.hand m.pool)) (its_close false line c t m))
-      (its_then false t (leave line c t m.place.track r) (set_mission t (Some (record m { place = place; hand = part_from (behind r) m.hand }))) (its_leave m.place.track r) (its_set false line c t (Some (record m { place = place; hand = part_from (behind r) m.hand }))))
+      (its_then false t (leave line c t m.place.track r) (set_mission t (Some (record m { place = place; hand = part_from (next_after r) m.hand }))) (its_leave m.place.track r) (its_set false line c t (Some (record m { place = place; hand = part_from (next_after r) m.hand }))))
 
   its_report_here : (position : Position) (m : Mission) → Its false t (report_here line c t position m)
   its_report_here position m = its_option false t (place_on line m.place.track position) (clear line c t m) rest (its_clear m) (its_rest false t)

@@ -4,7 +4,7 @@ use Rattle.std.proofs.lemmas.List.{append-nil}
 use Rattle.rbc_spec.specs.Centre.{Centre}
 use Rattle.rbc_spec.specs.Acts.{Act, Reply, rest, ◌>>◌}
 
--- to rest before or behind an act changes nothing
+-- to rest before or after an act changes nothing
 pub rest_then : (act : Act) (k : Centre) → (rest >> act) k ≡ act k
 unfolding ◌>>◌
 rest_then act k = refl

@@ -27,7 +27,7 @@ longest_none test first most fails = record {
   ends = λ more. let after : first + 0 ≡ first = omega arith in ap test after ∙ fails more;
 }
 
--- what the longest run under a test is: each in it passes, and the one behind it fails or there is room for no more
+-- what the longest run under a test is: each in it passes, and the one after it fails or there is room for no more
 pub longest_is : (test : ℕ → Bool) (first most : ℕ) → IsLongest test first most (longest test first most)
 unfolding longest
 longest_is test first zero = longest_none test first 0 (λ more. absurd (omega arith))

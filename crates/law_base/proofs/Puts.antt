@@ -57,7 +57,7 @@ put_pair_there f t c x = elim (eqb_tells t t) as (λ _. put_pair f t c x t c ≡
 pub itself : (t : ℕ) → (t == t) ≡ true
 itself t = eq-eqb t t refl
 
--- what holds of each value of a function holds behind another value at one place, if it holds of that
+-- what holds of each value of a function holds after another value at one place, if it holds of that
 pub put_holds : {X : Type 0} (P : ℕ → X → Type 0) (f : ℕ → X) (t : ℕ) (x : X) → ((u : ℕ) → P u (f u)) → P t x → (u : ℕ) → P u (put f t x u)
 put_holds P f t x old new u = elim (eqb_tells u t) as (λ _. P u (put f t x u)) [
   | inl e ↦ rw (e.0) (subst (λ v. P v x) (sym e.1) new)

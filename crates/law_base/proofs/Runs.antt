@@ -5,7 +5,7 @@ use Rattle.std.proofs.lemmas.Bool.{or_left, or_right, or_cases, cases_lt, cases_
 use Rattle.std.proofs.lemmas.Bool.Decides.{eqb_tells}
 use Rattle.std.proofs.lemmas.List.{append-nil}
 use Rattle.std.proofs.lemmas.List.Elements.{filter-append}
-use Rattle.rbc_spec.specs.SectionRuns.{SectionRun, no_run, within, behind, is_empty, part_before, part_from, shared, joined, all_of}
+use Rattle.rbc_spec.specs.SectionRuns.{SectionRun, no_run, within, next_after, is_empty, part_before, part_from, shared, joined, all_of}
 use Rattle.law_base.proofs.Lists.{range-append, filter-range_none, each_of, all_from}
 
 -- what is within a run stands between its ends
@@ -26,15 +26,15 @@ pub within_before : (r : SectionRun) (s : ℕ) → s < r.first → within r s �
 unfolding within
 within_before r s low = and_left (nat_le r.first s) (nat_lt s (r.first + r.count)) (lt-leb r.first s low)
 
--- nor what stands behind it
-pub within_behind : (r : SectionRun) (s : ℕ) → r.first + r.count ≤ s → within r s ≡ false
+-- nor what follows it
+pub within_after : (r : SectionRun) (s : ℕ) → r.first + r.count ≤ s → within r s ≡ false
 unfolding within
-within_behind r s high = and_right (nat_le r.first s) (nat_lt s (r.first + r.count)) (le-ltb s (r.first + r.count) high)
+within_after r s high = and_right (nat_le r.first s) (nat_lt s (r.first + r.count)) (le-ltb s (r.first + r.count) high)
 
 -- nothing is within an empty run
 pub within_none : (r : SectionRun) (s : ℕ) → r.count ≡ 0 → within r s ≡ false
 within_none r s none = ⊎_elim (λ (low : s < r.first). within_before r s low)
-    (λ (high : r.first ≤ s). within_behind r s (omega arith)) (cases_lt s r.first)
+    (λ (high : r.first ≤ s). within_after r s (omega arith)) (cases_lt s r.first)
 
 -- two tests agree where each passes what the other does
 pub same_tests : (a b : Bool) → (a ≡ true → b ≡ true) → (b ≡ true → a ≡ true) → a ≡ b
@@ -80,8 +80,8 @@ none_joined a b none = cond-true (is_empty a) b (record { first = a.first; count
 some_joined : (a b : SectionRun) → a.count ≢ 0 → joined a b ≡ record { first = a.first; count = a.count + b.count }
 some_joined a b some = cond-false (is_empty a) b (record { first = a.first; count = a.count + b.count }) (ne_eqb a.count 0 some)
 
--- a hand that is not empty and a run behind it
-pub joined_is : (hand : SectionRun) (n : ℕ) → 1 ≤ hand.count → joined hand (record { first = behind hand; count = n }) ≡ record { first = hand.first; count = hand.count + n }
+-- a hand that is not empty and a run that follows it
+pub joined_is : (hand : SectionRun) (n : ℕ) → 1 ≤ hand.count → joined hand (record { first = next_after hand; count = n }) ≡ record { first = hand.first; count = hand.count + n }
 joined_is hand n some = cond-false (is_empty hand) _ _ (ne_eqb hand.count 0 (λ e. omega arith))
 
 pub joined_count : (a b : SectionRun) → (joined a b).count ≡ a.count + b.count
@@ -90,7 +90,7 @@ joined_count a b = ⊎_elim
     (λ (some : a.count ≢ 0). ap (λ (r : SectionRun). r.count) (some_joined a b some))
     (cases_eq a.count 0)
 
-within_both : (a b : SectionRun) (s : ℕ) → b.first ≡ behind a
+within_both : (a b : SectionRun) (s : ℕ) → b.first ≡ next_after a
     → within (record { first = a.first; count = a.count + b.count }) s ≡ (within a s || within b s)
 within_both a b s follows = same_tests _ _
     (λ whole. let ends = within_true (record { first = a.first; count = a.count + b.count }) s whole in ⊎_elim
@@ -104,7 +104,7 @@ within_both a b s follows = same_tests _ _
     within_from (record { first = a.first; count = a.count + b.count }) s (omega arith) (omega arith))
     (or_cases (within a s) (within b s) part))
 
-pub within_joined : (a b : SectionRun) (s : ℕ) → b.first ≡ behind a → within (joined a b) s ≡ (within a s || within b s)
+pub within_joined : (a b : SectionRun) (s : ℕ) → b.first ≡ next_after a → within (joined a b) s ≡ (within a s || within b s)
 within_joined a b s follows = ⊎_elim
     (λ (none : a.count ≡ 0). ap (λ r. within r s) (none_joined a b none) ∙ ap (λ x. x || within b s) (sym (within_none a s none)))
     (λ (some : a.count ≢ 0). ap (λ r. within r s) (some_joined a b some) ∙ within_both a b s follows)
@@ -122,7 +122,7 @@ joined_empty a b s empty =
     (some_joined a b some ∙ same_run (record { first = a.first; count = a.count + b.count }) a refl (omega arith)))
     (cases_eq a.count 0)
 
-pub joined_again : (r : SectionRun) (cut : ℕ) → r.first ≤ cut → cut ≤ behind r → joined (part_before cut r) (part_from cut r) ≡ r
+pub joined_again : (r : SectionRun) (cut : ℕ) → r.first ≤ cut → cut ≤ next_after r → joined (part_before cut r) (part_from cut r) ≡ r
 joined_again r cut low high = ⊎_elim
     (λ (none : (part_before cut r).count ≡ 0). none_joined (part_before cut r) (part_from cut r) none
     ∙ same_run (part_from cut r) r (omega arith) (omega arith))
@@ -166,7 +166,7 @@ filter_run test r n only inside = by_count r.count refl
       where
         by_place : (s : ℕ) → (s < r.first) ⊎ (r.first ≤ s) → within r s ≡ false
         by_place s (inl low) = within_before r s low
-        by_place s (inr high) = within_behind r s (omega (arith, is))
+        by_place s (inr high) = within_after r s (omega (arith, is))
     by_count (suc k) is =
         let last : ℕ = r.first + k in
         let below : last < n = inside last (within_from r last (omega arith) (omega (arith, is))) in
@@ -179,7 +179,7 @@ filter_run test r n only inside = by_count r.count refl
         ∙ ap (λ k. filter test (range_with_len k (r.count + rest))) (let e : 0 + r.first ≡ r.first = omega arith in e)
         ∙ ap (filter test) (range-append r.first r.count rest)
         ∙ filter-append test (range_with_len r.first r.count) (range_with_len (r.first + r.count) rest)
-        ∙ ap (λ xs. filter test (range_with_len r.first r.count) ++ xs) (filter-range_none test (r.first + r.count) rest (λ s low high. out s (within_behind r s low)))
+        ∙ ap (λ xs. filter test (range_with_len r.first r.count) ++ xs) (filter-range_none test (r.first + r.count) rest (λ s low high. out s (within_after r s low)))
         ∙ append-nil (filter test (range_with_len r.first r.count))
 
 -- ## No run, and a run joined with it
@@ -188,4 +188,4 @@ pub some_count : (n : ℕ) → 1 ≤ n → (n == 0) ≡ false
 some_count n some = elim (eqb_tells n 0) [ inl e ↦ absurd (let same = e.1 in let wrong : ⊥ = omega (arith, same) in wrong) | inr e ↦ e.0 ]
 
 pub none_within : (s : ℕ) → within no_run s ≡ false
-none_within s = within_behind no_run s (omega arith)
+none_within s = within_after no_run s (omega arith)

@@ -12,7 +12,8 @@ use Rattle.law_base.proofs.Longest.{longest_is}
 pub reached_few : (line : Line) (place : Place) (m : Mission) → reached line place m ≤ m.hand.count
 reached_few line place m = (longest_is (λ s. nat_lt (10 * start line s) place.front) m.hand.first m.hand.count).fits
 
--- whatever holds where nothing is done, and where the hand is cut behind some of its first sections, holds of what is done
+-- whatever holds where nothing is done, and where the hand is cut after some of its first sections, holds of what is
+-- done
 pub rests_or_cuts : (P : Act → Type 0) (line : Line) (c t : ℕ) (position : Position) (m : Mission) → P rest
     → ((n : ℕ) → n ≢ 0 → n < m.hand.count → P (cut line c t (m.hand.first + n - 1) m)) → P (stand_still line c t position m)
 rests_or_cuts P line c t position m rests cuts = by_speed (position.v_train == 0)

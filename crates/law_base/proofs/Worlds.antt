@@ -12,7 +12,7 @@ use Rattle.rbc_spec.specs.Step.{Refusal, step, refusal, taken, numbered}
 use Rattle.rbc_spec.specs.World.{World, Event, Bytes, Set, Unset, Delivery, Answer, Answered, NoCentre, NotSent, Fault, frame_sent, mention, stepped, at_centre, takes, world_step, world_run, ◌>>=◌}
 use Rattle.law_base.proofs.Lists.{each_at}
 
--- the step of a centre that an event comes to, and the trains that are named behind it
+-- the step of a centre that an event comes to, and the trains that are named after it
 pub data Brings (line : Line) (w : World) : Event → ℕ → centre.Event → List ℕ → Type 0 where
   says : (c : ℕ) (m : TrainMessage) → is_centre line c ≡ true → Brings line w (Bytes c (Ok m)) c (centre.Train m) (mention line m.nid_engine w.trains)
   sets : (c s : ℕ) → is_centre line c ≡ true → Brings line w (Set c s) c (centre.Set s) w.trains
@@ -28,7 +28,8 @@ pub data IsIdle : Answer → Type 0 where
 pub same_ok : {X : Type 0} (x y : X) → ◌≡◌ {A = Result X Refusal} (Ok x) (Ok y) → x ≡ y
 same_ok x y is = cc
 
--- P holds of each event at a world, its answer and the world behind it, where it holds of each answer that changes nothing, and of each step
+-- P holds of each event at a world, its answer and the world after it, where it holds of each answer that changes
+-- nothing, and of each step
 module _ (line : Line) (w : World) (P : Event → Answer → World → Type 0) (still : (event : Event) (answer : Answer) → IsIdle answer → P event answer w)
     (steps : (event : Event) (c : ℕ) (own : centre.Event) (trains : List ℕ) → Brings line w event c own trains → refusal line c (w.at c) own ≡ None
     → P event (Answered (taken line c own (w.at c)).0) (record { at = put w.at c (taken line c own (w.at c)).1; trains = trains })) where

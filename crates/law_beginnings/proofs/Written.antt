@@ -7,7 +7,7 @@ use Rattle.std.proofs.lemmas.List.Elements.{Contains-append_left, filter-append,
 use Rattle.std.proofs.lemmas.Bool.Decides.{eqb_tells}
 use Rattle.rbc_spec.specs.Step.{Event, Train, Set, Unset, Deliver}
 use Rattle.law_logs.specs.Logs.{LogEntry, IsFromLog, IsLegal, entries_of, sent_to}
-use Rattle.law_beginnings.specs.Beginnings.{IsWrittenBehind}
+use Rattle.law_beginnings.specs.Beginnings.{IsWrittenAfter}
 
 -- the logs that a list of entries makes
 abbrev pub logs_in : List LogEntry → ℕ → List LogEntry
@@ -37,7 +37,7 @@ covered_append : (all xs ys : List LogEntry) → IsCovered all xs → IsCovered 
 covered_append all [] ys h k = k
 covered_append all (x ∷ xs) ys h k = (h.0, covered_append all xs ys h.1 k)
 
-written_on : (before entries : List LogEntry) (n : ℕ) → IsCovered before before → IsWrittenBehind before entries → IsCovered (before ++ take n entries) (before ++ take n entries)
+written_on : (before entries : List LogEntry) (n : ℕ) → IsCovered before before → IsWrittenAfter before entries → IsCovered (before ++ take n entries) (before ++ take n entries)
 written_on before entries zero h k = subst (λ t. IsCovered t t) (sym (append-nil before)) h
 written_on before [] (suc n) h k = subst (λ t. IsCovered t t) (sym (append-nil before)) h
 written_on before (e ∷ entries) (suc n) h k =
@@ -55,5 +55,5 @@ of_centre all c (e ∷ entries) h = elim (eqb_tells e.centre c) [
       (of_centre all c entries h.1)
 ]
 
-pub written_first : (written : List LogEntry) (n : ℕ) → IsWrittenBehind [] written → IsLegal (λ c. entries_of c (take n written))
+pub written_first : (written : List LogEntry) (n : ℕ) → IsWrittenAfter [] written → IsLegal (λ c. entries_of c (take n written))
 written_first written n h = λ c. All-from_recursion _ _ (of_centre (take n written) c (take n written) (written_on [] written n tt h))

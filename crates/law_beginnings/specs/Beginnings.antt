@@ -23,12 +23,12 @@ SameLogTheorem = (line : Line) (c n : ℕ) (log again : List LogEntry) (last end
     → Replays line c (beginning line c) log last → Replays line c (beginning line c) again end
     → map (λ e. e.event) again ≡ take n (map (λ e. e.event) log) → again ≡ take n log
 
--- Entries of all centres in the order in which they are written: each behind the entry that sent the frame that it took
-abbrev pub IsWrittenBehind : List LogEntry → List LogEntry → Type 0
-IsWrittenBehind before [] = Unit {0}
-IsWrittenBehind before (e ∷ entries) =
-    IsFromLog (λ a. entries_of a before) e.centre e.event × IsWrittenBehind (before ++ e ∷ []) entries
+-- Entries of all centres in the order in which they are written: each after the entry that sent the frame that it took
+abbrev pub IsWrittenAfter : List LogEntry → List LogEntry → Type 0
+IsWrittenAfter before [] = Unit {0}
+IsWrittenAfter before (e ∷ entries) =
+    IsFromLog (λ a. entries_of a before) e.centre e.event × IsWrittenAfter (before ++ e ∷ []) entries
 
 abbrev pub WrittenFirstTheorem : Type 0
 WrittenFirstTheorem =
-    (written : List LogEntry) (n : ℕ) → IsWrittenBehind [] written → IsLegal (λ c. entries_of c (take n written))
+    (written : List LogEntry) (n : ℕ) → IsWrittenAfter [] written → IsLegal (λ c. entries_of c (take n written))

@@ -14,7 +14,7 @@ pub fn one_log_of_the_events()
     ensures { SameLogTheorem }
 {}
 
-/// Entries of all centres are written one by one, each behind the entry that sent the frame that it took. However few
+/// Entries of all centres are written one by one, each after the entry that sent the frame that it took. However few
 /// are written, each frame that was delivered stands in what is written of its sender's log.
 pub fn what_is_written_first_is_there()
     ensures { WrittenFirstTheorem }

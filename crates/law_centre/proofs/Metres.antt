@@ -2,7 +2,7 @@
 use Rattle.std.proofs.Common.{◌≡◌, ◌≢◌, ℕ, ◌+◌, ◌-◌, ◌*◌, ◌<◌, ◌≤◌, ◌==◌, ◌&&◌, ◌||◌, not, nat_le, Bool, true, false, is_none, refl, sym, ap, ◌∙◌, arith, ⊎_elim, leb-true}
 use Rattle.std.specs.Option.{option_map_or}
 use Rattle.std.proofs.lemmas.Bool.{and_parts, and_from, or_cases, cases_eq, cond-true, cond-false, eqb-false, eq-eqb, ne_eqb, eqb-true, not-false}
-use Rattle.rbc_spec.specs.SectionRuns.{SectionRun, within, behind, is_empty, shared, joined}
+use Rattle.rbc_spec.specs.SectionRuns.{SectionRun, within, next_after, is_empty, shared, joined}
 use Rattle.rbc_spec.specs.Line.{Line, IsLine, is_home, start, end}
 use Rattle.rbc_spec.specs.Sections.{is_on, home_run}
 use Rattle.rbc_spec.specs.Place.{Place, group_start}
@@ -20,25 +20,25 @@ use Rattle.law_centre.proofs.Reasons.{not_for}
 use Rattle.law_centre.proofs.Places.{extent_ahead, placed_on}
 
 -- where a run that follows another ends
-behind_joined : (a b : SectionRun) → b.first ≡ behind a → behind (joined a b) ≡ behind a + b.count
-behind_joined a b follows = ⊎_elim
-    (λ (none : a.count ≡ 0). ap behind (cond-true (is_empty a) b (record { first = a.first; count = a.count + b.count }) (eq-eqb a.count 0 none)) ∙ (omega arith))
-    (λ (some : a.count ≢ 0). ap behind (cond-false (is_empty a) b (record { first = a.first; count = a.count + b.count }) (ne_eqb a.count 0 some)) ∙ (omega arith))
+next_after_joined : (a b : SectionRun) → b.first ≡ next_after a → next_after (joined a b) ≡ next_after a + b.count
+next_after_joined a b follows = ⊎_elim
+    (λ (none : a.count ≡ 0). ap next_after (cond-true (is_empty a) b (record { first = a.first; count = a.count + b.count }) (eq-eqb a.count 0 none)) ∙ (omega arith))
+    (λ (some : a.count ≢ 0). ap next_after (cond-false (is_empty a) b (record { first = a.first; count = a.count + b.count }) (ne_eqb a.count 0 some)) ∙ (omega arith))
     (cases_eq a.count 0)
 
 module _ (line : Line) (c : ℕ) (k : Centre) (m : TrainMessage) (n : Mission) (place : Place) (h : IsRequestHeard line c k m n place) where
   -- the place is not past the hand's end
-  not_past : place.front ≤ 10 * end line (behind n.hand - 1)
+  not_past : place.front ≤ 10 * end line (next_after n.hand - 1)
   not_past =
       let none : mission_has (λ o. not (may_request line o h.position)) (k.mission m.nid_engine) ≡ false
       = sym (ap (has_no_place line (k.mission m.nid_engine)) h.asks) ∙ not_for line c k m (Request h.position) 8 NoPlace h.asks h.heard refl in
       let may : may_request line n h.position ≡ true = not-false (may_request line n h.position) (sym (ap (mission_has (λ o. not (may_request line o h.position))) h.mission) ∙ none) in
-      let both = and_parts (nat_le place.front (10 * end line (behind n.hand - 1))) (nat_le (end line (behind n.hand - 1)) (group_start line place + 32767))
-      (sym (ap (λ o. option_map_or (λ (q : Place). nat_le q.front (10 * end line (behind n.hand - 1)) && nat_le (end line (behind n.hand - 1)) (group_start line q + 32767)) o false) h.place_is) ∙ may) in
-      leb-true place.front (10 * end line (behind n.hand - 1)) both.0
+      let both = and_parts (nat_le place.front (10 * end line (next_after n.hand - 1))) (nat_le (end line (next_after n.hand - 1)) (group_start line place + 32767))
+      (sym (ap (λ o. option_map_or (λ (q : Place). nat_le q.front (10 * end line (next_after n.hand - 1)) && nat_le (end line (next_after n.hand - 1)) (group_start line q + 32767)) o false) h.place_is) ∙ may) in
+      leb-true place.front (10 * end line (next_after n.hand - 1)) both.0
 
   -- nor is its group
-  pub group_before : group_start line place ≤ end line (behind n.hand - 1)
+  pub group_before : group_start line place ≤ end line (next_after n.hand - 1)
   group_before =
       let ahead : IsAhead line place = extent_ahead line h.position place (placed_on line n.place.track h.position place h.place_is).extent_is in
       omega (arith, ahead, not_past)
@@ -51,23 +51,23 @@ module _ (line : Line) (c : ℕ) (k : Centre) (m : TrainMessage) (n : Mission) (
 
   more_on : (s : ℕ) → within more s ≡ true → is_on line place.track s ≡ true
   more_on s in_more =
-      let passes : test s ≡ true = (longest_is test (behind n.hand) (32 - n.hand.count)).each s in_more in
+      let passes : test s ≡ true = (longest_is test (next_after n.hand) (32 - n.hand.count)).each s in_more in
       let reach = and_parts (is_on line place.track s && (is_free line c k s || within n.pool s)) (nat_le (end line s) (group_start line place + 32767)) passes in
       (and_parts (is_on line place.track s) (is_free line c k s || within n.pool s) reach.0).0
 
-  pub authority_reaches : is_on line place.track (behind n.hand - 1) ≡ true → group_start line place ≤ end line (behind (extended line c k place n).hand - 1)
+  pub authority_reaches : is_on line place.track (next_after n.hand - 1) ≡ true → group_start line place ≤ end line (next_after (extended line c k place n).hand - 1)
   authority_reaches on = ⊎_elim
       (λ (none : more.count ≡ 0).
-      let same : behind (joined n.hand more) - 1 ≡ behind n.hand - 1 = omega (arith, none, behind_joined n.hand more refl) in
+      let same : next_after (joined n.hand more) - 1 ≡ next_after n.hand - 1 = omega (arith, none, next_after_joined n.hand more refl) in
       omega (arith, group_before, ap (end line) same))
       (λ (some : more.count ≢ 0).
-      let last : ℕ = behind n.hand + more.count - 1 in
-      let same : behind (joined n.hand more) - 1 ≡ last = omega (arith, behind_joined n.hand more refl) in
-      let rises = ends_rise line place.track (behind n.hand - 1) last on (more_on last (within_from more last (omega (arith, some)) (omega (arith, some)))) (omega (arith, some)) in
+      let last : ℕ = next_after n.hand + more.count - 1 in
+      let same : next_after (joined n.hand more) - 1 ≡ last = omega (arith, next_after_joined n.hand more refl) in
+      let rises = ends_rise line place.track (next_after n.hand - 1) last on (more_on last (within_from more last (omega (arith, some)) (omega (arith, some)))) (omega (arith, some)) in
       omega (arith, group_before, ap (end line) same, rises))
       (cases_eq more.count 0)
 
-  pub border_ahead : (d : ℕ) → IsLine line → is_on line place.track (behind n.hand - 1) ≡ true → is_empty n.hand ≡ false
+  pub border_ahead : (d : ℕ) → IsLine line → is_on line place.track (next_after n.hand - 1) ≡ true → is_empty n.hand ≡ false
       → is_empty (part_at line d place.track n.hand) ≡ true → is_empty (part_at line d place.track (extended line c k place n).hand) ≡ false
       → group_start line place ≤ start line (part_at line d place.track (extended line c k place n).hand).first
   border_ahead d ok on some none there =
@@ -88,7 +88,7 @@ module _ (line : Line) (c : ℕ) (k : Centre) (m : TrainMessage) (n : Mission) (
       (or_cases (within n.hand border) (within more border) (sym (within_joined n.hand more border refl) ∙ both.0)) in
       let ends = within_true more border new in
       let count : n.hand.count ≢ 0 = eqb-false n.hand.count 0 some in
-      let before = ends_before line place.track (behind n.hand - 1) border on of_d.1 (omega (arith, count, ends.0)) in
+      let before = ends_before line place.track (next_after n.hand - 1) border on of_d.1 (omega (arith, count, ends.0)) in
       omega (arith, group_before, before)
     where
       no_room : (r : SectionRun) → r.count ≡ 0 → (s : ℕ) → r.first ≤ s → s < r.first + r.count → ⊥

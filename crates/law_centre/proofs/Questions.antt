@@ -4,7 +4,7 @@ use Rattle.std.proofs.lemmas.Bool.{cases_eq, cond-true}
 use Rattle.std.proofs.lemmas.Option.{same_Some}
 use Rattle.std.proofs.Math.Bool.{and-true}
 use Rattle.rbc_spec.specs.Maps.{put}
-use Rattle.rbc_spec.specs.SectionRuns.{SectionRun, behind, is_empty, part_before, part_from}
+use Rattle.rbc_spec.specs.SectionRuns.{SectionRun, next_after, is_empty, part_before, part_from}
 use Rattle.rbc_spec.specs.Line.{Line}
 use Rattle.rbc_spec.specs.Sections.{is_on}
 use Rattle.rbc_spec.specs.Frame.{Body}
@@ -52,7 +52,7 @@ module _ (line : Line) (c : ℕ) where
   turned : (may : May) (was : Centre) (t : ℕ) (o : Option Mission) (k : Centre) → AsksForEmptyPools k → Turn line c may was t k o → (first : ℕ) → k.route_ask t ≡ Some first → HasEmptyPool o
   turned may was t _ k h (mission_begins place why none) first asks = refl
   turned may was t _ k h (grows m place position j so has said placed) first asks =
-      ap is_empty (cond-true (is_empty m.pool) m.pool (part_from (behind (extension line c j (record m { place = place }))) m.pool) (h t first m asks has)) ∙ h t first m asks has
+      ap is_empty (cond-true (is_empty m.pool) m.pool (part_from (next_after (extension line c j (record m { place = place }))) m.pool) (h t first m asks has)) ∙ h t first m asks has
   turned may was t _ k h (clears m place position has said placed some) first asks = h t first m asks has
   turned may was t _ k h (cuts m n last_kept has same some) first asks = refl
   turned may was t _ k h (comes d number time carried place hand has_data is_ended so taken_so came carries) first asks = refl
@@ -79,7 +79,7 @@ module _ (line : Line) (c : ℕ) where
   -- ## Each small move, and so each step
 
   moves : (may : May) (was k : Centre) (q : Reply) → Move line c may was k q → Keeps k q
-  moves may was _ _ (asks_route t d m k its has empty home none ahead more) h = asked t (behind m.hand) m k has empty h
+  moves may was _ _ (asks_route t d m k its has empty home none ahead more) h = asked t (next_after m.hand) m k has empty h
   moves may was _ _ (announces t d m k its so has none ahead same) h = change_at t (hand_to d (k.announced + 1)) k h (λ first n asks empty. empty)
   moves may was _ _ (recalls t m x k its has stands none) h = change_at t no_handover k h (λ first n asks empty. empty)
   moves may was _ _ (closes t m k has none) h = set_at t None k h (λ first asks. tt)
@@ -106,4 +106,4 @@ begins line c t first m asks has = cc
 
 -- an empty pool passes the test
 pub wanted_is : (line : Line) (r : SectionRun) (m : Mission) → is_empty m.pool ≡ true → is_wanted line r m ≡ follows_hand line r m
-wanted_is line r m empty = rw empty (ap (λ b. ((r.first == behind m.hand) && is_on line m.place.track r.first) && b) (and-true (not m.is_ended)))
+wanted_is line r m empty = rw empty (ap (λ b. ((r.first == next_after m.hand) && is_on line m.place.track r.first) && b) (and-true (not m.is_ended)))

@@ -3,7 +3,7 @@ use Rattle.std.proofs.Common.{◌≡◌, ℕ, ◌==◌, Bool, true, false, if◌
 use Rattle.std.specs.Option.{option_map_or}
 use Rattle.std.proofs.lemmas.Bool.{and_parts}
 use Rattle.std.proofs.lemmas.Option.{same_Some}
-use Rattle.rbc_spec.specs.SectionRuns.{within, behind, part_from, joined}
+use Rattle.rbc_spec.specs.SectionRuns.{within, next_after, part_from, joined}
 use Rattle.rbc_spec.specs.Line.{Line}
 use Rattle.rbc_spec.specs.Place.{Place, Position, is_cleared, place_on}
 use Rattle.rbc_spec.specs.Centre.{Centre, Mission}
@@ -20,7 +20,7 @@ pub record IsLeft (m n : Mission) : Type 0 where
   pub track : n.place.track ≡ m.place.track
   pub pool : n.pool ≡ m.pool
   pub handing : n.handing ≡ m.handing
-  pub ends : behind n.hand ≡ behind m.hand
+  pub ends : next_after n.hand ≡ next_after m.hand
   pub hand : (s : ℕ) → within n.hand s ≡ true → within m.hand s ≡ true
 
 all_left : (m n : Mission) → m ≡ n → IsLeft m n
@@ -32,7 +32,7 @@ module _ (line : Line) (c t : ℕ) where
   clear_leaves m place k same n = by_count ((cleared line place m).count == m.hand.count)
     where
       new : Mission
-      new = record m { place = place; hand = part_from (behind (cleared line place m)) m.hand }
+      new = record m { place = place; hand = part_from (next_after (cleared line place m)) m.hand }
 
       left : IsLeft m new
       left = record {
@@ -40,7 +40,7 @@ module _ (line : Line) (c t : ℕ) where
         pool = refl;
         handing = refl;
         ends = let few = (longest_is (is_cleared line place) m.hand.first m.hand.count).fits in omega (arith, few);
-        hand = λ s has. (and_parts (within m.hand s) _ (sym (within_part_from m.hand (behind (cleared line place m)) s) ∙ has)).0;
+        hand = λ s has. (and_parts (within m.hand s) _ (sym (within_part_from m.hand (next_after (cleared line place m)) s) ∙ has)).0;
       }
 
       by_count : (b : Bool) → ((if b then (leave line c t m.place.track (joined m.hand m.pool) >> close line c t m) else (leave line c t m.place.track (cleared line place m) >> set_mission t (Some new))) k).state.mission t ≡ Some n

@@ -3,7 +3,7 @@ use Rattle.std.proofs.Common.{◌≡◌, ◌⊎◌, inl, inr, ℕ, ◌+◌, ◌-
 use Rattle.std.specs.Option.{option_map_or}
 use Rattle.std.specs.List.{find}
 use Rattle.std.proofs.lemmas.Bool.{cases_Bool, and_left, and_parts}
-use Rattle.rbc_spec.specs.SectionRuns.{within, behind}
+use Rattle.rbc_spec.specs.SectionRuns.{within, next_after}
 use Rattle.rbc_spec.specs.Line.{Line, end}
 use Rattle.rbc_spec.specs.Sections.{section_count}
 use Rattle.rbc_spec.specs.Place.{Position, group_start, place_on}
@@ -20,7 +20,7 @@ use Rattle.rbc_spec.specs.ReadOff.{StandsFor, seen}
 use Rattle.rbc_spec.proofs.Held.{held_as, is_seen, is_there, is_the_centres, held_first}
 use Rattle.law_base.proofs.Lists.{find-range}
 use Rattle.law_centre.specs.Silences.{EndsOnLine, HasEndIfAsked}
-use Rattle.law_base.proofs.Runs.{within_true, within_from, within_behind}
+use Rattle.law_base.proofs.Runs.{within_true, within_from, within_after}
 
 true_and : (a b : Bool) → a ≡ true → (a && b) ≡ b
 true_and true b is = refl
@@ -58,18 +58,18 @@ module _ (line : Line) (w : World) (v : LineState) (stands : StandsFor line w v)
       by_mission None is = not_here test is
 
   -- the last section of the train's hand
-  last_is : (n : centre.Mission) → mission ≡ Some n → EndsOnLine line n.hand → run.last_of_hand line v t ≡ Some (behind n.hand - 1)
+  last_is : (n : centre.Mission) → mission ≡ Some n → EndsOnLine line n.hand → run.last_of_hand line v t ≡ Some (next_after n.hand - 1)
   last_is n has ok =
-      let last : ℕ = behind n.hand - 1 in
+      let last : ℕ = next_after n.hand - 1 in
       find-range (λ s. is_given_to t (v.mark s) && not (is_given_to t (v.mark (s + 1)))) 0 (section_count line) last (omega arith) (omega (arith, ok.some, ok.last))
       (ap (λ b. b && not (is_given_to t (v.mark (last + 1)))) (given last ∙ within_from n.hand last (omega (arith, ok.some)) (omega (arith, ok.some)))
-      ∙ ap not (given (last + 1) ∙ within_behind n.hand (last + 1) (omega (arith, ok.some))))
+      ∙ ap not (given (last + 1) ∙ within_after n.hand (last + 1) (omega (arith, ok.some))))
       (λ e low high. before e high)
     where
       given : (s : ℕ) → is_given_to t (v.mark s) ≡ within n.hand s
       given = (stands.hands t (held_as (seen c n) n.hand) (held_first line w v stands t (held_as (seen c n) n.hand) (is_there line w v stands t c n has))).each
 
-      before : (e : ℕ) → e < behind n.hand - 1 → (is_given_to t (v.mark e) && not (is_given_to t (v.mark (e + 1)))) ≡ false
+      before : (e : ℕ) → e < next_after n.hand - 1 → (is_given_to t (v.mark e) && not (is_given_to t (v.mark (e + 1)))) ≡ false
       before e high = ⊎_elim
           (λ (is : within n.hand e ≡ true). let ends = within_true n.hand e is in
           let next : within n.hand (e + 1) ≡ true = within_from n.hand (e + 1) (omega arith) (omega arith) in

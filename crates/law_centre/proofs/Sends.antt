@@ -2,7 +2,7 @@
 use Rattle.std.proofs.Common.{◌≡◌, inl, inr, ℕ, ◌+◌, ◌<◌, ◌≤◌, Bool, true, false, if◌then◌else◌, nat_lt, List, [], ◌∷◌, ◌++◌, length, length-append, Option, Some, None, refl, sym, ap, subst, arith, ltb-true}
 use Rattle.std.specs.Bool.{⊤}
 use Rattle.std.specs.Option.{option_map_or}
-use Rattle.rbc_spec.specs.SectionRuns.{SectionRun, behind}
+use Rattle.rbc_spec.specs.SectionRuns.{SectionRun, next_after}
 use Rattle.rbc_spec.specs.Frame.{Body, RouteReturn}
 use Rattle.rbc_spec.specs.Centre.{Centre}
 use Rattle.rbc_spec.specs.Acts.{Act, Reply, ◌>>◌}
@@ -12,9 +12,9 @@ use Rattle.law_centre.specs.Sending.{rank, GoesBefore, GoesBeforeAll, GoInOrder}
 abbrev pub side : Bool → ℕ
 side b = if b then 0 else 1
 
--- the ranks of frames, with runs that go home ranked by whether a section lies behind them and before the bound
+-- the ranks of frames, with runs that go home ranked by whether a section lies in advance of them and before the bound
 abbrev pub key : ℕ → Body → ℕ
-key bound (RouteReturn t r) = side (nat_lt (behind r) bound)
+key bound (RouteReturn t r) = side (nat_lt (next_after r) bound)
 key bound body = rank body + 1
 
 pub side_below : (b : Bool) → side b < 2
@@ -27,7 +27,7 @@ lower_side true true h = absurd (omega (arith, h))
 lower_side false true h = absurd (omega (arith, h))
 lower_side false false h = absurd (omega (arith, h))
 
--- a run that goes home behind others begins at the bound or past it
+-- a run that goes home after others begins at the bound or past it
 abbrev pub IsBeyond : ℕ → ℕ → Body → Type 0
 IsBeyond bound low (RouteReturn t r) = 0 < low → bound ≤ r.first
 IsBeyond bound low body = ⊤
@@ -36,17 +36,17 @@ closer : (bound low low' : ℕ) (body : Body) → low' ≤ low → IsBeyond boun
 closer bound low low' (RouteReturn t r) less far = λ some. far (omega (arith, less, some))
 closer bound low low' body less far = tt
 
-lower_return : (bound mid : ℕ) (r q : SectionRun) → side (nat_lt (behind r) bound) < mid → mid ≤ side (nat_lt (behind q) bound) → (0 < mid → bound ≤ q.first) → behind r < q.first
+lower_return : (bound mid : ℕ) (r q : SectionRun) → side (nat_lt (next_after r) bound) < mid → mid ≤ side (nat_lt (next_after q) bound) → (0 < mid → bound ≤ q.first) → next_after r < q.first
 lower_return bound mid r q less least far =
-    let both = lower_side (nat_lt (behind r) bound) (nat_lt (behind q) bound) (omega (arith, less, least)) in
-    let low : behind r < bound = ltb-true (behind r) bound both.0 in
+    let both = lower_side (nat_lt (next_after r) bound) (nat_lt (next_after q) bound) (omega (arith, less, least)) in
+    let low : next_after r < bound = ltb-true (next_after r) bound both.0 in
     let high : bound ≤ q.first = far (omega (arith, less)) in
     omega (arith, low, high)
 
 goes_before : (bound mid : ℕ) (a b : Body) → key bound a < mid → mid ≤ key bound b → IsBeyond bound mid b → GoesBefore a b
 goes_before bound mid (RouteReturn t r) (RouteReturn u q) less least far = inr (lower_return bound mid r q less least far)
 goes_before bound mid (RouteReturn t r) b less least far = inl (omega arith)
-goes_before bound mid a (RouteReturn u q) less least far = let below = side_below (nat_lt (behind q) bound) in absurd (omega (arith, less, least, below))
+goes_before bound mid a (RouteReturn u q) less least far = let below = side_below (nat_lt (next_after q) bound) in absurd (omega (arith, less, least, below))
 goes_before bound mid a b less least far = inl (omega (arith, less, least))
 
 module _ (bound d : ℕ) where

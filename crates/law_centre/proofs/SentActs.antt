@@ -4,7 +4,7 @@ use Rattle.std.specs.List.{range_with_len}
 use Rattle.std.specs.Option.{option_map_or}
 use Rattle.std.proofs.lemmas.Bool.{cond-true, lt-ltb, le-ltb, eqb-false, or_right, or_parts, not-true}
 use Rattle.rbc_spec.specs.Maps.{put}
-use Rattle.rbc_spec.specs.SectionRuns.{SectionRun, within, behind, is_empty, shared}
+use Rattle.rbc_spec.specs.SectionRuns.{SectionRun, within, next_after, is_empty, shared}
 use Rattle.rbc_spec.specs.Line.{Line, is_home, registrar}
 use Rattle.rbc_spec.specs.Sections.{home_run, nid_rbc}
 use Rattle.rbc_spec.specs.Message.{EndSession, unknown_group}
@@ -38,7 +38,7 @@ module _ (bound d : ℕ) (line : Line) (c t : ℕ) where
 
   -- a run that goes home, of which the ranks are known
   home_sends : (low high track : ℕ) (r : SectionRun) (k : Centre)
-      → ((shared r (home_run line d track)).count ≢ 0 → (low ≤ side (nat_lt (behind (shared r (home_run line d track))) bound)) × (side (nat_lt (behind (shared r (home_run line d track))) bound) < high) × (0 < low → bound ≤ (shared r (home_run line d track)).first))
+      → ((shared r (home_run line d track)).count ≢ 0 → (low ≤ side (nat_lt (next_after (shared r (home_run line d track))) bound)) × (side (nat_lt (next_after (shared r (home_run line d track))) bound) < high) × (0 < low → bound ≤ (shared r (home_run line d track)).first))
       → Sends bound d low high 1 0 0 (returned line c t track r k)
   home_sends low high track r k between =
       let part : SectionRun = shared r (home_run line d track) in
@@ -46,18 +46,18 @@ module _ (bound d : ℕ) (line : Line) (c t : ℕ) where
       (λ is. between (eqb-false part.count 0 (or_parts (d == c) (is_empty part) (not-true ((d == c) || is_empty part) is)).1))
 
   pub home_any : (track : ℕ) (r : SectionRun) (k : Centre) → Sends bound d 0 2 1 0 0 (returned line c t track r k)
-  home_any track r k = home_sends 0 2 track r k (λ some. (omega arith, side_below (nat_lt (behind (shared r (home_run line d track))) bound), λ none. absurd (omega (arith, none))))
+  home_any track r k = home_sends 0 2 track r k (λ some. (omega arith, side_below (nat_lt (next_after (shared r (home_run line d track))) bound), λ none. absurd (omega (arith, none))))
 
-  pub home_low : (track : ℕ) (r : SectionRun) (k : Centre) → behind r < bound → Sends bound d 0 1 1 0 0 (returned line c t track r k)
+  pub home_low : (track : ℕ) (r : SectionRun) (k : Centre) → next_after r < bound → Sends bound d 0 1 1 0 0 (returned line c t track r k)
   home_low track r k low = home_sends 0 1 track r k (λ some.
-      let is : nat_lt (behind (shared r (home_run line d track))) bound ≡ true = lt-ltb (behind (shared r (home_run line d track))) bound (omega (arith, some, low)) in
-      (omega arith, (let e : side (nat_lt (behind (shared r (home_run line d track))) bound) ≡ 0 = ap side is in omega (arith, e)), λ none. absurd (omega (arith, none))))
+      let is : nat_lt (next_after (shared r (home_run line d track))) bound ≡ true = lt-ltb (next_after (shared r (home_run line d track))) bound (omega (arith, some, low)) in
+      (omega arith, (let e : side (nat_lt (next_after (shared r (home_run line d track))) bound) ≡ 0 = ap side is in omega (arith, e)), λ none. absurd (omega (arith, none))))
 
   pub home_high : (track : ℕ) (r : SectionRun) (k : Centre) → (r.count ≡ 0) ⊎ (bound ≤ r.first) → Sends bound d 1 2 1 0 0 (returned line c t track r k)
   home_high track r k (inl none) = home_sends 1 2 track r k (λ some. absurd (omega (arith, some)))
   home_high track r k (inr high) = home_sends 1 2 track r k (λ some.
-      let is : nat_lt (behind (shared r (home_run line d track))) bound ≡ false = le-ltb (behind (shared r (home_run line d track))) bound (omega (arith, some, high)) in
-      let e : side (nat_lt (behind (shared r (home_run line d track))) bound) ≡ 1 = ap side is in (omega (arith, e), omega (arith, e), λ low. omega (arith, some, high)))
+      let is : nat_lt (next_after (shared r (home_run line d track))) bound ≡ false = le-ltb (next_after (shared r (home_run line d track))) bound (omega (arith, some, high)) in
+      let e : side (nat_lt (next_after (shared r (home_run line d track))) bound) ≡ 1 = ap side is in (omega (arith, e), omega (arith, e), λ low. omega (arith, some, high)))
 
   -- an empty run sends nothing
   pub home_none : (low high track : ℕ) (r : SectionRun) (k : Centre) → r.count ≡ 0 → Sends bound d low high 0 0 0 (returned line c t track r k)
@@ -75,7 +75,7 @@ module _ (bound d : ℕ) (line : Line) (c t : ℕ) where
   leave_any track r k = sends_then bound d 0 0 2 0 1 0 0 r.count 0 (freed line c (is_taken_for t) r) (returned line c t track r) k (omega arith) (omega arith)
       (freed_sends 0 0 (is_taken_for t) r k) (home_any track r _)
 
-  pub leave_low : (track : ℕ) (r : SectionRun) (k : Centre) → behind r < bound → Sends bound d 0 1 1 0 (r.count + 0) (leave line c t track r k)
+  pub leave_low : (track : ℕ) (r : SectionRun) (k : Centre) → next_after r < bound → Sends bound d 0 1 1 0 (r.count + 0) (leave line c t track r k)
   leave_low track r k low = sends_then bound d 0 0 1 0 1 0 0 r.count 0 (freed line c (is_taken_for t) r) (returned line c t track r) k (omega arith) (omega arith)
       (freed_sends 0 0 (is_taken_for t) r k) (home_low track r _ low)
 
@@ -150,7 +150,7 @@ module _ (bound d : ℕ) (line : Line) (c t : ℕ) where
 
   -- ## Yielding
 
-  -- the mission is yielded behind what its pool sends home
+  -- the mission is yielded after what its pool sends home
   yield_sends : (low n : ℕ) (m : Mission) (h : Handing) (k : Centre) → low ≤ 2 → Sends bound d low 2 n 0 0 (returned line c t m.place.track m.pool k) → Sends bound d low 3 (n + 1) 1 0 (yield line c t m h k)
   yield_sends low n m h k le pool =
       let heard : ℕ = option_map_or (λ n. n) (k.heard t) 0 in

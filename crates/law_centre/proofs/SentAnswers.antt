@@ -3,7 +3,7 @@ use Rattle.std.proofs.Common.{◌≡◌, ◌≢◌, ◌⊎◌, ℕ, ◌+◌, ◌
 use Rattle.std.specs.Option.{option_map_or}
 use Rattle.std.proofs.lemmas.Bool.{eqb-false}
 use Rattle.rbc_spec.specs.Maps.{put}
-use Rattle.rbc_spec.specs.SectionRuns.{SectionRun, no_run, behind, part_from, joined}
+use Rattle.rbc_spec.specs.SectionRuns.{SectionRun, no_run, next_after, part_from, joined}
 use Rattle.rbc_spec.specs.Line.{Line}
 use Rattle.rbc_spec.specs.Place.{Place, Position, is_cleared, place_on}
 use Rattle.rbc_spec.specs.Centre.{Centre, Mission}
@@ -20,9 +20,9 @@ module _ (d : ℕ) (line : Line) (c t : ℕ) where
   abbrev pub Few : ℕ → Reply → Type 0
   Few bound r = Sends bound d 0 8 3 2 64 r
 
-  module _ (m : Mission) (few : m.hand.count + m.pool.count ≤ 64) (follows : (m.pool.count ≡ 0) ⊎ (behind m.hand ≤ m.pool.first)) where
+  module _ (m : Mission) (few : m.hand.count + m.pool.count ≤ 64) (follows : (m.pool.count ≡ 0) ⊎ (next_after m.hand ≤ m.pool.first)) where
     abbrev bound : ℕ
-    bound = behind m.hand
+    bound = next_after m.hand
 
     -- ## Report
 
@@ -30,8 +30,8 @@ module _ (d : ℕ) (line : Line) (c t : ℕ) where
     cleared_count place = (longest_is (is_cleared line place) m.hand.first m.hand.count).fits
 
     -- the mission after sections were cleared
-    abbrev pub behind_cleared : Place → Mission
-    behind_cleared place = record m { place = place; hand = part_from (behind (cleared line place m)) m.hand }
+    abbrev pub after_cleared : Place → Mission
+    after_cleared place = record m { place = place; hand = part_from (next_after (cleared line place m)) m.hand }
 
     pub closed_sends : (place : Place) (k : Centre) → Sends bound d 0 5 3 0 64 ((leave line c t m.place.track (joined m.hand m.pool) >> close line c t m) k)
     closed_sends place k =
@@ -42,11 +42,11 @@ module _ (d : ℕ) (line : Line) (c t : ℕ) where
         (leave_any bound d line c t m.place.track (joined m.hand m.pool) k))
         (close_sends bound d line c t m _))
 
-    kept_sends : (place : Place) (k : Centre) → (cleared line place m).count ≢ m.hand.count → Sends bound d 0 1 1 0 64 ((leave line c t m.place.track (cleared line place m) >> set_mission t (Some (behind_cleared place))) k)
+    kept_sends : (place : Place) (k : Centre) → (cleared line place m).count ≢ m.hand.count → Sends bound d 0 1 1 0 64 ((leave line c t m.place.track (cleared line place m) >> set_mission t (Some (after_cleared place))) k)
     kept_sends place k part =
         let count = cleared_count place in
         sends_less bound d 0 1 1 0 ((cleared line place m).count + 0 + 0) 0 1 1 0 64 _ (omega arith) (omega arith) (omega arith) (omega arith) (omega (arith, count, few))
-        (sends_then bound d 0 1 1 1 0 0 0 ((cleared line place m).count + 0) 0 (leave line c t m.place.track (cleared line place m)) (set_mission t (Some (behind_cleared place))) k (omega arith) (omega arith)
+        (sends_then bound d 0 1 1 1 0 0 0 ((cleared line place m).count + 0) 0 (leave line c t m.place.track (cleared line place m)) (set_mission t (Some (after_cleared place))) k (omega arith) (omega arith)
         (leave_low bound d line c t m.place.track (cleared line place m) k (omega (arith, count, part)))
         (sends_none bound d 1 1 _ refl refl refl))
 
@@ -55,11 +55,11 @@ module _ (d : ℕ) (line : Line) (c t : ℕ) where
     closed_state k = close_leaves_none 0 0 line c t m _
 
     pub kept_state : (place : Place) (k : Centre)
-        → ((leave line c t m.place.track (cleared line place m) >> set_mission t (Some (behind_cleared place))) k).state.mission t ≡ Some (behind_cleared place)
+        → ((leave line c t m.place.track (cleared line place m) >> set_mission t (Some (after_cleared place))) k).state.mission t ≡ Some (after_cleared place)
     unfolding ◌>>◌
-    kept_state place k = put_there (leave line c t m.place.track (cleared line place m) k).state.mission t (Some (behind_cleared place))
+    kept_state place k = put_there (leave line c t m.place.track (cleared line place m) k).state.mission t (Some (after_cleared place))
 
-    -- the pool of the train's mission, if it has one, sends home what is behind the hand
+    -- the pool of the train's mission, if it has one, sends home what is in advance of the hand
     pool_sends : (n : Mission) (k : Centre) → n.pool ≡ m.pool → Sends bound d 1 2 1 0 0 (returned line c t n.place.track n.pool k)
     pool_sends n k is = home_high bound d line c t n.place.track n.pool k
         (subst (λ (r : SectionRun). (r.count ≡ 0) ⊎ (bound ≤ r.first)) (sym is) follows)
@@ -77,9 +77,9 @@ module _ (d : ℕ) (line : Line) (c t : ℕ) where
     report_at place k = by_rest ((cleared line place m).count == m.hand.count) refl
       where
         by_rest : (b : Bool) → ((cleared line place m).count == m.hand.count) ≡ b → Few bound ((if b then (leave line c t m.place.track (joined m.hand m.pool) >> close line c t m)
-            else (leave line c t m.place.track (cleared line place m) >> set_mission t (Some (behind_cleared place)))) k)
+            else (leave line c t m.place.track (cleared line place m) >> set_mission t (Some (after_cleared place)))) k)
         by_rest true all = report_closed (leave line c t m.place.track (joined m.hand m.pool) >> close line c t m) k (closed_sends place k) (closed_state k)
-        by_rest false part = report_open (leave line c t m.place.track (cleared line place m) >> set_mission t (Some (behind_cleared place))) (behind_cleared place) k (kept_sends place k (eqb-false (cleared line place m).count m.hand.count part)) (kept_state place k) refl
+        by_rest false part = report_open (leave line c t m.place.track (cleared line place m) >> set_mission t (Some (after_cleared place))) (after_cleared place) k (kept_sends place k (eqb-false (cleared line place m).count m.hand.count part)) (kept_state place k) refl
 
     pub report_few : (position : Position) (k : Centre) → k.mission t ≡ Some m → Few bound (report_here line c t position m k)
     report_few position k is = by_place (place_on line m.place.track position)

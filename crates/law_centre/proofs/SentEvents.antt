@@ -3,7 +3,7 @@ use Rattle.std.proofs.Common.{ℕ, ◌+◌, ◌≤◌, ◌&&◌, not, Bool, true
 use Rattle.std.specs.Option.{option_map_or}
 use Rattle.std.specs.List.{find, range_with_len}
 use Rattle.rbc_spec.specs.Maps.{put}
-use Rattle.rbc_spec.specs.SectionRuns.{behind, SectionRun, no_run, within, is_empty, part_before, part_from, all_of}
+use Rattle.rbc_spec.specs.SectionRuns.{next_after, SectionRun, no_run, within, is_empty, part_before, part_from, all_of}
 use Rattle.rbc_spec.specs.Line.{Line, is_home, section}
 use Rattle.rbc_spec.specs.Place.{Place}
 use Rattle.rbc_spec.specs.Frame.{Body, Frame, AskRight, GiveRight, RefuseRight, ReturnRight, RouteAsk, RouteInfo, RouteWithdraw, RouteReturn, Announce, Cancel, TakingOver, Yield, carried_place}
@@ -68,7 +68,7 @@ module _ (d : ℕ) (line : Line) (c t : ℕ) where
       goes : (b : Bool) → Few d line c t ((if b then rest else send e (RouteReturn t r)) (become (λ k. record k { route_ask = put k.route_ask t None }) k).state)
       goes true = quiet d line c t _ refl (omega arith) (omega arith)
       goes false = few d line c t 0 2 1 0 0 _ (omega arith) (omega arith) (omega arith) (omega arith)
-          (sends_one 0 d line c t 0 2 e (RouteReturn t r) _ (omega arith) (side_below (nat_lt (behind r) 0)) (λ none. absurd (omega (arith, none))))
+          (sends_one 0 d line c t 0 2 e (RouteReturn t r) _ (omega arith) (side_below (nat_lt (next_after r) 0)) (λ none. absurd (omega (arith, none))))
 
   withdrawn_few : (s : ℕ) (k : Centre) → Few d line c t (route_withdrawn line c t s k)
   withdrawn_few s k = by_mission (k.mission t)

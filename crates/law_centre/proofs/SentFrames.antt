@@ -2,7 +2,7 @@
 use Rattle.std.proofs.Common.{◌≡◌, ℕ, ◌+◌, ◌≤◌, ◌&&◌, not, Bool, true, false, if◌then◌else◌, List, [], ◌∷◌, length, Option, Some, None, refl, sym, ap, ◌∙◌, subst, arith}
 use Rattle.std.specs.Option.{option_map_or}
 use Rattle.rbc_spec.specs.Maps.{put}
-use Rattle.rbc_spec.specs.SectionRuns.{within, behind, all_of}
+use Rattle.rbc_spec.specs.SectionRuns.{within, next_after, all_of}
 use Rattle.rbc_spec.specs.Line.{Line, is_centre, registrar}
 use Rattle.rbc_spec.specs.Place.{Place, Position, covered, fit_place}
 use Rattle.rbc_spec.specs.Frame.{Body, AskRight, TakingOver}
@@ -107,7 +107,7 @@ module _ (d : ℕ) (line : Line) (c t : ℕ) where
   reported position k h = by_mission (k.mission t) refl
     where
       by_mission : (o : Option Mission) → k.mission t ≡ o → Few (option_map_or (λ m. report_here line c t position m k) o (take_over line t k))
-      by_mission (Some m) is = record { bound = behind m.hand; sends = report_few d line c t m (h.missions t m is) (h.pools t m is) position k is }
+      by_mission (Some m) is = record { bound = next_after m.hand; sends = report_few d line c t m (h.missions t m is) (h.pools t m is) position k is }
       by_mission None is = few 0 8 1 0 0 _ (omega arith) (omega arith) (omega arith) (omega arith) (takes_over (k.expects d t) refl)
         where
           takes_over : (o : Option Expectation) → k.expects d t ≡ o → Sends 0 d 0 8 1 0 0 (take_over line t k)

@@ -2,7 +2,7 @@
 use Rattle.std.proofs.Common.{ℕ, ◌+◌, ◌-◌, ◌*◌, ◌≤◌, ◌==◌, ◌&&◌, not, Bool, true, false, if◌then◌else◌, nat_le, nat_lt, Option, Some, None, is_none, refl, arith, min}
 use Rattle.std.specs.Option.{option_map_or}
 use Rattle.rbc_spec.specs.Maps.{put}
-use Rattle.rbc_spec.specs.SectionRuns.{SectionRun, no_run, behind, is_empty, part_before, part_from, joined}
+use Rattle.rbc_spec.specs.SectionRuns.{SectionRun, no_run, next_after, is_empty, part_before, part_from, joined}
 use Rattle.rbc_spec.specs.Line.{Line, is_home, start, end, next_centre}
 use Rattle.rbc_spec.specs.Sections.{is_on, nid_rbc}
 use Rattle.rbc_spec.specs.Place.{Place, Position, group_start, place_on}
@@ -103,8 +103,8 @@ module _ (d : ℕ) (line : Line) (c t : ℕ) where
 
   ask_sends : (e : ℕ) (m : Mission) (k : Centre) → Sends 0 d 6 7 1 0 0 (ask_route t e m k)
   ask_sends e m k =
-      let body : Body = RouteAsk t (behind m.hand) (min (32 - m.hand.count) (512 - behind m.hand)) in
-      sends_then 0 d 6 7 7 1 0 0 0 0 0 (send e body) (become (λ j. record j { route_ask = put j.route_ask t (Some (behind m.hand)) })) k (omega arith) (omega arith)
+      let body : Body = RouteAsk t (next_after m.hand) (min (32 - m.hand.count) (512 - next_after m.hand)) in
+      sends_then 0 d 6 7 7 1 0 0 0 0 0 (send e body) (become (λ j. record j { route_ask = put j.route_ask t (Some (next_after m.hand)) })) k (omega arith) (omega arith)
       (sends_one 0 d line c t 6 7 e body k (omega arith) (omega arith) tt) (sends_none 0 d 7 7 _ refl refl refl)
 
   pub where_sends : (low high n s w : ℕ) (b : Bool) (x : Reply) (k : Centre) → Sends 0 d low high n s w x → Sends 0 d low high n s w (if b then x else rest k)
@@ -118,7 +118,7 @@ module _ (d : ℕ) (line : Line) (c t : ℕ) where
 
   abbrev asks : ℕ → Act
   asks e = with_some (λ j. j.mission t) (λ m. where_so
-      (λ j. ((is_home line e (behind m.hand) && is_on line m.place.track (behind m.hand)) && nat_lt m.hand.count 32) && (is_empty m.pool && is_none (j.route_ask t))) (ask_route t e m))
+      (λ j. ((is_home line e (next_after m.hand) && is_on line m.place.track (next_after m.hand)) && nat_lt m.hand.count 32) && (is_empty m.pool && is_none (j.route_ask t))) (ask_route t e m))
 
   asks_sends : (e : ℕ) (j : Centre) → Sends 0 d 6 7 1 0 0 (asks e j)
   asks_sends e j = some_sends 6 7 1 0 0 (j.mission t) _ j (λ m. where_sends 6 7 1 0 0 _ _ j (ask_sends e m j))

@@ -1,6 +1,6 @@
 -- What is true while a centre's question for sections stands.
 use Rattle.std.specs.Prelude.{◌≡◌, ℕ, ◌==◌, ◌&&◌, not, Bool, true, Some}
-use Rattle.rbc_spec.specs.SectionRuns.{SectionRun, behind, is_empty}
+use Rattle.rbc_spec.specs.SectionRuns.{SectionRun, next_after, is_empty}
 use Rattle.rbc_spec.specs.Line.{Line}
 use Rattle.rbc_spec.specs.Sections.{is_on}
 use Rattle.rbc_spec.specs.Centre.{Centre, Mission}
@@ -10,6 +10,6 @@ abbrev pub AsksForEmptyPools : Centre → Type 0
 AsksForEmptyPools k =
     (t first : ℕ) (m : Mission) → k.route_ask t ≡ Some first → k.mission t ≡ Some m → is_empty m.pool ≡ true
 
--- the run begins behind the hand, on the track of a mission that goes on
+-- the run follows the hand, on the track of a mission that goes on
 abbrev pub follows_hand : Line → SectionRun → Mission → Bool
-follows_hand line r m = ((r.first == behind m.hand) && is_on line m.place.track r.first) && not m.is_ended
+follows_hand line r m = ((r.first == next_after m.hand) && is_on line m.place.track r.first) && not m.is_ended

@@ -1,6 +1,6 @@
 -- What a step of a centre may send on a link, say to trains and tell the interlocking.
 use Rattle.std.specs.Prelude.{◌≡◌, ◌⊎◌, ℕ, ◌+◌, ◌<◌, ◌≤◌, List, [], ◌∷◌, ⊤, Some}
-use Rattle.rbc_spec.specs.SectionRuns.{behind}
+use Rattle.rbc_spec.specs.SectionRuns.{next_after}
 use Rattle.rbc_spec.specs.Line.{Line}
 use Rattle.rbc_spec.specs.Place.{Place, covered}
 use Rattle.rbc_spec.specs.Frame.{Frame, Body, ReturnRight, RouteAsk, RouteReturn, Announce, Cancel, Yield, last_stamp}
@@ -19,7 +19,7 @@ rank body = 6
 
 -- of two runs that go home the lower goes first, and a section lies between them: they are no parts of one longer run
 abbrev pub IsLowerReturn : Body → Body → Type 0
-IsLowerReturn (RouteReturn t r) (RouteReturn u q) = behind r < q.first
+IsLowerReturn (RouteReturn t r) (RouteReturn u q) = next_after r < q.first
 IsLowerReturn a b = ⊥
 
 abbrev pub GoesBefore : Body → Body → Type 0
@@ -35,10 +35,10 @@ abbrev pub GoInOrder : List Body → Type 0
 GoInOrder [] = ⊤
 GoInOrder (a ∷ xs) = GoesBeforeAll a xs × GoInOrder xs
 
--- what a centre holds for a train is no more than 64 sections, and its pool is behind its hand
+-- what a centre holds for a train is no more than 64 sections, and its pool follows its hand
 pub record HoldsFew (line : Line) (k : Centre) : Type 0 where
   pub missions : (t : ℕ) (m : Mission) → k.mission t ≡ Some m → m.hand.count + m.pool.count ≤ 64
-  pub pools : (t : ℕ) (m : Mission) → k.mission t ≡ Some m → (m.pool.count ≡ 0) ⊎ (behind m.hand ≤ m.pool.first)
+  pub pools : (t : ℕ) (m : Mission) → k.mission t ≡ Some m → (m.pool.count ≡ 0) ⊎ (next_after m.hand ≤ m.pool.first)
   pub waits : (t : ℕ) (place : Place) → k.wait t ≡ Some place → (covered line place).count ≤ 64
 
 -- no more than 64 sections come home by one frame

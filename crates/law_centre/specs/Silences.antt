@@ -1,6 +1,6 @@
 -- Where the one line centre has the same reasons of silence as a centre.
 use Rattle.std.specs.Prelude.{◌≡◌, ◌≤◌, Some}
-use Rattle.rbc_spec.specs.SectionRuns.{SectionRun, behind}
+use Rattle.rbc_spec.specs.SectionRuns.{SectionRun, next_after}
 use Rattle.rbc_spec.specs.Line.{Line}
 use Rattle.rbc_spec.specs.Sections.{section_count}
 use Rattle.rbc_spec.specs.Place.{Position}
@@ -10,7 +10,7 @@ use Rattle.rbc_spec.specs.Centre.{Centre, Mission}
 -- the run has a section, and its last is of the line
 pub record EndsOnLine (line : Line) (r : SectionRun) : Type 0 where
   pub some : 1 ≤ r.count
-  pub last : behind r ≤ section_count line
+  pub last : next_after r ≤ section_count line
 
 -- if the message is a request, the hand of its train's mission at the centre has a last section
 abbrev pub HasEndIfAsked : Line → Centre → TrainMessage → Type 0

@@ -8,7 +8,7 @@ ghost use Rattle.rbc_spec.specs.Links.{is_wanted};
 ghost use Rattle.rbc_spec.specs.Step.{Event, taken};
 ghost use Rattle.law_centre.specs.Asks.{AsksForEmptyPools, follows_hand};
 
-/// While a question of a train stands, the pool of its mission is empty: at the beginning, and behind each step.
+/// While a question of a train stands, the pool of its mission is empty: at the beginning, and after each step.
 pub fn a_question_stands_for_an_empty_pool()
     ensures beginning { (line : Line) (c : ℕ) → AsksForEmptyPools (beginning line c) }
     ensures step { (line : Line) (c : ℕ) (k : Centre) (event : Event) → AsksForEmptyPools k

@@ -2,7 +2,7 @@
 //! test.
 
 ghost use Rattle.std.specs.Prelude.{◌≡◌, ℕ, ◌+◌, ◌≤◌, ◌&&◌, ◌||◌, Bool, true, false, nat_lt, nat_le};
-ghost use Rattle.rbc_spec.specs.SectionRuns.{SectionRun, within, behind, is_empty, part_before, part_from, shared, joined, longest, passing};
+ghost use Rattle.rbc_spec.specs.SectionRuns.{SectionRun, within, next_after, is_empty, part_before, part_from, shared, joined, longest, passing};
 ghost use Rattle.law_base.specs.Runs.{IsLongest};
 
 /// A number cuts a run in two: of its sections the part before the number has the lower ones, the part from it on the
@@ -20,7 +20,7 @@ pub fn what_runs_share()
 
 /// A run and one that follows it at once are one run, of the sections of both. An empty one adds nothing.
 pub fn runs_are_joined()
-    ensures both { (a b : SectionRun) (s : ℕ) → b.first ≡ behind a
+    ensures both { (a b : SectionRun) (s : ℕ) → b.first ≡ next_after a
         → within (joined a b) s ≡ (within a s || within b s) }
     ensures empty { (a b : SectionRun) (s : ℕ) → is_empty b ≡ true → within (joined a b) s ≡ within a s }
     ensures count { (a b : SectionRun) → (joined a b).count ≡ a.count + b.count }
@@ -28,7 +28,7 @@ pub fn runs_are_joined()
 
 /// A run that is cut between its ends is the same run when its parts are joined.
 pub fn a_cut_run_is_joined_again()
-    ensures { (r : SectionRun) (cut : ℕ) → r.first ≤ cut → cut ≤ behind r
+    ensures { (r : SectionRun) (cut : ℕ) → r.first ≤ cut → cut ≤ next_after r
         → joined (part_before cut r) (part_from cut r) ≡ r }
 {}
 

@@ -1,4 +1,4 @@
--- A centre that is sound again behind an act.
+-- A centre that is sound again after an act.
 use Rattle.std.proofs.Common.{◌≡◌, ℕ, ◌+◌, ◌≤◌, ◌&&◌, ◌||◌, not, Bool, true, false, [], Option, Some, None, option_map, is_some, refl, ap, subst, arith}
 use Rattle.std.proofs.lemmas.Option.{same_Some}
 use Rattle.law_counting.specs.Sums.{one_if}

@@ -150,7 +150,7 @@ module _ (line : Line) (ok : IsLine line) (c : ℕ) where
       pool_next = λ s e next has. absurd (none_within s has);
       handing_to = λ h is. cc;
       handing_number = λ h is. cc;
-      hand_ends = λ s e n next behind come has. absurd (⊎_elim
+      hand_ends = λ s e n next beyond come has. absurd (⊎_elim
           (λ (stands : is_some came.handing ≡ true). let wrong : false ≡ true = stands in let no : ⊥ = cc in no)
           (λ (some : (x : ℕ) × (within hand x ≡ true) × (is_home line e x ≡ true)). not_come some.0 e next some.1 some.2)
           come);

@@ -98,8 +98,8 @@ still line c k y m more is = record {
 pub ends_less : (line : Line) (c : ℕ) (k : Centre) (m n : Mission) → IsMissionAt line c k m → n.place.track ≡ m.place.track → (is_some n.handing ≡ true → is_some m.handing ≡ true)
     → ((s : ℕ) → within n.hand s ≡ true → within m.hand s ≡ true) → (s d x : ℕ) → next_centre line c n.place.track ≡ Some d → next_centre line d n.place.track ≡ Some x
     → HasComeTo line d n → within n.hand s ≡ true → is_home line x s ≡ false
-ends_less line c k m n is track handing part s d x next behind come has =
-    is.hand_ends s d x (ap (next_centre line c) (sym track) ∙ next) (ap (next_centre line d) (sym track) ∙ behind)
+ends_less line c k m n is track handing part s d x next beyond come has =
+    is.hand_ends s d x (ap (next_centre line c) (sym track) ∙ next) (ap (next_centre line d) (sym track) ∙ beyond)
     (⊎_elim (λ (stands : is_some n.handing ≡ true). inl (handing stands)) (λ (some : (e : ℕ) × (within n.hand e ≡ true) × (is_home line d e ≡ true)). inr (some.0, part some.0 some.1, some.2)) come)
     (part s has)
 

@@ -183,7 +183,7 @@ module _ (line : Line) (ok : IsLine line) (c : ℕ) where
         is_hand = is.hand;
         to_next = is.handing_to h handed;
         known = known;
-        hand_ends = λ s n behind has. is.hand_ends s h.to n (is.handing_to h handed) behind (inl (ap is_some handed)) has;
+        hand_ends = λ s n beyond has. is.hand_ends s h.to n (is.handing_to h handed) beyond (inl (ap is_some handed)) has;
       }
 
   pub yielded_over : (d number t : ℕ) (k : Centre) → IsCentreSound line c k → Sound line c (taking_over line c d number t k)

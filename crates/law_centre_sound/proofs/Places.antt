@@ -13,7 +13,7 @@ use Rattle.law_centre.proofs.Places.{extent_ahead, has_group}
 use Rattle.law_base.proofs.Runs.{within_from}
 use Rattle.law_network.specs.Sound.{IsHandAt}
 
--- the group is on the place's track, and not behind its front
+-- the group is on the place's track, and not in advance of its front
 pub record IsReported (line : Line) (place : Place) : Type 0 where
   pub group : has (is_on line place.track) (section_of_group line place.group) ≡ true
   pub front : 10 * group_start line place ≤ place.front

@@ -4,7 +4,7 @@ use Rattle.std.specs.Option.{option_map_or}
 use Rattle.std.proofs.lemmas.Bool.{and_parts, cases_eq, cases_Bool, cond-true, eqb-false, both_ways}
 use Rattle.std.proofs.lemmas.List.Elements.{All-nil, All-cons}
 use Rattle.law_base.proofs.Standstill.{rests_or_cuts}
-use Rattle.rbc_spec.specs.SectionRuns.{SectionRun, no_run, within, behind, is_empty, part_before, part_from, joined}
+use Rattle.rbc_spec.specs.SectionRuns.{SectionRun, no_run, within, next_after, is_empty, part_before, part_from, joined}
 use Rattle.rbc_spec.specs.Line.{Line, IsLine, is_centre, is_home, end, next_centre}
 use Rattle.rbc_spec.specs.Sections.{is_on}
 use Rattle.rbc_spec.specs.Place.{Place, Position, is_cleared, place_on}
@@ -25,8 +25,8 @@ use Rattle.law_centre_sound.proofs.Again.{changed_sound, free_sound}
 use Rattle.law_centre_sound.proofs.Places.{IsReported, reported}
 use Rattle.law_centre_sound.proofs.Leaving.{to_centre, whole_leaves, part_leaves, part_then}
 
--- a run and one behind it, which does not have the section
-pub joined_without : (a b : SectionRun) (s : ℕ) → (a.count ≢ 0 → is_empty b ≡ false → b.first ≡ behind a) → within b s ≡ false → within (joined a b) s ≡ within a s
+-- a run and one that follows it, which does not have the section
+pub joined_without : (a b : SectionRun) (s : ℕ) → (a.count ≢ 0 → is_empty b ≡ false → b.first ≡ next_after a) → within b s ≡ false → within (joined a b) s ≡ within a s
 joined_without a b s follows none = ⊎_elim
     (λ (empty : a.count ≡ 0). ap (λ r. within r s) (cond-true (is_empty a) b (record { first = a.first; count = a.count + b.count }) (eq-eqb a.count 0 empty)) ∙ none ∙ sym (within_none a s empty))
     (λ (some : a.count ≢ 0). ⊎_elim (λ (empty : is_empty b ≡ true). joined_empty a b s empty)
@@ -42,9 +42,9 @@ pub not_away : (b : Bool) (home : Bool) → home ≡ true → (b ≡ true → ho
 not_away true home is out = absurd (both_ways home (out refl) is)
 not_away false home is out = refl
 
--- behind a cut, the tail of the hand is followed as the hand is
-pub tail_behind : (n : ℕ) (hand : SectionRun) → (part_from n hand).count ≢ 0 → behind (part_from n hand) ≡ behind hand
-tail_behind n hand some = omega (arith, some)
+-- after a cut, the tail of the hand is followed as the hand is
+pub tail_after : (n : ℕ) (hand : SectionRun) → (part_from n hand).count ≢ 0 → next_after (part_from n hand) ≡ next_after hand
+tail_after n hand some = omega (arith, some)
 
 pub whole_tail : (n : ℕ) (hand : SectionRun) (s : ℕ) → (part_from n hand).count ≡ hand.count → within (part_from n hand) s ≡ within hand s
 whole_tail n hand s all = same_tests _ _
@@ -87,7 +87,7 @@ module _ (line : Line) (ok : IsLine line) (c : ℕ) where
       (λ all. whole_leaves line ok c k old t m at m m.place.track (joined m.hand m.pool)
       (λ s home. joined_without m.hand m.pool s (λ some more. is.pool_follows more) (not_away (within m.pool s) (is_home line c s) home (is.pool_away s)))
       (to_centre line ok c k m is))
-      (λ some. part_leaves line ok c k old t m at (record m { place = place; hand = part_from (behind r) m.hand }) m.place.track r
+      (λ some. part_leaves line ok c k old t m at (record m { place = place; hand = part_from (next_after r) m.hand }) m.place.track r
       (λ s home has. let in_r = within_true r s has in within_from m.hand s in_r.0 (omega (arith, in_r, few)))
       (λ s home. within_rest m.hand r.count s few)
       (front_left k m place r.count is same there few (eqb-false r.count m.hand.count some)))
@@ -177,7 +177,7 @@ module _ (line : Line) (ok : IsLine line) (c : ℕ) where
       let r : SectionRun = joined tail m.pool in
       let same_hand : (s : ℕ) → within m.hand s ≡ within n.hand s = λ s. ap (λ h. within h s) (sym same) in
       let r_is : (s : ℕ) → is_home line c s ≡ true → within r s ≡ within tail s
-      = λ s home. joined_without tail m.pool s (λ some more. is.pool_follows more ∙ sym (tail_behind (last_kept + 1) m.hand some)) (not_away (within m.pool s) (is_home line c s) home (is.pool_away s)) in
+      = λ s home. joined_without tail m.pool s (λ some more. is.pool_follows more ∙ sym (tail_after (last_kept + 1) m.hand some)) (not_away (within m.pool s) (is_home line c s) home (is.pool_away s)) in
       then_if (leave line c t m.place.track r) (close line c t m) (set_mission t (Some kept) >> cancels) (tail.count == m.hand.count) k
       (λ all. whole_leaves line ok c k old t n at m m.place.track r
       (λ s home. r_is s home ∙ whole_tail (last_kept + 1) m.hand s (eqb-true tail.count m.hand.count all) ∙ same_hand s) (to_centre line ok c k m is))

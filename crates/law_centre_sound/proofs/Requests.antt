@@ -10,7 +10,7 @@ use Rattle.std.proofs.lemmas.Option.{same_Some}
 use Rattle.std.proofs.lemmas.Bool.{and_parts, or_cases, both_ways, cases_eq, not-true, false_from_ne_true, eqb-true}
 use Rattle.std.proofs.lemmas.List.Elements.{All-head, All-tail}
 use Rattle.law_counting.specs.Sums.{one_if}
-use Rattle.rbc_spec.specs.SectionRuns.{SectionRun, most_in_hand, within, behind, is_empty, part_from, joined}
+use Rattle.rbc_spec.specs.SectionRuns.{SectionRun, most_in_hand, within, next_after, is_empty, part_from, joined}
 use Rattle.rbc_spec.specs.Line.{Line, Section, IsLine, section, is_centre, is_home, next_centre}
 use Rattle.rbc_spec.specs.Sections.{is_on, home_run}
 use Rattle.rbc_spec.specs.Place.{Place, Position, place_on}
@@ -108,19 +108,19 @@ module _ (line : Line) (ok : IsLine line) (c : ℕ) where
         pool_next = is.pool_next;
         handing_to = λ h handed. next ∙ ap (λ (x : Handing). Some x.to) (same_Some _ h handed);
         handing_number = λ h handed. let number : k.announced + 1 ≡ h.number = ap (λ (x : Handing). x.number) (same_Some _ h handed) in (omega (arith, number), omega (arith, number));
-        hand_ends = λ s e n to_e behind come has. is.hand_ends s e n to_e behind
+        hand_ends = λ s e n to_e beyond come has. is.hand_ends s e n to_e beyond
             (inr (subst (λ x. (i : ℕ) × (within m.hand i ≡ true) × (is_home line x i ≡ true)) (same_Some d e (sym next ∙ to_e)) (part_some d m.place.track m.hand some))) has;
       }))
       (then_sent line c _ (λ e. []) (then_sent line c _ (λ e. []) (then_sent line c _ (λ e. [])
       (one_sent line c d _ k (next_is_centre line ok c d m.place.track next) ((old.mission_known t m at).0, track_below m.place m.hand is.hand))
       (none_sent line c)) (none_sent line c)) (none_sent line c))
 
-  pub ask_sound : (t d : ℕ) (m : Mission) (k : Centre) → IsCentreSound line c k → is_centre line d ≡ true → IsOfNext line c (behind m.hand) → Sound line c (ask_route t d m k)
+  pub ask_sound : (t d : ℕ) (m : Mission) (k : Centre) → IsCentreSound line c k → is_centre line d ≡ true → IsOfNext line c (next_after m.hand) → Sound line c (ask_route t d m k)
   unfolding ◌>>◌
   ask_sound t d m k old to of_next = leaves line c (free_sound line c k old (ask_route t d m k).state refl refl refl refl (λ u is. is) (omega arith)
       (λ u first asks. ⊎_elim
-      (λ (here : u ≡ t). subst (IsOfNext line c) (same_Some (behind m.hand) first (sym (put_here k.route_ask t u (Some (behind m.hand)) here) ∙ asks)) of_next)
-      (λ (other : u ≢ t). old.asks u first (sym (put_other k.route_ask t u (Some (behind m.hand)) other) ∙ asks))
+      (λ (here : u ≡ t). subst (IsOfNext line c) (same_Some (next_after m.hand) first (sym (put_here k.route_ask t u (Some (next_after m.hand)) here) ∙ asks)) of_next)
+      (λ (other : u ≢ t). old.asks u first (sym (put_other k.route_ask t u (Some (next_after m.hand)) other) ∙ asks))
       (cases_eq u t)))
       (then_sent line c _ (λ e. []) (one_sent line c d _ k to (record {})) (none_sent line c))
 
@@ -158,15 +158,15 @@ module _ (line : Line) (ok : IsLine line) (c : ℕ) where
       (λ m at. if_reply line c (may_ask m j) (ask_route t d m j) (rest j)
       (λ due. ask_sound t d m j sound to
       (let was = place_stays t d k m (ap (λ (x : Centre). x.mission t) (sym is) ∙ at) in
-      let ends = and_parts (is_home line d (behind m.hand)) (is_on line m.place.track (behind m.hand))
-      (and_parts (is_home line d (behind m.hand) && is_on line m.place.track (behind m.hand)) (nat_lt m.hand.count most_in_hand)
-      (and_parts ((is_home line d (behind m.hand) && is_on line m.place.track (behind m.hand)) && nat_lt m.hand.count most_in_hand) (is_empty m.pool && is_none (j.route_ask t)) due).0).0 in
-      all_next line c d m.place.track (behind m.hand) ends.1 (ap (next_centre line c) (sym was.2) ∙ next was.0 was.1) ends.0))
+      let ends = and_parts (is_home line d (next_after m.hand)) (is_on line m.place.track (next_after m.hand))
+      (and_parts (is_home line d (next_after m.hand) && is_on line m.place.track (next_after m.hand)) (nat_lt m.hand.count most_in_hand)
+      (and_parts ((is_home line d (next_after m.hand) && is_on line m.place.track (next_after m.hand)) && nat_lt m.hand.count most_in_hand) (is_empty m.pool && is_none (j.route_ask t)) due).0).0 in
+      all_next line c d m.place.track (next_after m.hand) ends.1 (ap (next_centre line c) (sym was.2) ∙ next was.0 was.1) ends.0))
       (λ no. rest_sound line c j sound))
       (λ none. rest_sound line c j sound))
     where
       may_ask : Mission → Centre → Bool
-      may_ask m j = ((is_home line d (behind m.hand) && is_on line m.place.track (behind m.hand)) && nat_lt m.hand.count most_in_hand) && (is_empty m.pool && is_none (j.route_ask t))
+      may_ask m j = ((is_home line d (next_after m.hand) && is_on line m.place.track (next_after m.hand)) && nat_lt m.hand.count most_in_hand) && (is_empty m.pool && is_none (j.route_ask t))
 
   -- ## Request
 
@@ -181,7 +181,7 @@ module _ (line : Line) (ok : IsLine line) (c : ℕ) where
     is = old.mission t m at
 
     follows : (s : ℕ) → within more s ≡ true → may_follow line c k here s ≡ true
-    follows s has = let ends = within_true more s has in longest_each (may_follow line c k here) (behind m.hand) (most_in_hand - m.hand.count) s ends.0 ends.1
+    follows s has = let ends = within_true more s has in longest_each (may_follow line c k here) (next_after m.hand) (most_in_hand - m.hand.count) s ends.0 ends.1
 
     follows_on : (s : ℕ) → within more s ≡ true → is_on line place.track s ≡ true
     follows_on s has = (and_parts (is_on line place.track s) (is_free line c k s || within m.pool s) (and_parts (is_on line place.track s && (is_free line c k s || within m.pool s)) _ (follows s has)).0).0
@@ -198,13 +198,13 @@ module _ (line : Line) (ok : IsLine line) (c : ℕ) where
     count : (joined m.hand more).count ≡ m.hand.count + more.count
     count = ap (λ (r : SectionRun). r.count) (joined_is m.hand more.count is.hand.some)
 
-    ends : behind (joined m.hand more) ≡ behind more
-    ends = ap (λ (r : SectionRun). behind r) (joined_is m.hand more.count is.hand.some) ∙ (omega arith)
+    ends : next_after (joined m.hand more) ≡ next_after more
+    ends = ap (λ (r : SectionRun). next_after r) (joined_is m.hand more.count is.hand.some) ∙ (omega arith)
 
     hand_is : IsHandAt line place (joined m.hand more)
     hand_is = record {
       some = omega (arith, count, is.hand.some);
-      few = omega (arith, count, is.hand.few, longest_few (may_follow line c k here) (behind m.hand) (most_in_hand - m.hand.count));
+      few = omega (arith, count, is.hand.few, longest_few (may_follow line c k here) (next_after m.hand) (most_in_hand - m.hand.count));
       on_track = λ s has. ⊎_elim
           (λ (old_one : within m.hand s ≡ true). subst (λ track. is_on line track s ≡ true) (sym same) (is.hand.on_track s old_one))
           (λ (new_one : within more s ≡ true). follows_on s new_one)
@@ -213,14 +213,14 @@ module _ (line : Line) (ok : IsLine line) (c : ℕ) where
       front = there.front;
     }
 
-    pool_is : (b : Bool) → is_empty m.pool ≡ b → let p : SectionRun = if b then m.pool else part_from (behind more) m.pool in
-        (is_empty p ≡ false → p.first ≡ behind (joined m.hand more)) × ((s : ℕ) → within p s ≡ true → is_home line c s ≡ false)
+    pool_is : (b : Bool) → is_empty m.pool ≡ b → let p : SectionRun = if b then m.pool else part_from (next_after more) m.pool in
+        (is_empty p ≡ false → p.first ≡ next_after (joined m.hand more)) × ((s : ℕ) → within p s ≡ true → is_home line c s ≡ false)
         × ((s : ℕ) → within p s ≡ true → is_on line place.track s ≡ true)
     pool_is true empty = (λ some. absurd (both_ways (is_empty m.pool) some empty), is.pool_away, λ s has. subst (λ track. is_on line track s ≡ true) (sym same) (is.pool_on s has))
     pool_is false some = (
       λ left. omega (arith, ends, is.pool_follows some),
-      λ s has. let at_s = within_true (part_from (behind more) m.pool) s has in is.pool_away s (within_from m.pool s (omega (arith, at_s)) (omega (arith, at_s))),
-      λ s has. let at_s = within_true (part_from (behind more) m.pool) s has in
+      λ s has. let at_s = within_true (part_from (next_after more) m.pool) s has in is.pool_away s (within_from m.pool s (omega (arith, at_s)) (omega (arith, at_s))),
+      λ s has. let at_s = within_true (part_from (next_after more) m.pool) s has in
           subst (λ track. is_on line track s ≡ true) (sym same) (is.pool_on s (within_from m.pool s (omega (arith, at_s)) (omega (arith, at_s)))),
     )
 
@@ -233,15 +233,15 @@ module _ (line : Line) (ok : IsLine line) (c : ℕ) where
         (λ (lent : within m.pool s ≡ true). inr lent)
         (or_cases (is_free line c k s) (within m.pool s) free)
 
-    more_pool : (s d : ℕ) (b : Bool) → is_empty m.pool ≡ b → next_centre line c place.track ≡ Some d → within (if b then m.pool else part_from (behind more) m.pool) s ≡ true → is_home line d s ≡ true
+    more_pool : (s d : ℕ) (b : Bool) → is_empty m.pool ≡ b → next_centre line c place.track ≡ Some d → within (if b then m.pool else part_from (next_after more) m.pool) s ≡ true → is_home line d s ≡ true
     more_pool s d true is_so next has = is.pool_next s d (ap (next_centre line c) (sym same) ∙ next) has
-    more_pool s d false is_so next has = let at_s = within_true (part_from (behind more) m.pool) s has in
+    more_pool s d false is_so next has = let at_s = within_true (part_from (next_after more) m.pool) s has in
         is.pool_next s d (ap (next_centre line c) (sym same) ∙ next) (within_from m.pool s (omega (arith, at_s)) (omega (arith, at_s)))
 
-    -- no section of the longer hand is of the centre behind the next, where the mission has come to that
+    -- no section of the longer hand is of the centre beyond the next, where the mission has come to that
     longer_ends : (s d n : ℕ) → next_centre line c place.track ≡ Some d → next_centre line d place.track ≡ Some n → HasComeTo line d (extended_by more here)
         → within (joined m.hand more) s ≡ true → is_home line n s ≡ false
-    longer_ends s d n next behind_that come has = false_from_ne_true (is_home line n s) (λ there. ⊎_elim
+    longer_ends s d n next beyond_that come has = false_from_ne_true (is_home line n s) (λ there. ⊎_elim
         (λ (old_one : within m.hand s ≡ true). in_old there old_one)
         (λ (new_one : within more s ≡ true). in_new s there new_one)
         (or_cases (within m.hand s) (within more s) (sym (within_joined m.hand more s refl) ∙ has)))
@@ -249,15 +249,15 @@ module _ (line : Line) (ok : IsLine line) (c : ℕ) where
         next_was : next_centre line c m.place.track ≡ Some d
         next_was = ap (next_centre line c) (sym same) ∙ next
 
-        behind_was : next_centre line d m.place.track ≡ Some n
-        behind_was = ap (next_centre line d) (sym same) ∙ behind_that
+        beyond_was : next_centre line d m.place.track ≡ Some n
+        beyond_was = ap (next_centre line d) (sym same) ∙ beyond_that
 
         -- neither an own section nor one of the pool is of that centre
         in_new : (x : ℕ) → is_home line n x ≡ true → within more x ≡ true → ⊥
         in_new x there new_one = ⊎_elim
             (λ (own : is_home line c x ≡ true).
-            let wrong : true ≡ false = sym (eq-eqb n c (sym (one_home line c n x own there))) ∙ (ap (has_that c) (sym behind_that) ∙ (neighbours line ok).onward c d place.track next) in cc)
-            (λ (pooled : within m.pool x ≡ true). next_apart line d n place.track behind_that (sym (one_home line d n x (is.pool_next x d next_was pooled) there)))
+            let wrong : true ≡ false = sym (eq-eqb n c (sym (one_home line c n x own there))) ∙ (ap (has_that c) (sym beyond_that) ∙ (neighbours line ok).onward c d place.track next) in cc)
+            (λ (pooled : within m.pool x ≡ true). next_apart line d n place.track beyond_that (sym (one_home line d n x (is.pool_next x d next_was pooled) there)))
             (from_pool x new_one)
           where
             has_that : ℕ → Option ℕ → Bool
@@ -265,11 +265,11 @@ module _ (line : Line) (ok : IsLine line) (c : ℕ) where
 
         in_old : is_home line n s ≡ true → within m.hand s ≡ true → ⊥
         in_old there old_one = ⊎_elim
-            (λ (stands : is_some m.handing ≡ true). both_ways (is_home line n s) (is.hand_ends s d n next_was behind_was (inl stands) old_one) there)
+            (λ (stands : is_some m.handing ≡ true). both_ways (is_home line n s) (is.hand_ends s d n next_was beyond_was (inl stands) old_one) there)
             (λ (some : (e : ℕ) × (within (joined m.hand more) e ≡ true) × (is_home line d e ≡ true)). ⊎_elim
-            (λ (old_too : within m.hand some.0 ≡ true). both_ways (is_home line n s) (is.hand_ends s d n next_was behind_was (inr (some.0, old_too, some.2)) old_one) there)
+            (λ (old_too : within m.hand some.0 ≡ true). both_ways (is_home line n s) (is.hand_ends s d n next_was beyond_was (inr (some.0, old_too, some.2)) old_one) there)
             (λ (new_one : within more some.0 ≡ true).
-            let first_before = (neighbours line ok).later d n place.track some.0 s behind_that (follows_on some.0 new_one) some.2 (subst (λ track. is_on line track s ≡ true) (sym same) (is.hand.on_track s old_one)) there in
+            let first_before = (neighbours line ok).later d n place.track some.0 s beyond_that (follows_on some.0 new_one) some.2 (subst (λ track. is_on line track s ≡ true) (sym same) (is.hand.on_track s old_one)) there in
             let in_more = within_true more some.0 new_one in
             let in_hand = within_true m.hand s old_one in
             let no : ⊥ = omega (arith, first_before, in_more.0, in_hand.1) in no)

@@ -4,7 +4,7 @@ use Rattle.std.proofs.Common.{◌≡◌, ◌≢◌, ℕ, ◌==◌, ◌&&◌, not
 use Rattle.std.specs.Option.{option_map_or}
 use Rattle.std.proofs.lemmas.Bool.{and_parts, and_right, eqb-false, ne_eqb, false_from_ne_true, cases_eq}
 use Rattle.rbc_spec.specs.Maps.{has, put}
-use Rattle.rbc_spec.specs.SectionRuns.{SectionRun, within, behind, is_empty, part_before, part_from, all_of}
+use Rattle.rbc_spec.specs.SectionRuns.{SectionRun, within, next_after, is_empty, part_before, part_from, all_of}
 use Rattle.rbc_spec.specs.Line.{Line, Section, IsLine, is_centre, is_home, section}
 use Rattle.rbc_spec.specs.Sections.{is_on, is_on_track}
 use Rattle.rbc_spec.specs.Frame.{RouteInfo, RouteReturn}
@@ -90,11 +90,11 @@ module _ (line : Line) (ok : IsLine line) (c d : ℕ) (to : is_centre line d ≡
           → IsMissionAt line c j n → IsMissionAt line c j (record n { pool = r })
       pooled j n wanted of_line homes first_home asked is = record {
         hand = is.hand;
-        pool_follows = λ some. eqb-true r.first (behind n.hand) (and_parts (r.first == behind n.hand) (is_on line n.place.track r.first) (and_parts ((r.first == behind n.hand) && is_on line n.place.track r.first) _ wanted).0).0;
-        pool_on = on_track n.place.track of_line (and_parts (r.first == behind n.hand) (is_on line n.place.track r.first) (and_parts ((r.first == behind n.hand) && is_on line n.place.track r.first) _ wanted).0).1;
+        pool_follows = λ some. eqb-true r.first (next_after n.hand) (and_parts (r.first == next_after n.hand) (is_on line n.place.track r.first) (and_parts ((r.first == next_after n.hand) && is_on line n.place.track r.first) _ wanted).0).0;
+        pool_on = on_track n.place.track of_line (and_parts (r.first == next_after n.hand) (is_on line n.place.track r.first) (and_parts ((r.first == next_after n.hand) && is_on line n.place.track r.first) _ wanted).0).1;
         pool_away = λ s has. false_from_ne_true (is_home line c s) (λ home. apart (one_home line c d s home (each_within (is_home line d) r homes s has)));
         pool_next = λ s e next has. subst (λ x. is_home line x s ≡ true) (one_home line d e r.first first_home (asked.home n.place.track e
-            (and_parts (r.first == behind n.hand) (is_on line n.place.track r.first) (and_parts ((r.first == behind n.hand) && is_on line n.place.track r.first) _ wanted).0).1 next))
+            (and_parts (r.first == next_after n.hand) (is_on line n.place.track r.first) (and_parts ((r.first == next_after n.hand) && is_on line n.place.track r.first) _ wanted).0).1 next))
             (each_within (is_home line d) r homes s has);
         handing_to = is.handing_to;
         handing_number = is.handing_number;

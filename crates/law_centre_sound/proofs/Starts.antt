@@ -31,7 +31,7 @@ use Rattle.law_centre_sound.proofs.Requests.{open_untaken}
 -- a mission that begins is sound
 pub begun_is : (line : Line) (c : ℕ) (k : Centre) (place : Place) → IsHandAt line place (covered line place) → ((e : ℕ) → within (covered line place) e ≡ true → is_home line c e ≡ true)
     → IsMissionAt line c k (begun line place)
-begun_is line c k place hand own = record { hand = hand; pool_follows = λ some. cc; pool_away = λ s has. absurd (none_within s has); pool_on = λ s has. absurd (none_within s has); pool_next = λ s d next has. absurd (none_within s has); handing_to = λ h is. cc; handing_number = λ h is. cc; hand_ends = λ s d n next behind come has. begun_ends line c d n s place next own come }
+begun_is line c k place hand own = record { hand = hand; pool_follows = λ some. cc; pool_away = λ s has. absurd (none_within s has); pool_on = λ s has. absurd (none_within s has); pool_next = λ s d next has. absurd (none_within s has); handing_to = λ h is. cc; handing_number = λ h is. cc; hand_ends = λ s d n next beyond come has. begun_ends line c d n s place next own come }
 
 module _ (line : Line) (ok : IsLine line) (c : ℕ) (k : Centre) (old : IsCentreSound line c k) (t : ℕ) where
   restart_sound : (place : Place) (m : Mission) → k.mission t ≡ Some m → IsHandAt line place (covered line place) → IsReported line place → Sound line c (restart line t place m k)

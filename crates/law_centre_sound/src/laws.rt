@@ -30,7 +30,7 @@ pub fn a_frame_in_range_has_a_hand()
     ensures sound { (line : Line) (a b : ℕ) (body : Body) → IsBodySound line a b body → HasHandRange body }
 {}
 
-/// Behind any list of events each centre of a line is sound by itself, and so is each body that one has sent.
+/// After any list of events each centre of a line is sound by itself, and so is each body that one has sent.
 pub fn each_centre_of_a_world_is_sound()
     ensures { (line : Line) (events : List world.Event) (answers : List Answer) (w : World) → IsLine line
         → world_run line (new_world line) events ≡ Ok (answers, w) → AreCentresSound line w }

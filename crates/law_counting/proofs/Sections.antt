@@ -6,7 +6,7 @@ use Rattle.rbc_spec.specs.SectionRuns.{SectionRun, within}
 use Rattle.law_base.proofs.Runs.{within_true, within_from, within_before, within_none, same_tests}
 use Rattle.law_counting.specs.Sections.{sections, is_among, AreApart}
 
--- the others of a run are those of the run behind its first
+-- the others of a run are those of the run after its first
 within_rest : (first count s : ℕ) → s ≢ first
     → within (record { first = first; count = suc count }) s ≡ within (record { first = first + 1; count = count }) s
 within_rest first count s apart = same_tests _ _

@@ -17,7 +17,7 @@ use Rattle.law_no_stray.proofs.Worlds.{IsReachedSo, each_reached, step_reached}
 use Rattle.law_quiescence.specs.Rest.{work, IsDelivery}
 use Rattle.law_quiescence.proofs.Delivers.{IsHead, some_head, less_work}
 use Rattle.law_quiescence.proofs.Rest.{work_is, no_way, at_rest}
-use Rattle.law_fair.specs.Schedule.{behind, world_after, next_number, IsFair, EndsInDeliveries, IsSameButClocks, RestsFrom, StopsFrom}
+use Rattle.law_fair.specs.Schedule.{after, world_after, next_number, IsFair, EndsInDeliveries, IsSameButClocks, RestsFrom, StopsFrom}
 use Rattle.law_fair.proofs.Stops.{IsRefused, refused_step, is_refused, stays_refused}
 use Rattle.law_fair.proofs.Idle.{IsNext, same_itself, same_on, same_work, stays_next, IsIdle, idle_or_next}
 
@@ -49,7 +49,7 @@ reached_at line ok schedule zero = each_reached line ok [] [] (new_world line) (
 reached_at line ok schedule (suc n) = by_step (reached_at line ok schedule n) (world_step line (world_after line schedule n) (schedule n)) refl
   where
     by_step : IsReachedSo line (world_after line schedule n) → (r : Result (Answer × World) Refusal) → world_step line (world_after line schedule n) (schedule n) ≡ r
-        → IsReachedSo line (behind (world_after line schedule n) r)
+        → IsReachedSo line (after (world_after line schedule n) r)
     by_step old (Err why) is = old
     by_step old (Ok (answer, new)) is = step_reached line ok (world_after line schedule n) old (schedule n) answer new is
 
@@ -63,7 +63,7 @@ module _ (line : Line) (ok : IsLine line) (schedule : ℕ → Event) (ranges : (
   known : (n : ℕ) → IsReachedSo line (At n)
   known = reached_at line ok schedule
 
-  one_on : (n : ℕ) → At (suc n) ≡ behind (At n) (Step n)
+  one_on : (n : ℕ) → At (suc n) ≡ after (At n) (Step n)
   unfolding world_after
   one_on n = refl
 
@@ -72,7 +72,7 @@ module _ (line : Line) (ok : IsLine line) (schedule : ℕ → Event) (ranges : (
   in_range_at zero = new_in_range line
   in_range_at (suc n) = by_step (in_range_at n) (Step n) refl
     where
-      by_step : IsWorldInRange line (At n) → (r : Result (Answer × World) Refusal) → Step n ≡ r → IsWorldInRange line (behind (At n) r)
+      by_step : IsWorldInRange line (At n) → (r : Result (Answer × World) Refusal) → Step n ≡ r → IsWorldInRange line (after (At n) r)
       by_step old (Err why) is = old
       by_step old (Ok (answer, new)) is = step_in_range line ok (At n) old (schedule n) (ranges n) answer new is
 
@@ -105,7 +105,7 @@ module _ (line : Line) (ok : IsLine line) (schedule : ℕ → Event) (ranges : (
         is_next = is_next;
         refused = is_refused line (At n) a b number is_next.frame why is_next.sent (sym (ap (world_step line (At n)) at) ∙ is);
       })
-      by_step (Ok (answer, new)) is = inr (subst (λ (v : World). work line v + 1 ≤ work line (At n)) (sym (one_on n ∙ ap (behind (At n)) is))
+      by_step (Ok (answer, new)) is = inr (subst (λ (v : World). work line v + 1 ≤ work line (At n)) (sym (one_on n ∙ ap (after (At n)) is))
           (omega (
             arith,
             work_is line (At n),
@@ -204,7 +204,7 @@ module _ (line : Line) (ok : IsLine line) (schedule : ℕ → Event) (ranges : (
       refused_once_more : (m : ℕ) → from ≤ m → IsRefused line (At m) a b number f → IsRefused line (At (suc m)) a b number f
       refused_once_more m late it = subst (λ v. IsRefused line v a b number f) (sym (one_on m)) (by_step (Step m) refl)
         where
-          by_step : (r : Result (Answer × World) Refusal) → Step m ≡ r → IsRefused line (behind (At m) r) a b number f
+          by_step : (r : Result (Answer × World) Refusal) → Step m ≡ r → IsRefused line (after (At m) r) a b number f
           by_step (Err why) is = it
           by_step (Ok (answer, new)) is = stays_refused line (At m) a b number f it (schedule m) (are_deliveries m late) answer new is
 

@@ -15,7 +15,7 @@ use Rattle.rbc_spec.specs.ReadOff.{centres_of}
 use Rattle.law_base.proofs.Puts.{put_keeps}
 use Rattle.law_network.specs.Flow.{centre_count}
 use Rattle.law_quiescence.specs.Rest.{work_of, work}
-use Rattle.law_fair.specs.Schedule.{behind, clockless, IsSameButClocks, IsSilent}
+use Rattle.law_fair.specs.Schedule.{after, clockless, IsSameButClocks, IsSilent}
 
 -- centre a has sent a frame to centre b under this number, and it is the next that b takes of a
 pub record IsNext (line : Line) (w : World) (a b number : ℕ) : Type 0 where
@@ -55,7 +55,7 @@ module _ (line : Line) (w v : World) (same : IsSameButClocks w v) where
 -- ## A delivery
 
 pub record IsIdle (w : World) (r : Result (Answer × World) Refusal) : Type 0 where
-  pub same : IsSameButClocks w (behind w r)
+  pub same : IsSameButClocks w (after w r)
   pub silent : IsSilent r
 
 module _ (line : Line) (w : World) where

@@ -1,4 +1,4 @@
--- Each list of events is the beginning of a fair schedule: behind it the next frames of all links are delivered in turn.
+-- Each list of events is the beginning of a fair schedule: after it the next frames of all links are delivered in turn.
 use Rattle.std.proofs.Common.{◌≡◌, ◌≢◌, inl, inr, ℕ, zero, suc, ◌+◌, ◌*◌, ◌/◌, ◌%◌, ◌<◌, ◌≤◌, Bool, true, false, List, [], ◌∷◌, length, map, drop, slice_get, Option, Some, None, refl, sym, ap, ◌∙◌, subst, arith, ltb-true}
 use Rattle.std.specs.Option.{option_map_or}
 use Rattle.std.proofs.Math.Nat.{le-mul_of_pos_right}
@@ -10,7 +10,7 @@ use Rattle.rbc_spec.specs.World.{World, Event, Delivery, new_world, way, world_s
 use Rattle.law_network.specs.Flow.{flow_of, centre_count}
 use Rattle.law_no_stray.proofs.Worlds.{IsReachedSo}
 use Rattle.law_quiescence.specs.Rest.{IsDelivery}
-use Rattle.law_fair.specs.Schedule.{behind, world_after, next_number, IsFair, EndsInDeliveries, BeginsWith}
+use Rattle.law_fair.specs.Schedule.{after, world_after, next_number, IsFair, EndsInDeliveries, BeginsWith}
 use Rattle.law_fair.proofs.Fair.{reached_at}
 
 -- ## A link with frames on the way is between two centres of the line
@@ -49,7 +49,7 @@ module _ (line : Line) (events : List Event) where
 
   world_there : ℕ → World
   world_there zero = new_world line
-  world_there (suc n) = behind (world_there n) (world_step line (world_there n) (event_at n (world_there n)))
+  world_there (suc n) = after (world_there n) (world_step line (world_there n) (event_at n (world_there n)))
 
   abbrev schedule : ℕ → Event
   schedule n = event_at n (world_there n)
@@ -57,7 +57,7 @@ module _ (line : Line) (events : List Event) where
   same_world : (n : ℕ) → world_after line schedule n ≡ world_there n
   unfolding world_after world_there
   same_world zero = refl
-  same_world (suc n) = ap (λ w. behind w (world_step line w (schedule n))) (same_world n)
+  same_world (suc n) = ap (λ w. after w (world_step line w (schedule n))) (same_world n)
 
   event_of : (n : ℕ) (o : Option Event) → slice_get events n ≡ o → schedule n ≡ option_map_or (λ e. e) o (turn n (world_there n))
   event_of n o is = ap (λ o. option_map_or (λ e. e) o (turn n (world_there n))) is

@@ -89,7 +89,7 @@ not_refused line d event k left outcome = by_refusal (refusal line d k event)
     by_refusal (Some why) is = cc
 
 module _ (line : Line) (w : World) (a b number : ℕ) (f : Frame) (it : IsRefused line w a b number f) where
-  -- behind a step of centre d
+  -- after a step of centre d
   module _ (c d : ℕ) (g : Frame) (new : World) (left : IsLeft line w d (centre.Deliver c g) new) where
     marks : IsStamped (w.at d) (centre.Deliver c g) left.outcome left.left
     marks = stamped line d (centre.Deliver c g) (w.at d) left.left left.outcome left.did
@@ -117,8 +117,8 @@ module _ (line : Line) (w : World) (a b number : ℕ) (f : Frame) (it : IsRefuse
         was = its_clock (nat_lt last_stamp (max (w.at b).clock f.stamp + 1)) (has_full_link line b (w.at b)) (nat_lt last_stamp (max (w.at b).clock g.stamp + 1)) it.why it.refused
             (subst (λ x. refusal line x (w.at x) (centre.Deliver c g) ≡ None) here (not_refused line d (centre.Deliver c g) (w.at d) left.left left.outcome left.did))
 
-    refused_behind : IsRefused line (record { at = At; trains = w.trains }) a b number f
-    refused_behind = ⊎_elim
+    refused_after : IsRefused line (record { at = At; trains = w.trains }) a b number f
+    refused_after = ⊎_elim
         (λ (here : b ≡ d). record {
           sent = still_sent (number == 0) it.sent;
           why = ClockEnd;
@@ -136,7 +136,7 @@ module _ (line : Line) (w : World) (a b number : ℕ) (f : Frame) (it : IsRefuse
     where
       by_kind : (w ≡ new) ⊎ ((g : Frame) × IsLeft line w d (centre.Deliver c g) new) → IsRefused line new a b number f
       by_kind (inl same) = subst (λ v. IsRefused line v a b number f) same it
-      by_kind (inr (g, left)) = subst (λ v. IsRefused line v a b number f) left.is (refused_behind c d g new left)
+      by_kind (inr (g, left)) = subst (λ v. IsRefused line v a b number f) left.is (refused_after c d g new left)
   stays_refused (Bytes c read) is answer new done = absurd is
   stays_refused (Set c s) is answer new done = absurd is
   stays_refused (Unset c s) is answer new done = absurd is

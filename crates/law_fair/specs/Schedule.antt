@@ -8,16 +8,16 @@ use Rattle.law_quiescence.specs.Rest.{IsDelivery, IsAtRest}
 
 -- ## Schedules
 
--- the world behind a step: a refused one changes nothing
-abbrev pub behind : World → Result (Answer × World) Refusal → World
-behind w (Ok (answer, new)) = new
-behind w (Err why) = w
+-- the world after a step: a refused one changes nothing
+abbrev pub after : World → Result (Answer × World) Refusal → World
+after w (Ok (answer, new)) = new
+after w (Err why) = w
 
--- the world behind so many events of the schedule, from the line's beginning
+-- the world after so many events of the schedule, from the line's beginning
 unfoldable pub world_after : Line → (ℕ → Event) → ℕ → World
 world_after line schedule zero = new_world line
 world_after line schedule (suc n) =
-    behind (world_after line schedule n) (world_step line (world_after line schedule n) (schedule n))
+    after (world_after line schedule n) (world_step line (world_after line schedule n) (schedule n))
 
 -- the number of the frame that b takes next of a
 abbrev pub next_number : World → ℕ → ℕ → ℕ

@@ -43,7 +43,7 @@ module _ (line : Line) (c : ℕ) where
 
   -- whatever it comes to then
   pub passes : {new : Centre} {frames : ℕ → List Body} (a : ℕ) (f : Body) (k : Centre) → ((t : ℕ) (n : Option ℕ) → follows t f n ≡ Some n) → IsOrderly k new frames → IsTakenWith a f k new frames
-  passes {new} {frames} a f k none goes = record { y = k; taking = passed a f k none; behind = loosened (allowed_by a f) k new frames goes }
+  passes {new} {frames} a f k none goes = record { y = k; taking = passed a f k none; after = loosened (allowed_by a f) k new frames goes }
 
   -- a frame that is not about what is expected here
   goes_frame : (a : ℕ) (f : Body) → frame_expects f ≡ false → frame_yields a f ≡ None → (k : Centre) → Goes k (received line c a f k)
@@ -64,7 +64,7 @@ module _ (line : Line) (c : ℕ) where
   comes_announced : (a number t track : ℕ) (k : Centre) → Fits a (Announce number t track) k → Comes a (Announce number t track) k (received line c a (Announce number t track) k)
   comes_announced a number t track k fits = subst (Comes a (Announce number t track) k)
       (sym (done t (nat_lt track (length line.tracks)) (announced a number t) k fits.0 fits.1 ∙ ap (λ z. if z then expect a t (Some new) k else rest k) fits.2))
-      (record { y = y; taking = expect_taking a t (Announce number t track) (Some new) k y refl refl (λ b u. refl) other leads waits; behind = loosened (allowed_by a (Announce number t track)) y _ _ (goes_rest y) })
+      (record { y = y; taking = expect_taking a t (Announce number t track) (Some new) k y refl refl (λ b u. refl) other leads waits; after = loosened (allowed_by a (Announce number t track)) y _ _ (goes_rest y) })
     where
       new : Expectation
       new = record { number = number; is_taking = false }
@@ -94,14 +94,14 @@ module _ (line : Line) (c : ℕ) where
         taking = expect_taking a t (Cancel number t) None k (expect a t None k).state refl refl (λ b u. refl)
             (λ u n apart. ap (λ b. if b then (if is_number number n then Some None else None) else Some n) (ne_eqb t u (λ same. apart (sym same))))
             (ends number t (k.expects a t) fits.1) (λ h. omega arith);
-        behind = loosened (allowed_by a (Cancel number t)) _ _ _ (goes_rest (expect a t None k).state);
+        after = loosened (allowed_by a (Cancel number t)) _ _ _ (goes_rest (expect a t None k).state);
       })
 
   comes_taking_over : (a number t : ℕ) (k : Centre) → Comes a (TakingOver number t) k (received line c a (TakingOver number t) k)
   comes_taking_over a number t k = let f : Body = TakingOver number t in let may = frame_may a f in record {
     y = k;
     taking = passed a f k (λ u n. refl);
-    behind = of_taking line c a k f (GoesWith (allowed_by a f)) (closed line c may refl k (allowed_by a f) (over_allowed a number t)) (answered line c may refl k (allowed_by a f) a f)
+    after = of_taking line c a k f (GoesWith (allowed_by a f)) (closed line c may refl k (allowed_by a f) (over_allowed a number t)) (answered line c may refl k (allowed_by a f) a f)
         (received line c a f k) (received_taking line c a k f);
   }
 
@@ -117,7 +117,7 @@ module _ (line : Line) (c : ℕ) where
         taking = expect_taking a t f None k y refl refl same_handing
             (λ u n apart. ap (λ b. if b then (if is_number number n then Some None else None) else Some n) (ne_eqb t u (λ same. apart (sym same))))
             (ends number t (k.expects a t) (under (k.expects a t) here.0)) (λ h. omega arith);
-        behind = loosened (allowed_by a f) y _ _
+        after = loosened (allowed_by a f) y _ _
             (goes_or (find (λ s. is_home line c s && y.wish s) (range_with_len m.hand.first m.hand.count)) (λ s. propose_if_so line t s y) y (rest y) (λ s found. goes_propose_if line t s y) (λ nothing. goes_rest y));
       })
     where

@@ -5,7 +5,7 @@ use Rattle.std.proofs.lemmas.Bool.{and_from, and_parts, eqb-true}
 use Rattle.std.proofs.lemmas.Option.{same_Some}
 use Rattle.std.proofs.lemmas.List.Elements.{All-nil, All-cons, All-append}
 use Rattle.law_counting.proofs.Sums.{put_same, put_other}
-use Rattle.rbc_spec.specs.SectionRuns.{SectionRun, most_in_hand, behind}
+use Rattle.rbc_spec.specs.SectionRuns.{SectionRun, most_in_hand, next_after}
 use Rattle.rbc_spec.specs.Line.{Line, is_linked}
 use Rattle.rbc_spec.specs.Place.{Position}
 use Rattle.rbc_spec.specs.Message.{Authority}
@@ -97,7 +97,7 @@ module _ (line : Line) (c : ℕ) where
     moves allow allowed _ _ (asks_right t place to k its fits away is none) = loosened allow k _ _ (apart k _ _ (record { expects = λ a u. refl; announced = refl; handing = λ b u. refl })
         (and_nothing to (AskRight t) (neutral _ refl refl)))
     moves allow allowed _ _ (asks_route t d m k its has empty home none ahead more) = loosened allow k _ _ (apart k _ _ (record { expects = λ a u. refl; announced = refl; handing = λ b u. refl })
-        (and_nothing (Some d) (RouteAsk t (behind m.hand) (min (most_in_hand - m.hand.count) (512 - behind m.hand))) (neutral _ refl refl)))
+        (and_nothing (Some d) (RouteAsk t (next_after m.hand) (min (most_in_hand - m.hand.count) (512 - next_after m.hand))) (neutral _ refl refl)))
     moves allow allowed _ _ (announces t d m k its so has none ahead same) = loosened allow k _ _
         (goes_sent none_allowed d t (Announce (k.announced + 1) t m.place.track) k _ _ (announce_sent t d m.place.track m k _ has none refl refl refl) (λ e. twice (e == d)))
       where

@@ -71,7 +71,7 @@ module _ (line : Line) (c : ℕ) where
   comes_next a f k fits = let comes = goes_received line c a f.body (become (λ i. record i { taken = put i.taken a f.number }) k).state fits in record {
     y = comes.y;
     taking = record { leads = comes.taking.leads; expected = comes.taking.expected; waits = comes.taking.waits; announced = comes.taking.announced; number = comes.taking.number; handing = comes.taking.handing };
-    behind = comes.behind;
+    after = comes.after;
   }
 
 -- ## A frame that fits
@@ -130,10 +130,10 @@ module _ (line : Line) (ok : IsLine line) (w : Flow) (sound : IsFlowSound line w
 
       by_answer : (answer : outcome.Taken) → answer ≡ Next
           → IsTakenWith a f.body (w.at c) (state_after (stamp_of (w.at c) (Deliver a f)) (w.at c) (record { reply = taken_by line c a f answer k; link = Some answer; silence = None })) (taken_by line c a f answer k).frames
-      by_answer Next is = let comes = comes_next line c a f k (as_before f.body (fits_head f.body head)) in let orderly = comes.behind in record {
+      by_answer Next is = let comes = comes_next line c a f k (as_before f.body (fits_head f.body head)) in let orderly = comes.after in record {
         y = comes.y;
         taking = record { leads = comes.taking.leads; expected = comes.taking.expected; waits = comes.taking.waits; announced = comes.taking.announced; number = comes.taking.number; handing = comes.taking.handing };
-        behind = record { leads = orderly.leads; expected = orderly.expected; announced = orderly.announced; yielded = orderly.yielded; anew = orderly.anew; takes = orderly.takes };
+        after = record { leads = orderly.leads; expected = orderly.expected; announced = orderly.announced; yielded = orderly.yielded; anew = orderly.anew; takes = orderly.takes };
       }
       by_answer Old is = cc
       by_answer Early is = cc
@@ -151,8 +151,8 @@ module _ (w : Flow) (counted : IsCounted w) (a c : ℕ) (f : Body) (head : Takes
   counted_between : IsCounted between
   counted_between = counted_acted (took w a c) c is.y (λ d. []) (counted_took w a c f head counted)
 
-  behind : IsOrderlyWith (allowed_by a f) (between.at c) new frames
-  behind = subst (λ z. IsOrderlyWith (allowed_by a f) z new frames) (sym (put_same w.at c is.y)) is.behind
+  after : IsOrderlyWith (allowed_by a f) (between.at c) new frames
+  after = subst (λ z. IsOrderlyWith (allowed_by a f) z new frames) (sym (put_same w.at c is.y)) is.after
 
   -- what may be yielded is what the frame takes over
   may_be : ((t : ℕ) → IsPaired w c a t) → (d t h : ℕ) → allowed_by a f d t h ≡ true → (before between c d t h ≡ 0) × (h ≤ (between.at c).announced)
@@ -162,7 +162,7 @@ module _ (w : Flow) (counted : IsCounted w) (a c : ℕ) (f : Body) (head : Takes
 
   pub taken_pairs : ((u : ℕ) → IsPaired w c a u) → (i j t : ℕ) → IsPaired w i j t → IsPaired (acted (took w a c) c new frames) i j t
   taken_pairs pairs i j t p = subst (λ u. IsPaired u i j t) (acted_twice (took w a c) c is.y new (λ d. []) frames)
-      (orderly_pairs between counted_between c new frames (allowed_by a f) behind (may_be pairs) i j t (taking_pairs w a c f head is.y is.taking i j t p))
+      (orderly_pairs between counted_between c new frames (allowed_by a f) after (may_be pairs) i j t (taking_pairs w a c f head is.y is.taking i j t p))
 
 -- ## Steps
 

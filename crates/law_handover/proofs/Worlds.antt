@@ -56,7 +56,7 @@ sent_between line w sound a b number f is = (by_centre a (is_centre line a) refl
     by_centre c false away none = absurd (nothing ((w.at a).sent b) (none away) is)
 
 module _ (line : Line) (ok : IsLine line) (w : World) (old : IsWorldSound line w) where
-  -- the flow behind a step is sound
+  -- the flow after a step is sound
   abbrev After : ℕ → centre.Event → List ℕ → Type 0
   After c event trains = IsFlowSound line (flow_of (in_world w c (left_by line c (w.at c) event) trains))
 
@@ -119,7 +119,7 @@ module _ (line : Line) (ok : IsLine line) (w : World) (old : IsWorldSound line w
     no_more Early apart = refl
     no_more NoLink apart = refl
 
-    -- the flow behind a frame that is answered so
+    -- the flow after a frame that is answered so
     abbrev answered_so : outcome.Taken → Flow
     answered_so o = let e : Effect = record { reply = taken_by line c a f o (ticked (stamp_of (w.at c) (centre.Deliver a f)) (w.at c)); link = Some o; silence = None } in
         acted (flow_of w) c (state_after (stamp_of (w.at c) (centre.Deliver a f)) (w.at c) e) e.reply.frames

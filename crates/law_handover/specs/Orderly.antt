@@ -60,8 +60,8 @@ pub record IsTaking (a : ℕ) (f : Body) (k y : Centre) : Type 0 where
   pub number : (t : ℕ) → number_announced (handing_to a (y.mission t)) ≡ number_announced (handing_to a (k.mission t))
   pub handing : (b t : ℕ) → b ≢ a → handing_to b (y.mission t) ≡ handing_to b (k.mission t)
 
--- with what the frame comes to behind that: an orderly act of y, which may yield what the frame takes over
+-- with what the frame comes to after that: an orderly act of y, which may yield what the frame takes over
 pub record IsTakenWith (a : ℕ) (f : Body) (k new : Centre) (frames : ℕ → List Body) : Type 0 where
   pub y : Centre
   pub taking : IsTaking a f k y
-  pub behind : IsOrderlyWith (allowed_by a f) y new frames
+  pub after : IsOrderlyWith (allowed_by a f) y new frames

@@ -30,7 +30,7 @@ pub fn an_orderly_act_keeps_all_paired()
         → IsPaired w i j t → IsPaired (acted (took w a c) c y (λ d. [])) i j t }
 {}
 
-/// Each step of a centre is orderly: by itself whatever the centre is in, and behind the next frame of a link, which in
+/// Each step of a centre is orderly: by itself whatever the centre is in, and after the next frame of a link, which in
 /// a sound flow is taken as it says.
 pub fn each_step_is_orderly()
     ensures by_itself { (line : Line) (c : ℕ) (k : Centre) (event : Event) → IsByItself line c k event
@@ -61,7 +61,7 @@ pub fn each_step_keeps_all_sound()
         → IsWorldSound line w → world_step line w event ≡ Ok (answer, new) → IsWorldSound line new }
 {}
 
-/// So behind any list of events the flow of a line is sound.
+/// So after any list of events the flow of a line is sound.
 pub fn each_world_flow_is_sound()
     ensures { (line : Line) (events : List world.Event) (answers : List Answer) (w : World) → IsLine line
         → world_run line (new_world line) events ≡ Ok (answers, w) → IsWorldSound line w }

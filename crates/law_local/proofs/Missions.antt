@@ -4,7 +4,7 @@ use Rattle.std.specs.Option.{option_map_or}
 use Rattle.std.proofs.lemmas.Option.{same_Some}
 use Rattle.std.proofs.lemmas.Bool.{both_ways, and_parts, or_cases, cases_Bool}
 use Rattle.rbc_spec.specs.Maps.{put}
-use Rattle.rbc_spec.specs.SectionRuns.{SectionRun, no_run, within, behind, is_empty, part_from, joined, all_of}
+use Rattle.rbc_spec.specs.SectionRuns.{SectionRun, no_run, within, next_after, is_empty, part_from, joined, all_of}
 use Rattle.rbc_spec.specs.Line.{Line, next_centre, train_number}
 use Rattle.rbc_spec.specs.Sections.{is_on}
 use Rattle.rbc_spec.specs.Place.{Place, Position, extent, covered, place_on, fit_place}
@@ -114,7 +114,7 @@ module _ (line : Line) (c : ℕ) where
         within r s ≡ true → may_follow line c k (record m { place = place }) s ≡ true
     follows k m place s is =
         let at = within_true (extension line c k (record m { place = place })) s is in
-        longest_each (may_follow line c k (record m { place = place })) (behind m.hand) (32 - m.hand.count) s at.0 at.1
+        longest_each (may_follow line c k (record m { place = place })) (next_after m.hand) (32 - m.hand.count) s at.0 at.1
 
     follows_free : (k : Centre) (m : Mission) (place : Place) → IsLocalMission line m
         → (s : ℕ) → within (extension line c k (record m { place = place })) s ≡ true → is_free line c k s ≡ true
@@ -135,10 +135,10 @@ module _ (line : Line) (c : ℕ) where
         let r : SectionRun = extension line c k (record m { place = place }) in
         let count : (joined m.hand r).count ≡ m.hand.count + r.count = joined_count m.hand r in
         record {
-          no_pool = ap (λ p. if is_empty p then p else part_from (behind r) p) local.no_pool;
+          no_pool = ap (λ p. if is_empty p then p else part_from (next_after r) p) local.no_pool;
           no_handing = local.no_handing;
           some = omega (arith, count, local.some);
-          few = omega (arith, count, local.few, longest_few (may_follow line c k (record m { place = place })) (behind m.hand) (32 - m.hand.count));
+          few = omega (arith, count, local.few, longest_few (may_follow line c k (record m { place = place })) (next_after m.hand) (32 - m.hand.count));
           on_track = λ s is. ⊎_elim
               (λ (old : within m.hand s ≡ true). subst (λ t. is_on line t s ≡ true) (sym same) (local.on_track s old))
               (λ (new : within r s ≡ true). follows_on k m place s new)

@@ -3,7 +3,7 @@ use Rattle.std.proofs.Common.{◌≡◌, ℕ, ◌+◌, ◌*◌, ◌≤◌, ◌==
 use Rattle.std.specs.Option.{option_map_or}
 use Rattle.std.proofs.lemmas.Bool.{and_parts, eqb-false}
 use Rattle.rbc_spec.specs.Maps.{put}
-use Rattle.rbc_spec.specs.SectionRuns.{SectionRun, no_run, within, behind, is_empty, part_before, part_from, joined}
+use Rattle.rbc_spec.specs.SectionRuns.{SectionRun, no_run, within, next_after, is_empty, part_before, part_from, joined}
 use Rattle.rbc_spec.specs.Line.{Line, end}
 use Rattle.rbc_spec.specs.Sections.{is_on}
 use Rattle.rbc_spec.specs.Place.{Place, Position, extent, is_cleared, place_on}
@@ -71,7 +71,7 @@ module _ (line : Line) (c : ℕ) (ordered : IsOrdered line) where
       let few = longest_few (is_cleared line place) m.hand.first m.hand.count in
       if_act line c (r.count == m.hand.count) _ _ k
       (λ all. whole_leaves t m m m.place.track (joined m.hand m.pool) k h at local.no_handing (λ s. joined_empty m.hand m.pool s (ap is_empty local.no_pool)))
-      (λ rest_stays. part_leaves t m (record m { place = place; hand = part_from (behind r) m.hand }) m.place.track r k h at
+      (λ rest_stays. part_leaves t m (record m { place = place; hand = part_from (next_after r) m.hand }) m.place.track r k h at
       (rest_local (cleared line place m).count m place local same few (eqb-false r.count m.hand.count rest_stays))
       (λ s is. let in_r = within_true r s is in within_from m.hand s in_r.0 (omega (arith, in_r, few)))
       (λ s. within_rest m.hand r.count s few))

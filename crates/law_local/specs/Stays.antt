@@ -5,7 +5,7 @@ use Rattle.rbc_spec.specs.Centre.{Centre}
 use Rattle.rbc_spec.specs.Step.{Event, taken}
 use Rattle.law_local.specs.Local.{IsLocalAt}
 
--- behind a step of the event the centre is local too, and the step has sent no frame
+-- after a step of the event the centre is local too, and the step has sent no frame
 pub record StaysLocal (line : Line) (c : ℕ) (k : Centre) (event : Event) : Type 0 where
   pub state : IsLocalAt line c (taken line c event k).1
   pub frames : (d : ℕ) → (taken line c event k).0.frames d ≡ []

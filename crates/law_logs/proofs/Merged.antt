@@ -46,7 +46,7 @@ module _ (line : Line) where
     ap (λ (o : Option Frame). option_map_or (λ g. takes line w c w.trains (Deliver from g)) o (Ok (NotSent, w))) there ∙ ap (λ r. stepped w c w.trains r) is,
   )
 
-  -- a step, and the run behind it
+  -- a step, and the run after it
   run_on : (w mid last : World) (event : world.Event) (events : List world.Event) (answer : Answer) (others : List Answer) → world_step line w event ≡ Ok (answer, mid)
       → world_run line mid events ≡ Ok (others, last) → world_run line w (event ∷ events) ≡ Ok (answer ∷ others, last)
   unfolding world_run
@@ -65,7 +65,7 @@ module _ (line : Line) where
     own : (w : World) (d : ℕ) (e : LogEntry) (es : List LogEntry) → Left w d (e ∷ es) → is_centre line d ≡ true
     own w d e es left = ⊎_elim (λ (t : is_centre line d ≡ true). t) (λ (f : is_centre line d ≡ false). absurd (not_empty e es (left.known f))) (cases_Bool (is_centre line d))
 
-    -- its own log goes on behind an entry
+    -- its own log goes on after an entry
     gone : (w : World) (trains : List ℕ) (c : ℕ) (e : LogEntry) (es : List LogEntry) (left : Left w c (e ∷ es)) → Left (record { at = put w.at c left.replays.0; trains = trains }) c es
     gone w trains c e es left = record {
       replays = subst (λ k. Replays line c k es (v c)) (sym (put_there w.at c left.replays.0)) left.replays.3;
@@ -117,10 +117,10 @@ module _ (line : Line) where
         let mine : Left w c (e ∷ entries_of c es) = subst (λ b. Left w c (if b then (e ∷ entries_of c es) else entries_of c es)) (itself c) (left c) in
         let mid : Centre = mine.replays.0 in
         let it = stamped line c e.event (w.at c) mid e.outcome mine.replays.2 in
-        let behind : All (λ (f : LogEntry). e.outcome.stamp ≤ f.outcome.stamp) es = λ k d within. (up 0 (suc k) d (omega arith) (omega (arith, within))).0 in
+        let following : All (λ (f : LogEntry). e.outcome.stamp ≤ f.outcome.stamp) es = λ k d within. (up 0 (suc k) d (omega arith) (omega (arith, within))).0 in
         let late : (d : ℕ) → All (λ (f : LogEntry). e.outcome.stamp ≤ f.outcome.stamp) (entries_of d (e ∷ es)) =
         λ d. All-filter (λ (f : LogEntry). f.centre == d) (λ (f : LogEntry). e.outcome.stamp ≤ f.outcome.stamp) (e ∷ es)
-        (All-cons (λ (f : LogEntry). e.outcome.stamp ≤ f.outcome.stamp) e es (omega arith) behind) in
+        (All-cons (λ (f : LogEntry). e.outcome.stamp ≤ f.outcome.stamp) e es (omega arith) following) in
         let here : IsThere w c e.event = there w c e.event e.outcome.stamp (λ d. entries_of d (e ∷ es)) left late it.above_frame
         (All-head (λ (f : LogEntry). IsSent v c f.event) e (entries_of c es) mine.sent) in
         let first = answers w c e.event e.outcome mid (own w c e (entries_of c es) mine) mine.replays.2 here in

@@ -26,7 +26,7 @@ module _ (line : Line) (c : ℕ) where
       let first = All-head (λ (e : LogEntry). least ≤ e.outcome.stamp) e es late in omega (arith, same, first))
       (frames_late least d r.0 es last r.3 (All-tail (λ (e : LogEntry). least ≤ e.outcome.stamp) e es late))
 
-  -- what was sent on the way is numbered behind what was sent before
+  -- what was sent on the way is numbered after what was sent before
   numbers_replayed : (d : ℕ) (k : Centre) (es : List LogEntry) (last : Centre) → Replays line c k es last → (i : ℕ) (f : Frame) → slice_get (sent_to d es) i ≡ Some f
       → f.number ≡ length (k.sent d) + i + 1
   numbers_replayed d k [] last r i f is = cc

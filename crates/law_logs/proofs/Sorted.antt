@@ -64,7 +64,7 @@ least x xs up z h = ⊎_elim
 abbrev HasAll : List LogEntry → List LogEntry → Type 0
 HasAll xs ys = (z : LogEntry) → Contains ys z → Contains xs z
 
--- what rises behind the first stands behind the first
+-- what rises after the first is after the first
 has_rest : (x y : LogEntry) (xs ys : List LogEntry) → AllPairs IsUpTo (x ∷ xs) → AllPairs IsBelow (y ∷ ys) → HasAll (x ∷ xs) (y ∷ ys) → HasAll xs ys
 has_rest x y xs ys up rise has z h =
     let low : x.outcome.stamp ≤ y.outcome.stamp = least x xs up y (has y (item_here y ys)) in
@@ -93,7 +93,7 @@ same_list (x ∷ xs) (y ∷ ys) up rise has long =
       arith,
       long,
       fits xs (y ∷ ys) (pairs_tail IsUpTo x xs up) rise
-          (λ z h. ⊎_elim (λ (same : y ≡ z). subst (λ u. Contains xs u) same later) (λ (behind : Contains ys z). more z behind) (item_of y ys z h)),
+          (λ z h. ⊎_elim (λ (same : y ≡ z). subst (λ u. Contains xs u) same later) (λ (after : Contains ys z). more z after) (item_of y ys z h)),
     )))
     (item_of x xs y (has y (item_here y ys))) in
     let rest : xs ≡ ys = same_list xs ys (pairs_tail IsUpTo x xs up) (pairs_tail IsBelow y ys rise) more (omega (arith, long)) in

@@ -34,7 +34,7 @@ IsAboveItsFrame (Deliver from f) stamp = f.stamp < stamp
 IsAboveItsFrame event stamp = Unit {0}
 
 -- a step by its stamp: it is what the clock then shows, above what it showed and above the stamp of a frame that came;
--- and what the step sends on a link stands behind what was sent before, with that stamp, and numbered on from there
+-- and what the step sends on a link follows what was sent before, with that stamp, and numbered on from there
 pub record IsStamped (k : Centre) (event : Event) (outcome : Outcome) (new : Centre) : Type 0 where
   pub clock : new.clock ≡ outcome.stamp
   pub above_clock : k.clock < outcome.stamp

@@ -8,7 +8,7 @@ ghost use Rattle.rbc_spec.specs.Step.{Event, step};
 ghost use Rattle.law_logs.specs.Logs.{IsStamped, FamilyTheorem, SortedTheorem};
 
 /// Whatever event a centre takes: the stamp of its step is what its clock then shows, above what it showed, and above
-/// the stamp of a frame that came. What the step sends stands behind what was sent before, with that stamp, and
+/// the stamp of a frame that came. What the step sends follows what was sent before, with that stamp, and
 /// numbered on from there.
 pub fn each_step_is_stamped()
     ensures { (line : Line) (c : ℕ) (event : Event) (k new : Centre) (outcome : Outcome)

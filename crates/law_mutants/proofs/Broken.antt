@@ -16,7 +16,7 @@ use Rattle.rbc_spec.specs.World.{new_world, world_step, world_run}
 use Rattle.law_network.specs.Counts.{rights, tokens}
 use Rattle.law_network.specs.Flow.{Flow, centre_count}
 use Rattle.law_network.specs.Leads.{replied}
-use Rattle.law_mutants.specs.Small.{small, only, in_section_0, in_section_1, behind, flow, at_the_other, pooled, returning, taking, expecting}
+use Rattle.law_mutants.specs.Small.{small, only, in_section_0, in_section_1, world_after, flow, at_the_other, pooled, returning, taking, expecting}
 use Rattle.law_mutants.specs.Past.{GoesPast}
 use Rattle.law_mutants.specs.Rules.{lending_again, shutting_at_once, giving_back_all, keeping_pool, starting_at_once, keeping_yield, keeping_older, cancelling_any, handed_over_by, sent_home_by}
 
@@ -28,39 +28,39 @@ goes_past r line w v first then = record {
 }
 
 pub lent_twice : GoesPast (tokens small 1 1) small (flow pooled) (replied (flow pooled) 1 (lending_again small 1 0 2 1 1 ((flow pooled).at 1)))
-unfolding within longest line_start end extent beginning ◌>>◌ step new_world world_step world_run behind placed allowed sum_below sum_links carried
+unfolding within longest line_start end extent beginning ◌>>◌ step new_world world_step world_run world_after placed allowed sum_below sum_links carried
 lent_twice = goes_past (tokens small 1 1) small (flow pooled) (replied (flow pooled) 1 (lending_again small 1 0 2 1 1 ((flow pooled).at 1))) refl refl
 
 pub shut_early : GoesPast (tokens small 1 1) small (flow pooled) (replied (flow pooled) 1 (shutting_at_once small 1 1 ((flow pooled).at 1)))
-unfolding within longest line_start end extent beginning ◌>>◌ step new_world world_step world_run behind placed allowed sum_below sum_links carried
+unfolding within longest line_start end extent beginning ◌>>◌ step new_world world_step world_run world_after placed allowed sum_below sum_links carried
 shut_early = goes_past (tokens small 1 1) small (flow pooled) (replied (flow pooled) 1 (shutting_at_once small 1 1 ((flow pooled).at 1))) refl refl
 
 pub return_comes : TakesHead (flow returning) 0 1 (RouteReturn 1 (only 2))
-unfolding within longest line_start end extent beginning ◌>>◌ step new_world world_step world_run behind
+unfolding within longest line_start end extent beginning ◌>>◌ step new_world world_step world_run world_after
 return_comes = record { head = refl }
 
 pub opened_early : GoesPast (tokens small 1 1) small (flow returning) (replied (took (flow returning) 0 1) 1 (giving_back_all small 1 1 (only 2) ((flow returning).at 1)))
-unfolding within longest line_start end extent beginning ◌>>◌ step new_world world_step world_run behind placed allowed sum_below sum_links carried
+unfolding within longest line_start end extent beginning ◌>>◌ step new_world world_step world_run world_after placed allowed sum_below sum_links carried
 opened_early = goes_past (tokens small 1 1) small (flow returning) (replied (took (flow returning) 0 1) 1 (giving_back_all small 1 1 (only 2) ((flow returning).at 1))) refl refl
 
 pub pool_kept : GoesPast (tokens small 1 1) small (flow pooled) (replied (flow pooled) 0 (sent_home_by (keeping_pool small 0 1) 1 ((flow pooled).at 0)))
-unfolding within longest line_start end extent beginning ◌>>◌ step new_world world_step world_run behind placed allowed sum_below sum_links carried
+unfolding within longest line_start end extent beginning ◌>>◌ step new_world world_step world_run world_after placed allowed sum_below sum_links carried
 pool_kept = goes_past (tokens small 1 1) small (flow pooled) (replied (flow pooled) 0 (sent_home_by (keeping_pool small 0 1) 1 ((flow pooled).at 0))) refl refl
 
 pub mission_kept : GoesPast (rights small 1) small (flow taking) (replied (flow taking) 0 (handed_over_by (keeping_yield small 0 1) 1 ((flow taking).at 0)))
-unfolding within longest line_start end extent beginning ◌>>◌ step new_world world_step world_run behind placed allowed sum_below sum_links carried
+unfolding within longest line_start end extent beginning ◌>>◌ step new_world world_step world_run world_after placed allowed sum_below sum_links carried
 mission_kept = goes_past (rights small 1) small (flow taking) (replied (flow taking) 0 (handed_over_by (keeping_yield small 0 1) 1 ((flow taking).at 0))) refl refl
 
 pub begun_early : GoesPast (rights small 1) small (flow at_the_other) (replied (flow at_the_other) 1 (starting_at_once small 1 in_section_1 ((flow at_the_other).at 1)))
-unfolding within longest line_start end extent beginning ◌>>◌ step new_world world_step world_run behind placed allowed sum_below sum_links carried
+unfolding within longest line_start end extent beginning ◌>>◌ step new_world world_step world_run world_after placed allowed sum_below sum_links carried
 begun_early = goes_past (rights small 1) small (flow at_the_other) (replied (flow at_the_other) 1 (starting_at_once small 1 in_section_1 ((flow at_the_other).at 1))) refl refl
 
 pub heard_before : is_stale 9 (((flow taking).at 1).heard 1) ≡ true
-unfolding within longest line_start end extent beginning ◌>>◌ step new_world world_step world_run behind
+unfolding within longest line_start end extent beginning ◌>>◌ step new_world world_step world_run world_after
 heard_before = refl
 
 pub heard_again : is_stale 9 ((keeping_older small 1 0 1 6 (begun small in_section_1) ((flow taking).at 1)).state.heard 1) ≡ false
-unfolding within longest line_start end extent beginning ◌>>◌ step new_world world_step world_run behind
+unfolding within longest line_start end extent beginning ◌>>◌ step new_world world_step world_run world_after
 heard_again = refl
 
 pub taken_before : may_take small 1 expecting 0 2 1 in_section_0 (only 0) ≡ true

@@ -81,12 +81,12 @@ abbrev pub left_by : World → Result (List Answer × World) Refusal → World
 left_by w (Ok (answers, after)) = after
 left_by w (Err why) = w
 
--- the world behind these events, on a new line
-unfoldable pub behind : List Event → World
-behind events = left_by (new_world small) (world_run small (new_world small) events)
+-- the world after these events, on a new line
+unfoldable pub world_after : List Event → World
+world_after events = left_by (new_world small) (world_run small (new_world small) events)
 
 abbrev pub flow : List Event → Flow
-flow events = flow_of (behind events)
+flow events = flow_of (world_after events)
 
 -- B expects train 1 from A under the second number that A announced, and has said that it takes over
 abbrev pub expecting : Centre

@@ -101,7 +101,7 @@ pub fn no_pool_is_returned_and_kept()
         (replied (flow pooled) 0 (sent_home_by (keeping_pool small 0 1) 1 ((flow pooled).at 0))) }
 {}
 
-/// What may be taken under one number may be taken behind a Cancel under another. Where a Cancel ends the handover
+/// What may be taken under one number may be taken after a Cancel under another. Where a Cancel ends the handover
 /// whatever its number, the Yield that comes under the newer one is not taken, and the train has no supervisor.
 pub fn no_older_cancel_ends_a_newer_handover()
     ensures the_rule_keeps { (line : Line) (c d older number t : ℕ) (place : Place) (hand : SectionRun) (k : Centre)

@@ -15,7 +15,7 @@ use Rattle.law_network.specs.Counts.{rights, tokens}
 use Rattle.law_network.specs.Flow.{Flow, centre_count}
 use Rattle.law_network.specs.Leads.{replied}
 use Rattle.law_no_unasked.specs.Asked.{OfRight, questions}
-use Rattle.law_mutants.specs.Small.{small, only, in_section_1, behind, flow, returning}
+use Rattle.law_mutants.specs.Small.{small, only, in_section_1, world_after, flow, returning}
 use Rattle.law_mutants.specs.Past.{GoesPast}
 use Rattle.law_mutants_answers.specs.Rules.{keeping_right, staying_silent, asking_again, swallowing_return}
 use Rattle.law_mutants_answers.specs.Worlds.{asking, giving_up, asking_in_vain, FallsShort}
@@ -35,29 +35,29 @@ falls_short r line w v first then = record {
 }
 
 pub question_comes : TakesHead (flow asking) 1 0 (AskRight 1)
-unfolding within longest line_start end extent beginning ◌>>◌ step new_world world_step world_run behind
+unfolding within longest line_start end extent beginning ◌>>◌ step new_world world_step world_run world_after
 question_comes = record { head = refl }
 
 pub given_and_kept : GoesPast (rights small 1) small (flow asking) (replied (took (flow asking) 1 0) 0 (keeping_right small 0 1 1 ((flow asking).at 0)))
-unfolding within longest line_start end extent beginning ◌>>◌ step new_world world_step world_run behind placed allowed sum_below sum_links carried
+unfolding within longest line_start end extent beginning ◌>>◌ step new_world world_step world_run world_after placed allowed sum_below sum_links carried
 given_and_kept = goes_past (rights small 1) small (flow asking) (replied (took (flow asking) 1 0) 0 (keeping_right small 0 1 1 ((flow asking).at 0))) refl refl
 
 pub vain_question_comes : TakesHead (flow asking_in_vain) 1 0 (AskRight 1)
-unfolding within longest line_start end extent beginning ◌>>◌ step new_world world_step world_run behind
+unfolding within longest line_start end extent beginning ◌>>◌ step new_world world_step world_run world_after
 vain_question_comes = record { head = refl }
 
 pub met_by_silence : FallsShort (questions (OfRight 1) 1) small (flow asking_in_vain) (replied (took (flow asking_in_vain) 1 0) 0 (staying_silent small 0 1 1 ((flow asking_in_vain).at 0)))
-unfolding within longest line_start end extent beginning ◌>>◌ step new_world world_step world_run behind placed allowed sum_below sum_links carried
+unfolding within longest line_start end extent beginning ◌>>◌ step new_world world_step world_run world_after placed allowed sum_below sum_links carried
 met_by_silence = falls_short (questions (OfRight 1) 1) small (flow asking_in_vain) (replied (took (flow asking_in_vain) 1 0) 0 (staying_silent small 0 1 1 ((flow asking_in_vain).at 0))) refl refl
 
 pub asked_twice : GoesPast (questions (OfRight 1) 1) small (flow giving_up) (replied (flow giving_up) 1 (asking_again small 1 in_section_1 ((flow giving_up).at 1)))
-unfolding within longest line_start end extent beginning ◌>>◌ step new_world world_step world_run behind placed allowed sum_below sum_links carried
+unfolding within longest line_start end extent beginning ◌>>◌ step new_world world_step world_run world_after placed allowed sum_below sum_links carried
 asked_twice = goes_past (questions (OfRight 1) 1) small (flow giving_up) (replied (flow giving_up) 1 (asking_again small 1 in_section_1 ((flow giving_up).at 1))) refl refl
 
 pub return_comes : TakesHead (flow returning) 0 1 (RouteReturn 1 (only 2))
-unfolding within longest line_start end extent beginning ◌>>◌ step new_world world_step world_run behind
+unfolding within longest line_start end extent beginning ◌>>◌ step new_world world_step world_run world_after
 return_comes = record { head = refl }
 
 pub swallowed : FallsShort (tokens small 1 2) small (flow returning) (replied (took (flow returning) 0 1) 1 (swallowing_return small 1 0 1 (only 2) ((flow returning).at 1)))
-unfolding within longest line_start end extent beginning ◌>>◌ step new_world world_step world_run behind placed allowed sum_below sum_links carried
+unfolding within longest line_start end extent beginning ◌>>◌ step new_world world_step world_run world_after placed allowed sum_below sum_links carried
 swallowed = falls_short (tokens small 1 2) small (flow returning) (replied (took (flow returning) 0 1) 1 (swallowing_return small 1 0 1 (only 2) ((flow returning).at 1))) refl refl

@@ -57,7 +57,7 @@ pub fn no_right_is_asked_for_twice()
         (replied (flow giving_up) 1 (asking_again small 1 in_section_1 ((flow giving_up).at 1))) }
 {}
 
-/// Whatever is delivered behind any list of events, each token of a section in use is then in one place. Where sections
+/// Whatever is delivered after any list of events, each token of a section in use is then in one place. Where sections
 /// that come home stay in use, they are in use and nowhere.
 pub fn no_return_is_swallowed()
     ensures the_rule_keeps { (line : Line) (events : List Event) (answers : List Answer) (w new : World)

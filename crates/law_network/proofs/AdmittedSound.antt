@@ -133,7 +133,7 @@ module _ (line : Line) (w : Flow) (sound : IsFlowSound line w) (a c t number : �
       (λ (other : u ≢ t). sym (put_other k.wait t None u other) ∙ is) (cases_eq u t)
 
   begun_sound : IsMissionAt line c y (begun line place)
-  begun_sound = record { hand = (sound.centres c to).wait_fits t place waits; pool_follows = λ some. cc; pool_away = λ s has. absurd (none_within s has); pool_on = λ s has. absurd (none_within s has); pool_next = λ s d next has. absurd (none_within s has); handing_to = λ h is. cc; handing_number = λ h is. cc; hand_ends = λ s d n next behind come has. begun_ends line c d n s place next (λ e in_hand. (sound.centres c to).wait_home t e (wait_then e ∙ in_hand)) come }
+  begun_sound = record { hand = (sound.centres c to).wait_fits t place waits; pool_follows = λ some. cc; pool_away = λ s has. absurd (none_within s has); pool_on = λ s has. absurd (none_within s has); pool_next = λ s d next has. absurd (none_within s has); handing_to = λ h is. cc; handing_number = λ h is. cc; hand_ends = λ s d n next beyond come has. begun_ends line c d n s place next (λ e in_hand. (sound.centres c to).wait_home t e (wait_then e ∙ in_hand)) come }
 
   at_centre : (m : centre.Mission) → IsMissionAt line c k m → IsMissionAt line c y m
   at_centre m is = record { hand = is.hand; pool_follows = is.pool_follows; pool_away = is.pool_away; pool_on = is.pool_on; pool_next = is.pool_next; handing_to = is.handing_to; handing_number = is.handing_number; hand_ends = is.hand_ends }

@@ -99,8 +99,8 @@ module _ (w : Flow) (a c : ℕ) (f : Body) (takes : TakesHead w a c f) (neutral 
   after_took : (i j t h : ℕ) → after (took w a c) i j t h ≡ after w i j t h
   after_took i j t h = omega (arith, count_took (takes_over t h) (neutral.takes_over t h) j i, count_took (yields t h) (neutral.yields t h) i j)
 
-  chain_behind : (i j t : ℕ) (start end : Option ℕ) → Chain (follows t) (way w i j) start end → Chain (follows t) (way (took w a c) i j) start end
-  chain_behind i j t start end chain = ⊎_elim
+  chain_after : (i j t : ℕ) (start end : Option ℕ) → Chain (follows t) (way w i j) start end → Chain (follows t) (way (took w a c) i j) start end
+  chain_after i j t start end chain = ⊎_elim
       (λ (here : (i ≡ a) × (j ≡ c)). subst₂ (λ x z. Chain (follows t) (way w x z) start end → Chain (follows t) (way (took w a c) x z) start end) (sym here.0) (sym here.1)
       (λ led. let next = chain_took (follows t) w a c f start end takes led in
       subst (λ m. Chain (follows t) (way (took w a c) a c) m end) (same next.0 start (sym next.1 ∙ neutral.follows t start)) next.2) chain)
@@ -112,7 +112,7 @@ module _ (w : Flow) (a c : ℕ) (f : Body) (takes : TakesHead w a c f) (neutral 
 
   pub pairs_took : (i j t : ℕ) → IsPaired w i j t → IsPaired (took w a c) i j t
   pairs_took i j t p = record {
-    chain = chain_behind i j t _ _ p.chain;
+    chain = chain_after i j t _ _ p.chain;
     fresh = λ h above. omega (arith, before_took i j t h, after_took i j t h, p.fresh h above);
     once = λ h. omega (arith, before_took i j t h, p.once h);
     apart = λ h. ⊎_elim (λ (none : before w i j t h ≡ 0). inl (before_took i j t h ∙ none)) (λ (none : after w i j t h ≡ 0). inr (after_took i j t h ∙ none)) (p.apart h);

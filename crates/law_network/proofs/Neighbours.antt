@@ -39,9 +39,9 @@ find_seam test (x ∷ xs) (y ∷ ys) seam is = by_test (test (x, y)) refl is (fi
     by_test true h e later = let same : (x, y) ≡ seam = same_Some (x, y) seam e in record { place = 0; first = ap (λ (s : Seam). Some (s.0)) same; second = ap (λ (s : Seam). Some (s.1)) same; passes = ap test (sym same) ∙ h }
     by_test false h e later = let more = later e in record { place = suc more.place; first = more.first; second = more.second; passes = more.passes }
 
-behind_one : {X : Type 0} (xs : List X) (i : ℕ) → slice_get (drop 1 xs) i ≡ slice_get xs (suc i)
-behind_one [] i = refl
-behind_one (x ∷ xs) i = refl
+after_one : {X : Type 0} (xs : List X) (i : ℕ) → slice_get (drop 1 xs) i ≡ slice_get xs (suc i)
+after_one [] i = refl
+after_one (x ∷ xs) i = refl
 
 differ : (a b : ℕ) → not (a == b) ≡ true → a ≢ b
 differ a b is same = elim (eqb_tells a b) [ inl e ↦ let wrong : false ≡ true = sym (ap not e.0) ∙ is in cc | inr e ↦ e.1 same ]
@@ -98,7 +98,7 @@ module _ (line : Line) (ok : IsLine line) (a track b : ℕ) (next : next_centre 
             found = e;
             at = found.place;
             first = found.first;
-            second = sym (behind_one line.sections found.place) ∙ found.second;
+            second = sym (after_one line.sections found.place) ∙ found.second;
             one_track = eqb-true s.0.track s.1.track on.0;
             track_is = eqb-true s.0.track track on.1;
             from = eqb-true s.0.home c more.1;

@@ -1,4 +1,4 @@
--- Frames keep their numbers: what a step sends on a link is numbered behind what was sent before.
+-- Frames keep their numbers: what a step sends on a link is numbered after what was sent before.
 use Rattle.std.proofs.Common.{◌≡◌, ℕ, zero, suc, ◌+◌, ◌-◌, ◌≤◌, ◌==◌, Bool, true, false, if◌then◌else◌, List, [], ◌∷◌, length, map, Option, Some, None, Ok, nat_le, slice_get, sym, ap, ◌∙◌, subst, inl, inr, arith, ⊎_elim}
 use Rattle.std.proofs.lemmas.Bool.{cond-true, cond-false}
 use Rattle.std.proofs.lemmas.Bool.Decides.{eqb_tells}
@@ -20,7 +20,7 @@ use Rattle.law_base.proofs.Lists.{get_append}
 
 -- ## A centre
 
--- behind an effect of a step
+-- after an effect of a step
 pub numbers_after : (stamp : ℕ) (k : Centre) (e : Effect) → HasNumbers k → HasNumbers (state_after stamp k e)
 numbers_after stamp k e old = record {
   each = λ d i f is. ⊎_elim

@@ -23,7 +23,7 @@ one_message t c group body words v = record { sayings = saying_of t c group body
 abbrev pub said_by : Reply → Said
 said_by r = record { sayings = r.sayings; words = r.words }
 
--- behind the reply of centre c
+-- after the reply of centre c
 abbrev pub replied : Flow → ℕ → Reply → Flow
 replied w c r = acted w c r.state r.frames
 

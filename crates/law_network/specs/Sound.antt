@@ -4,7 +4,7 @@ use Rattle.law_counting.specs.Sums.{one_if}
 use Rattle.law_counting.specs.Network.{IsCounted, EachOnTheWay}
 use Rattle.law_counting.specs.Resource.{IsWithinCap, IsAtCap}
 use Rattle.rbc_spec.specs.Maps.{has}
-use Rattle.rbc_spec.specs.SectionRuns.{SectionRun, most_in_hand, within, behind, is_empty}
+use Rattle.rbc_spec.specs.SectionRuns.{SectionRun, most_in_hand, within, next_after, is_empty}
 use Rattle.rbc_spec.specs.Line.{Line, is_centre, is_home, section_of_group, next_centre, train_number}
 use Rattle.rbc_spec.specs.Sections.{is_on}
 use Rattle.rbc_spec.specs.Place.{Place, covered, group_start}
@@ -17,7 +17,7 @@ use Rattle.law_network.specs.Pairs.{IsPaired}
 
 -- ## Of one centre
 
--- a hand of 1 to 32 sections of the place's track, with the place's group on it and not behind the front
+-- a hand of 1 to 32 sections of the place's track, with the place's group on it and not in advance of the front
 pub record IsHandAt (line : Line) (place : Place) (hand : SectionRun) : Type 0 where
   pub some : 1 ≤ hand.count
   pub few : hand.count ≤ most_in_hand
@@ -34,10 +34,10 @@ abbrev pub HasComeTo : Line → ℕ → Mission → Type 0
 HasComeTo line d m = (is_some m.handing ≡ true) ⊎ ((e : ℕ) × (within m.hand e ≡ true) × (is_home line d e ≡ true))
 
 -- a mission at centre c: its pool follows the hand at once, on its track, and is of the next centre; a handover that it
--- announced is to the next centre, and where one may stand no section of the hand is of the centre behind that
+-- announced is to the next centre, and where one may stand no section of the hand is of the centre beyond that
 pub record IsMissionAt (line : Line) (c : ℕ) (k : Centre) (m : Mission) : Type 0 where
   pub hand : IsHandAt line m.place m.hand
-  pub pool_follows : is_empty m.pool ≡ false → m.pool.first ≡ behind m.hand
+  pub pool_follows : is_empty m.pool ≡ false → m.pool.first ≡ next_after m.hand
   pub pool_away : (s : ℕ) → within m.pool s ≡ true → is_home line c s ≡ false
   pub pool_on : (s : ℕ) → within m.pool s ≡ true → is_on line m.place.track s ≡ true
   pub pool_next : (s d : ℕ) → next_centre line c m.place.track ≡ Some d → within m.pool s ≡ true
@@ -68,7 +68,7 @@ pub record IsCentreSound (line : Line) (c : ℕ) (k : Centre) : Type 0 where
 -- ## Of what is on the way
 
 -- a Yield from a to b carries a place of the line with its hand, to the next centre, and no section of the hand is of
--- the one behind that
+-- the one beyond that
 pub record IsYieldSound (line : Line) (a b t : ℕ) (carried : YieldedPlace) (hand : SectionRun) : Type 0 where
   pub place : Place
   pub is_carried : carried ≡ yielded_place place

@@ -67,7 +67,7 @@ pub fn the_next_centre_is_a_neighbour()
     ensures { (line : Line) → IsLine line → AreNeighbours line }
 {}
 
-/// An act that does nothing leads nowhere else, and an act behind another leads on from where that one led.
+/// An act that does nothing leads nowhere else, and an act after another leads on from where that one led.
 pub fn one_act_after_another()
     ensures none { (line : Line) (w : Flow) (c : ℕ) (k : Centre) (v : LineState)
         → IsFlowSound line (replied w c (rest k)) → Shows line (replied w c (rest k)) v → Leads line w c (rest k) v }

@@ -3,7 +3,7 @@ use Rattle.std.proofs.Common.{◌≡◌, ⊎_elim, inl, inr, ◌<◌, ℕ, ◌+�
 use Rattle.std.specs.Option.{option_map_or}
 use Rattle.std.proofs.lemmas.Bool.{and_parts, and_from, cases_lt, le-leb, leb-true, eqb-true}
 use Rattle.rbc_spec.specs.Maps.{put}
-use Rattle.rbc_spec.specs.SectionRuns.{SectionRun, most_in_hand, within, behind, is_empty, part_from}
+use Rattle.rbc_spec.specs.SectionRuns.{SectionRun, most_in_hand, within, next_after, is_empty, part_from}
 use Rattle.rbc_spec.specs.Line.{Line, is_home, start, end, next_centre}
 use Rattle.rbc_spec.specs.Sections.{is_on, nid_rbc}
 use Rattle.rbc_spec.specs.Place.{Place, Position, group_start, has_room, place_on}
@@ -57,12 +57,12 @@ module _ (line : Line) (c : ℕ) (y : Tally) (is : IsTally line c y) where
       (λ so. fair_announce t m.place.group d m k) (λ so. fair_rest line c y k)) (λ none. fair_rest line c y k)
 
   fair_ask : (t d : ℕ) (m : Mission) (k : Centre) → Makes line c y is k (ask_route t d m k)
-  fair_ask t d m k = fair_both line c y (send d (RouteAsk t (behind m.hand) (min (most_in_hand - m.hand.count) (512 - behind m.hand)))) (become (λ j. record j { route_ask = put j.route_ask t (Some (behind m.hand)) })) k
-      (sends_plain line c y is d (RouteAsk t (behind m.hand) (min (most_in_hand - m.hand.count) (512 - behind m.hand))) k refl) (fair_plain line c y _ _ refl refl refl)
+  fair_ask t d m k = fair_both line c y (send d (RouteAsk t (next_after m.hand) (min (most_in_hand - m.hand.count) (512 - next_after m.hand)))) (become (λ j. record j { route_ask = put j.route_ask t (Some (next_after m.hand)) })) k
+      (sends_plain line c y is d (RouteAsk t (next_after m.hand) (min (most_in_hand - m.hand.count) (512 - next_after m.hand))) k refl) (fair_plain line c y _ _ refl refl refl)
 
   pub fair_ask_if : (t d : ℕ) (k : Centre) → Makes line c y is k (ask_route_if_due line t d k)
   fair_ask_if t d k = fair_or line c y (k.mission t) _ k (rest k)
-      (λ m has. fair_if line c y (((is_home line d (behind m.hand) && is_on line m.place.track (behind m.hand)) && nat_lt m.hand.count most_in_hand) && (is_empty m.pool && is_none (k.route_ask t))) k
+      (λ m has. fair_if line c y (((is_home line d (next_after m.hand) && is_on line m.place.track (next_after m.hand)) && nat_lt m.hand.count most_in_hand) && (is_empty m.pool && is_none (k.route_ask t))) k
       (ask_route t d m k) (rest k) (λ so. fair_ask t d m k) (λ so. fair_rest line c y k)) (λ none. fair_rest line c y k)
 
   pub fair_border : (t d : ℕ) (k : Centre) → Makes line c y is k (at_border line c t d k)
@@ -80,26 +80,26 @@ module _ (line : Line) (c : ℕ) (y : Tally) (is : IsTally line c y) where
     abbrev pool_left : SectionRun
     pool_left = (extended_by r m).pool
 
-    pool_less : (b : Bool) → part y (if b then m.pool else part_from (behind r) m.pool) ≤ part y m.pool
+    pool_less : (b : Bool) → part y (if b then m.pool else part_from (next_after r) m.pool) ≤ part y m.pool
     pool_less true = omega arith
-    pool_less false = from_part y (behind r) m.pool
+    pool_less false = from_part y (next_after r) m.pool
 
     -- a section that came into the hand has left the pool
     pool_left_none : within r y.section ≡ true → within m.pool y.section ≡ true → part y pool_left ≡ 0
     pool_left_none in_hand in_pool = by_empty (is_empty m.pool) refl
       where
-        not_left : (b : Bool) → within (part_from (behind r) m.pool) y.section ≡ b → (if b then y.weight else 0) ≡ 0
+        not_left : (b : Bool) → within (part_from (next_after r) m.pool) y.section ≡ b → (if b then y.weight else 0) ≡ 0
         not_left false left = refl
-        not_left true left = absurd (let low = leb-true (behind r) y.section (and_parts (within m.pool y.section) (nat_le (behind r) y.section) (sym (within_part_from m.pool (behind r) y.section) ∙ left)).1 in
+        not_left true left = absurd (let low = leb-true (next_after r) y.section (and_parts (within m.pool y.section) (nat_le (next_after r) y.section) (sym (within_part_from m.pool (next_after r) y.section) ∙ left)).1 in
             let ends = within_true r y.section in_hand in omega (arith, low, ends.1))
 
-        by_empty : (b : Bool) → is_empty m.pool ≡ b → part y (if b then m.pool else part_from (behind r) m.pool) ≡ 0
-        by_empty false some = not_left (within (part_from (behind r) m.pool) y.section) refl
+        by_empty : (b : Bool) → is_empty m.pool ≡ b → part y (if b then m.pool else part_from (next_after r) m.pool) ≡ 0
+        by_empty false some = not_left (within (part_from (next_after r) m.pool) y.section) refl
         by_empty true none = absurd (let ends = within_true m.pool y.section in_pool in let nothing : m.pool.count ≡ 0 = eqb-true m.pool.count 0 none in omega (arith, ends.0, ends.1, nothing))
 
     follows : within r y.section ≡ true → (is_free line c k y.section || within m.pool y.section) ≡ true
     follows in_hand =
-        let may = (longest_is (may_follow line c k m) (behind m.hand) (most_in_hand - m.hand.count)).each y.section in_hand in
+        let may = (longest_is (may_follow line c k m) (next_after m.hand) (most_in_hand - m.hand.count)).each y.section in_hand in
         (and_parts (is_on line m.place.track y.section) (is_free line c k y.section || within m.pool y.section)
         (and_parts (is_on line m.place.track y.section && (is_free line c k y.section || within m.pool y.section)) (has_room line m.place (end line y.section)) may).0).1
 
@@ -125,19 +125,19 @@ module _ (line : Line) (c : ℕ) (y : Tally) (is : IsTally line c y) where
 
     -- what was in the pool is in the hand's extension, or is left in the pool
     pool_back : Follows m → part y m.pool ≤ part y r + part y pool_left
-    pool_back behind_hand = by_empty (is_empty m.pool) refl
+    pool_back after_hand = by_empty (is_empty m.pool) refl
       where
-        by_empty : (b : Bool) → is_empty m.pool ≡ b → part y m.pool ≤ part y r + part y (if b then m.pool else part_from (behind r) m.pool)
+        by_empty : (b : Bool) → is_empty m.pool ≡ b → part y m.pool ≤ part y r + part y (if b then m.pool else part_from (next_after r) m.pool)
         by_empty true none = omega arith
-        by_empty false some = covered_parts y r (part_from (behind r) m.pool) m.pool (λ in_pool. ⊎_elim
-            (λ (low : y.section < behind r). inl (within_from r y.section (omega (arith, (within_true m.pool y.section in_pool).0, behind_hand some)) low))
-            (λ (high : behind r ≤ y.section). inr (within_part_from m.pool (behind r) y.section ∙ and_from (within m.pool y.section) (nat_le (behind r) y.section) in_pool (le-leb (behind r) y.section high)))
-            (cases_lt y.section (behind r)))
+        by_empty false some = covered_parts y r (part_from (next_after r) m.pool) m.pool (λ in_pool. ⊎_elim
+            (λ (low : y.section < next_after r). inl (within_from r y.section (omega (arith, (within_true m.pool y.section in_pool).0, after_hand some)) low))
+            (λ (high : next_after r ≤ y.section). inr (within_part_from m.pool (next_after r) y.section ∙ and_from (within m.pool y.section) (nat_le (next_after r) y.section) in_pool (le-leb (next_after r) y.section high)))
+            (cases_lt y.section (next_after r)))
 
     granted_back : y.exact ≡ true → Follows m → mission_of y (k.mission t) ≡ whole y m.hand m.pool
         → y.entry (if within r y.section && is_open e then Taken t else e) + mission_of y (k.mission y.train) ≤ y.entry e + mission_of y (put k.mission t (Some (extended_by r m)) y.train)
-    granted_back so behind_hand has = mission_back line c y k t (Some (extended_by r m)) (y.entry e) (y.entry (if within r y.section && is_open e then Taken t else e))
-        (λ here. omega (arith, has, pool_back behind_hand, booked_back line c y is so (Taken t) r e refl, joined_back y m.hand r (λ some more. refl))) (λ other. booked_back line c y is so (Taken t) r e refl)
+    granted_back so after_hand has = mission_back line c y k t (Some (extended_by r m)) (y.entry e) (y.entry (if within r y.section && is_open e then Taken t else e))
+        (λ here. omega (arith, has, pool_back after_hand, booked_back line c y is so (Taken t) r e refl, joined_back y m.hand r (λ some more. refl))) (λ other. booked_back line c y is so (Taken t) r e refl)
 
     granted_law : mission_of y (k.mission t) ≡ whole y m.hand m.pool
         → y.entry e + mission_of y (put k.mission t (Some (extended_by r m)) y.train) ≤ y.entry (if within r y.section && is_open e then Taken t else e) + mission_of y (k.mission y.train)
@@ -148,16 +148,16 @@ module _ (line : Line) (c : ℕ) (y : Tally) (is : IsTally line c y) where
   pub fair_extend : (t : ℕ) (m : Mission) (k : Centre) → mission_of y (k.mission t) ≡ whole y m.hand m.pool → Follows m → let more : SectionRun = extension line c k m in
       Makes line c y is k (((booked is_open (Taken t) more >> set_mission t (Some (extended_by more m))) >> say t m.place.group (Authority (authority line (extended_by more m)))) k)
   unfolding ◌>>◌
-  fair_extend t m k has behind_hand = let more : SectionRun = extension line c k m in
-      eased line c y 0 0 k _ (omega (arith, granted_law t m k has)) (λ so. omega (arith, granted_back t m k so behind_hand has))
+  fair_extend t m k has after_hand = let more : SectionRun = extension line c k m in
+      eased line c y 0 0 k _ (omega (arith, granted_law t m k has)) (λ so. omega (arith, granted_back t m k so after_hand has))
       (fair_then line c y (booked is_open (Taken t) more >> set_mission t (Some (extended_by more m))) (say t m.place.group (Authority (authority line (extended_by more m)))) k
       (fair_then line c y (booked is_open (Taken t) more) (set_mission t (Some (extended_by more m))) k (fair_booked line c y is_open (Taken t) more k) (fair_set line c y t (Some (extended_by more m)) _))
       (fair_say line c y t m.place.group (Authority (authority line (extended_by more m))) _))
 
   pub fair_grant : (t : ℕ) (m : Mission) (k : Centre) → mission_of y (k.mission t) ≡ whole y m.hand m.pool → Follows m → Makes line c y is k (grant line c t m k)
   unfolding ◌>>◌
-  fair_grant t m k has behind_hand = fair_both line c y ((booked is_open (Taken t) more >> set_mission t (Some (extended_by more m))) >> say t m.place.group (Authority (authority line (extended_by more m))))
-      (option_map_or (at_border line c t) (next_centre line c m.place.track) rest) k (fair_extend t m k has behind_hand) (borders (next_centre line c m.place.track) _)
+  fair_grant t m k has after_hand = fair_both line c y ((booked is_open (Taken t) more >> set_mission t (Some (extended_by more m))) >> say t m.place.group (Authority (authority line (extended_by more m))))
+      (option_map_or (at_border line c t) (next_centre line c m.place.track) rest) k (fair_extend t m k has after_hand) (borders (next_centre line c m.place.track) _)
     where
       more : SectionRun
       more = extension line c k m

@@ -1,7 +1,7 @@
 pub mod Tally
 pub mod Ready
 pub mod Parts
-pub mod Behind
+pub mod After
 pub mod Leaving
 pub mod Starts
 pub mod Borders

@@ -7,7 +7,7 @@ use Rattle.law_counting.specs.Resource.{carried, sent_by}
 use Rattle.law_counting.proofs.Resource.{sent_none, carried_none, carried_more}
 use Rattle.law_base.proofs.Standstill.{rests_or_cuts}
 use Rattle.rbc_spec.specs.Maps.{put, has}
-use Rattle.rbc_spec.specs.SectionRuns.{SectionRun, no_run, within, behind, is_empty, part_before, part_from, joined}
+use Rattle.rbc_spec.specs.SectionRuns.{SectionRun, no_run, within, next_after, is_empty, part_before, part_from, joined}
 use Rattle.rbc_spec.specs.Line.{Line, end, is_centre}
 use Rattle.rbc_spec.specs.Place.{Place, Position, is_cleared, place_on}
 use Rattle.rbc_spec.specs.Message.{TrainMessage, TrainBody, TrainData, Request, Report, ShorteningGranted, ShorteningRejected, EndOfMission, InitiationOfSession, TerminationOfSession, StartOfMission, SessionEstablished, DataAcknowledged, SystemVersion, TerminationAcknowledged, unknown_group}
@@ -15,14 +15,14 @@ use Rattle.rbc_spec.specs.Frame.{TakingOver}
 use Rattle.rbc_spec.specs.Centre.{Centre, Mission, Handing, Proposal, Expectation, Opened, Up}
 use Rattle.rbc_spec.specs.Acts.{Act, rest, ◌>>◌, say, returned, leave, set_mission, change_mission, with_mission, return_pool, cancel, close, part_at}
 use Rattle.rbc_spec.specs.Rules.{set_phase, close_session, cleared, clear, report_here, take_over, report, end_mission, cut, granted, answered, stand_still}
-use Rattle.law_base.proofs.Runs.{within_true, within_from, within_behind, within_part_from, parts_count}
+use Rattle.law_base.proofs.Runs.{within_true, within_from, within_after, within_part_from, parts_count}
 use Rattle.law_base.proofs.Longest.{longest_is}
 use Rattle.law_network.specs.Flow.{centre_count}
 use Rattle.law_no_copy.proofs.Tally.{Tally, IsTally, Fair, part, whole, mission_of, gone, alike, fair_rest, fair_then, fair_both, eased, fair_or, fair_set, fair_change, fair_say, fair_plain, mission_put, mission_back}
 use Rattle.law_no_copy.proofs.Parts.{Follows, two_parts, covered_parts, cut_parts, cut_back, joined_part, joined_back, in_joined, none_part, empty_part, tail_follows, gone_here, gone_other, away_part, part_gone}
 use Rattle.law_no_copy.proofs.Leaving.{Makes, IsOnTrack, fair_returned, fair_cancel, fair_leave, left_law, left_back, leave_close, leave_set}
 use Rattle.law_no_copy.proofs.Ready.{Ready, Stands, stands_again}
-use Rattle.law_no_copy.proofs.Behind.{ready_reported, follows_reported, ready_both}
+use Rattle.law_no_copy.proofs.After.{ready_reported, follows_reported, ready_both}
 use Rattle.law_no_copy.proofs.Starts.{fair_close_session, fair_start}
 use Rattle.law_no_copy.proofs.Borders.{fair_request}
 
@@ -33,19 +33,19 @@ module _ (line : Line) (c : ℕ) (y : Tally) (is : IsTally line c y) where
 
   -- ## Reports
 
-  cleared_parts : (place : Place) (m : Mission) → part y (cleared line place m) + part y (part_from (behind (cleared line place m)) m.hand) ≤ part y m.hand
-  cleared_parts place m = two_parts y (cleared line place m) (part_from (behind (cleared line place m)) m.hand) m.hand
+  cleared_parts : (place : Place) (m : Mission) → part y (cleared line place m) + part y (part_from (next_after (cleared line place m)) m.hand) ≤ part y m.hand
+  cleared_parts place m = two_parts y (cleared line place m) (part_from (next_after (cleared line place m)) m.hand) m.hand
       (λ in_r. let ends = within_true (cleared line place m) y.section in_r in within_from m.hand y.section ends.0 (omega (arith, ends.1, (longest_is (is_cleared line place) m.hand.first m.hand.count).fits)))
-      (λ in_rest. let both = and_parts (within m.hand y.section) (nat_le (behind (cleared line place m)) y.section) (sym (within_part_from m.hand (behind (cleared line place m)) y.section) ∙ in_rest) in
-      (both.0, within_behind (cleared line place m) y.section (leb-true (behind (cleared line place m)) y.section both.1)))
+      (λ in_rest. let both = and_parts (within m.hand y.section) (nat_le (next_after (cleared line place m)) y.section) (sym (within_part_from m.hand (next_after (cleared line place m)) y.section) ∙ in_rest) in
+      (both.0, within_after (cleared line place m) y.section (leb-true (next_after (cleared line place m)) y.section both.1)))
 
-  cleared_back : (place : Place) (m : Mission) → part y m.hand ≤ part y (cleared line place m) + part y (part_from (behind (cleared line place m)) m.hand)
-  cleared_back place m = covered_parts y (cleared line place m) (part_from (behind (cleared line place m)) m.hand) m.hand
+  cleared_back : (place : Place) (m : Mission) → part y m.hand ≤ part y (cleared line place m) + part y (part_from (next_after (cleared line place m)) m.hand)
+  cleared_back place m = covered_parts y (cleared line place m) (part_from (next_after (cleared line place m)) m.hand) m.hand
       (λ in_hand. ⊎_elim
-      (λ (low : y.section < behind (cleared line place m)). inl (within_from (cleared line place m) y.section (within_true m.hand y.section in_hand).0 low))
-      (λ (high : behind (cleared line place m) ≤ y.section). inr (within_part_from m.hand (behind (cleared line place m)) y.section
-      ∙ and_from (within m.hand y.section) (nat_le (behind (cleared line place m)) y.section) in_hand (le-leb (behind (cleared line place m)) y.section high)))
-      (cases_lt y.section (behind (cleared line place m))))
+      (λ (low : y.section < next_after (cleared line place m)). inl (within_from (cleared line place m) y.section (within_true m.hand y.section in_hand).0 low))
+      (λ (high : next_after (cleared line place m) ≤ y.section). inr (within_part_from m.hand (next_after (cleared line place m)) y.section
+      ∙ and_from (within m.hand y.section) (nat_le (next_after (cleared line place m)) y.section) in_hand (le-leb (next_after (cleared line place m)) y.section high)))
+      (cases_lt y.section (next_after (cleared line place m))))
 
   -- where what is lost is counted, the mission of the train stands
   abbrev pub IsStanding : ℕ → Mission → Centre → Type 0
@@ -56,7 +56,7 @@ module _ (line : Line) (c : ℕ) (y : Tally) (is : IsTally line c y) where
 
   -- a hand's part, with the pool, is on the mission's track
   joined_on : (t : ℕ) (a : SectionRun) (m : Mission) (k : Centre) → IsStanding t m k → (within a y.section ≡ true → within m.hand y.section ≡ true)
-      → (is_empty a ≡ false → is_empty m.pool ≡ false → m.pool.first ≡ behind a) → IsOnTrack line c y is t m.place.track (joined a m.pool)
+      → (is_empty a ≡ false → is_empty m.pool ≡ false → m.pool.first ≡ next_after a) → IsOnTrack line c y is t m.place.track (joined a m.pool)
   joined_on t a m k stands in_hand follows so here in_both = ⊎_elim (λ (p : within a y.section ≡ true). (stands so here).hand_on (in_hand p)) (λ (p : within m.pool y.section ≡ true). (stands so here).pool_on p)
       (in_joined y a m.pool follows in_both)
 
@@ -67,11 +67,11 @@ module _ (line : Line) (c : ℕ) (y : Tally) (is : IsTally line c y) where
       in_hand in_r = let ends = within_true (cleared line place m) y.section in_r in within_from m.hand y.section ends.0 (omega (arith, ends.1, (longest_is (is_cleared line place) m.hand.first m.hand.count).fits))
 
       by_count : (b : Bool) → Makes line c y is k ((if b then (leave line c t m.place.track (joined m.hand m.pool) >> close line c t m)
-          else (leave line c t m.place.track (cleared line place m) >> set_mission t (Some (record m { place = place; hand = part_from (behind (cleared line place m)) m.hand })))) k)
+          else (leave line c t m.place.track (cleared line place m) >> set_mission t (Some (record m { place = place; hand = part_from (next_after (cleared line place m)) m.hand })))) k)
       by_count true = leave_close line c y is t m.place.track (joined m.hand m.pool) m k (omega (arith, has, joined_part y m.hand m.pool (λ some more. follows more)))
           (λ so. omega (arith, has, joined_back y m.hand m.pool (λ some more. follows more)))
           (joined_on t m.hand m k stands (λ h. h) (λ some more. follows more)) (λ so here. let at = stands so here in (at.alone, at.to_registrar))
-      by_count false = leave_set line c y is t m.place.track (cleared line place m) (Some (record m { place = place; hand = part_from (behind (cleared line place m)) m.hand })) k
+      by_count false = leave_set line c y is t m.place.track (cleared line place m) (Some (record m { place = place; hand = part_from (next_after (cleared line place m)) m.hand })) k
           (omega (arith, has, cleared_parts place m)) (λ so. omega (arith, has, cleared_back place m)) (λ so here in_r. (stands so here).hand_on (in_hand in_r))
 
   pub fair_report_here : (t : ℕ) (position : Position) (m : Mission) (k : Centre) → Has t m k → Follows m → IsStanding t m k → Makes line c y is k (report_here line c t position m k)

@@ -1,7 +1,7 @@
 -- What parts of a hand count, and sections that leave a mission.
 use Rattle.std.proofs.Common.{◌≡◌, ◌≢◌, ◌⊎◌, inl, inr, ℕ, ◌+◌, ◌-◌, ◌<◌, ◌≤◌, ◌==◌, ◌&&◌, ◌||◌, Bool, true, false, if◌then◌else◌, max, nat_lt, nat_le, refl, sym, ap, ◌∙◌, subst, arith, ⊎_elim, ltb-true, leb-true, eqb-true, eq-eqb}
 use Rattle.std.proofs.lemmas.Bool.{cases_eq, cases_lt, and_parts, and_from, ne_eqb, eqb-false, lt-ltb, le-leb}
-use Rattle.rbc_spec.specs.SectionRuns.{SectionRun, no_run, within, behind, is_empty, part_before, part_from, joined}
+use Rattle.rbc_spec.specs.SectionRuns.{SectionRun, no_run, within, next_after, is_empty, part_before, part_from, joined}
 use Rattle.rbc_spec.specs.Line.{Line, is_home}
 use Rattle.rbc_spec.specs.Centre.{Centre, Entry, Shut, Open, Taken, Out, Mission, is_open, is_unused, is_taken_for, is_used_for, is_out_for}
 use Rattle.rbc_spec.specs.Acts.{freed}
@@ -10,7 +10,7 @@ use Rattle.law_no_copy.proofs.Tally.{Tally, IsTally, part, part_away, gone}
 
 -- the pool follows the hand at once, if there is one
 abbrev pub Follows : Mission → Type 0
-Follows m = is_empty m.pool ≡ false → m.pool.first ≡ behind m.hand
+Follows m = is_empty m.pool ≡ false → m.pool.first ≡ next_after m.hand
 
 -- an entry that is open is in no use
 pub open_unused : (e : Entry) → is_open e ≡ true → is_unused e ≡ true
@@ -69,7 +69,7 @@ module _ (y : Tally) where
   from_part cut r = less_part (part_from cut r) r (λ is. (and_parts (within r y.section) (nat_le cut y.section) (sym (within_part_from r cut y.section) ∙ is)).0)
 
   -- a run and one that follows it
-  pub joined_part : (a b : SectionRun) → (is_empty a ≡ false → is_empty b ≡ false → b.first ≡ behind a) → part y (joined a b) ≤ part y a + part y b
+  pub joined_part : (a b : SectionRun) → (is_empty a ≡ false → is_empty b ≡ false → b.first ≡ next_after a) → part y (joined a b) ≤ part y a + part y b
   joined_part a b follows = by_empty (is_empty b) refl (is_empty a) refl
     where
       of_two : (p q : Bool) → (if p || q then y.weight else 0) ≤ (if p then y.weight else 0) + (if q then y.weight else 0)
@@ -101,7 +101,7 @@ module _ (y : Tally) where
       (λ (high : cut ≤ y.section). inr (within_part_from r cut y.section ∙ and_from (within r y.section) (nat_le cut y.section) in_r (le-leb cut y.section high)))
       (cases_lt y.section cut))
 
-  pub joined_back : (a b : SectionRun) → (is_empty a ≡ false → is_empty b ≡ false → b.first ≡ behind a) → part y a + part y b ≤ part y (joined a b)
+  pub joined_back : (a b : SectionRun) → (is_empty a ≡ false → is_empty b ≡ false → b.first ≡ next_after a) → part y a + part y b ≤ part y (joined a b)
   joined_back a b follows = by_empty (is_empty b) refl (is_empty a) refl
     where
       of_two : (p q : Bool) → (p ≡ true → q ≡ true → ⊥) → (if p then y.weight else 0) + (if q then y.weight else 0) ≤ (if p || q then y.weight else 0)
@@ -119,7 +119,7 @@ module _ (y : Tally) where
       )
 
   -- what is in neither of two is not in both joined
-  pub out_of_joined : (a b : SectionRun) → (is_empty a ≡ false → is_empty b ≡ false → b.first ≡ behind a) → within a y.section ≡ false → within b y.section ≡ false → within (joined a b) y.section ≡ false
+  pub out_of_joined : (a b : SectionRun) → (is_empty a ≡ false → is_empty b ≡ false → b.first ≡ next_after a) → within a y.section ≡ false → within b y.section ≡ false → within (joined a b) y.section ≡ false
   out_of_joined a b follows out_a out_b = by_empty (is_empty b) refl (is_empty a) refl
     where
       by_empty : (e : Bool) → is_empty b ≡ e → (f : Bool) → is_empty a ≡ f → within (joined a b) y.section ≡ false
@@ -128,7 +128,7 @@ module _ (y : Tally) where
       by_empty false some false is = within_joined a b y.section (follows is some) ∙ ap (λ z. z || within b y.section) out_a ∙ out_b
 
   -- what is in both joined is in one
-  pub in_joined : (a b : SectionRun) → (is_empty a ≡ false → is_empty b ≡ false → b.first ≡ behind a) → within (joined a b) y.section ≡ true → (within a y.section ≡ true) ⊎ (within b y.section ≡ true)
+  pub in_joined : (a b : SectionRun) → (is_empty a ≡ false → is_empty b ≡ false → b.first ≡ next_after a) → within (joined a b) y.section ≡ true → (within a y.section ≡ true) ⊎ (within b y.section ≡ true)
   in_joined a b follows is = by_parts (within a y.section) refl (within b y.section) refl
     where
       by_parts : (p : Bool) → within a y.section ≡ p → (q : Bool) → within b y.section ≡ q → (p ≡ true) ⊎ (q ≡ true)
@@ -137,11 +137,11 @@ module _ (y : Tally) where
       by_parts false in_a false in_b = absurd (let wrong : true ≡ false = sym is ∙ out_of_joined a b follows in_a in_b in cc)
 
   -- the tail of a hand, with its pool
-  pub tail_follows : (cut : ℕ) (m : Mission) → Follows m → is_empty (part_from cut m.hand) ≡ false → is_empty m.pool ≡ false → m.pool.first ≡ behind (part_from cut m.hand)
+  pub tail_follows : (cut : ℕ) (m : Mission) → Follows m → is_empty (part_from cut m.hand) ≡ false → is_empty m.pool ≡ false → m.pool.first ≡ next_after (part_from cut m.hand)
   tail_follows cut m follows some pool = let more = eqb-false (part_from cut m.hand).count 0 some in follows pool ∙ ends (max m.hand.first cut) more
     where
-      ends : (x : ℕ) → behind m.hand - x ≢ 0 → behind m.hand ≡ x + (behind m.hand - x)
-      ends x more = ⊎_elim (λ (none : behind m.hand - x ≡ 0). absurd (more none)) (λ (some : behind m.hand - x ≢ 0). over x (behind m.hand) some) (cases_eq (behind m.hand - x) 0)
+      ends : (x : ℕ) → next_after m.hand - x ≢ 0 → next_after m.hand ≡ x + (next_after m.hand - x)
+      ends x more = ⊎_elim (λ (none : next_after m.hand - x ≡ 0). absurd (more none)) (λ (some : next_after m.hand - x ≢ 0). over x (next_after m.hand) some) (cases_eq (next_after m.hand - x) 0)
         where
           over : (p q : ℕ) → q - p ≢ 0 → q ≡ p + (q - p)
           over p q some = omega (arith, some)

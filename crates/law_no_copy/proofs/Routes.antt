@@ -2,7 +2,7 @@
 use Rattle.std.proofs.Common.{◌≡◌, ◌≢◌, ℕ, ◌+◌, ◌≤◌, ◌==◌, ◌&&◌, not, nat_le, Bool, true, false, if◌then◌else◌, is_some, Option, Some, None, option_map, refl, sym, ◌∙◌, subst, arith, ⊎_elim}
 use Rattle.std.proofs.lemmas.Bool.{cases_eq, and_parts, and_from, ne_eqb}
 use Rattle.rbc_spec.specs.Maps.{put, has}
-use Rattle.rbc_spec.specs.SectionRuns.{SectionRun, within, behind, is_empty, part_before, part_from, all_of}
+use Rattle.rbc_spec.specs.SectionRuns.{SectionRun, within, next_after, is_empty, part_before, part_from, all_of}
 use Rattle.rbc_spec.specs.Line.{Line, is_home, section}
 use Rattle.rbc_spec.specs.Sections.{is_on}
 use Rattle.rbc_spec.specs.Frame.{RouteInfo, RouteReturn}
@@ -95,7 +95,7 @@ module _ (line : Line) (c : ℕ) (y : Tally) (is : IsTally line c y) where
     where
       by_mission : (o : Option Mission) → has (is_wanted line r) o ≡ true → mission_of y o + part y r ≤ mission_of y (option_map {T = Mission} {U = Mission} (λ m. record m { pool = r }) o)
       by_mission None h = cc
-      by_mission (Some m) h = omega (arith, empty_part y m.pool (and_parts (not m.is_ended) (is_empty m.pool) (and_parts ((r.first == behind m.hand) && is_on line m.place.track r.first) (not m.is_ended && is_empty m.pool) h).1).1)
+      by_mission (Some m) h = omega (arith, empty_part y m.pool (and_parts (not m.is_ended) (is_empty m.pool) (and_parts ((r.first == next_after m.hand) && is_on line m.place.track r.first) (not m.is_ended && is_empty m.pool) h).1).1)
 
   pub sent_all : y.exact ≡ true → (d t : ℕ) (r : SectionRun) → y.res.inside d c (RouteInfo t r) ≤ y.res.inside c d (RouteReturn t r)
   sent_all so d t r = ⊎_elim (λ (here : t ≡ y.train). subst (λ v. y.res.inside d c (RouteInfo v r) ≤ y.res.inside c d (RouteReturn v r)) (sym here) ((is.back so).told_back d r))

@@ -71,7 +71,7 @@ pub fn what_a_sound_flow_brings()
         → is_looked_for line c a (w.at c) f ≡ true }
 {}
 
-/// So no event of a world loses a right or a token of a section, and behind any list of events none is lost.
+/// So no event of a world loses a right or a token of a section, and after any list of events none is lost.
 pub fn nothing_is_ever_lost()
     ensures step { (line : Line) (w : World) (event : world.Event) (answer : Answer) (new : World) → IsLine line
         → IsWorldSound line w

@@ -6,7 +6,7 @@ use Rattle.std.proofs.lemmas.List.Elements.{All-nil, All-cons, All-append}
 use Rattle.law_counting.specs.Sums.{one_if}
 use Rattle.law_counting.proofs.Sums.{put_same, put_other}
 use Rattle.rbc_spec.specs.Maps.{put, has}
-use Rattle.rbc_spec.specs.SectionRuns.{SectionRun, most_in_hand, behind}
+use Rattle.rbc_spec.specs.SectionRuns.{SectionRun, most_in_hand, next_after}
 use Rattle.rbc_spec.specs.Line.{Line, IsLine, Section, section, registrar, is_home, is_linked, is_centre}
 use Rattle.rbc_spec.specs.Place.{Place, covered}
 use Rattle.rbc_spec.specs.Frame.{Body, AskRight, GiveRight, RefuseRight, RouteAsk, RouteInfo, RouteWithdraw, Announce, Cancel, TakingOver, Yield, yielded_place}
@@ -133,7 +133,7 @@ module _ (line : Line) (ok : IsLine line) (c : ℕ) where
       counts (OfRight u) d = stands_anew (t == u) (c == d) (k.has_asked u) (put k.has_asked t true u) (put_apart k.has_asked t true u)
       counts (OfRoute u first) d = omega arith
 
-  -- sections behind the hand are asked for, of the home of the first
+  -- sections in advance of the hand are asked for, of the home of the first
   route_asked_for : (t d first most : ℕ) (k : Centre) → is_train line t ≡ true → is_home line d first ≡ true → k.route_ask t ≡ None
       → IsAnswering line c none_comes k (record k { route_ask = put k.route_ask t (Some first) }) (λ e. to_some (Some d) (RouteAsk t first most) e ++ [])
   route_asked_for t d first most k known home none =
@@ -178,7 +178,7 @@ module _ (line : Line) (ok : IsLine line) (c : ℕ) where
   moves may known was _ _ (none_waits t k) old = goes_wait t None k (λ waits. record { each = λ u some. waits.each u (waits_no_more t k.wait u some).1 })
   moves may known was _ _ (asks_right t place to k its fits away is none) old = right_asked_for t place to k (known t its) is none
   moves may known was _ _ (asks_route t d m k its has empty home none ahead more) old =
-      route_asked_for t d (behind m.hand) (min (most_in_hand - m.hand.count) (512 - behind m.hand)) k (known t its) home none
+      route_asked_for t d (next_after m.hand) (min (most_in_hand - m.hand.count) (512 - next_after m.hand)) k (known t its) home none
   moves may known was _ _ (announces t d m k its so has none ahead same) old = aside line c k _ _ refl refl refl (λ outs. record { each = outs.each })
       (λ e. All-append (IsBodyKnown line c e) (to_some (Some d) (Announce (k.announced + 1) t m.place.track) e ++ []) [] (alone_known d (Announce (k.announced + 1) t m.place.track) (record { known = known t its; sent = record {} }) e) (All-nil (IsBodyKnown line c e)))
   moves may known was _ _ (recalls t m h k its has stands none) old =

@@ -14,7 +14,7 @@ ghost use Rattle.law_no_unasked.specs.Asked.{Question, stands};
 ghost use Rattle.law_no_stray.specs.Due.{IsFrameDue, IsTakenOver};
 ghost use Rattle.law_no_stray.specs.Questions.{IsAnswered, frames_from, frames_to};
 
-/// Behind any list of events, whatever frame is the next of its link names a train of the line and is due: what it
+/// After any list of events, whatever frame is the next of its link names a train of the line and is due: what it
 /// answers was asked, what it brings back is out, and the handover that it is of is known.
 pub fn no_frame_is_stray()
     ensures { (line : Line) (events : List Event) (answers : List Answer) (w : World) (a b number : ℕ) (f : Frame)

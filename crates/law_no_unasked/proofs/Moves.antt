@@ -6,7 +6,7 @@ use Rattle.std.proofs.lemmas.List.Elements.{All-nil, All-cons, All-append}
 use Rattle.law_counting.specs.Sums.{one_if}
 use Rattle.law_counting.proofs.Sums.{put_same, put_other}
 use Rattle.rbc_spec.specs.Maps.{put, has}
-use Rattle.rbc_spec.specs.SectionRuns.{most_in_hand, behind, all_of}
+use Rattle.rbc_spec.specs.SectionRuns.{most_in_hand, next_after, all_of}
 use Rattle.rbc_spec.specs.Line.{Line, IsLine, Section, section, is_home, is_linked, is_centre}
 use Rattle.rbc_spec.specs.Sections.{is_on, is_on_track}
 use Rattle.rbc_spec.specs.Place.{Place}
@@ -139,7 +139,7 @@ module _ (line : Line) (ok : IsLine line) (c : ℕ) where
   moves may known was _ _ (takes_over t k its) = goes_take_over t k
   moves may known was _ _ (asks_right t place to k its fits away is none) = right_asked_for t place to k none
   moves may known was _ _ (asks_route t d m k its has empty home none ahead more) =
-      route_asked_for t d (behind m.hand) (min (most_in_hand - m.hand.count) (512 - behind m.hand)) k home none
+      route_asked_for t d (next_after m.hand) (min (most_in_hand - m.hand.count) (512 - next_after m.hand)) k home none
   moves may known was _ _ (announces t d m k its so has none ahead same) = aside line c k _ _ refl refl
       (λ e. All-append (IsAside line c e) (to_some (Some d) (Announce (k.announced + 1) t m.place.track) e ++ []) [] (alone_aside d (Announce (k.announced + 1) t m.place.track) (record { none = refl; body = record {} }) e) (All-nil (IsAside line c e)))
   moves may known was _ _ (recalls t m h k its has stands none) = aside line c k _ _ refl refl (alone_aside h.to (Cancel h.number t) (record { none = refl; body = record {} }))

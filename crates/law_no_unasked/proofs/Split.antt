@@ -20,7 +20,7 @@ use Rattle.law_no_copy.specs.Steps.{done}
 use Rattle.law_handover.specs.Steps.{IsByItself, left_by, sent_by}
 use Rattle.law_handover.proofs.Worlds.{linked_next, sent_between}
 
--- the flow behind an event that takes no frame off a link, and behind one that takes the next of the link from a
+-- the flow after an event that takes no frame off a link, and after one that takes the next of the link from a
 abbrev pub by_itself_flow : Line → Flow → ℕ → centre.Event → Flow
 by_itself_flow line u c event = acted u c (left_by line c (u.at c) event) (sent_by line c (u.at c) event)
 

@@ -56,7 +56,7 @@ module _ (line : Line) (ok : IsLine line) (d : ℕ) (one : IsOneCentreLine line 
   abbrev pub Alone : TrainBody → Type 0
   Alone body = LeadsAlone line (flow_of w) c (message t_train t body) (reply body) v
 
-  -- ## An own part, behind which nothing follows
+  -- ## An own part, after which nothing follows
 
   in_parts : (body : TrainBody) (own later : Act) → IsOwnStep line c (message t_train t body) own → IsInParts line c (message t_train t body) own later
       → ((x : Centre) → IsFlowSound line (replied (flow_of w) c ((hear (message t_train t body) >> own) k)) → (replied (flow_of w) c ((hear (message t_train t body) >> own) k)).at c ≡ x → later x ≡ rest x)

@@ -22,7 +22,7 @@ use Rattle.law_network.proofs.Takes.{train_keeps}
 use Rattle.law_refinement.specs.Meets.{Meets}
 use Rattle.law_refinement.proofs.InOrder.{effect_in_order}
 use Rattle.law_refinement.proofs.Silence.{silent_by_clock}
-use Rattle.law_refinement.proofs.Still.{silent_met, shown_behind}
+use Rattle.law_refinement.proofs.Still.{silent_met, shown_after}
 use Rattle.law_one_centre.proofs.Silence.{heard_alike}
 use Rattle.law_one_centre.proofs.Alone.{alone, accepted}
 
@@ -84,7 +84,7 @@ module _ (line : Line) (ok : IsLine line) (d : ℕ) (one : IsOneCentreLine line 
           own_step = record { silent = sym hears; starts = λ none. accepted line ok d one w v meets local c to stamp m.t_train m.nid_engine m.body a };
           quiet_steps = refl;
         },
-        shown_behind line w v meets c to stamp trains (of_silence m None) a.mid still a.shows,
+        shown_after line w v meets c to stamp trains (of_silence m None) a.mid still a.shows,
       )
 
   pub message_forced : (m : TrainMessage) → IsForced (Bytes c (Ok m)) (effect line c k (step.Train m))

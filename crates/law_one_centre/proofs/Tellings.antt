@@ -1,4 +1,5 @@
--- What the interlocking tells leaves no choice: behind an unset a shortening is asked for where it may be, and nothing else is done.
+-- What the interlocking tells leaves no choice: after an unset a shortening is asked for where it may be, and nothing
+-- else is done.
 use Rattle.std.proofs.Common.{◌≡◌, ℕ, Bool, true, false, if◌then◌else◌, List, [], ◌∷◌, Option, Some, None, refl, sym, ap, ◌∙◌, inl, subst, append-nil, eq-eqb}
 use Rattle.std.specs.Bool.{MatchBool}
 use Rattle.std.proofs.lemmas.Bool.{both_ways}
@@ -27,7 +28,7 @@ use Rattle.law_refinement.specs.Meets.{Meets}
 use Rattle.law_refinement.proofs.Work.{IsAtWork}
 use Rattle.law_refinement.proofs.Clocks.{begun, begun_at_work, begun_replied}
 use Rattle.law_refinement.proofs.InOrder.{effect_in_order}
-use Rattle.law_refinement.proofs.Still.{at_work, shown_behind}
+use Rattle.law_refinement.proofs.Still.{at_work, shown_after}
 use Rattle.law_one_centre.proofs.Asks.{given_is_hand, none_elsewhere, none_shut, none_in_hand}
 use Rattle.law_one_centre.proofs.Messages.{IsForced}
 
@@ -86,7 +87,7 @@ module _ (line : Line) (ok : IsLine line) (d : ℕ) (one : IsOneCentreLine line 
           own_step = tt;
           quiet_steps = refl;
         },
-        shown_behind line w v meets c to stamp trains (effect line c k (step.Set s)) once.mid ((set_keeps line c s).each k)
+        shown_after line w v meets c to stamp trains (effect line c k (step.Set s)) once.mid ((set_keeps line c s).each k)
             (subst (λ (f : Flow). Shows line f once.mid) (begun_replied line (flow_of w) c v stamp work (step.set line c s k)) once.shows),
       )
 
@@ -163,6 +164,6 @@ module _ (line : Line) (ok : IsLine line) (d : ℕ) (one : IsOneCentreLine line 
           own_step = tt;
           quiet_steps = unset_asks h quiets;
         },
-        shown_behind line w v meets c to stamp trains (effect line c k (step.Unset s)) h.new ((unset_keeps line c s).each k)
+        shown_after line w v meets c to stamp trains (effect line c k (step.Unset s)) h.new ((unset_keeps line c s).each k)
             (subst (λ (f : Flow). Shows line f h.new) (begun_replied line (flow_of w) c v stamp work (step.unset line c s k)) h.shows),
       )

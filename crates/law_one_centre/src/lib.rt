@@ -1,6 +1,6 @@
 //! A one-centre line, whose one centre is the home of all sections and every train's registrar: the one line centre
 //! meets its events without free choice. It answers wherever it may, leaves a message without an answer exactly for its
-//! reason, and takes no quiet step but a request to shorten behind an unset that asks for it.
+//! reason, and takes no quiet step but a request to shorten after an unset that asks for it.
 //!
 //! No code: what `laws.rt` states stays, and how it is proved is free.
 #![tactic(auto)]

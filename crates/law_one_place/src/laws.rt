@@ -6,7 +6,7 @@ ghost use Rattle.rbc_spec.specs.World.{World, Event, Answer, new_world, world_ru
 ghost use Rattle.rbc_spec.specs.Promises.{HasOnePlace};
 ghost use Rattle.law_one_place.specs.Where.{IsWhereHomeHasIt};
 
-/// Behind any list of events each section in use is in one hand, pool, start that waits or frame on the way, for the
+/// After any list of events each section in use is in one hand, pool, start that waits or frame on the way, for the
 /// train that its home names; each right is at one centre, in one mission or in one frame; and a train has one mission
 /// at most.
 pub fn each_thing_is_in_one_place()

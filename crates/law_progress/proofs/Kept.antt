@@ -109,7 +109,7 @@ module _ (t : ℕ) where
       counted d h (inr anew) = absurd (omega (arith, anew.0, anew.1, same))
 
   taken_none : (a : ℕ) (f : Body) (k new : Centre) (frames : ℕ → List Body) → IsTakenWith a f k new frames → new.announced ≡ k.announced → is_handing (k.mission t) ≡ false → is_handing (new.mission t) ≡ false
-  taken_none a f k new frames is same none = orderly_none is.y new frames is.behind (same ∙ sym is.taking.announced) (none_from (is.y.mission t) (λ d. ⊎_elim
+  taken_none a f k new frames is same none = orderly_none is.y new frames is.after (same ∙ sym is.taking.announced) (none_from (is.y.mission t) (λ d. ⊎_elim
       (λ (here : d ≡ a). subst (λ x. number_announced (handing_to x (is.y.mission t)) ≡ None) (sym here) (is.taking.number t ∙ none_to a (k.mission t) none))
       (λ (apart : d ≢ a). ap number_announced (is.taking.handing d t apart) ∙ none_to d (k.mission t) none)
       (cases_eq d a)))

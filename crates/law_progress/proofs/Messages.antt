@@ -4,7 +4,7 @@ use Rattle.std.specs.Option.{option_map_or}
 use Rattle.std.proofs.lemmas.Bool.{cases_Bool}
 use Rattle.law_counting.proofs.Sums.{put_same}
 use Rattle.rbc_spec.specs.Maps.{put}
-use Rattle.rbc_spec.specs.SectionRuns.{joined, behind, part_from, passing}
+use Rattle.rbc_spec.specs.SectionRuns.{joined, next_after, part_from, passing}
 use Rattle.rbc_spec.specs.Line.{Line, is_centre, train_number, registrar}
 use Rattle.rbc_spec.specs.Place.{Place, Position, covered, place_on, is_cleared}
 use Rattle.rbc_spec.specs.Message.{TrainMessage, TrainBody, Report, InitiationOfSession, SessionEstablished, is_stale}
@@ -21,7 +21,7 @@ use Rattle.law_no_copy.specs.Steps.{done}
 use Rattle.law_handover.specs.Steps.{left_by}
 use Rattle.law_progress.specs.Ends.{is_handing}
 
--- the next message of train t behind T_TRAIN x
+-- the next message of train t after T_TRAIN x
 abbrev pub next : ℕ → ℕ → TrainBody → TrainMessage
 next t x body = record { t_train = x + 1; nid_engine = t; body = body }
 
@@ -103,7 +103,7 @@ module _ (line : Line) (c t : ℕ) where
     clear_none : (clear line c t m new k).state.mission t ≡ None
     unfolding ◌>>◌
     clear_none = ap (λ b. ((if b then (leave line c t m.place.track (joined m.hand m.pool) >> close line c t m)
-        else (leave line c t m.place.track (cleared line new m) >> set_mission t (Some (record m { place = new; hand = part_from (behind (cleared line new m)) m.hand })))) k).state.mission t)
+        else (leave line c t m.place.track (cleared line new m) >> set_mission t (Some (record m { place = new; hand = part_from (next_after (cleared line new m)) m.hand })))) k).state.mission t)
         (eq-eqb (passing (is_cleared line new) m.hand) m.hand.count all) ∙ close_none m (leave line c t m.place.track (joined m.hand m.pool) k).state
 
     here_none : (report_here line c t p m k).state.mission t ≡ None
@@ -126,7 +126,7 @@ without_proposal None = refl
 without_proposal (Some m) = refl
 
 module _ (line : Line) (c t x : ℕ) (k : Centre) (known : is_some (train_number line t) ≡ true) where
-  -- what is read of the state behind a message that is not silent
+  -- what is read of the state after a message that is not silent
   left_is : {X : Type 0} (read : Centre → X) → ((i : Centre) (s : ℕ → List Frame) → read (record i { sent = s }) ≡ read i) → (body : TrainBody) → silence line c (ticked (k.clock + 1) k) (next t x body) ≡ None
       → read (left_by line c k (Train (next t x body))) ≡ read (hear_and_answer line c (next t x body) (ticked (k.clock + 1) k)).state
   left_is read apart body heard = apart (done line c k (Train (next t x body))).reply.state (λ d. k.sent d ++ frames_of (k.clock + 1) k (done line c k (Train (next t x body))).reply d)

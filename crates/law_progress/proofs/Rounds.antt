@@ -1,4 +1,4 @@
--- One handover after another ends, and the line comes to rest behind each.
+-- One handover after another ends, and the line comes to rest after each.
 use Rattle.std.proofs.Common.{◌≡◌, ◌⊎◌, inl, inr, map, ℕ, zero, suc, ◌+◌, ◌<◌, ◌≤◌, ◌==◌, ◌||◌, Bool, true, false, is_some, List, [], ◌∷◌, slice_get, Option, Some, None, Result, Ok, Err, refl, sym, ap, ◌∙◌, subst, arith, ⊎_elim, ltb-true, lt-ltb, eqb-true, All}
 use Rattle.std.specs.List.{list_any, sum_by}
 use Rattle.std.proofs.lemmas.Bool.{cases_Bool, cases_lt, both_ways}
@@ -161,15 +161,15 @@ module _ (line : Line) (ok : IsLine line) where
   -- ## One handover
 
   module _ (c t : ℕ) (to : is_centre line c ≡ true) (known : is_some (train_number line t) ≡ true) where
-    -- behind which the handover has ended, and none has come
-    abbrev Behind : World → Type 0
-    Behind w = (v : World) → IsMid v → HasNoNew w v → is_handing ((v.at c).mission t) ≡ false → GoesOn line v
+    -- after which the handover has ended, and none has come
+    abbrev After : World → Type 0
+    After w = (v : World) → IsMid v → HasNoNew w v → is_handing ((v.at c).mission t) ≡ false → GoesOn line v
 
     some_mission : (o : Option Mission) → is_handing o ≡ true → (m : Mission) × (o ≡ Some m)
     some_mission None is = cc
     some_mission (Some m) is = (m, refl)
 
-    by_report : (w : World) → IsMid w → (x : ℕ) → x + 1 < unknown_time → IsHanded t x Up (w.at c) → Behind w → GoesOn line w
+    by_report : (w : World) → IsMid w → (x : ℕ) → x + 1 < unknown_time → IsHanded t x Up (w.at c) → After w → GoesOn line w
     by_report w mid x few is later =
         let m = some_mission ((w.at c).mission t) is.handing in
         let clear = clears line ok m.0.place m.0.hand ((mid.reached.sound.flow.centres c to).mission t m.0 m.1).hand in
@@ -178,23 +178,23 @@ module _ (line : Line) (ok : IsLine line) where
         (λ answer new done at none. later new at none (left_at line w c to (next t x (Report (at_end line clear.section))) answer new (λ k. is_handing (k.mission t) ≡ false)
         (reported line c t x (w.at c) known m.0 (at_end line clear.section) clear.new m.1 clear.is_placed clear.is_all is) done))
 
-    by_established : (w : World) → IsMid w → (x : ℕ) → x + 2 < unknown_time → IsHanded t x Opened (w.at c) → Behind w → GoesOn line w
+    by_established : (w : World) → IsMid w → (x : ℕ) → x + 2 < unknown_time → IsHanded t x Opened (w.at c) → After w → GoesOn line w
     by_established w mid x few is later = by_event w mid (Bytes c (Ok (next t x SessionEstablished))) (record {}, record { t_train = omega (arith, few); report = record {} })
         (λ answer new done at none. by_report new at (x + 1) (omega (arith, few))
         (left_at line w c to (next t x SessionEstablished) answer new (IsHanded t (x + 1) Up) (established line c t x (w.at c) known is) done)
-        (λ v there behind ended. later v there (λ d u before. behind d u (none d u before)) ended))
+        (λ v there after ended. later v there (λ d u before. after d u (none d u before)) ended))
 
-    by_initiation : (w : World) → IsMid w → (x : ℕ) → x + 3 < unknown_time → (p : Phase) → IsHanded t x p (w.at c) → Behind w → GoesOn line w
+    by_initiation : (w : World) → IsMid w → (x : ℕ) → x + 3 < unknown_time → (p : Phase) → IsHanded t x p (w.at c) → After w → GoesOn line w
     by_initiation w mid x few p is later = by_event w mid (Bytes c (Ok (next t x InitiationOfSession))) (record {}, record { t_train = omega (arith, few); report = record {} })
         (λ answer new done at none. by_established new at (x + 1) (omega (arith, few))
         (left_at line w c to (next t x InitiationOfSession) answer new (IsHanded t (x + 1) Opened) (initiated line c t x (w.at c) known p is) done)
-        (λ v there behind ended. later v there (λ d u before. behind d u (none d u before)) ended))
+        (λ v there after ended. later v there (λ d u before. after d u (none d u before)) ended))
 
     some_heard : (o : Option ℕ) → is_some o ≡ true → (x : ℕ) × (o ≡ Some x)
     some_heard None is = cc
     some_heard (Some x) is = (x, refl)
 
-    ends_one : (w : World) → IsMid w → IsAtRest line w → is_handing ((w.at c).mission t) ≡ true → (x : ℕ) → (w.at c).heard t ≡ Some x → Behind w → GoesOn line w
+    ends_one : (w : World) → IsMid w → IsAtRest line w → is_handing ((w.at c).mission t) ≡ true → (x : ℕ) → (w.at c).heard t ≡ Some x → After w → GoesOn line w
     ends_one w mid rest handing x heard later = ⊎_elim
         (λ (those : x + messages_for_report ((w.at c).phase t) < unknown_time). by_phase ((w.at c).phase t) refl those)
         (λ (none : unknown_time ≤ x + messages_for_report ((w.at c).phase t)). ends_here w
@@ -229,7 +229,7 @@ module _ (line : Line) (ok : IsLine line) where
       let known = known_of w mid c t handing in
       let x = some_heard c t (of_line w mid c t handing) known.0 ((w.at c).heard t) known.1 in
       ends_one c t (of_line w mid c t handing) known.0 w mid rest handing x.0 x.1
-      (λ v at none ended. to_rest v at (λ u there still behind. later u there still (λ d s before. behind d s (none d s before)) (behind c t ended)))
+      (λ v at none ended. to_rest v at (λ u there still after. later u there still (λ d s before. after d s (none d s before)) (after c t ended)))
 
   -- ## One after another
 

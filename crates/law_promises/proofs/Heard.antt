@@ -5,7 +5,7 @@ use Rattle.std.specs.List.{find, list_any, range_with_len}
 use Rattle.std.proofs.lemmas.Bool.{and_parts, and_from, or_cases, or_left, or_right, cases_lt, both_ways}
 use Rattle.std.proofs.lemmas.Option.{same_Some}
 use Rattle.rbc_spec.specs.Maps.{has, put, put_pair}
-use Rattle.rbc_spec.specs.SectionRuns.{SectionRun, within, behind, all_of}
+use Rattle.rbc_spec.specs.SectionRuns.{SectionRun, within, next_after, all_of}
 use Rattle.rbc_spec.specs.Line.{Line, section_of_group, IsLine, is_centre, is_home, start, end}
 use Rattle.rbc_spec.specs.Sections.{is_on, section_count}
 use Rattle.rbc_spec.specs.Place.{Place, Position, covered, extent, is_fit, fit_place, place_on, is_cleared, has_room, group_start}
@@ -391,13 +391,13 @@ module _ (line : Line) (ok : IsLine line) (v : LineState) (x : View) (old : Foll
       later = later_as new (ap (λ (w : LineState). w.heard) h.says_it.new_is)
 
       more : SectionRun
-      more = record { first = behind h.hand; count = h.count }
+      more = record { first = next_after h.hand; count = h.count }
 
       longer : SectionRun
       longer = record { first = h.hand.first; count = h.hand.count + h.count }
 
       last : ℕ
-      last = behind h.hand + h.count - 1
+      last = next_after h.hand + h.count - 1
 
       change : LineMission → LineMission
       change k = record k { place = place }
@@ -511,8 +511,8 @@ module _ (line : Line) (ok : IsLine line) (v : LineState) (x : View) (old : Foll
     abbrev without : LineState
     without = release line c t (is_cleared_of line v t place) v
 
-    abbrev behind_report : LineState
-    behind_report = change_mission t placed_there without
+    abbrev after_report : LineState
+    after_report = change_mission t placed_there without
 
     abbrev past_report : LineState
     past_report = reported line t c place v
@@ -540,38 +540,38 @@ module _ (line : Line) (ok : IsLine line) (v : LineState) (x : View) (old : Foll
     report_moves = released_moves line c t (is_cleared_of line v t place) v (λ s so. (and_parts (is_given_to t (v.mark s)) (is_cleared line place s) so).0)
 
     report_left : Left (given without t) (placed_there n) (past_report.mission t)
-    report_left = closed_left line t behind_report (placed_there n) (λ s so. low_of n is s (and_parts (given v t s) (not (is_cleared_of line v t place s)) (sym (report_moves.here s) ∙ so)).0)
+    report_left = closed_left line t after_report (placed_there n) (λ s so. low_of n is s (and_parts (given v t s) (not (is_cleared_of line v t place s)) (sym (report_moves.here s) ∙ so)).0)
         (put_there v.mission t (option_map placed_there (v.mission t)) ∙ ap (option_map placed_there) is)
 
-    behind_marks : past_report.mark ≡ without.mark
-    behind_marks = closed_mark (list_any (λ s. is_given_to t (without.mark s)) (range_with_len 0 (section_count line))) behind_report (set_mission t None behind_report) refl
+    after_marks : past_report.mark ≡ without.mark
+    after_marks = closed_mark (list_any (λ s. is_given_to t (without.mark s)) (range_with_len 0 (section_count line))) after_report (set_mission t None after_report) refl
 
-    behind_wait : past_report.wait ≡ v.wait
-    behind_wait = closed_wait (list_any (λ s. is_given_to t (without.mark s)) (range_with_len 0 (section_count line))) behind_report (set_mission t None behind_report) refl
+    after_wait : past_report.wait ≡ v.wait
+    after_wait = closed_wait (list_any (λ s. is_given_to t (without.mark s)) (range_with_len 0 (section_count line))) after_report (set_mission t None after_report) refl
 
-    behind_heard : past_report.heard ≡ v.heard
-    behind_heard = closed_heard (list_any (λ s. is_given_to t (without.mark s)) (range_with_len 0 (section_count line))) behind_report (set_mission t None behind_report) refl
+    after_heard : past_report.heard ≡ v.heard
+    after_heard = closed_heard (list_any (λ s. is_given_to t (without.mark s)) (range_with_len 0 (section_count line))) after_report (set_mission t None after_report) refl
 
-    behind_others : (u : ℕ) → (u ≡ t → ⊥) → (s : ℕ) → given past_report u s ≡ given v u s
-    behind_others u apart s = ap (λ (f : ℕ → Mark). is_given_to u (f s)) behind_marks ∙ report_moves.others u apart s
+    after_others : (u : ℕ) → (u ≡ t → ⊥) → (s : ℕ) → given past_report u s ≡ given v u s
+    after_others u apart s = ap (λ (f : ℕ → Mark). is_given_to u (f s)) after_marks ∙ report_moves.others u apart s
 
-    behind_missions : (u : ℕ) → (u ≡ t → ⊥) → past_report.mission u ≡ v.mission u
-    behind_missions u apart = closed_other line t u behind_report apart ∙ put_other v.mission t u (option_map placed_there (v.mission t)) apart
+    after_missions : (u : ℕ) → (u ≡ t → ⊥) → past_report.mission u ≡ v.mission u
+    after_missions u apart = closed_other line t u after_report apart ∙ put_other v.mission t u (option_map placed_there (v.mission t)) apart
 
-    behind_left : Left (given past_report t) (placed_there n) (past_report.mission t)
-    behind_left = left_as (given without t) (given past_report t) (placed_there n) (past_report.mission t) (λ s. ap (λ (f : ℕ → Mark). is_given_to t (f s)) behind_marks) report_left
+    after_left : Left (given past_report t) (placed_there n) (past_report.mission t)
+    after_left = left_as (given without t) (given past_report t) (placed_there n) (past_report.mission t) (λ s. ap (λ (f : ℕ → Mark). is_given_to t (f s)) after_marks) report_left
 
-    behind_tied : Tied line (given past_report t) (past_report.mission t) (Some (cleared place way.0)) (v.heard t)
-    behind_tied = way_reports line place (given v t) (given past_report t) n (placed_there n) (past_report.mission t) way.0 (v.heard t) refl placed.track_is (reported_is line position place placed.extent_is) refl (λ p stands. stands)
-        (λ s. ap (λ (f : ℕ → Mark). is_given_to t (f s)) behind_marks ∙ report_moves.here s ∙ and_again (given v t s) (is_cleared line place s)) behind_left way.2
+    after_tied : Tied line (given past_report t) (past_report.mission t) (Some (cleared place way.0)) (v.heard t)
+    after_tied = way_reports line place (given v t) (given past_report t) n (placed_there n) (past_report.mission t) way.0 (v.heard t) refl placed.track_is (reported_is line position place placed.extent_is) refl (λ p stands. stands)
+        (λ s. ap (λ (f : ℕ → Mark). is_given_to t (f s)) after_marks ∙ report_moves.here s ∙ and_again (given v t s) (is_cleared line place s)) after_left way.2
 
     reported_follow : (new : LineState) → WaitsKeep line new → new ≡ past_report → Follows line new (changed_view (after_message line c m.t_train (Report position)))
     reported_follow new keep so =
-        after_stretch new (after_message line c m.t_train (Report position)) keep (ap (λ (w : LineState). w.wait) so ∙ behind_wait) (ap (λ (w : LineState). w.heard) so ∙ behind_heard)
-        (λ u apart s. ap (λ (w : LineState). is_given_to u (w.mark s)) so ∙ behind_others u apart s) (λ u apart. ap (λ (w : LineState). w.mission u) so ∙ behind_missions u apart)
+        after_stretch new (after_message line c m.t_train (Report position)) keep (ap (λ (w : LineState). w.wait) so ∙ after_wait) (ap (λ (w : LineState). w.heard) so ∙ after_heard)
+        (λ u apart s. ap (λ (w : LineState). is_given_to u (w.mark s)) so ∙ after_others u apart s) (λ u apart. ap (λ (w : LineState). w.mission u) so ∙ after_missions u apart)
         (changes_to (given new t) (new.mission t) (after_message line c m.t_train (Report position)) way.0 (cleared place way.0) way.1 report_is
         (tied_as line (given past_report t) (given new t) (past_report.mission t) (new.mission t) (Some (cleared place way.0)) (Some (cleared place way.0)) (v.heard t) (v.heard t)
-        (λ s. ap (λ (w : LineState). is_given_to t (w.mark s)) so) (ap (λ (w : LineState). w.mission t) so) refl (λ d n h. h) behind_tied))
+        (λ s. ap (λ (w : LineState). is_given_to t (w.mark s)) so) (ap (λ (w : LineState). w.mission t) so) refl (λ d n h. h) after_tied))
 
     -- an end of mission
     finished : (k : ℕ → Bool) (o : Option LineMission) (y : Stretch) → Tied line k o (Some y) (v.heard t) → Tied line k (option_map fin_ended o) (Some y) (v.heard t)
@@ -594,9 +594,9 @@ module _ (line : Line) (ok : IsLine line) (v : LineState) (x : View) (old : Foll
 
     -- where it moves
     moving_follow : (position.v_train == 0) ≡ false → (new : LineState) → WaitsKeep line new → new ≡ ended t past_report → Follows line new (changed_view (after_message line c m.t_train (EndOfMission position)))
-    moving_follow moves new keep so = ends_follow past_report new keep so behind_wait behind_heard behind_others behind_missions
+    moving_follow moves new keep so = ends_follow past_report new keep so after_wait after_heard after_others after_missions
         (subst (λ (y : Stretch). Tied line (given past_report t) (past_report.mission t) (Some y) (v.heard t))
-        (sym (if_false (position.v_train == 0) (option_map_or (up_to (cleared place way.0)) (front_end line place (section_count line)) (cleared place way.0)) (cleared place way.0) moves)) behind_tied)
+        (sym (if_false (position.v_train == 0) (option_map_or (up_to (cleared place way.0)) (front_end line place (section_count line)) (cleared place way.0)) (cleared place way.0) moves)) after_tied)
 
     -- ## At standstill
 
@@ -628,35 +628,35 @@ module _ (line : Line) (ok : IsLine line) (v : LineState) (x : View) (old : Foll
         by_reached : (b : Bool) → has_reached line past_report t place ≡ b
             → Tied line (given (if b then let_go else past_report) t) ((if b then let_go else past_report).mission t) (Some (stands line position place (cleared place way.0))) (v.heard t)
         by_reached false none = tied_less line (given past_report t) (past_report.mission t) (Some (cleared place way.0)) (v.heard t) (stands line position place)
-            (λ y is. stands_less line position place y (on_cleared ∙ ap (λ (z : Stretch). z.track) (same_Some (cleared place way.0) y is))) behind_tied
+            (λ y is. stands_less line position place y (on_cleared ∙ ap (λ (z : Stretch). z.track) (same_Some (cleared place way.0) y is))) after_tied
         by_reached true some =
             let one = any_one (λ s. is_given_to t (past_report.mark s) && nat_lt (10 * start line s) place.front) 0 (section_count line) some in
             let parts = and_parts (is_given_to t (past_report.mark one.0)) (nat_lt (10 * start line one.0) place.front) one.1 in
-            by_left (past_report.mission t) behind_left behind_tied one.0 parts.0 (ltb-true (10 * start line one.0) place.front parts.1)
+            by_left (past_report.mission t) after_left after_tied one.0 parts.0 (ltb-true (10 * start line one.0) place.front parts.1)
 
     stood_wait : stood.wait ≡ v.wait
-    stood_wait = by_reached (has_reached line past_report t place) ∙ behind_wait
+    stood_wait = by_reached (has_reached line past_report t place) ∙ after_wait
       where
         by_reached : (b : Bool) → (if b then let_go else past_report).wait ≡ past_report.wait
         by_reached true = refl
         by_reached false = refl
 
     stood_heard : stood.heard ≡ v.heard
-    stood_heard = by_reached (has_reached line past_report t place) ∙ behind_heard
+    stood_heard = by_reached (has_reached line past_report t place) ∙ after_heard
       where
         by_reached : (b : Bool) → (if b then let_go else past_report).heard ≡ past_report.heard
         by_reached true = refl
         by_reached false = refl
 
     stood_missions : (u : ℕ) → (u ≡ t → ⊥) → stood.mission u ≡ v.mission u
-    stood_missions u apart = by_reached (has_reached line past_report t place) ∙ behind_missions u apart
+    stood_missions u apart = by_reached (has_reached line past_report t place) ∙ after_missions u apart
       where
         by_reached : (b : Bool) → (if b then let_go else past_report).mission u ≡ past_report.mission u
         by_reached true = refl
         by_reached false = refl
 
     stood_others : (u : ℕ) → (u ≡ t → ⊥) → (s : ℕ) → given stood u s ≡ given v u s
-    stood_others u apart s = by_reached (has_reached line past_report t place) ∙ behind_others u apart s
+    stood_others u apart s = by_reached (has_reached line past_report t place) ∙ after_others u apart s
       where
         by_reached : (b : Bool) → given (if b then let_go else past_report) u s ≡ given past_report u s
         by_reached true = ahead_moves.others u apart s
@@ -902,8 +902,8 @@ module _ (line : Line) (ok : IsLine line) (v : LineState) (x : View) (old : Foll
   own_shut (StartOfMission is_valid position) said new h s shut = starts_shut (fit_place line is_valid position) said new h s shut
   own_shut (TrainData position) said new h s shut = ap (λ (w : LineState). w.mark s) h.new_is ∙ shut
   own_shut (Request position) said new h s shut = ap (λ (w : LineState). w.mark s) h.2.says_it.new_is
-      ∙ (given_moves v.mark t (within (record { first = behind h.2.hand; count = h.2.count }))
-      (λ e so. open_or_kept e (and_parts (may_be_given line v c t e) (is_on line h.0.track e) (each_within (λ k. may_be_given line v c t k && is_on line h.0.track k) (record { first = behind h.2.hand; count = h.2.count }) h.2.each e so)).0)).shut s shut
+      ∙ (given_moves v.mark t (within (record { first = next_after h.2.hand; count = h.2.count }))
+      (λ e so. open_or_kept e (and_parts (may_be_given line v c t e) (is_on line h.0.track e) (each_within (λ k. may_be_given line v c t k && is_on line h.0.track k) (record { first = next_after h.2.hand; count = h.2.count }) h.2.each e so)).0)).shut s shut
   own_shut (Report position) said new h s shut = ap (λ (w : LineState). w.mark s) h.2.new_is ∙ reported_shut h.0 s shut
   own_shut (ShorteningGranted stamp position) said new h s shut = shortened_shut (place_on line (track_of v t) position) (last_kept_of v t) new h.new_is s shut
   own_shut (ShorteningRejected stamp position) said new h s shut = ap (λ (w : LineState). w.mark s) h.new_is ∙ shut

@@ -128,7 +128,7 @@ abbrev pub IsNotDone : Word → Type 0
 IsNotDone (Done s) = ⊥
 IsNotDone word = Unit {0}
 
--- a word behind an event that is no unset, or one that tells of none done
+-- a word after an event that is no unset, or one that tells of none done
 abbrev pub IsLater : Event → Word → Type 0
 IsLater (Unset c s) word = IsNotDone word
 IsLater event word = Unit {0}
@@ -162,7 +162,7 @@ words_keep line event new (w ∷ ws) x s fits later opened is =
     words_keep line event new ws (outside.hears event w x) s (All-tail (Fits line (Set 0 0) new) w ws fits) (All-tail (IsLater event) w ws later) opened
     (word_keeps line event new w x s (All-head (Fits line (Set 0 0) new) w ws fits) (All-head (IsLater event) w ws later) opened is)
 
--- words behind what is no unset
+-- words after what is no unset
 later_other : (event : Event) → ((c s : ℕ) → event ≡ Unset c s → ⊥) → (ws : List Word) → All (IsLater event) ws
 later_other event other [] = All-nil (IsLater event)
 later_other (Bytes c read) other (w ∷ ws) = All-cons (IsLater (Bytes c read)) w ws tt (later_other (Bytes c read) other ws)
@@ -279,7 +279,7 @@ module _ (line : Line) (ok : IsLine line) where
     heard_now : (body : TrainBody) → (after_hearing body).heard t c ≡ Some t_train
     heard_now body = put_pair_there v.heard t c (Some t_train)
 
-    -- it was sent behind all that is heard of
+    -- it was sent after all that is heard of
     module _ (not_late : is_stale t_train (v.heard t c) ≡ false) where
       heard_then : (body : TrainBody) → Follows line (after_hearing body) x
       heard_then body = hears_follow c (message body) v x not_late old

@@ -15,7 +15,7 @@ use Rattle.law_network.proofs.Neighbours.{home_below}
 use Rattle.law_handover.proofs.Worlds.{world_begins, world_run_sound, world_step_sound}
 use Rattle.law_runs.proofs.Runs.{run_of_none, whole_run}
 use Rattle.law_runs.proofs.Promised.{given_is, given_home, given_held}
-use Rattle.law_refinement.proofs.Promises.{promises, sound_behind, run_sound, run_further}
+use Rattle.law_refinement.proofs.Promises.{promises, sound_after, run_sound, run_further}
 use Rattle.law_promises.specs.Promised.{IsFreedWithin, IsTakenBack}
 
 -- ## One event
@@ -29,7 +29,7 @@ module _ (line : Line) (ok : IsLine line) (w new : World) (events : List Event) 
     where
       gone : (b : Bool) → is_given line new t s ≡ b → is_given line new t s ≡ false
       gone false so = so
-      gone true so = absurd (let wrong : true ≡ false = sym (given_mark line new (read_off line new) (sound_behind line ok w new events answers event answer before is).stands t s so) ∙ not_given in cc)
+      gone true so = absurd (let wrong : true ≡ false = sym (given_mark line new (read_off line new) (sound_after line ok w new events answers event answer before is).stands t s so) ∙ not_given in cc)
 
 -- ## Told back
 
@@ -43,7 +43,7 @@ home_is_centre line ok s c = by_section (section line s) refl
 module _ (line : Line) (ok : IsLine line) (w new : World) (events : List Event) (answers : List Answer) (event : Event) (o : Outcome) (c s : ℕ)
     (before : world_run line (new_world line) events ≡ Ok (answers, w)) (is : world_step line w event ≡ Ok (Answered o, new)) (home : is_home line c s ≡ true) where
   sound : IsSound line new
-  sound = sound_behind line ok w new events answers event (Answered o) before is
+  sound = sound_after line ok w new events answers event (Answered o) before is
 
   kept : KeepsPromises line w event (Answered o) new
   kept = promises line ok w new events answers event (Answered o) before is
@@ -85,7 +85,7 @@ module _ (line : Line) (ok : IsLine line) (t s : ℕ) where
     before = it.before;
     answered = whole_run line w event it.front (answer, next) (Ok (it.answers, it.before)) first it.answered;
     answer = it.answer;
-    behind = it.behind;
+    after = it.after;
     done = it.done;
     given = it.given;
     not_given = it.not_given;
@@ -106,7 +106,7 @@ module _ (line : Line) (ok : IsLine line) (t s : ℕ) where
     before = w;
     answered = run_of_none line w;
     answer = answer;
-    behind = next;
+    after = next;
     done = first;
     given = given_is t ((read_off line w).mark s) given;
     not_given = is;

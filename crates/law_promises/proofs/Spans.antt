@@ -2,7 +2,7 @@
 use Rattle.std.proofs.Common.{◌≡◌, ℕ, ◌+◌, ◌-◌, ◌*◌, ◌<◌, ◌≤◌, ◌&&◌, ◌⊎◌, Bool, true, false, if◌then◌else◌, nat_lt, min, max, length, Option, Some, None, ℤ, pos, negsuc, int_lt, int_le, refl, sym, ap, ◌∙◌, inl, inr, subst, arith, ltb-true, leb-true, lt-ltb, le-leb}
 use Rattle.std.specs.Option.{option_map_or}
 use Rattle.std.proofs.lemmas.Bool.{and_parts, and_from, cases_lt, ltb-false}
-use Rattle.rbc_spec.specs.SectionRuns.{SectionRun, within, behind}
+use Rattle.rbc_spec.specs.SectionRuns.{SectionRun, within, next_after}
 use Rattle.rbc_spec.specs.Line.{Line, Section, IsLine, start, end}
 use Rattle.rbc_spec.specs.Sections.{is_on}
 use Rattle.rbc_spec.specs.Place.{Place, covers, covered}
@@ -24,7 +24,7 @@ pub record Spans (line : Line) (g : ℕ → Bool) (x : Stretch) : Type 0 where
   pub over : (s : ℕ) → is_in line s x ≡ true → g s ≡ true
   pub on : (s : ℕ) → g s ≡ true → is_on line x.track s ≡ true
   pub between : (s m e : ℕ) → s ≤ m → m ≤ e → g s ≡ true → g e ≡ true → g m ≡ true
-  pub behind : (s e : ℕ) → s ≤ e → g e ≡ true → is_on line x.track s ≡ true → int_lt x.rear (pos (10 * end line s)) ≡ true → g s ≡ true
+  pub in_rear : (s e : ℕ) → s ≤ e → g e ≡ true → is_on line x.track s ≡ true → int_lt x.rear (pos (10 * end line s)) ≡ true → g s ≡ true
 
 -- ## Numbers
 
@@ -39,9 +39,9 @@ rear_other (pos a) (negsuc b) n one two = refl
 rear_other (negsuc a) (pos b) n one two = cc
 rear_other (negsuc a) (negsuc b) n one two = refl
 
-pub not_behind : (r : ℤ) (a : ℕ) → int_le (pos a) r ≡ true → int_lt r (pos a) ≡ true → ⊥
-not_behind (pos r) a one two = let low = leb-true a r one in let high = ltb-true r a two in omega (arith, low, high)
-not_behind (negsuc r) a one two = cc
+pub not_in_rear : (r : ℤ) (a : ℕ) → int_le (pos a) r ≡ true → int_lt r (pos a) ≡ true → ⊥
+not_in_rear (pos r) a one two = let low = leb-true a r one in let high = ltb-true r a two in omega (arith, low, high)
+not_in_rear (negsuc r) a one two = cc
 
 pub rear_up : (r : ℤ) (a b : ℕ) → a ≤ b → int_le (pos b) r ≡ true → int_le (pos a) r ≡ true
 rear_up (pos r) a b le one = le-leb a r (omega (arith, leb-true b r one))
@@ -86,7 +86,7 @@ some_metres line ok track s on =
 -- ## What is done to a hand
 
 module _ (line : Line) (g : ℕ → Bool) (x : Stretch) (old : Spans line g x) where
-  -- the rear end is later, and at most what lies behind it is taken back
+  -- the rear end is later, and at most what lies in rear of it is taken back
   pub trimmed : (k : ℕ → Bool) (new : Stretch) → new.track ≡ x.track → new.end ≡ x.end
       → ((n : ℕ) → int_lt new.rear (pos n) ≡ true → int_lt x.rear (pos n) ≡ true)
       → ((s : ℕ) → k s ≡ true → g s ≡ true) → ((s : ℕ) → g s ≡ true → int_lt new.rear (pos (10 * end line s)) ≡ true → k s ≡ true)
@@ -97,7 +97,7 @@ module _ (line : Line) (g : ℕ → Bool) (x : Stretch) (old : Spans line g x) w
         keeps s (old.over s (in_from line x s (record { on = on_old s h.on; before = subst (λ (n : ℕ). start line s < n) ends h.before; past = later (10 * end line s) h.past }))) h.past;
     on = λ s is. on_new s (old.on s (less s is));
     between = λ s m e from to one two. up s m from one (old.between s m e from to (less s one) (less e two));
-    behind = λ s e le two on past. keeps s (old.behind s e le (less e two) (on_old s on) (later (10 * end line s) past)) past;
+    in_rear = λ s e le two on past. keeps s (old.in_rear s e le (less e two) (on_old s on) (later (10 * end line s) past)) past;
   }
     where
       on_new : (s : ℕ) → is_on line x.track s ≡ true → is_on line new.track s ≡ true
@@ -106,7 +106,7 @@ module _ (line : Line) (g : ℕ → Bool) (x : Stretch) (old : Spans line g x) w
       on_old : (s : ℕ) → is_on line new.track s ≡ true → is_on line x.track s ≡ true
       on_old s on = subst (λ (n : ℕ). is_on line n s ≡ true) track on
 
-  -- the end is at most that of a section, and what lies behind that is taken back
+  -- the end is at most that of a section, and what lies in advance of that is taken back
   pub cut_back : (k : ℕ → Bool) (last : ℕ) → is_on line x.track last ≡ true → ((s : ℕ) → k s ≡ true → (g s ≡ true) × (s ≤ last)) → ((s : ℕ) → g s ≡ true → s ≤ last → k s ≡ true)
       → Spans line k (record x { end = min x.end (end line last) })
   cut_back k last on less keeps = record {
@@ -118,13 +118,13 @@ module _ (line : Line) (g : ℕ → Bool) (x : Stretch) (old : Spans line g x) w
         keeps s (old.over s (in_from line x s (record { on = h.on; before = omega (arith, before); past = h.past }))) (no_later line x.track s last h.on on (omega (arith, before)));
     on = λ s is. old.on s (less s is).0;
     between = λ s m e from to one two. keeps m (old.between s m e from to (less s one).0 (less e two).0) (let le = (less e two).1 in omega (arith, le, to));
-    behind = λ s e le two on past. keeps s (old.behind s e le (less e two).0 on past) (let low = (less e two).1 in omega (arith, low, le));
+    in_rear = λ s e le two on past. keeps s (old.in_rear s e le (less e two).0 on past) (let low = (less e two).1 in omega (arith, low, le));
   }
 
   -- the hand is extended by a run that follows it at once
   pub lengthened : (k : ℕ → Bool) (hand : SectionRun) (count since : ℕ) → ((s : ℕ) → g s ≡ within hand s) → ((s : ℕ) → k s ≡ within (record { first = hand.first; count = hand.count + count }) s)
-      → (s : ℕ) → g s ≡ true → ((s : ℕ) → within (record { first = behind hand; count = count }) s ≡ true → is_on line x.track s ≡ true)
-      → Spans line k (record x { end = max x.end (end line (behind hand + count - 1)); since = since; asked = None })
+      → (s : ℕ) → g s ≡ true → ((s : ℕ) → within (record { first = next_after hand; count = count }) s ≡ true → is_on line x.track s ≡ true)
+      → Spans line k (record x { end = max x.end (end line (next_after hand + count - 1)); since = since; asked = None })
   lengthened k hand count since is_hand is_longer one there on_more = record {
     ends = elim (cases_lt x.end (end line last)) [
       | inl lt ↦ record { last = last; on = on_all last last_in; is = (omega (arith, lt)) }
@@ -133,15 +133,15 @@ module _ (line : Line) (g : ℕ → Bool) (x : Stretch) (old : Spans line g x) w
     over = λ s is. let h = in_parts line new s is in let before = h.before in elim (cases_lt (start line s) x.end) [
       | inl early ↦ let p = within_true hand s (sym (is_hand s) ∙ old.over s (in_from line x s (record { on = h.on; before = early; past = h.past }))) in
           is_in_longer s p.0 (let b = p.1 in omega (arith, b))
-      | inr late ↦ behind_all s last (no_later line x.track s last h.on (on_all last last_in) (omega (arith, before, late))) last_in h.on h.past
+      | inr late ↦ all_in_rear s last (no_later line x.track s last h.on (on_all last last_in) (omega (arith, before, late))) last_in h.on h.past
     ];
     on = on_all;
     between = λ s m e from to a b. let low = ends_of s a in let high = ends_of e b in is_in_longer m (let l = low.0 in omega (arith, from, l)) (let r = high.1 in omega (arith, to, r));
-    behind = behind_all;
+    in_rear = all_in_rear;
   }
     where
       last : ℕ
-      last = behind hand + count - 1
+      last = next_after hand + count - 1
 
       new : Stretch
       new = record x { end = max x.end (end line last); since = since; asked = None }
@@ -167,12 +167,12 @@ module _ (line : Line) (g : ℕ → Bool) (x : Stretch) (old : Spans line g x) w
       on_all : (s : ℕ) → k s ≡ true → is_on line x.track s ≡ true
       on_all s is = let h = ends_of s is in elim (cases_lt s (hand.first + hand.count)) [
         | inl low ↦ old.on s (is_hand s ∙ within_from hand s h.0 low)
-        | inr high ↦ on_more s (within_from (record { first = behind hand; count = count }) s high (let b = h.1 in omega (arith, b)))
+        | inr high ↦ on_more s (within_from (record { first = next_after hand; count = count }) s high (let b = h.1 in omega (arith, b)))
       ]
 
-      behind_all : (s e : ℕ) → s ≤ e → k e ≡ true → is_on line x.track s ≡ true → int_lt x.rear (pos (10 * end line s)) ≡ true → k s ≡ true
-      behind_all s e le is on past = let h = ends_of e is in elim (cases_lt s hand.first) [
-        | inl low ↦ let p = within_true hand s (sym (is_hand s) ∙ old.behind s hand.first (omega (arith, low)) first_given on past) in
+      all_in_rear : (s e : ℕ) → s ≤ e → k e ≡ true → is_on line x.track s ≡ true → int_lt x.rear (pos (10 * end line s)) ≡ true → k s ≡ true
+      all_in_rear s e le is on past = let h = ends_of e is in elim (cases_lt s hand.first) [
+        | inl low ↦ let p = within_true hand s (sym (is_hand s) ∙ old.in_rear s hand.first (omega (arith, low)) first_given on past) in
             is_in_longer s p.0 (let b = p.1 in omega (arith, b))
         | inr high ↦ is_in_longer s high (let b = h.1 in omega (arith, b, le))
       ]
@@ -181,7 +181,7 @@ module _ (line : Line) (g : ℕ → Bool) (x : Stretch) (old : Spans line g x) w
 
 module _ (line : Line) (ok : IsLine line) (place : Place) (fit : IsFit line place) where
   abbrev pub last_covered : ℕ
-  last_covered = behind (covered line place) - 1
+  last_covered = next_after (covered line place) - 1
 
   covered_is : (s : ℕ) → within (covered line place) s ≡ covers line place s
   covered_is s = covers_run line place s ok
@@ -220,7 +220,7 @@ module _ (line : Line) (ok : IsLine line) (place : Place) (fit : IsFit line plac
         from_there g all between s last_covered (no_later line place.track s last_covered h.on last_at.on h.before) (all last_covered last_is) h.on h.past;
     on = on;
     between = between;
-    behind = from_there g all between;
+    in_rear = from_there g all between;
   }
 
   -- a train that goes on from a place within its hand, over all that it had and what the place covers
@@ -238,7 +238,7 @@ module _ (line : Line) (ok : IsLine line) (place : Place) (fit : IsFit line plac
     ];
     on = λ s so. on_new s (old.on s so);
     between = old.between;
-    behind = somewhere;
+    in_rear = somewhere;
   }
     where
       new : Stretch
@@ -249,7 +249,7 @@ module _ (line : Line) (ok : IsLine line) (place : Place) (fit : IsFit line plac
 
       somewhere : (s e : ℕ) → s ≤ e → g e ≡ true → is_on line place.track s ≡ true → int_lt rear (pos (10 * end line s)) ≡ true → g s ≡ true
       somewhere s e le two on past = elim (either (10 * end line s) past) [
-        | inl before ↦ old.behind s e le two (subst (λ (k : ℕ). is_on line k s ≡ true) (sym same) on) before
+        | inl before ↦ old.in_rear s e le two (subst (λ (k : ℕ). is_on line k s ≡ true) (sym same) on) before
         | inr there ↦ from_there g all old.between s e le two on there
       ]
 
@@ -285,7 +285,7 @@ module _ (line : Line) where
     over = λ s is. old.over s (less.over s is);
     on = λ s so. subst (λ (n : ℕ). is_on line n s ≡ true) (sym less.track) (old.on s so);
     between = old.between;
-    behind = λ s e le two on past. old.behind s e le two (subst (λ (n : ℕ). is_on line n s ≡ true) less.track on) (less.past (10 * end line s) past);
+    in_rear = λ s e le two on past. old.in_rear s e le two (subst (λ (n : ℕ). is_on line n s ≡ true) less.track on) (less.past (10 * end line s) past);
   }
 
   pub cleared_less : (place : Place) (x : Stretch) → IsLess line x (cleared place x)

@@ -184,7 +184,7 @@ module _ (line : Line) where
       on = λ s so. old.on s (parts s so).0;
       between = λ s n e low high b d. let mid = old.between s n e low high (parts s b).0 (parts e d).0 in
           from n mid (earlier n e (old.on n mid) (old.on e (parts e d).0) high (parts e d).1);
-      behind = λ s e le d there past. from s (old.behind s e le (parts e d).0 there past) (earlier s e there (old.on e (parts e d).0) le (parts e d).1);
+      in_rear = λ s e le d there past. from s (old.in_rear s e le (parts e d).0 there past) (earlier s e there (old.on e (parts e d).0) le (parts e d).1);
     }
 
     pub way_stops : Way line k m (stands position place x) a

@@ -4,7 +4,7 @@ use Rattle.std.specs.Option.{option_map_or}
 use Rattle.std.proofs.lemmas.Bool.{and_parts, and_from, or_left, or_cases, both_ways, not-true, ltb-false, le-ltb}
 use Rattle.std.proofs.lemmas.Option.{same_Some}
 use Rattle.rbc_spec.specs.Maps.{has}
-use Rattle.rbc_spec.specs.SectionRuns.{SectionRun, within, behind}
+use Rattle.rbc_spec.specs.SectionRuns.{SectionRun, within, next_after}
 use Rattle.rbc_spec.specs.Line.{Line, IsLine, section_of_group, end}
 use Rattle.rbc_spec.specs.Sections.{is_on}
 use Rattle.rbc_spec.specs.Place.{Place, covers, covered, is_cleared, group_start}
@@ -15,7 +15,7 @@ use Rattle.law_base.proofs.Lines.{one_track}
 use Rattle.law_base.proofs.Puts.{itself}
 use Rattle.law_local.proofs.Fits.{IsFit, fit_covers}
 use Rattle.law_outside.specs.Outside.{Stretch, Shortening, accepted, cleared, up_to}
-use Rattle.law_promises.proofs.Spans.{Spans, IsLess, in_from, some_metres, rear_other, not_behind, rear_up, trimmed, cut_back, lengthened, begun_spans, goes_on_spans, first_stretch, spans_less, cleared_less}
+use Rattle.law_promises.proofs.Spans.{Spans, IsLess, in_from, some_metres, rear_other, not_in_rear, rear_up, trimmed, cut_back, lengthened, begun_spans, goes_on_spans, first_stretch, spans_less, cleared_less}
 use Rattle.law_promises.proofs.Marks.{by, if_true, if_false}
 
 -- the group of a place is on its track, and not past its front
@@ -139,7 +139,7 @@ module _ (line : Line) where
       over = w.spans.over;
       on = w.spans.on;
       between = w.spans.between;
-      behind = w.spans.behind;
+      in_rear = w.spans.in_rear;
     };
     track = w.track ∙ ap (λ (p : Place). p.track) (sym place);
     one = w.one;
@@ -195,7 +195,7 @@ module _ (line : Line) where
           past = subst (λ (n : ℕ). int_lt x.rear (pos (10 * n)) ≡ true) spans.ends.is past;
         }))
 
-    -- behind a start no request stands, and the train was heard at the centre
+    -- after a start no request stands, and the train was heard at the centre
     starts_talk : (m : LineMission) (y : Stretch) (b : ℕ → Option ℕ) (c : ℕ) → m.supervisor ≡ At c → m.proposal ≡ None → IsSince y.since (b c) → Talk line m y b
     starts_talk m y b c at none heard = record {
       asks = λ d p there stands. let wrong : None ≡ Some p = sym none ∙ stands in cc;
@@ -288,9 +288,9 @@ module _ (line : Line) where
   pub way_extends : (g k : ℕ → Bool) (m n : LineMission) (x : Stretch) (a : ℕ → Option ℕ) (hand : SectionRun) (count since c : ℕ) → n.place.track ≡ m.place.track → IsReported line n.place
       → n.proposal ≡ None → n.supervisor ≡ At c → IsSince since (a c)
       → ((s : ℕ) → g s ≡ within hand s) → ((s : ℕ) → k s ≡ within (record { first = hand.first; count = hand.count + count }) s)
-      → ((s : ℕ) → within (record { first = behind hand; count = count }) s ≡ true → is_on line m.place.track s ≡ true)
+      → ((s : ℕ) → within (record { first = next_after hand; count = count }) s ≡ true → is_on line m.place.track s ≡ true)
       → ((s : ℕ) → g s ≡ true → k s ≡ true)
-      → Way line g m x a → Way line k n (record x { end = max x.end (end line (behind hand + count - 1)); since = since; asked = None }) a
+      → Way line g m x a → Way line k n (record x { end = max x.end (end line (next_after hand + count - 1)); since = since; asked = None }) a
   way_extends g k m n x a hand count since c track ahead none there heard is_hand is_longer on_more more w = record {
     spans = lengthened line g x w.spans k hand count since is_hand is_longer w.one w.given (λ s so. subst (λ (t : ℕ). is_on line t s ≡ true) (sym w.track) (on_more s so));
     track = w.track ∙ sym track;
@@ -314,8 +314,8 @@ module _ (line : Line) where
   reports_clear x place s so past = by_rear place.rear so past
     where
       by_later : (rear : ℤ) (b : Bool) → int_lt x.rear rear ≡ b → int_le (pos (10 * end line s)) rear ≡ true → int_lt (if b then record x { rear = rear } else x).rear (pos (10 * end line s)) ≡ true → ⊥
-      by_later rear true is so past = not_behind rear (10 * end line s) so past
-      by_later rear false is so past = not_behind rear (10 * end line s) so (rear_other x.rear rear (10 * end line s) is past)
+      by_later rear true is so past = not_in_rear rear (10 * end line s) so past
+      by_later rear false is so past = not_in_rear rear (10 * end line s) so (rear_other x.rear rear (10 * end line s) is past)
 
       by_rear : (o : Option ℤ) → has (λ rear. int_le (pos (10 * end line s)) rear) o ≡ true → int_lt (option_map_or (λ rear. if int_lt x.rear rear then record x { rear = rear } else x) o x).rear (pos (10 * end line s)) ≡ true → ⊥
       by_rear None so past = cc

@@ -20,10 +20,10 @@ pub record IsFreedWithin (line : Line) (w : World) (events : List Event) (t s : 
   pub before : World
   pub answered : world_run line w front ≡ Ok (answers, before)
   pub answer : Answer
-  pub behind : World
-  pub done : world_step line before event ≡ Ok (answer, behind)
+  pub after : World
+  pub done : world_step line before event ≡ Ok (answer, after)
   pub given : (read_off line before).mark s ≡ Given t
-  pub not_given : is_given_to t ((read_off line behind).mark s) ≡ false
+  pub not_given : is_given_to t ((read_off line after).mark s) ≡ false
   pub may_free : MayFree line before t s event
 
 -- the section of home c is the interlocking's again: it is shut there, and not wished back any more; no centre and no

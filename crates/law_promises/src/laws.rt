@@ -11,7 +11,7 @@ ghost use Rattle.rbc_spec.specs.Run.{Run};
 ghost use Rattle.law_outside.specs.Outside.{IsSafeOutside, OutsideTheorem, sees_all, nothing_seen, spoken_of};
 ghost use Rattle.law_promises.specs.Promised.{IsFreedWithin, IsTakenBack};
 
-/// Behind any list of events, a section that the line shows as given to a train is so behind the next event too, but
+/// After any list of events, a section that the line shows as given to a train is so after the next event too, but
 /// where the train clears it by a report or an end of mission that its supervisor hears, or grants the standing request
 /// to give it up.
 pub fn a_section_leaves_a_hand_only_by_its_train()

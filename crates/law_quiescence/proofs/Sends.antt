@@ -79,8 +79,8 @@ module _ (line : Line) (c : ℕ) where
   both a b one two k = then_sends a b k (one k) (two (a k).state)
 
   -- the first sends nothing
-  behind : {m : ℕ} (a b : Act) → Each 0 a → Each m b → Each m (a >> b)
-  behind {m} a b one two k = more (0 + m) m ((a >> b) k) (omega arith) (both a b one two k)
+  after : {m : ℕ} (a b : Act) → Each 0 a → Each m b → Each m (a >> b)
+  after {m} a b one two k = more (0 + m) m ((a >> b) k) (omega arith) (both a b one two k)
 
   if_sends : {m : ℕ} (b : Bool) (p q : Reply) → Sends m p → Sends m q → Sends m (if b then p else q)
   if_sends true p q one two = one
@@ -155,10 +155,10 @@ module _ (line : Line) (c : ℕ) where
 
   sends_asked : (d t : ℕ) → Each 2 (right_asked line c d t)
   sends_asked d t = when (λ k. is_registrar_of line c t) _ (chosen (λ k. k.has_right t) (become (λ k. record k { has_right = put k.has_right t false }) >> send d (GiveRight t)) (send d (RefuseRight t))
-      (behind _ _ (λ k. quiet _ refl) (sends_one d (GiveRight t))) (λ k. more 1 2 _ (omega arith) (sends_one d (RefuseRight t) k)))
+      (after _ _ (λ k. quiet _ refl) (sends_one d (GiveRight t))) (λ k. more 1 2 _ (omega arith) (sends_one d (RefuseRight t) k)))
 
   sends_given : (t : ℕ) → Each 1 (right_given line c t)
-  sends_given t = when (λ k. k.has_asked t) _ (behind (answered_ask t) _ (λ k. quiet _ refl) (chosen (λ k. is_some (k.wait t) && is_none (k.mission t))
+  sends_given t = when (λ k. k.has_asked t) _ (after (answered_ask t) _ (λ k. quiet _ refl) (chosen (λ k. is_some (k.wait t) && is_none (k.mission t))
       (with_some (λ k. k.wait t) (λ place. become (λ k. record k { wait = put k.wait t None }) >> begin line t place)) (return_right line c t)
       (λ k. more 0 1 _ (omega arith) (some_act (λ j. j.wait t) (λ place. become (λ j. record j { wait = put j.wait t None }) >> begin line t place) (λ place. both _ _ (λ j. quiet _ refl) (sends_begin t place)) k))
       (sends_back t)))
@@ -176,10 +176,10 @@ module _ (line : Line) (c : ℕ) where
 
   sends_lent : (d t first most : ℕ) → Each 2 (route_asked line c d t first most)
   sends_lent d t first most k = when (λ j. is_some (section line first)) (booked is_open (Out t) (lendable line c k first most) >> send d (RouteInfo t (lendable line c k first most)))
-      (behind _ _ (λ j. quiet _ refl) (sends_one d (RouteInfo t (lendable line c k first most)))) k
+      (after _ _ (λ j. quiet _ refl) (sends_one d (RouteInfo t (lendable line c k first most)))) k
 
   sends_told : (d t : ℕ) (r : SectionRun) → Each 1 (route_told line c d t r)
-  sends_told d t r = when _ _ (behind _ _ (λ k. quiet _ refl) (chosen (λ k. has (is_wanted line r) (k.mission t)) (change_mission t (λ m. record m { pool = r })) (if is_empty r then rest else send d (RouteReturn t r))
+  sends_told d t r = when _ _ (after _ _ (λ k. quiet _ refl) (chosen (λ k. has (is_wanted line r) (k.mission t)) (change_mission t (λ m. record m { pool = r })) (if is_empty r then rest else send d (RouteReturn t r))
       (λ k. more 0 1 _ (omega arith) (quiet _ refl)) (if_act (is_empty r) rest (send d (RouteReturn t r)) (λ none. none_more 1) (λ some. sends_one d (RouteReturn t r)))))
 
   sends_withdrawn : (t s : ℕ) → Each (centre_count line) (route_withdrawn line c t s)

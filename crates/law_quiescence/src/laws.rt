@@ -9,7 +9,7 @@ ghost use Rattle.rbc_spec.specs.World.{World, Event, Answer, Delivery, new_world
 ghost use Rattle.law_ranges.specs.Stays.{IsReadInRange};
 ghost use Rattle.law_quiescence.specs.Rest.{work, ComesToRest};
 
-/// Behind any list of events, the delivery of a frame that is the next of its link leaves less work on the way.
+/// After any list of events, the delivery of a frame that is the next of its link leaves less work on the way.
 pub fn a_delivery_is_work_done()
     ensures { (line : Line) (events : List Event) (answers : List Answer) (w new : World) (answer : Answer)
         (a b number : ℕ) (f : Frame) → IsLine line

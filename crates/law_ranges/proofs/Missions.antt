@@ -1,7 +1,7 @@
 -- The ranges of missions: as they begin, grow, shrink and come from another centre.
 use Rattle.std.proofs.Common.{◌≡◌, inl, inr, ℕ, ◌+◌, ◌-◌, ◌≤◌, ◌==◌, ◌&&◌, ◌||◌, not, if◌then◌else◌, Bool, true, false, Some, None, refl, sym, ap, ◌∙◌, arith, ⊎_elim, eqb-true}
 use Rattle.std.proofs.lemmas.Bool.{and_parts, eqb-false, or_cases}
-use Rattle.rbc_spec.specs.SectionRuns.{SectionRun, most_in_hand, no_run, within, behind, is_empty, part_before, part_from, joined}
+use Rattle.rbc_spec.specs.SectionRuns.{SectionRun, most_in_hand, no_run, within, next_after, is_empty, part_before, part_from, joined}
 use Rattle.rbc_spec.specs.Line.{Line, IsLine, end, is_linked}
 use Rattle.rbc_spec.specs.Sections.{is_on}
 use Rattle.rbc_spec.specs.Place.{Place, is_cleared, has_room}
@@ -51,7 +51,7 @@ module _ (line : Line) (ok : IsLine line) (c : ℕ) where
     place = is.place;
     hand = is.hand;
     pool = let few = is.pool in omega (arith, few);
-    follows = ⊎_elim (λ (none : m.pool.count ≡ 0). inl (omega (arith, none))) (λ (after : m.pool.first ≡ behind m.hand). inr after) is.follows;
+    follows = ⊎_elim (λ (none : m.pool.count ≡ 0). inl (omega (arith, none))) (λ (after : m.pool.first ≡ next_after m.hand). inr after) is.follows;
     handing = is.handing;
   }
 
@@ -60,15 +60,15 @@ module _ (line : Line) (ok : IsLine line) (c : ℕ) where
     place = is.place;
     hand = is.hand;
     pool = few;
-    follows = inr (eqb-true r.first (behind m.hand) (and_parts (r.first == behind m.hand) (is_on line m.place.track r.first) (and_parts _ (not m.is_ended && is_empty m.pool) wanted).0).0);
+    follows = inr (eqb-true r.first (next_after m.hand) (and_parts (r.first == next_after m.hand) (is_on line m.place.track r.first) (and_parts _ (not m.is_ended && is_empty m.pool) wanted).0).0);
     handing = is.handing;
   }
 
   -- ## Hands
 
-  -- what is left behind the sections that were cleared
+  -- what is left after the sections that were cleared
   pub cleared_range : (m : Mission) (place : Place) → HasPlaceRange (yielded_place place) → ((cleared line place m).count == m.hand.count) ≡ false → Fine m
-      → Fine (record m { place = place; hand = part_from (behind (cleared line place m)) m.hand })
+      → Fine (record m { place = place; hand = part_from (next_after (cleared line place m)) m.hand })
   cleared_range m place placed other is =
       let n : ℕ = (cleared line place m).count in
       let few = longest_few (is_cleared line place) m.hand.first m.hand.count in
@@ -79,7 +79,7 @@ module _ (line : Line) (ok : IsLine line) (c : ℕ) where
         place = placed;
         hand = record { first = omega (arith, few, some, last); count = (omega (arith, few, some), omega (arith, low)); last = omega (arith, few, some, last) };
         pool = is.pool;
-        follows = ⊎_elim (λ (none : m.pool.count ≡ 0). inl none) (λ (after : m.pool.first ≡ behind m.hand). inr (omega (arith, few, after))) is.follows;
+        follows = ⊎_elim (λ (none : m.pool.count ≡ 0). inl none) (λ (after : m.pool.first ≡ next_after m.hand). inr (omega (arith, few, after))) is.follows;
         handing = is.handing;
       }
 
@@ -103,12 +103,12 @@ module _ (line : Line) (ok : IsLine line) (c : ℕ) where
     more = extension line c k m
 
     more_few : more.count ≤ most_in_hand - m.hand.count
-    more_few = longest_few (may_follow line c k m) (behind m.hand) (most_in_hand - m.hand.count)
+    more_few = longest_few (may_follow line c k m) (next_after m.hand) (most_in_hand - m.hand.count)
 
     follows_on : (s : ℕ) → within more s ≡ true → is_on line m.place.track s ≡ true
     follows_on s is =
         let ends = within_true more s is in
-        let may = longest_each (may_follow line c k m) (behind m.hand) (most_in_hand - m.hand.count) s ends.0 ends.1 in
+        let may = longest_each (may_follow line c k m) (next_after m.hand) (most_in_hand - m.hand.count) s ends.0 ends.1 in
         (and_parts (is_on line m.place.track s) (is_free line c k s || within m.pool s) (and_parts _ (has_room line m.place (end line s)) may).0).0
 
     longer : HasRunRange 1 most_in_hand (joined m.hand more)
@@ -130,7 +130,7 @@ module _ (line : Line) (ok : IsLine line) (c : ℕ) where
     pub extended_range : Fine (extended_by more m)
     extended_range = by_pool (is_empty m.pool) refl
       where
-        by_pool : (b : Bool) → is_empty m.pool ≡ b → Fine (record m { hand = joined m.hand more; pool = if b then m.pool else part_from (behind more) m.pool })
+        by_pool : (b : Bool) → is_empty m.pool ≡ b → Fine (record m { hand = joined m.hand more; pool = if b then m.pool else part_from (next_after more) m.pool })
         by_pool true none = record { place = fine.place; hand = longer; pool = fine.pool; follows = inl (eqb-true m.pool.count 0 none); handing = fine.handing }
         by_pool false some = record {
           place = fine.place;
@@ -138,7 +138,7 @@ module _ (line : Line) (ok : IsLine line) (c : ℕ) where
           pool = let few = fine.pool in omega (arith, few);
           follows = ⊎_elim
               (λ (none : m.pool.count ≡ 0). inl (omega (arith, none)))
-              (λ (after : m.pool.first ≡ behind m.hand). inr (let e = ap behind (joined_is m.hand more.count fine.hand.count.0) in omega (arith, after, e)))
+              (λ (after : m.pool.first ≡ next_after m.hand). inr (let e = ap next_after (joined_is m.hand more.count fine.hand.count.0) in omega (arith, after, e)))
               fine.follows;
           handing = fine.handing;
         }

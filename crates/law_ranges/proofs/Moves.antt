@@ -4,7 +4,7 @@ use Rattle.std.specs.Option.{option_map_or}
 use Rattle.std.proofs.lemmas.Bool.{eqb-false}
 use Rattle.std.proofs.lemmas.List.Elements.{All-nil, All-append}
 use Rattle.rbc_spec.specs.Maps.{has}
-use Rattle.rbc_spec.specs.SectionRuns.{SectionRun, no_run, most_in_hand, within, behind}
+use Rattle.rbc_spec.specs.SectionRuns.{SectionRun, no_run, most_in_hand, within, next_after}
 use Rattle.rbc_spec.specs.Line.{Line, IsLine, is_centre, is_home, is_linked, registrar, section}
 use Rattle.rbc_spec.specs.Sections.{is_on}
 use Rattle.rbc_spec.specs.Place.{Place, Position, covered, place_on}
@@ -149,9 +149,9 @@ module _ (line : Line) (ok : IsLine line) (c stamp : ℕ) (may : May) (its : IsO
   moves _ _ (waits_no_more t k) old = (with_wait line c stamp k t None old (λ p is. cc), none_sent line c)
   moves _ _ (asks_right t place to k is fits away at none) old = (with_wait line c stamp k t (Some place) old (of_some (HasStartRanges line) place (started place fits)), asked_for t to is away at)
   moves _ _ (asks_route t d m k is has empty home none there more) old =
-      let some = (old.mission t m has).hand.count.0 in let below = home_below line ok d (behind m.hand) home in let few = ltb-true m.hand.count most_in_hand more in (
+      let some = (old.mission t m has).hand.count.0 in let below = home_below line ok d (next_after m.hand) home in let few = ltb-true m.hand.count most_in_hand more in (
         old,
-        λ e. and_none line c e _ (to_one line c d (RouteAsk t (behind m.hand) (min (most_in_hand - m.hand.count) (512 - behind m.hand))) (ahead d there)
+        λ e. and_none line c e _ (to_one line c d (RouteAsk t (next_after m.hand) (min (most_in_hand - m.hand.count) (512 - next_after m.hand))) (ahead d there)
             ((its t is).0, record { first = omega (arith, below); count = (omega (arith, below, few), omega (arith, some)); last = omega (arith, below) }) e),
       )
   moves _ _ (announces t d m k is so has none there same) old = let low = old.clock in (

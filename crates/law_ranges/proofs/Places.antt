@@ -9,13 +9,13 @@ use Rattle.std.proofs.lemmas.List.Quantifiers.{position-Some}
 use Rattle.std.proofs.lemmas.List.Elements.{All-head, All-tail}
 use Rattle.rbc_spec.specs.SectionRuns.{most_in_hand}
 use Rattle.rbc_spec.specs.Line.{Line, Section, IsLine, section, section_of_group, group_of, start}
-use Rattle.rbc_spec.specs.Place.{Place, Position, extent, has_place, place_behind, estimated_front, covered, is_fit, place_on}
+use Rattle.rbc_spec.specs.Place.{Place, Position, extent, has_place, place_ahead, estimated_front, covered, is_fit, place_on}
 use Rattle.rbc_spec.specs.Frame.{HasRunRange, HasPlaceRange, is_short_distance, yielded_place, YieldedPlace, carried_place, place_with_front}
 use Rattle.rbc_spec.proofs.Sums.{sum_up_to, sum_kept, sum_left}
 use Rattle.law_local.proofs.Ordered.{is_ordered}
 use Rattle.law_local.proofs.Fits.{fit_parts, begun_local}
 use Rattle.law_base.proofs.Lists.{each_at}
-use Rattle.law_centre.proofs.Places.{behind_group, placed_on}
+use Rattle.law_centre.proofs.Places.{ahead_of_group, placed_on}
 use Rattle.law_ranges.specs.Ranges.{HasPositionRanges}
 use Rattle.law_ranges.proofs.Basics.{on_below, run_range}
 
@@ -75,8 +75,8 @@ module _ (line : Line) (ok : IsLine line) where
   -- ## Places
 
   module _ (p : Position) (range : HasPositionRanges p) where
-    behind_range : (s : ℕ) (q : Section) → has_place p ≡ true → section_of_group line p.nid_lrbg ≡ Some s → section line s ≡ Some q → HasPlaceRange (yielded_place (place_behind line s q p))
-    behind_range s q known at is =
+    ahead_range : (s : ℕ) (q : Section) → has_place p ≡ true → section_of_group line p.nid_lrbg ≡ Some s → section line s ≡ Some q → HasPlaceRange (yielded_place (place_ahead line s q p))
+    ahead_range s q known at is =
         let parts = and_parts ((p.is_nominal && p.is_level_2) && nat_lt p.d_lrbg 32767) (nat_lt p.l_doubtover 32767 && nat_lt p.l_doubtunder 32767) known in
         let d_low = ltb-true p.d_lrbg 32767 (and_parts (p.is_nominal && p.is_level_2) (nat_lt p.d_lrbg 32767) parts.0).1 in
         let doubts = and_parts (nat_lt p.l_doubtover 32767) (nat_lt p.l_doubtunder 32767) parts.1 in
@@ -99,7 +99,7 @@ module _ (line : Line) (ok : IsLine line) where
         by_length None low over front = refl
 
     pub extent_range : (place : Place) → extent line p ≡ Some place → HasPlaceRange (yielded_place place)
-    extent_range place is = let b = behind_group line p place is in subst (λ (x : Place). HasPlaceRange (yielded_place x)) b.is (behind_range b.s b.q b.known b.group b.at)
+    extent_range place is = let b = ahead_of_group line p place is in subst (λ (x : Place). HasPlaceRange (yielded_place x)) b.is (ahead_range b.s b.q b.known b.group b.at)
 
     pub place_on_range : (track : ℕ) (place : Place) → place_on line track p ≡ Some place → HasPlaceRange (yielded_place place)
     place_on_range track place is = extent_range place (placed_on line track p place is).extent_is

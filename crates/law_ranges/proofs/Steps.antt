@@ -3,7 +3,7 @@ use Rattle.std.proofs.Common.{◌≡◌, inl, inr, ℕ, ◌+◌, ◌<◌, ◌≤
 use Rattle.std.proofs.lemmas.Bool.{ltb-false}
 use Rattle.std.specs.Option.{option_map_or}
 use Rattle.std.proofs.lemmas.List.Elements.{All-nil, All-cons, All-head, All-tail}
-use Rattle.rbc_spec.specs.SectionRuns.{behind}
+use Rattle.rbc_spec.specs.SectionRuns.{next_after}
 use Rattle.rbc_spec.specs.Line.{Line, IsLine, is_centre, is_linked}
 use Rattle.rbc_spec.specs.Message.{TrainMessage, unknown_time}
 use Rattle.rbc_spec.specs.Frame.{Body, AskRight, GiveRight, RefuseRight, ReturnRight, RouteAsk, RouteInfo, RouteWithdraw, RouteReturn, Announce, Cancel, TakingOver, Yield, Frame, IsEngine, HasBodyRange, last_stamp}
@@ -125,7 +125,7 @@ module _ (line : Line) (ok : IsLine line) (c : ℕ) where
 pub holds_few : (line : Line) (c : ℕ) (k : Centre) → HasStateRanges line c k → HoldsFew line k
 holds_few line c k old = record {
   missions = λ t m at. let is = old.mission t m at in let hand = is.hand.count.1 in let pool = is.pool in omega (arith, hand, pool);
-  pools = λ t m at. ⊎_elim (λ (none : m.pool.count ≡ 0). inl none) (λ (after : m.pool.first ≡ behind m.hand). inr (omega (arith, after))) (old.mission t m at).follows;
+  pools = λ t m at. ⊎_elim (λ (none : m.pool.count ≡ 0). inl none) (λ (after : m.pool.first ≡ next_after m.hand). inr (omega (arith, after))) (old.mission t m at).follows;
   waits = λ t place at. let few = (old.wait t place at).hand.count.1 in omega (arith, few);
 }
 

@@ -1,6 +1,6 @@
 -- The ranges of what a centre keeps and hears, as far as the frames that it sends are made of it.
 use Rattle.std.specs.Prelude.{◌≡◌, ◌⊎◌, ℕ, ◌≤◌, ◌<◌, true, List, All, Option, Some}
-use Rattle.rbc_spec.specs.SectionRuns.{SectionRun, most_in_hand, behind}
+use Rattle.rbc_spec.specs.SectionRuns.{SectionRun, most_in_hand, next_after}
 use Rattle.rbc_spec.specs.Line.{Line, is_centre, is_linked}
 use Rattle.rbc_spec.specs.Place.{Place, Position, covered}
 use Rattle.rbc_spec.specs.Message.{TrainMessage, TrainBody, TrainData, Request, Report, ShorteningGranted, ShorteningRejected, EndOfMission, StartOfMission, unknown_time}
@@ -45,13 +45,13 @@ pub record HasStartRanges (line : Line) (p : Place) : Type 0 where
   pub place : HasPlaceRange (yielded_place p)
   pub hand : HasRunRange 1 most_in_hand (covered line p)
 
--- what a mission at c has: a hand, at most 31 sections behind it, and a handover to a linked centre
+-- what a mission at c has: a hand, at most 31 sections in advance of it, and a handover to a linked centre
 pub record HasMissionParts (line : Line) (c : ℕ) (p : Place) (held lent : SectionRun)
     (handover : Option Handing) : Type 0 where
   pub place : HasPlaceRange (yielded_place p)
   pub hand : HasRunRange 1 most_in_hand held
   pub pool : lent.count ≤ 31
-  pub follows : (lent.count ≡ 0) ⊎ (lent.first ≡ behind held)
+  pub follows : (lent.count ≡ 0) ⊎ (lent.first ≡ next_after held)
   pub handing : (h : Handing) → handover ≡ Some h → IsHandoverNumber h.number × (is_linked line c h.to ≡ true)
 
 abbrev pub HasMissionRanges : Line → ℕ → Mission → Type 0

@@ -28,14 +28,14 @@ pub fn each_frame_has_its_ranges()
         → HasStateRanges line c k → refusal line c k event ≡ None → SendsInRange line c k event }
 {}
 
-/// Behind any list of events in which each message of a train is in range: each frame that a centre has sent has each
+/// After any list of events in which each message of a train is in range: each frame that a centre has sent has each
 /// field in its range. So every frame of a world has a spelling.
 pub fn each_frame_of_a_world_has_its_ranges()
     ensures { (line : Line) (events : List world.Event) (answers : List Answer) (w : World) → IsLine line
         → All IsReadInRange events → world_run line (new_world line) events ≡ Ok (answers, w) → IsWorldInRange line w }
 {}
 
-/// Behind any list of events in which each message of a train is in range: each answer says two messages to trains at
+/// After any list of events in which each message of a train is in range: each answer says two messages to trains at
 /// most and tells the interlocking 64 words, and sends three frames on a link at most, in their order.
 pub fn each_answer_says_few()
     ensures { (line : Line) (events : List world.Event) (answers : List Answer) (w : World) → IsLine line

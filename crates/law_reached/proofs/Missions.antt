@@ -19,7 +19,7 @@ use Rattle.law_reached.specs.Seen.{supervisor_of, yielded_on_way, AreMissionsSee
 
 -- ## Lists
 
--- the first of what a function gives of a list, and behind it of another
+-- the first of what a function gives of a list, and after it of another
 first_given : {X Y : Type 0} (f : X → Option Y) (xs : List X) (ys : List Y) → slice_get (filter_map f xs ++ ys) 0 ≡ option_map_or f (find (λ x. is_some (f x)) xs) (slice_get ys 0)
 first_given f [] ys = refl
 first_given f (x ∷ xs) ys = by_value (f x) refl (first_given f xs ys)

@@ -19,7 +19,7 @@ use Rattle.law_refinement.specs.Announced.{IsAnnounced}
 -- ## What is on the way
 
 -- a Yield from a to b carries a place, which is of the line with its hand, to the next centre, and no section of the
--- hand is of the one behind that
+-- hand is of the one beyond that
 pub record IsYieldKnown (line : Line) (a b t : ℕ) (carried : YieldedPlace) (hand : SectionRun) : Type 0 where
   pub carries : is_some (carried_place carried) ≡ true
   pub is_hand : (place : Place) → carried_place carried ≡ Some place → IsHandAt line place hand

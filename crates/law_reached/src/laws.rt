@@ -57,7 +57,7 @@ pub fn each_event_is_forced()
         → IsOneCentreLine line c → IsKnown line w → IsLocal line w
         → world_step line w event ≡ Ok (answer, new)
         → GoesForced line (read_off line w) event answer (read_off line new) }
-    ensures forced_behind { (line : Line) (c : ℕ) (events : List Event) (answers : List Answer) (w new : World)
+    ensures forced_after { (line : Line) (c : ℕ) (events : List Event) (answers : List Answer) (w new : World)
         (event : Event) (answer : Answer)
         → IsLine line → IsOneCentreLine line c → world_run line (new_world line) events ≡ Ok (answers, w)
         → world_step line w event ≡ Ok (answer, new)

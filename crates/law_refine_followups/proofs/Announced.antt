@@ -121,7 +121,7 @@ module _ (line : Line) (ok : IsLine line) (c : ℕ) where
     abbrev n : Mission
     n = extended_by (extension line c k (record m { place = place })) (record m { place = place })
 
-    -- behind the authority, before the border is looked at
+    -- after the authority, before the border is looked at
     abbrev j : Centre
     j = record (set_mission t (Some n) (booked is_open (Taken t) (extension line c k (record m { place = place })) k).state).state { said = put k.said t (k.said t + 1) }
 

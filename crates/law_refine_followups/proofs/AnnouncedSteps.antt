@@ -4,7 +4,7 @@ use Rattle.std.specs.Option.{option_map_or}
 use Rattle.std.proofs.lemmas.Bool.{and_parts}
 use Rattle.std.proofs.lemmas.Option.{same_Some}
 use Rattle.rbc_spec.specs.Maps.{put}
-use Rattle.rbc_spec.specs.SectionRuns.{SectionRun, no_run, within, behind, is_empty, all_of}
+use Rattle.rbc_spec.specs.SectionRuns.{SectionRun, no_run, within, next_after, is_empty, all_of}
 use Rattle.rbc_spec.specs.Line.{Line, IsLine, next_centre, is_home}
 use Rattle.rbc_spec.specs.Place.{Place, covered, group_start, place_on}
 use Rattle.rbc_spec.specs.Message.{TrainMessage, TrainBody, Request}
@@ -64,7 +64,7 @@ module _ (line : Line) (ok : IsLine line) (c : ℕ) where
     turned : (t : ℕ) (o : Option Mission) (k : Centre) → H k → Turn line c may was t k o → FitsOption o
     turned t _ k old (begins place why none) = unhanded line ok c (begun line place) refl (own_hand line ok c (begun line place) (own_covered t place why))
     turned t _ k old (grows m place position j so has said placed) = cc
-    turned t _ k old (clears m place position has said placed some) = moved line ok c m _ (placed_on line m.place.track position place placed).track_is refl (from_part line ok c (behind (cleared line place m)) m.hand) (old t m has)
+    turned t _ k old (clears m place position has said placed some) = moved line ok c m _ (placed_on line m.place.track position place placed).track_is refl (from_part line ok c (next_after (cleared line place m)) m.hand) (old t m has)
     turned t _ k old (cuts m n last_kept has same some) = moved line ok c n _ (ap (λ (q : Mission). q.place.track) (sym same)) (ap (λ (q : Mission). q.handing) (sym same))
         (λ s kept. subst (λ (q : Mission). within q.hand s ≡ true) (sym same) (before_part line ok c (last_kept + 1) m.hand s kept)) (old t n has)
     turned t _ k old (comes d number time carried place hand has_data is_ended so may came carries) =

@@ -8,7 +8,7 @@ use Rattle.law_base.proofs.Puts.{itself, put_there}
 use Rattle.law_base.proofs.Lists.{none_is, find-range}
 use Rattle.std.proofs.lemmas.Option.{slice_get_within}
 use Rattle.law_base.proofs.Runs.{within_true, within_from, within_shared}
-use Rattle.rbc_spec.specs.SectionRuns.{SectionRun, most_in_hand, within, behind, is_empty}
+use Rattle.rbc_spec.specs.SectionRuns.{SectionRun, most_in_hand, within, next_after, is_empty}
 use Rattle.rbc_spec.specs.Line.{Line, IsLine, Section, section, is_centre, is_home, start, next_centre}
 use Rattle.rbc_spec.specs.Sections.{nid_rbc, is_on, home_run, section_count}
 use Rattle.rbc_spec.specs.Place.{group_start}
@@ -72,27 +72,27 @@ module _ (line : Line) (ok : IsLine line) (w : Flow) (sound : IsFlowSound line w
       (unseen_still c (w.at c) (ask_route t d m (w.at c)).state (ask_route t d m (w.at c)).frames refl refl refl refl (λ u. none (missions u) refl) (λ u s. none (hands u s) refl)) refl refl refl
     where
       asks : Body
-      asks = RouteAsk t (behind m.hand) (min (most_in_hand - m.hand.count) (512 - behind m.hand))
+      asks = RouteAsk t (next_after m.hand) (min (most_in_hand - m.hand.count) (512 - next_after m.hand))
 
       none : (r : Resource Centre Body) → r.inside c d asks ≡ 0 → SendsNone r c (λ e. (if e == d then asks ∷ [] else []) ++ [])
       none r nothing = sends_both r c (λ e. if e == d then asks ∷ [] else []) (λ e. []) (sends_single r c d asks nothing) (λ e. carried_none r c e)
 
   asks_moves : Moves line w c (ask_route_if_due line t d (w.at c)) v
   asks_moves = moves_or line w c v ((w.at c).mission t) _ (rest (w.at c))
-      (λ m at. moves_if line w c v (((is_home line d (behind m.hand) && is_on line m.place.track (behind m.hand)) && nat_lt m.hand.count most_in_hand) && (is_empty m.pool && is_none ((w.at c).route_ask t)))
+      (λ m at. moves_if line w c v (((is_home line d (next_after m.hand) && is_on line m.place.track (next_after m.hand)) && nat_lt m.hand.count most_in_hand) && (is_empty m.pool && is_none ((w.at c).route_ask t)))
       (ask_route t d m (w.at c)) (rest (w.at c)) (λ due. ask_moves m) (λ no. rest_moves line w sound v sees c to))
       (λ none. rest_moves line w sound v sees c to)
 
   abbrev may_ask : Mission → Bool
-  may_ask m = ((is_home line d (behind m.hand) && is_on line m.place.track (behind m.hand)) && nat_lt m.hand.count most_in_hand) && (is_empty m.pool && is_none ((w.at c).route_ask t))
+  may_ask m = ((is_home line d (next_after m.hand) && is_on line m.place.track (next_after m.hand)) && nat_lt m.hand.count most_in_hand) && (is_empty m.pool && is_none ((w.at c).route_ask t))
 
   -- they are of the next centre
-  of_next : (m : Mission) → next_centre line c m.place.track ≡ Some d → may_ask m ≡ true → IsOfNext line c (behind m.hand)
+  of_next : (m : Mission) → next_centre line c m.place.track ≡ Some d → may_ask m ≡ true → IsOfNext line c (next_after m.hand)
   of_next m next due =
-      let ends = and_parts (is_home line d (behind m.hand)) (is_on line m.place.track (behind m.hand))
-      (and_parts (is_home line d (behind m.hand) && is_on line m.place.track (behind m.hand)) (nat_lt m.hand.count most_in_hand)
-      (and_parts ((is_home line d (behind m.hand) && is_on line m.place.track (behind m.hand)) && nat_lt m.hand.count most_in_hand) (is_empty m.pool && is_none ((w.at c).route_ask t)) due).0).0 in
-      all_next line c d m.place.track (behind m.hand) ends.1 next ends.0
+      let ends = and_parts (is_home line d (next_after m.hand)) (is_on line m.place.track (next_after m.hand))
+      (and_parts (is_home line d (next_after m.hand) && is_on line m.place.track (next_after m.hand)) (nat_lt m.hand.count most_in_hand)
+      (and_parts ((is_home line d (next_after m.hand) && is_on line m.place.track (next_after m.hand)) && nat_lt m.hand.count most_in_hand) (is_empty m.pool && is_none ((w.at c).route_ask t)) due).0).0 in
+      all_next line c d m.place.track (next_after m.hand) ends.1 next ends.0
 
   asks_sound : is_centre line d ≡ true → IsNextOf line c t d (w.at c) → Sound line c (ask_route_if_due line t d (w.at c))
   asks_sound there next = or_reply line c ((w.at c).mission t) _ (rest (w.at c))
@@ -219,7 +219,7 @@ border_so line w c t d k v ok sound sees to is there next may = leads_then line 
     one : Leads line w c (first k) v
     one = announces_so line w c t d k v ok sound sees to is may
 
--- behind an extension, on the track of the mission
+-- after an extension, on the track of the mission
 pub grants_so : (line : Line) (w : Flow) (c t track : ℕ) (k : Centre) (v : LineState) → IsLine line → IsFlowSound line w → Shows line w v → is_centre line c ≡ true → w.at c ≡ k
     → ((m : Mission) → k.mission t ≡ Some m → m.place.track ≡ track) → ((d : ℕ) → next_centre line c track ≡ Some d → MayAnnounce line c t d k)
     → Leads line w c (option_map_or (at_border line c t) (next_centre line c track) rest k) v

@@ -1,4 +1,5 @@
--- The pool of a mission goes home and the mission is ended: what an end of mission changes behind what the train has cleared.
+-- The pool of a mission goes home and the mission is ended: what an end of mission changes after what the train has
+-- cleared.
 use Rattle.std.proofs.Common.{◌≡◌, ℕ, ◌+◌, ◌≤◌, true, [], ◌++◌, Option, Some, None, option_map, refl, sym, ap, ◌∙◌, subst, arith}
 use Rattle.law_counting.specs.Resource.{Resource}
 use Rattle.law_counting.proofs.Resource.{carried_none}
@@ -91,7 +92,7 @@ ends_goes line c t m k = goes_then (return_pool line c t m) (change_mission t ov
 
 module _ (line : Line) (ok : IsLine line) (w : Flow) (sound : IsFlowSound line w) (v : LineState) (sees : Shows line w v) (c : ℕ) (to : is_centre line c ≡ true) (t : ℕ)
     (m : Mission) (at : (w.at c).mission t ≡ Some m) where
-  -- the frames, as the acts put them one behind another
+  -- the frames, in the order of the acts
   home_alone : (r : Resource Centre Body) → SendsNone r c (returned line c t m.place.track m.pool (w.at c)).frames
       → SendsNone r c (λ d. ((returned line c t m.place.track m.pool (w.at c)).frames d ++ []) ++ [])
   home_alone r none = sends_both r c (λ d. (returned line c t m.place.track m.pool (w.at c)).frames d ++ []) (λ d. [])

@@ -100,7 +100,7 @@ module _ (line : Line) (ok : IsLine line) (w : Flow) (sound : IsFlowSound line w
     shown_told = yields.yield_shown line w sound v sees c to t h.to h.number there m at told refl refl refl refl refl refl (put_pair v.said t c (v.said t c + 1))
         (part_changes ℕ c t (v.said t c + 1) v.said (w.at c).said told.said (λ u. sees.said u c) (λ u. ap (λ n. put (w.at c).said t (n + 1) u) (sym (sees.said t c))))
 
-    -- frames, as the acts put them one behind another
+    -- frames, in the order of the acts
     abbrev sent : ℕ → List Body
     sent e = (((returned line c t m.place.track m.pool (w.at c)).frames e ++ [])
         ++ to_one h.to (yields.gives line w sound v sees c to t h.to h.number there m at ∷ []) e) ++ []

@@ -1,4 +1,4 @@
--- The quiet steps that the reply of a centre comes to, and what is shown behind it.
+-- The quiet steps that the reply of a centre comes to, and what is shown after it.
 use Rattle.std.proofs.Common.{◌≡◌, ◌≢◌, ℕ, ◌+◌, Bool, true, false, if◌then◌else◌, List, [], ◌∷◌, Option, Some, None, option_map, refl, sym, ap, ◌∙◌, subst, arith, append-nil, ⊎_elim}
 use Rattle.std.specs.Option.{option_map_or}
 use Rattle.std.specs.List.{list_all}

@@ -1,10 +1,10 @@
--- Behind the extension that a request comes to, the border may be told.
+-- After the extension that a request comes to, the border may be told.
 use Rattle.std.proofs.Common.{◌≡◌, ◌≢◌, ℕ, ◌+◌, ◌-◌, ◌≤◌, ◌&&◌, ◌||◌, nat_le, true, false, Some, None, refl, sym, ap, ◌∙◌, subst, arith, leb-true, ⊎_elim}
 use Rattle.std.proofs.lemmas.Bool.{and_parts, and_from, or_cases, eqb-false, eqb-true, ne_eqb, not-false}
 use Rattle.std.proofs.lemmas.Option.{same_Some}
 use Rattle.law_base.proofs.Runs.{within_from, within_shared, within_joined, within_none}
 use Rattle.law_base.proofs.Longest.{longest_is}
-use Rattle.rbc_spec.specs.SectionRuns.{SectionRun, most_in_hand, within, behind, is_empty, joined}
+use Rattle.rbc_spec.specs.SectionRuns.{SectionRun, most_in_hand, within, next_after, is_empty, joined}
 use Rattle.rbc_spec.specs.Line.{Line, IsLine, start, end, next_centre}
 use Rattle.rbc_spec.specs.Sections.{is_on, home_run}
 use Rattle.rbc_spec.specs.Place.{Place, group_start, farthest}
@@ -38,9 +38,9 @@ module _ (line : Line) (ok : IsLine line) (c d : ℕ) (k : Centre) (m : TrainMes
   track_is : place.track ≡ n.place.track
   track_is = (placed_on line n.place.track h.position place h.place_is).track_is
 
-  last_on : is_on line place.track (behind n.hand - 1) ≡ true
-  last_on = subst (λ x. is_on line x (behind n.hand - 1) ≡ true) (sym track_is)
-      (hand.on_track (behind n.hand - 1) (within_from n.hand (behind n.hand - 1) (omega (arith, hand.some)) (omega (arith, hand.some))))
+  last_on : is_on line place.track (next_after n.hand - 1) ≡ true
+  last_on = subst (λ x. is_on line x (next_after n.hand - 1) ≡ true) (sym track_is)
+      (hand.on_track (next_after n.hand - 1) (within_from n.hand (next_after n.hand - 1) (omega (arith, hand.some)) (omega (arith, hand.some))))
 
   some : is_empty n.hand ≡ false
   some = ne_eqb n.hand.count 0 (λ e. let no : ⊥ = omega (arith, e, hand.some) in no)
@@ -68,7 +68,7 @@ module _ (line : Line) (ok : IsLine line) (c d : ℕ) (k : Centre) (m : TrainMes
 
     within_reach : start line part.first ≤ group_start line place + farthest
     within_reach =
-        let passes : may_follow line c k (record n { place = place }) part.first ≡ true = (longest_is (may_follow line c k (record n { place = place })) (behind n.hand) (most_in_hand - n.hand.count)).each part.first came in
+        let passes : may_follow line c k (record n { place = place }) part.first ≡ true = (longest_is (may_follow line c k (record n { place = place })) (next_after n.hand) (most_in_hand - n.hand.count)).each part.first came in
         let parts = and_parts (is_on line place.track part.first && (is_free line c k part.first || within n.pool part.first)) (nat_le (end line part.first) (group_start line place + farthest)) passes in
         let on = (and_parts (is_on line place.track part.first) (is_free line c k part.first || within n.pool part.first) parts.0).0 in
         omega (arith, start_first line place.track part.first on, leb-true (end line part.first) (group_start line place + farthest) parts.1)

@@ -24,7 +24,7 @@ use Rattle.law_network.specs.Counts.{hands, missions}
 use Rattle.law_network.specs.Keeping.{nothing_came}
 use Rattle.law_network.specs.Sound.{IsFlowSound}
 use Rattle.law_network.specs.Shows.{Shows, parted}
-use Rattle.law_abstraction.specs.Acts.{IsAct, SendsNone, hand_before, hand_behind}
+use Rattle.law_abstraction.specs.Acts.{IsAct, SendsNone, hand_before, hand_after}
 use Rattle.law_abstraction.specs.After.{PartAfter, MarkAfter, MissionAfter}
 use Rattle.law_abstraction.specs.After.MarkAfter.{is_given}
 use Rattle.law_abstraction.specs.After.MissionAfter.{stays}
@@ -84,7 +84,7 @@ module _ (line : Line) (w : Flow) (sound : IsFlowSound line w) (v : LineState) (
     none_now = ap (λ (g : ℕ → Option Mission). g t) mission ∙ put_there (w.at c).mission t None
 
     -- the hand goes with the Yield
-    hands_same : (u s : ℕ) → hand_behind line c u s y frames ≡ hand_before u s (w.at c) nothing_came
+    hands_same : (u s : ℕ) → hand_after line c u s y frames ≡ hand_before u s (w.at c) nothing_came
     hands_same u s = ⊎_elim
         (λ (here : u ≡ t). omega (
           arith,

@@ -9,12 +9,12 @@ use Rattle.law_network.specs.Sound.{IsFlowSound}
 use Rattle.law_network.specs.Shows.{Shows}
 use Rattle.law_network.specs.Leads.{said_by, replied}
 
--- it says nothing, this is shown behind it, and all stays sound
+-- it says nothing, this is shown after it, and all stays sound
 pub record IsShownSo (line : Line) (w : Flow) (c : ℕ) (r : Reply) (new : LineState) : Type 0 where
   pub silent : said_by r ≡ nothing
   pub shows : Shows line (replied w c r) new
   pub sound : IsFlowSound line (replied w c r)
 
--- what an end of mission does behind what the train has cleared: the pool goes home, and the mission is ended
+-- what an end of mission does after what the train has cleared: the pool goes home, and the mission is ended
 abbrev pub ends : Line → ℕ → ℕ → Mission → Act
 ends line c t m = return_pool line c t m >> change_mission t (λ n. record n { is_ended = true; proposal = None })

@@ -28,7 +28,7 @@ ghost use Rattle.law_refine_followups.specs.Announced.{AnnouncesAll};
 ghost use Rattle.law_refine_followups.specs.Borders.{IsNextOf, MayAnnounce};
 ghost use Rattle.law_refine_followups.specs.Shown.{IsShownSo, ends};
 
-/// An act of a centre that leaves what is sound, is fair and orderly keeps all sound: by itself, and behind the next
+/// An act of a centre that leaves what is sound, is fair and orderly keeps all sound: by itself, and after the next
 /// frame of a link.
 pub fn an_act_keeps_all_sound()
     ensures by_itself { (line : Line) (w : Flow) (c : ℕ) (q : Reply) → IsLine line → IsFlowSound line w
@@ -91,7 +91,7 @@ pub fn a_yield_lays_down()
         → Leads line w c (taking_over line c a number t k) v }
 {}
 
-/// Behind the extension that a request comes to the border may be told, if the hand had no section of the next centre
+/// After the extension that a request comes to the border may be told, if the hand had no section of the next centre
 /// where no handover was announced before.
 pub fn a_request_may_announce()
     ensures unannounced { (line : Line) (c d : ℕ) (k j : Centre) (m : TrainMessage) (n : Mission) (place : Place)
@@ -108,7 +108,7 @@ pub fn a_request_may_announce()
         → MayAnnounce line c m.nid_engine d j }
 {}
 
-/// At an end of mission the pool goes home, and the mission is ended: behind that the mission is shown as ended,
+/// At an end of mission the pool goes home, and the mission is ended: after that the mission is shown as ended,
 /// without a request to shorten that stands, and all else as before.
 pub fn an_ended_mission_is_shown()
     ensures { (line : Line) (w : Flow) (c t : ℕ) (m : Mission) (k : Centre) (v : LineState) → IsLine line
@@ -118,7 +118,7 @@ pub fn an_ended_mission_is_shown()
 {}
 
 /// A mission that announced no handover has no section of the next centre in its hand: so it is at the
-/// beginning, and behind each step of a sound centre.
+/// beginning, and after each step of a sound centre.
 pub fn a_centre_announces_all()
     ensures begins { (line : Line) (c : ℕ) → IsLine line → AnnouncesAll line c (beginning line c) }
     ensures step { (line : Line) (c : ℕ) (k : Centre) (event : Event) → IsLine line → IsCentreSound line c k

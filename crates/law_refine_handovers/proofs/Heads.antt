@@ -77,7 +77,7 @@ module _ (line : Line) (ok : IsLine line) (w : Flow) (sound : IsFlowSound line w
       received_taken = let comes = goes_received line c a f j fits in record {
         y = comes.y;
         taking = record { leads = comes.taking.leads; expected = comes.taking.expected; waits = comes.taking.waits; announced = comes.taking.announced; number = comes.taking.number; handing = comes.taking.handing };
-        behind = comes.behind;
+        after = comes.after;
       }
 
       pub received_kept : is_centre line a ≡ true → TakesHead w a c f

@@ -118,10 +118,10 @@ module _ (line : Line) (w : Flow) (v : LineState) (a c h t heard number stamp : 
 
     taken_so : IsTakenWith a f (w.at c) (y (w.at c).phase) (λ d. [])
     taken_so = let is = subst (λ (r : Reply). IsTakenWith a f (w.at c) r.state r.frames) (received_is closed ∙ quietly)
-        (received_taken line ok w sound a c to closed number stamp f (fits_head line ok w sound a c from to f head)) in let orderly = is.behind in record {
+        (received_taken line ok w sound a c to closed number stamp f (fits_head line ok w sound a c from to f head)) in let orderly = is.after in record {
           y = is.y;
           taking = is.taking;
-          behind = record { leads = orderly.leads; expected = orderly.expected; announced = orderly.announced; yielded = orderly.yielded; anew = orderly.anew; takes = orderly.takes };
+          after = record { leads = orderly.leads; expected = orderly.expected; announced = orderly.announced; yielded = orderly.yielded; anew = orderly.anew; takes = orderly.takes };
         }
 
     kept : IsFlowSound line (replied (took w a c) c (rest (y (w.at c).phase)))

@@ -7,7 +7,7 @@ use Rattle.law_base.proofs.Acts.{alike_then, then_alike}
 use Rattle.law_base.proofs.Lists.{none_passes, there_is}
 use Rattle.law_base.proofs.Puts.{put_there}
 use Rattle.rbc_spec.specs.Maps.{has}
-use Rattle.rbc_spec.specs.SectionRuns.{behind}
+use Rattle.rbc_spec.specs.SectionRuns.{next_after}
 use Rattle.rbc_spec.specs.Line.{Line, IsLine, is_centre, end}
 use Rattle.rbc_spec.specs.Place.{Place, Position, has_room, place_on}
 use Rattle.rbc_spec.specs.Message.{TrainMessage, Request, Report, ShorteningGranted, EndOfMission}
@@ -59,7 +59,7 @@ module _ (line : Line) (c t_train t : ℕ) (k : Centre) where
     pub at : k.mission t ≡ Some m
     pub place : Place
     pub on : place_on line m.place.track position ≡ Some place
-    pub near : has_room line place (end line (behind m.hand - 1)) ≡ true
+    pub near : has_room line place (end line (next_after m.hand - 1)) ≡ true
 
   pub has_place_for : (position : Position) → silence line c k (of_train t_train t (Request position)) ≡ None → Placed position
   has_place_for position none =
@@ -68,9 +68,9 @@ module _ (line : Line) (c t_train t : ℕ) (k : Centre) where
       by_place at.0 at.1 (place_on line (at.0).place.track position) refl (not-false (may_request line at.0 position) fails)
     where
       by_place : (m : Mission) → k.mission t ≡ Some m → (o : Option Place) → place_on line m.place.track position ≡ o
-          → option_map_or (λ place. nat_le place.front (10 * end line (behind m.hand - 1)) && has_room line place (end line (behind m.hand - 1))) o false ≡ true → Placed position
+          → option_map_or (λ place. nat_le place.front (10 * end line (next_after m.hand - 1)) && has_room line place (end line (next_after m.hand - 1))) o false ≡ true → Placed position
       by_place m at None on passes = cc
-      by_place m at (Some place) on passes = record { m = m; at = at; place = place; on = on; near = (and_parts (nat_le place.front (10 * end line (behind m.hand - 1))) (has_room line place (end line (behind m.hand - 1))) passes).1 }
+      by_place m at (Some place) on passes = record { m = m; at = at; place = place; on = on; near = (and_parts (nat_le place.front (10 * end line (next_after m.hand - 1))) (has_room line place (end line (next_after m.hand - 1))) passes).1 }
 
 -- ## The own step
 
@@ -116,7 +116,7 @@ then_then a b d k = λ i. record {
   words = append_assoc (a k).words (b (a k).state).words (d (b (a k).state).state).words i;
 }
 
--- an act behind what is heard that is two acts
+-- an act after what is heard that is two acts
 in_two : (m : TrainMessage) (whole own later : Act) (k : Centre) → whole (hear m k).state ≡ (own >> later) (hear m k).state → (hear m >> whole) k ≡ ((hear m >> own) >> later) k
 in_two m whole own later k same = then_alike (hear m) whole (own >> later) k same ∙ sym (then_then (hear m) own later k)
 

@@ -5,9 +5,9 @@ use Rattle.std.proofs.lemmas.Bool.{and_parts, and_from, both_ways, cases_lt, eqb
 use Rattle.law_base.proofs.Longest.{longest_is}
 use Rattle.law_base.specs.Runs.{IsLongest}
 use Rattle.law_base.proofs.Puts.{put_over, put_there}
-use Rattle.law_base.proofs.Runs.{within_true, within_from, within_behind, same_tests}
+use Rattle.law_base.proofs.Runs.{within_true, within_from, within_after, same_tests}
 use Rattle.rbc_spec.specs.Maps.{put}
-use Rattle.rbc_spec.specs.SectionRuns.{SectionRun, within, behind, joined, part_from}
+use Rattle.rbc_spec.specs.SectionRuns.{SectionRun, within, next_after, joined, part_from}
 use Rattle.rbc_spec.specs.Line.{Line, IsLine, is_centre, is_home, end}
 use Rattle.rbc_spec.specs.Place.{Place, Position, is_cleared}
 use Rattle.rbc_spec.specs.Centre.{Centre, Mission}
@@ -52,7 +52,7 @@ module _ (line : Line) (ok : IsLine line) (w : Flow) (sound : IsFlowSound line w
   pub whole_at_home : (s : ℕ) → is_home line c s ≡ true → within (joined m.hand m.pool) s ≡ within m.hand s
   whole_at_home s home = joined_without m.hand m.pool s (λ some more. is.pool_follows more) (not_away (within m.pool s) (is_home line c s) home (is.pool_away s))
 
-  -- what the report told, and what is shown behind it
+  -- what the report told, and what is shown after it
   pub record Reported (place : Place) (q : Reply) : Type 0 where
     pub tells : said_by q ≡ record { sayings = []; words = release_words line c (is_cleared_of line v t place) v }
     pub shows : Shows line (replied w c q) (reported line t c place v)
@@ -146,7 +146,7 @@ module _ (line : Line) (ok : IsLine line) (w : Flow) (sound : IsFlowSound line w
             ∙ (λ i. record placed { mission = λ u. gone_mission u i })
 
     abbrev shorter : Mission
-    shorter = record m { place = place; hand = part_from (behind part) m.hand }
+    shorter = record m { place = place; hand = part_from (next_after part) m.hand }
 
     clears_part : (part.count == m.hand.count) ≡ false → Reported place ((leave line c t m.place.track part >> set_here t (Some shorter)) k)
     clears_part some = record {
@@ -169,20 +169,20 @@ module _ (line : Line) (ok : IsLine line) (w : Flow) (sound : IsFlowSound line w
         differ : part.count ≢ m.hand.count
         differ = eqb-false part.count m.hand.count some
 
-        rest_of : (s : ℕ) → within (part_from (behind part) m.hand) s ≡ (within m.hand s && not (is_released s))
+        rest_of : (s : ℕ) → within (part_from (next_after part) m.hand) s ≡ (within m.hand s && not (is_released s))
         rest_of s = same_tests _ _
-            (λ is_left. let ends = within_true (part_from (behind part) m.hand) s is_left in and_from (within m.hand s) (not (is_released s)) (within_from m.hand s (omega (arith, ends)) (omega (arith, ends)))
-            (ap not (sym (part_is s) ∙ within_behind part s (omega (arith, ends)))))
+            (λ is_left. let ends = within_true (part_from (next_after part) m.hand) s is_left in and_from (within m.hand s) (not (is_released s)) (within_from m.hand s (omega (arith, ends)) (omega (arith, ends)))
+            (ap not (sym (part_is s) ∙ within_after part s (omega (arith, ends)))))
             (λ both. let parts = and_parts (within m.hand s) (not (is_released s)) both in let ends = within_true m.hand s parts.0 in
-            by_place ends (cases_lt s (behind part)) parts.1)
+            by_place ends (cases_lt s (next_after part)) parts.1)
           where
-            by_place : (m.hand.first ≤ s) × (s < m.hand.first + m.hand.count) → (s < behind part) ⊎ (behind part ≤ s) → not (is_released s) ≡ true → within (part_from (behind part) m.hand) s ≡ true
+            by_place : (m.hand.first ≤ s) × (s < m.hand.first + m.hand.count) → (s < next_after part) ⊎ (next_after part ≤ s) → not (is_released s) ≡ true → within (part_from (next_after part) m.hand) s ≡ true
             by_place ends (inl before) kept = absurd (let wrong : false ≡ true = sym (ap not (sym (part_is s) ∙ within_from part s ends.0 before)) ∙ kept in cc)
-            by_place ends (inr after) kept = within_from (part_from (behind part) m.hand) s (omega (arith, ends, after)) (omega (arith, ends, after))
+            by_place ends (inr after) kept = within_from (part_from (next_after part) m.hand) s (omega (arith, ends, after)) (omega (arith, ends, after))
 
         becomes : reported line t c place v ≡ set_mission t (Some (seen c shorter)) (release line c t is_released v)
-        becomes = close_is line t placed true (some_given line w sound v sees c t to m at is_released inside (behind part)
-            (within_from m.hand (behind part) (omega arith) (omega (arith, most.fits, differ))) (sym (part_is (behind part)) ∙ within_behind part (behind part) (omega arith)))
+        becomes = close_is line t placed true (some_given line w sound v sees c t to m at is_released inside (next_after part)
+            (within_from m.hand (next_after part) (omega arith) (omega (arith, most.fits, differ))) (sym (part_is (next_after part)) ∙ within_after part (next_after part) (omega arith)))
             ∙ ap (λ (o : Option LineMission). set_mission t (option_map (λ (n : LineMission). record n { place = place }) o) (release line c t is_released v)) seen_is
 
     by_count : (b : Bool) → (part.count == m.hand.count) ≡ b → Reported place ((if b then (leave line c t m.place.track (joined m.hand m.pool) >> close line c t m) else (leave line c t m.place.track part >> set_here t (Some shorter))) k)

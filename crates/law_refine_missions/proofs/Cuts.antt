@@ -1,4 +1,5 @@
--- A shortening that is granted: the hand is cut behind the last section kept, if the train has not run past the proposed end.
+-- A shortening that is granted: the hand is cut after the last section kept, if the train has not run past the proposed
+-- end.
 use Rattle.std.proofs.Common.{◌≡◌, ◌≢◌, ◌⊎◌, ℕ, ◌+◌, ◌*◌, ◌<◌, ◌≤◌, ◌==◌, ◌&&◌, not, nat_lt, nat_le, if◌then◌else◌, Bool, true, false, [], Option, Some, None, option_map, refl, sym, ap, ◌∙◌, subst, inl, inr, arith, ⊎_elim, eqb-true, ltb-true, lt-ltb}
 use Rattle.std.specs.Option.{option_map_or}
 use Rattle.std.proofs.lemmas.Bool.{and_parts, and_from, cases_lt, eqb-false, ne_eqb}
@@ -21,7 +22,7 @@ use Rattle.law_network.specs.Shows.{Shows}
 use Rattle.law_network.specs.Leads.{said_by, replied}
 use Rattle.law_centre_sound.proofs.Sends.{rest_sound}
 use Rattle.law_centre_sound.proofs.Again.{changed_sound}
-use Rattle.law_centre_sound.proofs.Reports.{joined_without, not_away, tail_behind, whole_tail, tail_part, cut_sound, other_words}
+use Rattle.law_centre_sound.proofs.Reports.{joined_without, not_away, tail_after, whole_tail, tail_part, cut_sound, other_words}
 use Rattle.law_no_copy.proofs.Tally.{mission_of, fair_change, fair_rest}
 use Rattle.law_no_copy.proofs.Messages.{fair_cut, standing}
 use Rattle.law_handover.proofs.Orderly.{goes_change, goes_rest}
@@ -77,9 +78,9 @@ module _ (line : Line) (ok : IsLine line) (w : Flow) (sound : IsFlowSound line w
       ∙ sym (ap (λ b. b && nat_lt last_kept s) (given_is line w sound v sees c t to was at s))
 
   at_home : (s : ℕ) → is_home line c s ≡ true → within gone s ≡ is_released s
-  at_home s home = joined_without tail m.pool s (λ some more. is.pool_follows more ∙ sym (tail_behind (last_kept + 1) m.hand some)) (not_away (within m.pool s) (is_home line c s) home (is.pool_away s)) ∙ tail_is s
+  at_home s home = joined_without tail m.pool s (λ some more. is.pool_follows more ∙ sym (tail_after (last_kept + 1) m.hand some)) (not_away (within m.pool s) (is_home line c s) home (is.pool_away s)) ∙ tail_is s
 
-  -- the words of the cut, and what is shown behind it
+  -- the words of the cut, and what is shown after it
   pub record CutSo (q : Reply) : Type 0 where
     pub tells : said_by q ≡ record { sayings = []; words = release_words line c is_released v }
     pub shows : Shows line (replied w c q) (close_if_empty line t (release line c t is_released (without_ask t v)))

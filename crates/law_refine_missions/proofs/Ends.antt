@@ -37,7 +37,7 @@ use Rattle.law_refine_missions.proofs.Clears.{report_here_keeps}
 use Rattle.law_refine_missions.proofs.Reports.{Comes, report_comes, track_is}
 use Rattle.law_refine_missions.proofs.Stands.{stood, standing_words, none_reached, StoodSo, stands_so, stand_keeps}
 
--- the state behind two acts
+-- the state after two acts
 then_state : (a b : Act) (k : Centre) → ((a >> b) k).state ≡ (b (a k).state).state
 unfolding ◌>>◌
 then_state a b k = refl
@@ -242,16 +242,16 @@ module _ (line : Line) (ok : IsLine line) (w : Flow) (sound : IsFlowSound line w
 
   -- ## The mission is ended
 
-  abbrev behind : Flow
-  behind = replied w c (first start)
+  abbrev after : Flow
+  after = replied w c (first start)
 
   -- what the last act comes to
   record Last (q : Reply) : Type 0 where
     silent : said_by q ≡ nothing
-    reaches : Reaches line behind c q (ended t stands.shown)
+    reaches : Reaches line after c q (ended t stands.shown)
 
-  rest_behind : stands.left ≡ None → Reaches line w c ((first >> second) start) (ended t stands.shown)
-  rest_behind none = subst (λ q. Reaches line w c q (ended t stands.shown)) (sym resting)
+  rest_after : stands.left ≡ None → Reaches line w c ((first >> second) start) (ended t stands.shown)
+  rest_after none = subst (λ q. Reaches line w c q (ended t stands.shown)) (sym resting)
       (subst (Reaches line w c (first start)) (λ i. record stands.shown { mission = λ u. sym (put_same t (option_map ends_so (stands.shown.mission t)) stands.shown.mission no_more u) i }) (record { shows = stands.shows; sound = stands.keeps }))
     where
       ends_so : LineMission → LineMission
@@ -266,17 +266,17 @@ module _ (line : Line) (ok : IsLine line) (w : Flow) (sound : IsFlowSound line w
       no_more : stands.shown.mission t ≡ option_map ends_so (stands.shown.mission t)
       no_more = shown_none ∙ sym (ap (option_map ends_so) shown_none)
 
-  some_behind : (n : Mission) → stands.left ≡ Some n → Last (ends line c t n (first start).state)
-  some_behind n is = subst (λ (x : Centre). Last (ends line c t n x)) (state_then w c (first start)) (record {
+  some_after : (n : Mission) → stands.left ≡ Some n → Last (ends line c t n (first start).state)
+  some_after n is = subst (λ (x : Centre). Last (ends line c t n x)) (state_then w c (first start)) (record {
     silent = λ i. record { sayings = sets.sayings i; words = sets.words i };
-    reaches = ending_reaches line ok behind stands.keeps stands.shown stands.shows c t to n there;
+    reaches = ending_reaches line ok after stands.keeps stands.shown stands.shows c t to n there;
   })
     where
-      there : (behind.at c).mission t ≡ Some n
+      there : (after.at c).mission t ≡ Some n
       there = ap (λ (x : Centre). x.mission t) (state_then w c (first start)) ∙ stands.left_is ∙ is
 
-      sets : Sets c t (Some (record n { pool = no_run; is_ended = true; proposal = None })) (behind.at c) (ends line c t n (behind.at c))
-      sets = ending_sets line ok behind stands.keeps stands.shown stands.shows c t to n there
+      sets : Sets c t (Some (record n { pool = no_run; is_ended = true; proposal = None })) (after.at c) (ends line c t n (after.at c))
+      sets = ending_sets line ok after stands.keeps stands.shown stands.shows c t to n there
 
   answers_as : (q : Reply) → said_by q ≡ said_by (first start) → Reaches line w c q (ended t stands.shown) → Answers line w c message q v
   answers_as q same reaches = record {
@@ -290,10 +290,10 @@ module _ (line : Line) (ok : IsLine line) (w : Flow) (sound : IsFlowSound line w
   by_left : (o : Option Mission) → stands.left ≡ o → Answers line w c message ((first >> second) start) v
   by_left None none = answers_as ((first >> second) start)
       (ap said_by (then_resting first second start (ap (λ (o : Option Mission). option_map_or (λ n. ends line c t n (first start).state) o (rest (first start).state)) (stands.left_is ∙ none))))
-      (rest_behind none)
+      (rest_after none)
   by_left (Some n) is = subst (λ q. Answers line w c message q v) (sym goes_on)
-      (answers_as ((first >> ends line c t n) start) (said_alone first (ends line c t n) start (some_behind n is).silent)
-      (reaches_then line w c first (ends line c t n) start (ended t stands.shown) (some_behind n is).reaches))
+      (answers_as ((first >> ends line c t n) start) (said_alone first (ends line c t n) start (some_after n is).silent)
+      (reaches_then line w c first (ends line c t n) start (ended t stands.shown) (some_after n is).reaches))
     where
       goes_on : (first >> second) start ≡ (first >> ends line c t n) start
       goes_on = then_alike first second (ends line c t n) start (ap (λ (o : Option Mission). option_map_or (λ x. ends line c t x (first start).state) o (rest (first start).state)) (stands.left_is ∙ is))

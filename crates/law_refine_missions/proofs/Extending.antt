@@ -10,7 +10,7 @@ use Rattle.law_base.specs.Runs.{IsLongest}
 use Rattle.law_base.proofs.Puts.{put_other, put_there, itself}
 use Rattle.law_base.proofs.Runs.{within_joined}
 use Rattle.rbc_spec.specs.Maps.{has, put}
-use Rattle.rbc_spec.specs.SectionRuns.{SectionRun, most_in_hand, within, behind}
+use Rattle.rbc_spec.specs.SectionRuns.{SectionRun, most_in_hand, within, next_after}
 use Rattle.rbc_spec.specs.Line.{Line, section, is_centre, is_home, end}
 use Rattle.rbc_spec.specs.Sections.{is_on}
 use Rattle.rbc_spec.specs.Place.{Place, has_room}
@@ -53,8 +53,8 @@ module _ (line : Line) (w : Flow) (sound : IsFlowSound line w) (v : LineState) (
   abbrev pub longer : Mission
   longer = extended_by more here
 
-  pub most : IsLongest (may_follow line c k here) (behind m.hand) (most_in_hand - m.hand.count) more.count
-  most = longest_is (may_follow line c k here) (behind m.hand) (most_in_hand - m.hand.count)
+  pub most : IsLongest (may_follow line c k here) (next_after m.hand) (most_in_hand - m.hand.count) more.count
+  most = longest_is (may_follow line c k here) (next_after m.hand) (most_in_hand - m.hand.count)
 
   -- what follows in the hand
   pub record Follows (s : ℕ) : Type 0 where

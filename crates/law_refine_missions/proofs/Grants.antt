@@ -12,7 +12,7 @@ use Rattle.law_base.specs.Runs.{IsLongest}
 use Rattle.law_base.proofs.Puts.{itself}
 use Rattle.law_base.proofs.Runs.{within_from, joined_is, all_within}
 use Rattle.rbc_spec.specs.Maps.{has}
-use Rattle.rbc_spec.specs.SectionRuns.{SectionRun, most_in_hand, within, behind}
+use Rattle.rbc_spec.specs.SectionRuns.{SectionRun, most_in_hand, within, next_after}
 use Rattle.rbc_spec.specs.Line.{Line, Section, IsLine, is_centre, is_home, end}
 use Rattle.rbc_spec.specs.Sections.{is_on}
 use Rattle.rbc_spec.specs.Place.{Place, Position, group_start, farthest, has_room, place_on}
@@ -63,7 +63,7 @@ shown_open (centre.Out u) given = by_given (given u)
     by_given false = refl
 
 module _ (line : Line) (ok : IsLine line) (w : Flow) (sound : IsFlowSound line w) (v : LineState) (sees : Shows line w v) (c : ℕ) (to : is_centre line c ≡ true) (t_train t : ℕ) (position : Position)
-    (m : Mission) (at : (w.at c).mission t ≡ Some m) (place : Place) (on : place_on line m.place.track position ≡ Some place) (near : has_room line place (end line (behind m.hand - 1)) ≡ true) where
+    (m : Mission) (at : (w.at c).mission t ≡ Some m) (place : Place) (on : place_on line m.place.track position ≡ Some place) (near : has_room line place (end line (next_after m.hand - 1)) ≡ true) where
   abbrev message : TrainMessage
   message = record { t_train = t_train; nid_engine = t; body = Request position }
 
@@ -85,7 +85,7 @@ module _ (line : Line) (ok : IsLine line) (w : Flow) (sound : IsFlowSound line w
   abbrev after : LineState
   after = extending.after line w sound v sees c t to m at place
 
-  most : IsLongest (may_follow line c k here) (behind m.hand) (most_in_hand - m.hand.count) more.count
+  most : IsLongest (may_follow line c k here) (next_after m.hand) (most_in_hand - m.hand.count) more.count
   most = extending.most line w sound v sees c t to m at place
 
   abbrev Follows : ℕ → Type 0
@@ -159,7 +159,7 @@ module _ (line : Line) (ok : IsLine line) (w : Flow) (sound : IsFlowSound line w
   abbrev grown : SectionRun
   grown = record { first = m.hand.first; count = m.hand.count + more.count }
 
-  ends_at : (s : ℕ) → behind grown ≡ s → may_follow line c k here s ≡ false → Ends line v c place grown
+  ends_at : (s : ℕ) → next_after grown ≡ s → may_follow line c k here s ≡ false → Ends line v c place grown
   ends_at s same fails = by_parts (is_on line place.track s) (is_free line c k s) (has_room line place (end line s)) refl refl refl
     where
       all_pass : (a b d e : Bool) → a ≡ true → b ≡ true → e ≡ true → ((a && (b || d)) && e) ≡ true
@@ -167,7 +167,7 @@ module _ (line : Line) (ok : IsLine line) (w : Flow) (sound : IsFlowSound line w
 
       by_parts : (on_track free in_reach : Bool) → is_on line place.track s ≡ on_track → is_free line c k s ≡ free → has_room line place (end line s) ≡ in_reach → Ends line v c place grown
       by_parts false b d f g h = off_track (ap (is_on line place.track) same ∙ f)
-      by_parts true false d f g h = not_free (open_so (behind grown) ∙ ap (is_free line c k) same ∙ g)
+      by_parts true false d f g h = not_free (open_so (next_after grown) ∙ ap (is_free line c k) same ∙ g)
       by_parts true true false f g h = too_far (ap (λ e. has_room line place (end line e)) same ∙ h)
       by_parts true true true f g h = absurd (let wrong : true ≡ false = sym (all_pass (is_on line place.track s) (is_free line c k s) (within m.pool s) (has_room line place (end line s)) f g h) ∙ fails in cc)
 
@@ -175,21 +175,21 @@ module _ (line : Line) (ok : IsLine line) (w : Flow) (sound : IsFlowSound line w
   ends = by_room (cases_lt more.count (most_in_hand - m.hand.count))
     where
       by_room : (more.count < most_in_hand - m.hand.count) ⊎ (most_in_hand - m.hand.count ≤ more.count) → Ends line v c place grown
-      by_room (inl less) = ends_at (behind m.hand + more.count) (let e : m.hand.first + (m.hand.count + more.count) ≡ m.hand.first + m.hand.count + more.count = omega arith in e) (most.ends less)
+      by_room (inl less) = ends_at (next_after m.hand + more.count) (let e : m.hand.first + (m.hand.count + more.count) ≡ m.hand.first + m.hand.count + more.count = omega arith in e) (most.ends less)
       by_room (inr all) = full (omega (arith, all, most.fits, is.hand.few))
 
-  in_reach : has_room line place (end line (behind m.hand + more.count - 1)) ≡ true
+  in_reach : has_room line place (end line (next_after m.hand + more.count - 1)) ≡ true
   in_reach = by_count more.count refl
     where
-      by_count : (n : ℕ) → more.count ≡ n → has_room line place (end line (behind m.hand + more.count - 1)) ≡ true
-      by_count zero none = ap (λ e. has_room line place (end line e)) (let e : behind m.hand + more.count - 1 ≡ behind m.hand - 1 = omega (arith, none) in e) ∙ near
-      by_count (suc n) some = (follows (behind m.hand + more.count - 1) (within_from more (behind m.hand + more.count - 1) (omega (arith, some)) (omega (arith, some)))).in_reach
+      by_count : (n : ℕ) → more.count ≡ n → has_room line place (end line (next_after m.hand + more.count - 1)) ≡ true
+      by_count zero none = ap (λ e. has_room line place (end line e)) (let e : next_after m.hand + more.count - 1 ≡ next_after m.hand - 1 = omega (arith, none) in e) ∙ near
+      by_count (suc n) some = (follows (next_after m.hand + more.count - 1) (within_from more (next_after m.hand + more.count - 1) (omega (arith, some)) (omega (arith, some)))).in_reach
 
-  authority_is : authority line longer ≡ end line (behind m.hand + more.count - 1) - group_start line place
-  authority_is = ap (λ (r : SectionRun). end line (behind r - 1) - group_start line place) (joined_is m.hand more.count is.hand.some)
+  authority_is : authority line longer ≡ end line (next_after m.hand + more.count - 1) - group_start line place
+  authority_is = ap (λ (r : SectionRun). end line (next_after r - 1) - group_start line place) (joined_is m.hand more.count is.hand.some)
       ∙ ap (λ e. end line (e - 1) - group_start line place) (let e : m.hand.first + (m.hand.count + more.count) ≡ m.hand.first + m.hand.count + more.count = omega arith in e)
 
-  extends : Extends line v t c place (record { sayings = saying_of t c place.group (Authority (end line (behind m.hand + more.count - 1) - group_start line place)) v ∷ []; words = [] }) after
+  extends : Extends line v t c place (record { sayings = saying_of t c place.group (Authority (end line (next_after m.hand + more.count - 1) - group_start line place)) v ∷ []; words = [] }) after
   extends = record {
     hand = m.hand;
     count = more.count;
@@ -198,11 +198,11 @@ module _ (line : Line) (ok : IsLine line) (w : Flow) (sound : IsFlowSound line w
         and_from (may_be_given line v c t s) (is_on line place.track s) (may_be s f) f.on_track);
     ends = ends;
     room = omega (arith, most.fits, is.hand.few);
-    within_reach = leb-true (end line (behind m.hand + more.count - 1)) (group_start line place + farthest) in_reach;
+    within_reach = leb-true (end line (next_after m.hand + more.count - 1)) (group_start line place + farthest) in_reach;
     says_it = record { said_is = refl; new_is = refl };
   }
 
-  said_so : said_by (extend line c t here k) ≡ record { sayings = saying_of t c place.group (Authority (end line (behind m.hand + more.count - 1) - group_start line place)) v ∷ []; words = [] }
+  said_so : said_by (extend line c t here k) ≡ record { sayings = saying_of t c place.group (Authority (end line (next_after m.hand + more.count - 1) - group_start line place)) v ∷ []; words = [] }
   unfolding ◌>>◌
   said_so = (λ i. record { sayings = record { nid_engine = t; message = record { t_train = sym (sees.said t c) i + 1; nid_lrbg = place.group; body = Authority (authority_is i) } } ∷ []; words = [] })
 

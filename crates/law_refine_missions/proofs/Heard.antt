@@ -25,7 +25,7 @@ use Rattle.law_refine_missions.specs.Parts.{Answers}
 
 -- ## One act after another
 
--- behind an act all is sound, and this is shown
+-- after an act all is sound, and this is shown
 pub record Reaches (line : Line) (w : Flow) (c : ℕ) (r : Reply) (new : LineState) : Type 0 where
   pub shows : Shows line (replied w c r) new
   pub sound : IsFlowSound line (replied w c r)
@@ -74,7 +74,7 @@ module _ (line : Line) (w : Flow) (sound : IsFlowSound line w) (v : LineState) (
       (part_changes (Option ℕ) c m.nid_engine (Some m.t_train) v.heard (w.at c).heard y.heard (λ u. sees.heard u c) (λ u. refl))
       (part_stays ℕ c v.said y.said (λ t. sees.said t c))
 
-  -- behind it an act is the own step
+  -- after it an act is the own step
   pub heard_first : (act : Act) → Answers line (replied w c (hear m k)) c m (act ((replied w c (hear m k)).at c)) (hears c m v) → LeadsOwn line w c m ((hear m >> act) k) v
   unfolding ◌>>◌
   heard_first act one = at_state (subst (λ x. Answers line (replied w c (hear m k)) c m (act x) (hears c m v)) (state_then w c (hear m k)) one)

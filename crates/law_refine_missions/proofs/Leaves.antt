@@ -1,4 +1,4 @@
--- Sections that leave the hand of a train at the whole line: what the one line centre shows behind it, and what is told.
+-- Sections that leave the hand of a train at the whole line: what the one line centre shows after it, and what is told.
 use Rattle.std.proofs.Common.{◌≡◌, ◌≢◌, ℕ, ◌+◌, ◌<◌, ◌&&◌, not, if◌then◌else◌, Bool, true, false, List, [], ◌++◌, Option, Some, None, option_map, map, refl, sym, ap, ◌∙◌, subst, arith, ⊎_elim}
 use Rattle.std.specs.List.{filter, list_any, range_with_len}
 use Rattle.std.proofs.lemmas.Bool.{cases_eq, and_parts}
@@ -12,7 +12,7 @@ use Rattle.law_base.proofs.Lists.{any-range, any-range_none}
 use Rattle.law_base.proofs.Puts.{put_other, put_there}
 use Rattle.law_base.proofs.Runs.{filter_run, within_true}
 use Rattle.rbc_spec.specs.Maps.{put}
-use Rattle.rbc_spec.specs.SectionRuns.{SectionRun, within, behind}
+use Rattle.rbc_spec.specs.SectionRuns.{SectionRun, within, next_after}
 use Rattle.rbc_spec.specs.Line.{Line, section, is_centre, is_home}
 use Rattle.rbc_spec.specs.Sections.{section_count}
 use Rattle.rbc_spec.specs.Place.{Place}
@@ -61,8 +61,8 @@ close_is line t v b is = ap (λ a. if a then v else set_mission t None v) is
 pub filter_both : (test : ℕ → Bool) (r q : SectionRun) (n : ℕ) → ((s : ℕ) → test s ≡ true → within r s ≡ true) → ((s : ℕ) → test s ≡ true → within q s ≡ true) → ((s : ℕ) → within q s ≡ true → s < n)
     → filter test (range_with_len 0 n) ≡ filter test (range_with_len r.first r.count)
 filter_both test r q n in_r in_q below = filter_run test q n in_q below
-    ∙ sym (filter_run test q (n + behind r) in_q (λ s is. omega (arith, below s is)))
-    ∙ filter_run test r (n + behind r) in_r (λ s is. let ends = within_true r s is in omega (arith, ends.1))
+    ∙ sym (filter_run test q (n + next_after r) in_q (λ s is. omega (arith, below s is)))
+    ∙ filter_run test r (n + next_after r) in_r (λ s is. let ends = within_true r s is in omega (arith, ends.1))
 
 module _ (line : Line) (w : Flow) (sound : IsFlowSound line w) (v : LineState) (sees : Shows line w v) (c t : ℕ) (to : is_centre line c ≡ true) (m : Mission) (at : (w.at c).mission t ≡ Some m) where
   abbrev pub k : Centre

@@ -99,7 +99,7 @@ module _ (line : Line) (ok : IsLine line) (w : Flow) (sound : IsFlowSound line w
   is : IsMissionAt line c k m
   is = (sound.centres c to).mission t m at
 
-  -- what is shown behind it, but for the request, which the end of mission drops
+  -- what is shown after it, but for the request, which the end of mission drops
   pub record StoodSo (is_still : Bool) (o : Option Place) (q : Reply) : Type 0 where
     pub tells : said_by q ≡ record { sayings = []; words = standing_words line t c is_still o v }
     pub mid : LineState

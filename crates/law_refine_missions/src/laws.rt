@@ -40,7 +40,7 @@ pub fn an_end_of_mission_is_an_own_step()
         → IsWhole line c (of_train t_train t (EndOfMission position)) (own_end line c t position) }
 {}
 
-/// A shortening that is granted: the request no longer stands, and the hand is cut behind the last section kept, with
+/// A shortening that is granted: the request no longer stands, and the hand is cut after the last section kept, with
 /// its pool, if the train has not run past the proposed end.
 pub fn a_granted_shortening_is_an_own_step()
     ensures own { (line : Line) (c t_train t stamp : ℕ) (position : Position) → IsLine line

@@ -110,7 +110,7 @@ module _ (line : Line) (ok : IsLine line) (w : Flow) (sound : IsFlowSound line w
       taken = let comes = goes_received line c a f (took_frame a number (w.at c)) fits in record {
         y = comes.y;
         taking = record { leads = comes.taking.leads; expected = comes.taking.expected; waits = comes.taking.waits; announced = comes.taking.announced; number = comes.taking.number; handing = comes.taking.handing };
-        behind = comes.behind;
+        after = comes.after;
       }
 
   -- of a train of the line
@@ -139,7 +139,7 @@ module _ (line : Line) (ok : IsLine line) (w : Flow) (sound : IsFlowSound line w
       sound = keeps;
     }
 
-    -- a state with the same book, wishes, starts that wait and missions, behind frames without missions and hands
+    -- a state with the same book, wishes, starts that wait and missions, after frames without missions and hands
     pub unseen_by : (y : Centre) (frames : ℕ → List Body) → y.book ≡ (w.at c).book → y.wish ≡ (w.at c).wish → y.wait ≡ (w.at c).wait → y.mission ≡ (w.at c).mission
         → ((t : ℕ) → SendsNone (missions t) c frames) → ((t s : ℕ) → SendsNone (hands t s) c frames) → IsUnseen c (w.at c) (came_with a c f) y frames
     unseen_by y frames book wish waits mission none_sent no_hand = record {

@@ -18,7 +18,7 @@ use Rattle.rbc_spec.specs.LineCentre.{LineState, free, told}
 use Rattle.law_base.proofs.Runs.{filter_run}
 use Rattle.law_network.specs.Flow.{Flow}
 use Rattle.law_network.specs.Shows.{Shows}
-use Rattle.law_abstraction.specs.Acts.{IsAct, hand_before, hand_behind}
+use Rattle.law_abstraction.specs.Acts.{IsAct, hand_before, hand_after}
 use Rattle.law_abstraction.specs.After.{MarkAfter}
 use Rattle.law_abstraction.proofs.Hands.{mark_stays}
 use Rattle.law_abstraction.proofs.Entering.{opened, shut}
@@ -75,7 +75,7 @@ module _ (line : Line) (w : Flow) (v : LineState) (sees : Shows line w v) (c : �
 
   module _ (came : Resource Centre Body → ℕ) (y : Centre) (frames : ℕ → List Body) (new : Flow) (act : IsAct line w c came y frames new)
       (book : (s : ℕ) → y.book s ≡ (if is_freed s then (if (w.at c).wish s then centre.Shut else centre.Open) else (w.at c).book s))
-      (hand : (t s : ℕ) → hand_behind line c t s y frames ≡ hand_before t s (w.at c) came) where
+      (hand : (t s : ℕ) → hand_after line c t s y frames ≡ hand_before t s (w.at c) came) where
     pub freed_mark : (s d : ℕ) → is_home line d s ≡ true → MarkAfter line w new s d (v.mark s) (if is_freed s then (if v.wish s then line_centre.Shut else line_centre.Open) else v.mark s)
     freed_mark s d home = by_test (is_freed s) refl
       where

@@ -1,4 +1,5 @@
--- A set and an unset: the own step of the one line centre, and behind an unset of a section in use a request to shorten, or nothing.
+-- A set and an unset: the own step of the one line centre, and after an unset of a section in use a request to shorten,
+-- or nothing.
 use Rattle.law_counting.specs.Resource.{Resource, carried}
 use Rattle.std.proofs.Common.{◌≡◌, ◌≢◌, ℕ, ◌==◌, not, Bool, true, false, if◌then◌else◌, List, [], ◌∷◌, Option, Some, None, refl, sym, ap, ◌∙◌, subst, arith, append-nil, eq-eqb, ⊎_elim}
 use Rattle.std.specs.Prelude.{MatchBool}

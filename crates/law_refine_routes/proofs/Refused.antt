@@ -35,7 +35,7 @@ use Rattle.law_abstraction.proofs.Frames.{sends_none}
 use Rattle.law_abstraction.proofs.Shows.{part_stays, part_changes, shows_after}
 use Rattle.law_centre_sound.proofs.Rights.{refused_sound}
 use Rattle.law_refine_routes.proofs.Bodies.{IsAside, leads_if, sound_here, trained, received_keeps, act_keeps, of_train_leads}
-use Rattle.law_refine_routes.proofs.Rights.{behind_change, resting}
+use Rattle.law_refine_routes.proofs.Rights.{after_change, resting}
 use Rattle.law_refine_routes.proofs.Freed.{home_known, known_below, freed_wish, freed_other_wish, freed_no_section, freed_told, freed_mark}
 
 refuses : (t : ℕ) → IsAside (RefuseRight t)
@@ -147,8 +147,8 @@ module _ (line : Line) (ok : IsLine line) (w : Flow) (sound : IsFlowSound line w
       (act_keeps line ok w sound a c number from to (RefuseRight t) head t (right_refused line c t) known
       (received_keeps line ok w sound a c number from to (RefuseRight t) head (record {})
       (trained line ok w sound a c number from to (RefuseRight t) head t (right_refused line c t) (λ so. refused_sound line ok c t k (sound_here line ok w sound a c number from to (RefuseRight t) head)))))
-      (λ asked keeps. subst (λ q. Leads line (took w a c) c q v) (sym (behind_change (λ j. record j { has_asked = put j.has_asked t false }) _ k))
-      (by_wait ((w.at c).wait t) refl (subst (λ q. IsFlowSound line (replied (took w a c) c q)) (behind_change (λ j. record j { has_asked = put j.has_asked t false }) _ k) keeps)))
+      (λ asked keeps. subst (λ q. Leads line (took w a c) c q v) (sym (after_change (λ j. record j { has_asked = put j.has_asked t false }) _ k))
+      (by_wait ((w.at c).wait t) refl (subst (λ q. IsFlowSound line (replied (took w a c) c q)) (after_change (λ j. record j { has_asked = put j.has_asked t false }) _ k) keeps)))
       (λ unasked keeps. resting line ok w sound v sees a c number from to (RefuseRight t) head (refuses t) k keeps refl refl refl refl refl refl refl))
     where
       middle_of : Centre

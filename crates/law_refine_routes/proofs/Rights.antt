@@ -31,10 +31,10 @@ gives t = record { follows = λ u n. refl; mission = λ a c u. refl; hand = λ a
 returns : (t : ℕ) → IsAside (ReturnRight t)
 returns t = record { follows = λ u n. refl; mission = λ a c u. refl; hand = λ a c u s. refl }
 
--- an act behind a change alone
-pub behind_change : (change : Centre → Centre) (act : Act) (k : Centre) → (become change >> act) k ≡ act (change k)
+-- an act after a change alone
+pub after_change : (change : Centre → Centre) (act : Act) (k : Centre) → (become change >> act) k ≡ act (change k)
 unfolding ◌>>◌
-behind_change change act k = refl
+after_change change act k = refl
 
 module _ (line : Line) (ok : IsLine line) (w : Flow) (sound : IsFlowSound line w) (v : LineState) (sees : Shows line w v) (a c number : ℕ) (from : is_centre line a ≡ true) (to : is_centre line c ≡ true) where
   abbrev k : Centre
@@ -83,9 +83,9 @@ module _ (line : Line) (ok : IsLine line) (w : Flow) (sound : IsFlowSound line w
       (received_keeps line ok w sound a c number from to (AskRight t) head (record {})
       (trained line ok w sound a c number from to (AskRight t) head t (right_asked line c a t) (λ so. asked_sound line ok c a t k from (sound_here line ok w sound a c number from to (AskRight t) head)))))
       (λ here keeps. leads_if line (took w a c) c v (k.has_right t) ((become (λ j. record j { has_right = put j.has_right t false }) >> send a (GiveRight t)) k) (send a (RefuseRight t) k) keeps
-      (λ has there. subst (λ q. Leads line (took w a c) c q v) (sym (behind_change (λ j. record j { has_right = put j.has_right t false }) (send a (GiveRight t)) k))
+      (λ has there. subst (λ q. Leads line (took w a c) c q v) (sym (after_change (λ j. record j { has_right = put j.has_right t false }) (send a (GiveRight t)) k))
       (sending (AskRight t) head (asks t) a (GiveRight t) (record k { has_right = put k.has_right t false }) (λ u. refl) (λ u s. refl)
-      (subst (λ q. IsFlowSound line (replied (took w a c) c q)) (behind_change (λ j. record j { has_right = put j.has_right t false }) (send a (GiveRight t)) k) there) refl refl refl refl refl refl refl))
+      (subst (λ q. IsFlowSound line (replied (took w a c) c q)) (after_change (λ j. record j { has_right = put j.has_right t false }) (send a (GiveRight t)) k) there) refl refl refl refl refl refl refl))
       (λ gone there. sending (AskRight t) head (asks t) a (RefuseRight t) k (λ u. refl) (λ u s. refl) there refl refl refl refl refl refl refl))
       (λ away keeps. resting (AskRight t) head (asks t) k keeps refl refl refl refl refl refl refl))
 
@@ -110,9 +110,9 @@ module _ (line : Line) (ok : IsLine line) (w : Flow) (sound : IsFlowSound line w
       (act_keeps line ok w sound a c number from to (GiveRight t) head t (right_given line c t) known
       (received_keeps line ok w sound a c number from to (GiveRight t) head (record {})
       (trained line ok w sound a c number from to (GiveRight t) head t (right_given line c t) (λ so. given_sound line ok c t k (sound_here line ok w sound a c number from to (GiveRight t) head)))))
-      (λ asked keeps. subst (λ q. Leads line (took w a c) c q v) (sym (behind_change (λ j. record j { has_asked = put j.has_asked t false }) _ k))
+      (λ asked keeps. subst (λ q. Leads line (took w a c) c q v) (sym (after_change (λ j. record j { has_asked = put j.has_asked t false }) _ k))
       (leads_if line (took w a c) c v (is_some (k.wait t) && is_none (k.mission t)) _ (return_right line c t (record k { has_asked = put k.has_asked t false }))
-      (subst (λ q. IsFlowSound line (replied (took w a c) c q)) (behind_change (λ j. record j { has_asked = put j.has_asked t false }) _ k) keeps)
+      (subst (λ q. IsFlowSound line (replied (took w a c) c q)) (after_change (λ j. record j { has_asked = put j.has_asked t false }) _ k) keeps)
       (λ waits there. absurd (let wrong : false ≡ true = sym (ap (λ (o : Option Place). is_some o && is_none (k.mission t)) (none asked)) ∙ waits in cc))
       (λ no there. back_leads (GiveRight t) head (gives t) t (record k { has_asked = put k.has_asked t false }) there refl refl refl refl refl refl refl)))
       (λ unasked keeps. resting (GiveRight t) head (gives t) k keeps refl refl refl refl refl refl refl))

@@ -29,7 +29,7 @@ use Rattle.law_centre_sound.proofs.Sends.{if_sound, rest_sound}
 use Rattle.law_centre_sound.proofs.Routes.{told_route, withdrawn_route}
 use Rattle.law_refine_followups.proofs.Proposals.{propose_leads}
 use Rattle.law_refine_routes.proofs.Bodies.{IsAside, leads_if, leads_if_act, leads_or, sound_here, trained, received_keeps, act_keeps, unseen_leads, rest_leads, of_train_leads}
-use Rattle.law_refine_routes.proofs.Rights.{behind_change, resting, sending}
+use Rattle.law_refine_routes.proofs.Rights.{after_change, resting, sending}
 
 tells : (t : ℕ) (r : SectionRun) → IsAside (RouteInfo t r)
 tells t r = record { follows = λ u n. refl; mission = λ a c u. refl; hand = λ a c u s. refl }
@@ -63,7 +63,7 @@ module _ (line : Line) (ok : IsLine line) (w : Flow) (sound : IsFlowSound line w
   abbrev k : Centre
   k = took_frame a number (w.at c)
 
-  -- another pool of a mission, behind frames without a mission or a hand
+  -- another pool of a mission, after frames without a mission or a hand
   pooled : (f : Body) → IsAside f → (t : ℕ) (pool : Mission → SectionRun) (y : Centre) (frames : ℕ → List Body) → y.book ≡ (w.at c).book → y.wish ≡ (w.at c).wish → y.wait ≡ (w.at c).wait
       → y.mission ≡ put (w.at c).mission t (option_map (λ (m : Mission). record m { pool = pool m }) ((w.at c).mission t))
       → ((u : ℕ) → SendsNone (missions u) c frames) → ((u s : ℕ) → SendsNone (hands u s) c frames) → IsUnseen c (w.at c) (came_with a c f) y frames
@@ -88,9 +88,9 @@ module _ (line : Line) (ok : IsLine line) (w : Flow) (sound : IsFlowSound line w
       (act_keeps line ok w sound a c number from to (RouteInfo t r) head t (route_told line c a t r) known
       (received_keeps line ok w sound a c number from to (RouteInfo t r) head (record {})
       (trained line ok w sound a c number from to (RouteInfo t r) head t (route_told line c a t r) (λ so. told_route line ok c a from apart t r k (sound_here line ok w sound a c number from to (RouteInfo t r) head)))))
-      (λ mine keeps. subst (λ q. Leads line (took w a c) c q v) (sym (behind_change (λ j. record j { route_ask = put j.route_ask t None }) _ k))
+      (λ mine keeps. subst (λ q. Leads line (took w a c) c q v) (sym (after_change (λ j. record j { route_ask = put j.route_ask t None }) _ k))
       (leads_if line (took w a c) c v (has (is_wanted line r) (k.mission t)) (change_mission t (λ m. record m { pool = r }) answered) ((if is_empty r then rest else send a (RouteReturn t r)) answered)
-      (subst (λ q. IsFlowSound line (replied (took w a c) c q)) (behind_change (λ j. record j { route_ask = put j.route_ask t None }) _ k) keeps)
+      (subst (λ q. IsFlowSound line (replied (took w a c) c q)) (after_change (λ j. record j { route_ask = put j.route_ask t None }) _ k) keeps)
       (λ wanted there. unseen_leads line ok w sound a c number from to (RouteInfo t r) head (tells t r) v sees (change_mission t (λ m. record m { pool = r }) answered) there refl
       (pooled (RouteInfo t r) (tells t r) t (λ m. r) (change_mission t (λ m. record m { pool = r }) answered).state (λ d. []) refl refl refl refl (λ u d. carried_none (missions u) c d) (λ u s d. carried_none (hands u s) c d)) refl refl refl)
       (λ unwanted there. leads_if_act line (took w a c) c v (is_empty r) rest (send a (RouteReturn t r)) answered there

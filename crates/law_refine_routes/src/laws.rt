@@ -23,7 +23,7 @@ pub fn what_a_frame_of_rights_leads_to()
     ensures returned { (line : Line) (t : ℕ) → LeadsByBody line (ReturnRight t) }
 {}
 
-/// A set and an unset at a centre are the own steps of the one line centre. Behind the unset of a section in use it may
+/// A set and an unset at a centre are the own steps of the one line centre. After the unset of a section in use it may
 /// ask the train to shorten its authority.
 pub fn what_the_interlocking_leads_to()
     ensures set { (line : Line) (w : Flow) (v : LineState) (c s : ℕ) (k : Centre) → IsLine line → IsFlowSound line w

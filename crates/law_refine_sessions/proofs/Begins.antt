@@ -1,4 +1,4 @@
--- What is shown behind a start of mission that begins, and behind one that waits.
+-- What is shown after a start of mission that begins, and after one that waits.
 use Rattle.std.proofs.Common.{◌≡◌, ◌≢◌, ℕ, ◌+◌, ◌==◌, ◌&&◌, if◌then◌else◌, Bool, true, false, List, [], Option, Some, None, option_map, refl, sym, ap, ◌∙◌, subst, arith, ⊎_elim}
 use Rattle.std.proofs.lemmas.Bool.{cases_eq, and_parts}
 use Rattle.law_counting.specs.Sums.{one_if}

@@ -1,4 +1,5 @@
--- What is shown behind a message that changes a mission and sessions alone, and a message that the own step answers alone.
+-- What is shown after a message that changes a mission and sessions alone, and a message that the own step answers
+-- alone.
 use Rattle.std.proofs.Common.{◌≡◌, ◌≢◌, ℕ, ◌+◌, Bool, true, List, [], ◌∷◌, Option, Some, option_map, refl, sym, ap, ◌∙◌, subst, arith, ⊎_elim}
 use Rattle.std.proofs.lemmas.Bool.{cases_eq}
 use Rattle.law_counting.specs.Sums.{one_if}

@@ -62,7 +62,7 @@ module _ (line : Line) (w : Flow) (v : LineState) (sound : IsFlowSound line w) (
       by_wait true is = absurd (let wrong : false ≡ true = sym away ∙ waited_home s is in cc)
       by_wait false is = is
 
-  -- the centre behind a session that ended, where these sections are given back
+  -- the centre after a session that ended, where these sections are given back
   pub record IsEnded (y : Centre) (is_freed : ℕ → Bool) (phase : Phase) (t_train : ℕ) : Type 0 where
     pub freed : (s : ℕ) → is_freed s ≡ is_waiting_at line v t c s
     pub book : (s : ℕ) → y.book s ≡ (if is_freed s then (if k.wish s then centre.Shut else centre.Open) else k.book s)

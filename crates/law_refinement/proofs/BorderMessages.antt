@@ -9,7 +9,7 @@ use Rattle.law_base.proofs.Runs.{each_within, within_part_before, within_part_fr
 use Rattle.law_base.proofs.Standstill.{rests_or_cuts}
 use Rattle.law_centre.proofs.Reported.{report_leaves}
 use Rattle.rbc_spec.specs.Maps.{put}
-use Rattle.rbc_spec.specs.SectionRuns.{SectionRun, no_run, most_in_hand, within, behind, is_empty, part_before, part_from, joined, all_of}
+use Rattle.rbc_spec.specs.SectionRuns.{SectionRun, no_run, most_in_hand, within, next_after, is_empty, part_before, part_from, joined, all_of}
 use Rattle.rbc_spec.specs.Line.{Line, IsLine, is_home, end, next_centre, registrar}
 use Rattle.rbc_spec.specs.Sections.{nid_rbc, is_on}
 use Rattle.rbc_spec.specs.Place.{Place, Position, covered, fit_place, place_on}
@@ -132,9 +132,9 @@ module _ (line : Line) (ok : IsLine line) (c t : ℕ) where
 
       by_all : (place : Place) → place_on line m.place.track position ≡ Some place → (r : SectionRun) (b : Bool)
           → Good line c ((if b then (leave line c t m.place.track (joined m.hand m.pool) >> close line c t m)
-          else (leave line c t m.place.track r >> set_mission t (Some (record m { place = place; hand = part_from (behind r) m.hand })))) k).state
+          else (leave line c t m.place.track r >> set_mission t (Some (record m { place = place; hand = part_from (next_after r) m.hand })))) k).state
       by_all place is r true = (both line c _ _ (leave_keeps m.place.track (joined m.hand m.pool)) (close_keeps m)).each k good
-      by_all place is r false = put_so line c k.mission good t _ (cleared_so place is (behind r))
+      by_all place is r false = put_so line c k.mission good t _ (cleared_so place is (next_after r))
 
       by_place : (o : Option Place) → place_on line m.place.track position ≡ o → Good line c (option_map_or (clear line c t m) o rest k).state
       by_place None is = good
@@ -259,7 +259,7 @@ module _ (line : Line) (ok : IsLine line) (c t : ℕ) where
   ask_keeps d = of_some line c (λ k. k.mission t) (λ m. where_so (may_ask d m) (ask_route t d m)) (λ m. when line c (may_ask d m) (ask_route t d m) (both line c _ _ (record { each = λ j g. g }) (record { each = λ j g. g })))
     where
       may_ask : ℕ → Mission → Centre → Bool
-      may_ask d m k = ((is_home line d (behind m.hand) && is_on line m.place.track (behind m.hand)) && nat_lt m.hand.count most_in_hand) && (is_empty m.pool && is_none (k.route_ask t))
+      may_ask d m k = ((is_home line d (next_after m.hand) && is_on line m.place.track (next_after m.hand)) && nat_lt m.hand.count most_in_hand) && (is_empty m.pool && is_none (k.route_ask t))
 
   abbrev announced_as : ℕ → ℕ → Mission → Mission
   announced_as number d q = record q { handing = Some (record { number = number; to = d }) }

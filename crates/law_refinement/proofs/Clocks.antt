@@ -48,7 +48,7 @@ shows_restamped line w links v sees = record {
   no_mission = sees.no_mission;
 }
 
--- what shows the flow behind an act shows it with another clock and other links of the centre
+-- what shows the flow after an act shows it with another clock and other links of the centre
 pub shows_stamped : (line : Line) (w : Flow) (c : ℕ) (k : Centre) (frames : ℕ → List Body) (clock : ℕ) (sent : ℕ → List Frame) (taken : ℕ → ℕ) (v : LineState)
     → Shows line (acted w c k frames) v → Shows line (acted w c (stamped k clock sent taken) frames) v
 shows_stamped line w c k frames clock sent taken v sees =
@@ -107,7 +107,7 @@ module _ (line : Line) (w : Flow) (c : ℕ) (v : LineState) (stamp : ℕ) (at_wo
     head = record { head = way_acted_none w c k a c ∙ takes.head ∙ ap (λ fs. f ∷ fs) (sym (way_acted_none (took w a c) c k a c)) };
   }
 
-  -- the flow behind a reply is that behind it without the clock
+  -- the flow after a reply is that after it without the clock
   pub begun_replied : (r : Reply) → replied begun c r ≡ replied w c r
   begun_replied r = acted_twice w c k r.state (λ d. []) r.frames
 

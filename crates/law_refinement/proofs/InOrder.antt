@@ -7,7 +7,7 @@ use Rattle.law_base.proofs.Standstill.{rests_or_cuts}
 use Rattle.law_centre.proofs.SentActs.{close_leaves_none}
 use Rattle.law_base.proofs.Puts.{put_there}
 use Rattle.rbc_spec.specs.Maps.{put}
-use Rattle.rbc_spec.specs.SectionRuns.{SectionRun, all_of, within, no_run, is_empty, part_before, part_from, joined, behind}
+use Rattle.rbc_spec.specs.SectionRuns.{SectionRun, all_of, within, no_run, is_empty, part_before, part_from, joined, next_after}
 use Rattle.rbc_spec.specs.Line.{Line, section, end, is_home}
 use Rattle.rbc_spec.specs.Place.{Position, covered, place_on, Place}
 use Rattle.rbc_spec.specs.Message.{TrainMessage, TrainBody, Report, ShorteningGranted, EndOfMission, InitiationOfSession, TerminationOfSession}
@@ -39,9 +39,9 @@ none_then : (a b : Act) → IsSilent a → IsOrdered b → IsOrdered (a >> b)
 unfolding ◌>>◌
 none_then a b first second = record { each = λ k. subst TellsInOrder (sym (ap (λ (ws : List Word). ws ++ (b (a k).state).words) (first.each k))) (second.each (a k).state) }
 
-silent_behind : (a b : Act) → IsSilent b → (k : Centre) → ((a >> b) k).words ≡ (a k).words
+silent_after : (a b : Act) → IsSilent b → (k : Centre) → ((a >> b) k).words ≡ (a k).words
 unfolding ◌>>◌
-silent_behind a b second k = ap (λ (ws : List Word). (a k).words ++ ws) (second.each (a k).state) ∙ append-nil (a k).words
+silent_after a b second k = ap (λ (ws : List Word). (a k).words ++ ws) (second.each (a k).state) ∙ append-nil (a k).words
 
 module _ (line : Line) (c t : ℕ) where
   freed_in_order : (is_meant : Entry → Bool) (r : SectionRun) → IsOrdered (freed line c is_meant r)
@@ -87,7 +87,7 @@ module _ (line : Line) (c t : ℕ) where
 
   -- ## End of mission
 
-  -- a train that stands still has told of sections of its hand, and of those behind
+  -- a train that stands still has told of sections of its hand, and of those in advance
   record TellsAhead (n : Mission) (words : List Word) : Type 0 where
     test : ℕ → Bool
     first : ℕ
@@ -100,11 +100,11 @@ module _ (line : Line) (c t : ℕ) where
     test = λ s. ((within gone s && is_home line c s) && is_taken_for t (j.book s)) && j.wish s;
     first = gone.first;
     count = gone.count;
-    are = silent_behind (leave line c t n.place.track gone) _
+    are = silent_after (leave line c t n.place.track gone) _
         (branch IsNone refl _ _ _ (close_silent line c t n) (both _ _ (record { each = λ k. refl })
         (of_option IsNone refl n.handing (cancels (kept_by last_kept n)) rest
         (λ h. branch IsNone refl (is_empty (part_at line h.to n.place.track (kept_by last_kept n).hand)) (cancel t (kept_by last_kept n)) rest (cancel_silent line c t (kept_by last_kept n)) (record { each = λ k. refl })) (record { each = λ k. refl })))) j
-        ∙ silent_behind (freed line c (is_taken_for t) gone) (returned line c t n.place.track gone) (record { each = λ k. refl }) j;
+        ∙ silent_after (freed line c (is_taken_for t) gone) (returned line c t n.place.track gone) (record { each = λ k. refl }) j;
     ahead = let is : gone.first ≡ tail.first = ap (λ (r : SectionRun). r.first) (cond-false (is_empty tail) n.pool (record { first = tail.first; count = tail.count + n.pool.count }) (ne_eqb tail.count 0 (omega (arith, some, fits)))) in
         omega (arith, is);
   }
@@ -133,7 +133,7 @@ module _ (line : Line) (c t : ℕ) where
   clear_tells m place k = by_count ((cleared line place m).count == m.hand.count)
     where
       new : Mission
-      new = record m { place = place; hand = part_from (behind (cleared line place m)) m.hand }
+      new = record m { place = place; hand = part_from (next_after (cleared line place m)) m.hand }
 
       by_count : (b : Bool) → TellsFirst ((if b then (leave line c t m.place.track (joined m.hand m.pool) >> close line c t m) else (leave line c t m.place.track (cleared line place m) >> set_mission t (Some new))) k)
       by_count true = ends_so (close_leaves_none 0 0 line c t m (leave line c t m.place.track (joined m.hand m.pool) k).state) ((then_none _ _ (leave_in_order m.place.track (joined m.hand m.pool)) (close_silent line c t m)).each k)
@@ -161,16 +161,16 @@ module _ (line : Line) (c t : ℕ) where
       some_stands : (j : Centre) (n : Mission) → j.mission t ≡ Some n → (second j).words ≡ (stand_still line c t position n j).words
       some_stands j n has = ap (λ (o : Option Mission). (option_map_or (λ n. stand_still line c t position n j) o (rest j)).words) has
 
-      behind_first : (q : Reply) → TellsFirst q → TellsInOrder (q.words ++ (second q.state).words)
-      behind_first q (ends_so none ordered) = subst (λ ws. TellsInOrder (q.words ++ ws)) (sym (none_stands q.state none)) (subst TellsInOrder (sym (append-nil q.words)) ordered)
-      behind_first q (goes_on n has test first count are low) = let later = stand_tells position n q.state in let high = later.ahead in
+      after_first : (q : Reply) → TellsFirst q → TellsInOrder (q.words ++ (second q.state).words)
+      after_first q (ends_so none ordered) = subst (λ ws. TellsInOrder (q.words ++ ws)) (sym (none_stands q.state none)) (subst TellsInOrder (sym (append-nil q.words)) ordered)
+      after_first q (goes_on n has test first count are low) = let later = stand_tells position n q.state in let high = later.ahead in
           subst (λ ws. TellsInOrder (q.words ++ ws)) (sym (some_stands q.state n has ∙ later.are))
           (subst (λ ws. TellsInOrder (ws ++ map (λ s. Told s) (filter later.test (range_with_len later.first later.count)))) (sym are)
           (ranges_in_order test later.test first count later.first later.count (omega (arith, low, high))))
 
       by_mission : (o : Option Mission) → k.mission t ≡ o → TellsInOrder ((option_map_or (λ m. report_here line c t position m k) o (rest k)).words ++ (second (option_map_or (λ m. report_here line c t position m k) o (rest k)).state).words)
-      by_mission None none = behind_first (rest k) (ends_so none none_in_order)
-      by_mission (Some m) has = behind_first (report_here line c t position m k) (here_tells position m k has)
+      by_mission None none = after_first (rest k) (ends_so none none_in_order)
+      by_mission (Some m) has = after_first (report_here line c t position m k) (here_tells position m k has)
 
   end_in_order : (position : Position) → IsOrdered (end_mission line c t position)
   end_in_order position = then_none _ _ (record { each = λ k. both_tell position k })

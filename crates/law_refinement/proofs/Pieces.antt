@@ -40,7 +40,7 @@ use Rattle.law_refinement.proofs.Clocks.{shows_stamped, begun, begun_at_work, be
 use Rattle.law_refinement.proofs.Cited.{initiated, terminated, session_established, started, had_data, shortening_rejected, reported, shortening_granted, ended, requested, set_leads_on, unset_leads_on, body_leads}
 use Rattle.law_refinement.proofs.InOrder.{effect_in_order}
 use Rattle.law_refinement.proofs.Silence as silence
-use Rattle.law_refinement.proofs.Still.{at_work, Met, shown_behind, silent_met, stray_met}
+use Rattle.law_refinement.proofs.Still.{at_work, Met, shown_after, silent_met, stray_met}
 
 -- ## A train that is listened to
 
@@ -121,7 +121,7 @@ module _ (line : Line) (ok : IsLine line) (w : World) (v : LineState) (meets : M
       in_order = order;
       says = h.says;
     },
-    shown_behind line w v meets c to stamp trains e h.new still (subst (λ (f : Flow). Shows line f h.new) (begun_replied line (flow_of w) c v stamp work e.reply) h.shows),
+    shown_after line w v meets c to stamp trains e h.new still (subst (λ (f : Flow). Shows line f h.new) (begun_replied line (flow_of w) c v stamp work e.reply) h.shows),
   )
 
   -- ## A message

@@ -1,4 +1,4 @@
--- Each event behind any others is met, keeps its promises and leaves a sound world.
+-- Each event after any others is met, keeps its promises and leaves a sound world.
 use Rattle.std.proofs.Common.{◌≡◌, List, [], ◌∷◌, ◌++◌, Ok, sym, ap, ◌∙◌, subst}
 use Rattle.rbc_spec.specs.Line.{Line, IsLine}
 use Rattle.rbc_spec.specs.LineCentre.{LineState}
@@ -27,7 +27,7 @@ pub run_so : (line : Line) → IsLine line → (events : List Event) (w : World)
 run_so line ok events w sound so answers last is = (keeps_run line (λ x. IsWorldSound line x × WaitsAtCentres line x)
     (λ x old event answer new went. (world_step_sound line ok x old.0 event answer new went, event_so line x old.0.flow old.1 event answer new went)) events w (sound, so) answers last is).1
 
--- one more event behind a run
+-- one more event after a run
 pub run_further : (line : Line) (event : Event) (answer : Answer) (new : World) (events : List Event) (w : World) (answers : List Answer) (last : World)
     → world_run line w events ≡ Ok (answers, last) → world_step line last event ≡ Ok (answer, new) → world_run line w (events ++ event ∷ []) ≡ Ok (answers ++ answer ∷ [], new)
 unfolding world_run
@@ -53,15 +53,15 @@ module _ (line : Line) (ok : IsLine line) (w new : World) (events : List Event) 
   same : next.0 ≡ read_off line new
   same = is_read line new next.0 next.2
 
-  behind : Meets line new (read_off line new)
-  behind = subst (λ (u : LineState). Meets line new u) same next.2
+  after : Meets line new (read_off line new)
+  after = subst (λ (u : LineState). Meets line new u) same next.2
 
   -- between the states that are read off
   goes : Goes line (read_off line w) event answer (read_off line new)
   goes = subst (λ (u : LineState). Goes line (read_off line w) event answer u) same next.1
 
   ends : StandsFor line new (read_off line new)
-  ends = stands_read line new (read_off line new) behind
+  ends = stands_read line new (read_off line new) after
 
   pub promises : KeepsPromises line w event answer new
   promises = keeps_promises line w new event answer
@@ -70,11 +70,11 @@ module _ (line : Line) (ok : IsLine line) (w new : World) (events : List Event) 
       (stands_read line w (read_off line w) meets) ends goes
 
   -- no right and no token is ever lost
-  pub sound_behind : IsSound line new
-  sound_behind = record {
+  pub sound_after : IsSound line new
+  sound_after = record {
     stands = ends;
     safe = safe line new (read_off line new) ends;
-    one_place = has_one_place line ok new behind.sound.flow
+    one_place = has_one_place line ok new after.sound.flow
         (never_lost line ok (events ++ event ∷ []) (answers ++ answer ∷ []) new (run_further line event answer new events (new_world line) answers w before is));
   }
 
@@ -94,5 +94,5 @@ pub every_event : EachEventTheorem
 every_event line w new events answers event answer ok before is = (
   goes line ok w new events answers event answer before is,
   promises line ok w new events answers event answer before is,
-  sound_behind line ok w new events answers event answer before is,
+  sound_after line ok w new events answers event answer before is,
 )

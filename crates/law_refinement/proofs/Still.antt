@@ -29,25 +29,25 @@ module _ (line : Line) (w : World) (v : LineState) (meets : Meets line w v) (c :
   abbrev pub k : Centre
   k = step.ticked stamp (w.at c)
 
-  abbrev pub behind : Effect → World
-  behind e = in_world w c (state_after stamp (w.at c) e) trains
+  abbrev pub after : Effect → World
+  after e = in_world w c (state_after stamp (w.at c) e) trains
 
   -- what the effect of an event comes to
   abbrev pub Met : Event → Effect → Type 0
-  Met event e = (new : LineState) × Piece line v event (outcome_of stamp (w.at c) e) new × Shows line (flow_of (behind e)) new
+  Met event e = (new : LineState) × Piece line v event (outcome_of stamp (w.at c) e) new × Shows line (flow_of (after e)) new
 
-  pub shown_behind : (e : Effect) (new : LineState) → e.reply.state.taken ≡ (w.at c).taken → Shows line (replied (flow_of w) c e.reply) new → Shows line (flow_of (behind e)) new
-  shown_behind e new still shows = subst (λ (f : Flow). Shows line f new) (sym (by_itself w c stamp (w.at c) e trains (λ d. refl) (λ a. ap (λ (g : ℕ → ℕ). g a) still)))
+  pub shown_after : (e : Effect) (new : LineState) → e.reply.state.taken ≡ (w.at c).taken → Shows line (replied (flow_of w) c e.reply) new → Shows line (flow_of (after e)) new
+  shown_after e new still shows = subst (λ (f : Flow). Shows line f new) (sym (by_itself w c stamp (w.at c) e trains (λ d. refl) (λ a. ap (λ (g : ℕ → ℕ). g a) still)))
       (shows_stamped line (flow_of w) c e.reply.state e.reply.frames e.reply.state.clock (state_after stamp (w.at c) e).sent e.reply.state.taken new shows)
 
   -- a step that does nothing
-  nothing_shown : (e : Effect) → e.reply ≡ rest k → Shows line (flow_of (behind e)) v
-  nothing_shown e is = shown_behind e v (ap (λ (r : _). r.state.taken) is)
+  nothing_shown : (e : Effect) → e.reply ≡ rest k → Shows line (flow_of (after e)) v
+  nothing_shown e is = shown_after e v (ap (λ (r : _). r.state.taken) is)
       (subst (λ (r : _). Shows line (replied (flow_of w) c r) v) (sym is) (begun_shown line (flow_of w) c v stamp at_work))
 
   -- or leaves the one line centre where it is
   abbrev pub Stays : Event → Effect → Type 0
-  Stays event e = Piece line v event (outcome_of stamp (w.at c) e) v × Shows line (flow_of (behind e)) v
+  Stays event e = Piece line v event (outcome_of stamp (w.at c) e) v × Shows line (flow_of (after e)) v
 
   -- nothing is said to a message that is silent, and nothing changes
   pub silent_met : (m : TrainMessage) (why : Reason) → step.silence line c k m ≡ Some why → Stays (Bytes c (Ok m)) (record { reply = rest k; link = None; silence = Some why })

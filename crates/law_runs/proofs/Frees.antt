@@ -4,7 +4,7 @@ use Rattle.std.proofs.Common.{◌≡◌, ◌⊎◌, ℕ, ◌*◌, ◌<◌, ◌==
 use Rattle.std.specs.Bool.{MatchBool}
 use Rattle.std.proofs.lemmas.Bool.{and_parts, or_cases, not-true}
 use Rattle.std.proofs.lemmas.Option.{same_Some}
-use Rattle.rbc_spec.specs.SectionRuns.{SectionRun, within, behind, all_of}
+use Rattle.rbc_spec.specs.SectionRuns.{SectionRun, within, next_after, all_of}
 use Rattle.rbc_spec.specs.Line.{Line, is_centre, is_home, start, end}
 use Rattle.rbc_spec.specs.Sections.{section_count, is_on}
 use Rattle.rbc_spec.specs.Place.{Place, Position, covered, is_cleared, fit_place, place_on}
@@ -130,7 +130,7 @@ module _ (line : Line) (v : LineState) (keep : WaitsKeep line v) (c : ℕ) (at :
       (wait_on line v keep _ refl (λ u d s waited. stay s (λ so. not_more u d s waited so))))
     where
       more : SectionRun
-      more = record { first = behind h.hand; count = h.count }
+      more = record { first = next_after h.hand; count = h.count }
 
       may_be : (s : ℕ) → within more s ≡ true → may_be_given line v c t s ≡ true
       may_be s so = (and_parts (may_be_given line v c t s) (is_on line place.track s) (each_within (λ e. may_be_given line v c t e && is_on line place.track e) more h.each s so)).0
@@ -200,19 +200,19 @@ module _ (line : Line) (v : LineState) (keep : WaitsKeep line v) (c : ℕ) (at :
   report_leaves position place said new on h = release_leaves line v keep c at t (is_cleared_of line v t place) (λ s so. (cleared_given place s so).0) new (May (Report position))
       (ap (λ (x : LineState). x.mark) h.new_is ∙ closed_mark _ _ _ refl) (ap (λ (x : LineState). x.wait) h.new_is ∙ closed_wait _ _ _ refl) (λ s so. by_report position place refl on (cleared_given place s so).1)
 
-  -- behind a report
-  abbrev behind_report : Place → LineState
-  behind_report place = reported line t c place v
+  -- after a report
+  abbrev after_report : Place → LineState
+  after_report place = reported line t c place v
 
-  report_keeps : (body : TrainBody) (place : Place) → ((s : ℕ) → is_cleared line place s ≡ true → May body t s) → OwnLeaves line v (behind_report place) (May body)
-  report_keeps body place may = release_leaves line v keep c at t (is_cleared_of line v t place) (λ s so. (cleared_given place s so).0) (behind_report place) (May body)
+  report_keeps : (body : TrainBody) (place : Place) → ((s : ℕ) → is_cleared line place s ≡ true → May body t s) → OwnLeaves line v (after_report place) (May body)
+  report_keeps body place may = release_leaves line v keep c at t (is_cleared_of line v t place) (λ s so. (cleared_given place s so).0) (after_report place) (May body)
       (closed_mark _ _ _ refl) (closed_wait _ _ _ refl) (λ s so. may s (cleared_given place s so).1)
 
-  closed_is : (place : Place) → (behind_report place).mark ≡ (release line c t (is_cleared_of line v t place) v).mark
+  closed_is : (place : Place) → (after_report place).mark ≡ (release line c t (is_cleared_of line v t place) v).mark
   closed_is place = closed_mark _ _ _ refl
 
   -- what is given then was given before
-  given_before : (place : Place) (s : ℕ) → is_given_to t ((behind_report place).mark s) ≡ true → is_given_to t (v.mark s) ≡ true
+  given_before : (place : Place) (s : ℕ) → is_given_to t ((after_report place).mark s) ≡ true → is_given_to t (v.mark s) ≡ true
   given_before place s is = by_cleared (is_cleared_of line v t place s) refl
     where
       by_cleared : (b : Bool) → is_cleared_of line v t place s ≡ b → is_given_to t (v.mark s) ≡ true
@@ -220,8 +220,8 @@ module _ (line : Line) (v : LineState) (keep : WaitsKeep line v) (c : ℕ) (at :
       by_cleared false so = ap (is_given_to t) (sym (ap (λ (f : ℕ → Mark). f s) (closed_is place)
           ∙ released_stay line v keep c at t (is_cleared_of line v t place) (λ e is. (cleared_given place e is).0) s (λ yes. let wrong : true ≡ false = sym yes ∙ so in cc))) ∙ is
 
-  ahead_given : (place : Place) (s : ℕ) → is_ahead_of line (behind_report place) t place s ≡ true → (is_given_to t ((behind_report place).mark s) ≡ true) × (nat_le place.front (10 * start line s) ≡ true)
-  ahead_given place s so = and_parts (is_given_to t ((behind_report place).mark s)) (nat_le place.front (10 * start line s)) so
+  ahead_given : (place : Place) (s : ℕ) → is_ahead_of line (after_report place) t place s ≡ true → (is_given_to t ((after_report place).mark s) ≡ true) × (nat_le place.front (10 * start line s) ≡ true)
+  ahead_given place s so = and_parts (is_given_to t ((after_report place).mark s)) (nat_le place.front (10 * start line s)) so
 
   -- one change and then another
   both_leave : (body : TrainBody) (mid new : LineState) → OwnLeaves line v mid (May body) → OwnLeaves line mid new (May body) → OwnLeaves line v new (May body)
@@ -231,22 +231,22 @@ module _ (line : Line) (v : LineState) (keep : WaitsKeep line v) (c : ℕ) (at :
   }
 
   standstill_leaves : (position : Position) (place : Place) (new : LineState) → place_on line (track_of v t) position ≡ Some place → (position.v_train == 0) ≡ true
-      → new ≡ ended t (stopped line t c place (behind_report place)) → OwnLeaves line v new (May (EndOfMission position))
-  standstill_leaves position place new on still is = by_reached (has_reached line (behind_report place) t place) refl is
+      → new ≡ ended t (stopped line t c place (after_report place)) → OwnLeaves line v new (May (EndOfMission position))
+  standstill_leaves position place new on still is = by_reached (has_reached line (after_report place) t place) refl is
     where
-      one : OwnLeaves line v (behind_report place) (May (EndOfMission position))
+      one : OwnLeaves line v (after_report place) (May (EndOfMission position))
       one = report_keeps (EndOfMission position) place (λ s so. by_end position place refl on so)
 
-      by_reached : (b : Bool) → has_reached line (behind_report place) t place ≡ b
-          → new ≡ ended t (if b then release line c t (is_ahead_of line (behind_report place) t place) (behind_report place) else behind_report place) → OwnLeaves line v new (May (EndOfMission position))
-      by_reached false not is = both_leave (EndOfMission position) (behind_report place) new one
-          (of_leaves line (behind_report place) new _ (subst (Leaves line (behind_report place)) (sym is) (plain_leaves line (behind_report place) one.waits (ended t (behind_report place)) refl refl refl)))
+      by_reached : (b : Bool) → has_reached line (after_report place) t place ≡ b
+          → new ≡ ended t (if b then release line c t (is_ahead_of line (after_report place) t place) (after_report place) else after_report place) → OwnLeaves line v new (May (EndOfMission position))
+      by_reached false not is = both_leave (EndOfMission position) (after_report place) new one
+          (of_leaves line (after_report place) new _ (subst (Leaves line (after_report place)) (sym is) (plain_leaves line (after_report place) one.waits (ended t (after_report place)) refl refl refl)))
       by_reached true so is =
-          let r = any-range_some (λ s. is_given_to t ((behind_report place).mark s) && nat_lt (10 * start line s) place.front) 0 (section_count line) so in
+          let r = any-range_some (λ s. is_given_to t ((after_report place).mark s) && nat_lt (10 * start line s) place.front) 0 (section_count line) so in
           let below = r.2 in
-          let parts = and_parts (is_given_to t ((behind_report place).mark r.0)) (nat_lt (10 * start line r.0) place.front) r.3 in
-          both_leave (EndOfMission position) (behind_report place) new one
-          (release_leaves line (behind_report place) one.waits c at t (is_ahead_of line (behind_report place) t place) (λ s so. (ahead_given place s so).0) new (May (EndOfMission position))
+          let parts = and_parts (is_given_to t ((after_report place).mark r.0)) (nat_lt (10 * start line r.0) place.front) r.3 in
+          both_leave (EndOfMission position) (after_report place) new one
+          (release_leaves line (after_report place) one.waits c at t (is_ahead_of line (after_report place) t place) (λ s so. (ahead_given place s so).0) new (May (EndOfMission position))
           (ap (λ (x : LineState). x.mark) is) (ap (λ (x : LineState). x.wait) is)
           (λ s so. by_standstill position place r.0 refl on still (omega (arith, below)) (given_before place r.0 parts.0) parts.1 (ahead_given place s so).1))
 

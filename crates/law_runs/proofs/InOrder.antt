@@ -40,10 +40,10 @@ range_in_order test a (suc n) = by_test (range_in_order test (a + 1) n) (test a)
     by_test others true (suc i) (suc j) s e less first second = others i j s e (omega (arith, less)) first second
     by_test others false i j s e less first second = others i j s e less first second
 
--- so do those of two ranges, of which the second begins behind the first
-told_behind : (test later : ℕ → Bool) (a n b m i e : ℕ) → a + n ≤ b → slice_get (map (λ s. Told s) (filter test (range_with_len a n)) ++ map (λ s. Told s) (filter later (range_with_len b m))) i ≡ Some (Told e) → a ≤ e
-told_behind test later a zero b m i e far is = omega (arith, far, told_from later b m i e is)
-told_behind test later a (suc n) b m i e far is = by_test (λ j so. told_behind test later (a + 1) n b m j e (omega (arith, far)) so) (test a) i is
+-- so do those of two ranges, of which the second begins after the first
+told_after : (test later : ℕ → Bool) (a n b m i e : ℕ) → a + n ≤ b → slice_get (map (λ s. Told s) (filter test (range_with_len a n)) ++ map (λ s. Told s) (filter later (range_with_len b m))) i ≡ Some (Told e) → a ≤ e
+told_after test later a zero b m i e far is = omega (arith, far, told_from later b m i e is)
+told_after test later a (suc n) b m i e far is = by_test (λ j so. told_after test later (a + 1) n b m j e (omega (arith, far)) so) (test a) i is
   where
     by_test : ((j : ℕ) → slice_get (map (λ s. Told s) (filter test (range_with_len (a + 1) n)) ++ map (λ s. Told s) (filter later (range_with_len b m))) j ≡ Some (Told e) → a + 1 ≤ e) → (z : Bool) (i : ℕ)
         → slice_get (map (λ s. Told s) (cond z (a ∷ filter test (range_with_len (a + 1) n)) (filter test (range_with_len (a + 1) n))) ++ map (λ s. Told s) (filter later (range_with_len b m))) i ≡ Some (Told e) → a ≤ e
@@ -60,7 +60,7 @@ ranges_in_order test later a (suc n) b m far = by_test (ranges_in_order test lat
     by_test others true i zero s e less first second = absurd (let wrong : ⊥ = omega (arith, less) in wrong)
     by_test others true zero (suc j) s e less first second =
         let same = same_told a s first in
-        let above = told_behind test later (a + 1) n b m j e (omega (arith, far)) second in
+        let above = told_after test later (a + 1) n b m j e (omega (arith, far)) second in
         omega (arith, same, above)
     by_test others true (suc i) (suc j) s e less first second = others i j s e (omega (arith, less)) first second
     by_test others false i j s e less first second = others i j s e less first second

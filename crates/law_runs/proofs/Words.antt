@@ -1,4 +1,4 @@
--- What the one line centre tells the interlocking is so behind the piece.
+-- What the one line centre tells the interlocking is so after the piece.
 use Rattle.std.proofs.Common.{◌≡◌, ℕ, zero, suc, ◌+◌, ◌*◌, ◌==◌, ◌&&◌, not, nat_le, Bool, true, false, cond, Option, Some, None, refl, sym, ap, ◌∙◌, inl, inr, List, [], ◌∷◌, ◌++◌, map, if◌then◌else◌, subst}
 use Rattle.std.specs.List.{All, filter, range_with_len}
 use Rattle.std.proofs.lemmas.List.Elements.{All-nil, All-cons, All-append, All-weaker}
@@ -21,7 +21,7 @@ use Rattle.law_runs.proofs.Frees.{by_test, closed_mark}
 abbrev pub IsShut : LineState → ℕ → Type 0
 IsShut new s = (new.mark s ≡ Shut) × (new.wish s ≡ false)
 
--- the word is so behind the event
+-- the word is so after the event
 abbrev pub Fits : Line → Event → LineState → Word → Type 0
 Fits line event new (Told s) = IsShut new s
 Fits line event new (Done s) = (c : ℕ) → event ≡ Unset c s → IsShut new s × (is_home line c s ≡ true)

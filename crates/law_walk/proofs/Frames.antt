@@ -188,7 +188,7 @@ module _ (line : Line) (c d : ℕ) (was : Centre) where
   unfolding ◌>>◌
   lent_taking t first most known = taking_if (RouteAsk t first most) (is_some (section line first)) _ (rest was) (λ there. answers _ known (lends_some t first most there)) (λ none. idle (no_section t first most none))
 
-  -- what was asked for goes into the pool behind the question's end, or home again
+  -- what was asked for goes into the pool after the question's end, or home again
   told_taking : (t : ℕ) (r : SectionRun) → is_train line t ≡ true → Taking line c d was (RouteInfo t r) (route_told line c d t r was)
   told_taking t r known = taking_if (RouteInfo t r) (has_place_for_route line d r (was.route_ask t)) _ (rest was)
       (λ so. answers_then (become (λ j. record j { route_ask = put j.route_ask t None })) (choose (λ j. has (is_wanted line r) (j.mission t)) (change_mission t (λ m. record m { pool = r })) (if is_empty r then rest else send d (RouteReturn t r))) known (told t r so)

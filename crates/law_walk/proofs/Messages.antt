@@ -4,7 +4,7 @@ use Rattle.std.specs.Option.{option_map_or}
 use Rattle.std.proofs.lemmas.Bool.{and_parts}
 use Rattle.std.proofs.lemmas.Option.{same_Some}
 use Rattle.rbc_spec.specs.Maps.{put}
-use Rattle.rbc_spec.specs.SectionRuns.{SectionRun, no_run, most_in_hand, within, behind, is_empty, part_before, part_from, joined as joined_runs, all_of}
+use Rattle.rbc_spec.specs.SectionRuns.{SectionRun, no_run, most_in_hand, within, next_after, is_empty, part_before, part_from, joined as joined_runs, all_of}
 use Rattle.rbc_spec.specs.Line.{Line, is_home, end, next_centre, registrar}
 use Rattle.rbc_spec.specs.Sections.{is_on}
 use Rattle.rbc_spec.specs.Place.{Place, Position, covered, is_cleared, place_on, fit_place}
@@ -89,16 +89,16 @@ module _ (line : Line) (c : ℕ) (may : May) (was : Centre) (t : ℕ) (its : may
       (λ undue. resting line c may was k)) (resting line c may was k)
 
   abbrev may_ask : ℕ → Mission → Centre → Bool
-  may_ask d m k = ((is_home line d (behind m.hand) && is_on line m.place.track (behind m.hand)) && nat_lt m.hand.count most_in_hand) && (is_empty m.pool && is_none (k.route_ask t))
+  may_ask d m k = ((is_home line d (next_after m.hand) && is_on line m.place.track (next_after m.hand)) && nat_lt m.hand.count most_in_hand) && (is_empty m.pool && is_none (k.route_ask t))
 
   -- more sections are asked for where the pool is empty
   ask_walks : (d : ℕ) → IsAhead line c may d → (m : Mission) (k : Centre) → k.mission t ≡ Some m → may_ask d m k ≡ true → Walk line c may was k (ask_route t d m k)
   unfolding ◌>>◌
   ask_walks d ahead m k has due =
-      let both = and_parts ((is_home line d (behind m.hand) && is_on line m.place.track (behind m.hand)) && nat_lt m.hand.count most_in_hand) (is_empty m.pool && is_none (k.route_ask t)) due in
+      let both = and_parts ((is_home line d (next_after m.hand) && is_on line m.place.track (next_after m.hand)) && nat_lt m.hand.count most_in_hand) (is_empty m.pool && is_none (k.route_ask t)) due in
       let none = and_parts (is_empty m.pool) (is_none (k.route_ask t)) both.1 in
       let room = and_parts _ (nat_lt m.hand.count most_in_hand) both.0 in
-      let there = and_parts (is_home line d (behind m.hand)) (is_on line m.place.track (behind m.hand)) room.0 in
+      let there = and_parts (is_home line d (next_after m.hand)) (is_on line m.place.track (next_after m.hand)) room.0 in
       step line c may was (asks_route t d m k its has none.0 there.0 (none_is (k.route_ask t) none.1) ahead room.1)
 
   pub ask_if_walks : (d : ℕ) → IsAhead line c may d → Goes (ask_route_if_due line t d)
@@ -129,11 +129,11 @@ module _ (line : Line) (c : ℕ) (may : May) (was : Centre) (t : ℕ) (its : may
   clear_walks so m place position said k has placed = of_count ((cleared line place m).count == m.hand.count) refl
     where
       of_count : (b : Bool) → ((cleared line place m).count == m.hand.count) ≡ b → Walk line c may was k ((if b then (leave line c t m.place.track (joined_runs m.hand m.pool) >> close line c t m)
-          else (leave line c t m.place.track (cleared line place m) >> set_mission t (Some (record m { place = place; hand = part_from (behind (cleared line place m)) m.hand })))) k)
+          else (leave line c t m.place.track (cleared line place m) >> set_mission t (Some (record m { place = place; hand = part_from (next_after (cleared line place m)) m.hand })))) k)
       of_count true all = joined (leave line c t m.place.track (joined_runs m.hand m.pool)) (close line c t m) k (leave_walks line c may was t its so m.place.track (joined_runs m.hand m.pool) m k has (omega (arith, joined_count m.hand m.pool))) (close_walks line c may was t its m m _ has refl)
-      of_count false some = joined (leave line c t m.place.track (cleared line place m)) (set_mission t (Some (record m { place = place; hand = part_from (behind (cleared line place m)) m.hand }))) k
+      of_count false some = joined (leave line c t m.place.track (cleared line place m)) (set_mission t (Some (record m { place = place; hand = part_from (next_after (cleared line place m)) m.hand }))) k
           (leave_walks line c may was t its so m.place.track (cleared line place m) m k has (omega (arith, longest_few (is_cleared line place) m.hand.first m.hand.count)))
-          (step line c may was (sets t (Some (record m { place = place; hand = part_from (behind (cleared line place m)) m.hand })) (leave line c t m.place.track (cleared line place m) k).state (clears m place position has said placed some)))
+          (step line c may was (sets t (Some (record m { place = place; hand = part_from (next_after (cleared line place m)) m.hand })) (leave line c t m.place.track (cleared line place m) k).state (clears m place position has said placed some)))
 
   pub report_here_walks : may.speaks ≡ true → (position : Position) → Reports may.cause position → (m : Mission) (k : Centre) → k.mission t ≡ Some m → Walk line c may was k (report_here line c t position m k)
   report_here_walks so position said m k has = by_place (place_on line m.place.track position) refl
@@ -218,7 +218,7 @@ module _ (line : Line) (c : ℕ) (may : May) (was : Centre) (t : ℕ) (its : may
 
 -- ## A train's message
 
--- a handover is announced behind a request alone
+-- a handover is announced after a request alone
 abbrev pub may_announce : TrainBody → Bool
 may_announce (Request position) = true
 may_announce body = false

@@ -2,7 +2,7 @@
 use Rattle.std.proofs.Common.{◌≡◌, ℕ, ◌+◌, ◌-◌, ◌==◌, Bool, true, false, if◌then◌else◌, min, List, [], ◌∷◌, ◌++◌, ◌&&◌, ◌≤◌, Option, Some, None, option_map, is_some, is_none, max, nat_lt, refl}
 use Rattle.std.specs.Option.{option_map_or}
 use Rattle.rbc_spec.specs.Maps.{put, has}
-use Rattle.rbc_spec.specs.SectionRuns.{SectionRun, no_run, most_in_hand, within, is_empty, behind, part_before, part_from, all_of}
+use Rattle.rbc_spec.specs.SectionRuns.{SectionRun, no_run, most_in_hand, within, is_empty, next_after, part_before, part_from, all_of}
 use Rattle.rbc_spec.specs.Line.{Line, is_home, section, registrar, next_centre}
 use Rattle.rbc_spec.specs.Place.{Place, Position, covered, place_on, fit_place}
 use Rattle.rbc_spec.specs.Message.{TrackBody, TrainMessage, TrainBody, TrainData, Request, Report, ShorteningGranted, ShorteningRejected, EndOfMission, StartOfMission}
@@ -92,7 +92,7 @@ pub data Turn (line : Line) (c : ℕ) (may : May) (was : Centre) (t : ℕ) (k : 
   grows : (m : Mission) (place : Place) (position : Position) (j : Centre) → may.announces ≡ true → k.mission t ≡ Some m → Reports may.cause position → place_on line m.place.track position ≡ Some place
       → Turn line c may was t k (Some (extended_by (extension line c j (record m { place = place })) (record m { place = place })))
   clears : (m : Mission) (place : Place) (position : Position) → k.mission t ≡ Some m → Reports may.cause position → place_on line m.place.track position ≡ Some place → ((cleared line place m).count == m.hand.count) ≡ false
-      → Turn line c may was t k (Some (record m { place = place; hand = part_from (behind (cleared line place m)) m.hand }))
+      → Turn line c may was t k (Some (record m { place = place; hand = part_from (next_after (cleared line place m)) m.hand }))
   cuts : (m n : Mission) (last_kept : ℕ) → k.mission t ≡ Some n → record n { proposal = None } ≡ record m { proposal = None } → ((part_from (last_kept + 1) m.hand).count == m.hand.count) ≡ false
       → Turn line c may was t k (Some (record m { hand = part_before (last_kept + 1) m.hand; pool = no_run; proposal = None }))
   comes : (d number time : ℕ) (carried : YieldedPlace) (place : Place) (hand : SectionRun) (has_data is_ended : Bool) → may.expects ≡ true → may_take line c was d number t place hand ≡ true
@@ -162,12 +162,12 @@ pub data Move (line : Line) (c : ℕ) (may : May) (was : Centre) : Centre → Re
         sayings = [];
         words = [];
       })
-  -- sections behind the hand are asked for, of the home of the first
-  asks_route : (t d : ℕ) (m : Mission) (k : Centre) → may.train ≡ Some t → k.mission t ≡ Some m → is_empty m.pool ≡ true → is_home line d (behind m.hand) ≡ true → k.route_ask t ≡ None
+  -- sections in advance of the hand are asked for, of the home of the first
+  asks_route : (t d : ℕ) (m : Mission) (k : Centre) → may.train ≡ Some t → k.mission t ≡ Some m → is_empty m.pool ≡ true → is_home line d (next_after m.hand) ≡ true → k.route_ask t ≡ None
       → IsAhead line c may d → nat_lt m.hand.count most_in_hand ≡ true
       → Move line c may was k (record {
-        state = record k { route_ask = put k.route_ask t (Some (behind m.hand)) };
-        frames = λ e. to_some (Some d) (RouteAsk t (behind m.hand) (min (most_in_hand - m.hand.count) (512 - behind m.hand))) e ++ [];
+        state = record k { route_ask = put k.route_ask t (Some (next_after m.hand)) };
+        frames = λ e. to_some (Some d) (RouteAsk t (next_after m.hand) (min (most_in_hand - m.hand.count) (512 - next_after m.hand))) e ++ [];
         sayings = [];
         words = [];
       })

@@ -34,7 +34,7 @@ slice_get-take (suc k) [] i x h = h
 slice_get-take (suc k) (y ∷ ys) zero x h = h
 slice_get-take (suc k) (y ∷ ys) (suc i) x h = slice_get-take k ys i x h
 
--- what stands in two lists, one behind the other, stands in the first or in the second
+-- what stands in two lists, one after the other, stands in the first or in the second
 slice_get-append : {X : Type 0} (xs ys : List X) (i : ℕ) (x : X) → slice_get (xs ++ ys) i ≡ Some x → (slice_get xs i ≡ Some x) ⊎ ((j : ℕ) × (i ≡ length xs + j) × (slice_get ys j ≡ Some x))
 slice_get-append [] ys i x h = inr (i, omega arith, h)
 slice_get-append (y ∷ xs) ys zero x h = inl h
@@ -60,7 +60,7 @@ module _ (t : ℕ) (is_home is_home' : ℕ → Bool) (same : (s : ℕ) → is_ho
   pub held_front : (n : ℕ) (h : Holding) → IsHeldAt t is_home h → IsHeldAt t is_home' (hand_front n h)
   held_front n h so i held at = ap (λ b. is_held_as t b held) (same (h.first + i)) ∙ so i held (slice_get-take n h.holds i held at)
 
-  -- with more of one kind behind the last
+  -- with more of one kind after the last
   pub held_more : (h g : Holding) (n : ℕ) (x : Held) → (0 < length h.holds → g.first ≡ h.first) → g.holds ≡ h.holds ++ replicate n x
       → ((j : ℕ) → j < n → is_held_as t (is_home' (g.first + (length h.holds + j))) x ≡ true) → IsHeldAt t is_home h → IsHeldAt t is_home' g
   held_more h g n x begins holds more so i held at =

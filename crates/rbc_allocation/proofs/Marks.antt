@@ -82,7 +82,7 @@ marks_more t first n marks mark book b lt e test so_far =
     marked-more first n marks mark lt ∙ ap (λ x. marked first n marks ++ cond x (s ∷ []) []) e ∙ ap (λ xs. xs ++ cond b (s ∷ []) []) so_far
     ∙ sym (wished_more t first n s book refl ∙ ap (λ x. before ++ cond x (s ∷ []) []) test)
 
--- ---- marks behind others
+-- ---- marks after others
 
 -- no section is looked at yet
 pub marks_begun : (t first from old : ℕ) (book : Pages) → marked first from old ≡ marked first from old ++ wished t (record { first = first + from; count = from - from }) book
@@ -90,7 +90,7 @@ marks_begun t first from old book =
     let none : from - from ≡ 0 = omega arith in
     sym (append-nil (marked first from old)) ∙ ap (λ n. marked first from old ++ wished t (record { first = first + from; count = n }) book) (sym none)
 
--- one section more is marked behind them, or not
+-- one section more is marked after them, or not
 pub marks_further : (t first from k old marks mark : ℕ) (book : Pages) (b : Bool) → from ≤ k → mark < 2 → eqb mark 1 ≡ b → (is_taken_for t (entry_at book (first + k)) && wish_at book (first + k)) ≡ b
     → marked first k marks ≡ marked first from old ++ wished t (record { first = first + from; count = k - from }) book
     → marked first (k + 1) (marks * 2 + mark) ≡ marked first from old ++ wished t (record { first = first + from; count = k + 1 - from }) book
@@ -109,7 +109,7 @@ no_mark first k marks =
     let same : marks * 2 ≡ marks * 2 + 0 = omega arith in
     ap (marked first (k + 1)) same ∙ marked-more first k marks 0 (omega arith) ∙ append-nil (marked first k marks)
 
--- the marks of the first sections, of none, and of those behind
+-- the marks of the first sections, of none, and of those after
 pub around_is : (t first cleared keep count front kept marks : ℕ) (book : Pages) (told : List ℕ) → told ≡ marked first count marks
     → marked first cleared front ≡ marked first 0 0 ++ wished t (record { first = first + 0; count = cleared - 0 }) book → marked first keep kept ≡ marked first cleared front
     → marked first count marks ≡ marked first keep kept ++ wished t (record { first = first + keep; count = count - keep }) book

@@ -31,7 +31,7 @@ pub within_none : (first s : ℕ) → within (record { first = first; count = 0 
 unfolding within
 within_none first s = grind (arith, nat_tests)
 
--- one section more behind the last
+-- one section more after the last
 pub within_more : (first n s : ℕ) → within (record { first = first; count = n + 1 }) s ≡ (within (record { first = first; count = n }) s || within (one (first + n)) s)
 unfolding within
 within_more first n s = grind (arith, nat_tests)
@@ -85,7 +85,7 @@ grows h g first count t claims are next is = record {
     some zero other = absurd (other refl)
     some (suc n) other = omega arith
 
--- the next one may come behind the hand
+-- the next one may follow the hand
 pub takes_next : (h : Holding) (from n0 k count s : ℕ) → s ≡ from + k → length h.holds ≡ n0 + k → (0 < length h.holds → h.first + n0 ≡ from) → n0 + count ≤ 32 → from + count ≤ 65535 → k < count → takes (run h) s ≡ true
 unfolding takes
 takes_next h from n0 k count s is long begins most numbers lt =
@@ -232,14 +232,14 @@ freed_back_more t k first now next a b c lt so_far cut frees =
     let begins : now.first ≡ first.first = ap (λ (h : Holding). h.first) so_far.hand in
     let kept : length now.holds - 1 ≡ length first.holds - (k + 1) = omega (arith, count) in
     let last : now.first + (length now.holds - 1) ≡ first.first + (length first.holds - (k + 1)) = omega (arith, begins, count) in
-    let behind_last : first.first + (length first.holds - k) ≡ first.first + (length first.holds - (k + 1)) + 1 = omega arith in
+    let after_last : first.first + (length first.holds - k) ≡ first.first + (length first.holds - (k + 1)) + 1 = omega arith in
     record {
       hand = cut ∙ (λ i. hand_front (kept i) (so_far.hand i))
           ∙ hand_by (hand_front (length first.holds - (k + 1)) (hand_front (length first.holds - k) first)) first.first (take (length first.holds - (k + 1)) first.holds) refl
           (taken_twice_front (length first.holds - (k + 1)) (length first.holds - k) first.holds (omega arith));
       book = frees_then t _ (one (now.first + (length now.holds - 1))) _ a b c
           (λ j. within_before (first.first + (length first.holds - (k + 1))) k j
-          ∙ ap (λ x. within (record { first = x; count = k }) j || within (one (first.first + (length first.holds - (k + 1)))) j) (sym behind_last)
+          ∙ ap (λ x. within (record { first = x; count = k }) j || within (one (first.first + (length first.holds - (k + 1)))) j) (sym after_last)
           ∙ ap (λ x. within (record { first = first.first + (length first.holds - k); count = k }) j || within (one x) j) (sym last))
           so_far.book frees;
     }

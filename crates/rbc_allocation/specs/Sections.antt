@@ -1,7 +1,7 @@
 -- Sections that are taken into use for a train, and given back.
 use Rattle.std.specs.Prelude.{◌≡◌, ℕ, ◌+◌, ◌-◌, ◌==◌, Bool, true, ◌&&◌, not, List, take, drop, Some, slice_get, if◌then◌else◌}
 use Rattle.std.specs.List.{filter, range_with_len}
-use Rattle.rbc_spec.specs.SectionRuns.{SectionRun, within, behind}
+use Rattle.rbc_spec.specs.SectionRuns.{SectionRun, within, next_after}
 use Rattle.rbc_spec.specs.Centre.{Shut, Open, Taken, is_open, is_taken_for}
 use Rattle.rbc_book.specs.Book.{Pages, is_own, entry_at, wish_at}
 use Rattle.rbc_hand.specs.Tokens.{Held, Own, Name}
@@ -36,9 +36,9 @@ front_of count r = record { first = r.first; count = count }
 abbrev pub rest_of : ℕ → SectionRun → SectionRun
 rest_of count r = record { first = r.first + count; count = r.count - count }
 
--- so many sections behind a run
+-- so many sections that follow a run
 abbrev pub next_of : ℕ → SectionRun → SectionRun
-next_of count r = record { first = behind r; count = count }
+next_of count r = record { first = next_after r; count = count }
 
 -- each section of the run is open
 abbrev pub IsAllOpen : SectionRun → Pages → Type 0

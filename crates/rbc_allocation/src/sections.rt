@@ -1,5 +1,5 @@
 ghost use Rattle.std.specs.Prelude.{◌≡◌, ◌+◌, ◌-◌, ◌++◌, ◌≤◌, ◌<◌, ◌&&◌, ℕ, length, replicate, true, false, if◌then◌else◌, ◌^◌};
-ghost use Rattle.rbc_spec.specs.SectionRuns.{within, behind, is_empty};
+ghost use Rattle.rbc_spec.specs.SectionRuns.{within, next_after, is_empty};
 ghost use Rattle.rbc_spec.specs.Centre.{is_open, is_taken_for};
 ghost use Rattle.rbc_book.specs.Book.{is_own, entry_at, wish_at};
 ghost use Rattle.rbc_hand.specs.SectionRuns.{run_of};
@@ -28,7 +28,7 @@ fn end_token(token: Token, book: &mut Book) -> bool
     }
 }
 
-/// Takes sections into the hand, behind its last.
+/// Takes sections into the hand, after its last.
 pub fn take_run(hand: &mut Hand, sections: SectionRun, nid_engine: u32, book: &mut Book)
     requires room { length hand.old.holds + sections.count ≤ 32 }
     requires numbers { sections.first + sections.count ≤ 65535 }
@@ -171,7 +171,7 @@ pub fn cut(hand: &mut Hand, keep: u16, nid_engine: u32, book: &mut Book) -> Told
     told
 }
 
-// Behind the marks of so many sections from the first on, those of the sections up to others.
+// After the marks of so many sections from the first on, those of the sections up to others.
 fn marks_on(first: u16, from: u16, upto: u16, old: u64, nid_engine: u32, book: &Book) -> u64
     requires order { from ≤ upto }
     requires room { upto ≤ 32 }
@@ -193,7 +193,7 @@ fn marks_on(first: u16, from: u16, upto: u16, old: u64, nid_engine: u32, book: &
     marks
 }
 
-// Behind the marks of so many sections from the first on, none up to others.
+// After the marks of so many sections from the first on, none up to others.
 fn no_marks_on(first: u16, from: u16, upto: u16, old: u64) -> u64
     requires order { from ≤ upto }
     requires room { upto ≤ 32 }
@@ -208,7 +208,7 @@ fn no_marks_on(first: u16, from: u16, upto: u16, old: u64) -> u64
     marks
 }
 
-/// Those of so many of the first sections, and of those behind so many, that are in use for the train and wished back,
+/// Those of so many of the first sections, and of those after so many, that are in use for the train and wished back,
 /// in rising order.
 pub fn wished_around(
     sections: SectionRun,
@@ -239,10 +239,10 @@ pub fn end_hand(mut hand: Hand, book: &mut Book) {
     hand.end();
 }
 
-/// So many sections behind these.
-pub fn behind(sections: SectionRun, count: u16) -> SectionRun
+/// This many sections that follow these.
+pub fn run_after(sections: SectionRun, count: u16) -> SectionRun
     requires { sections.first + sections.count ≤ 65535 }
-    ensures { run_of result ≡ record { first = behind (run_of sections); count = count } }
+    ensures { run_of result ≡ record { first = next_after (run_of sections); count = count } }
 {
     SectionRun {
         first: sections.first + sections.count,

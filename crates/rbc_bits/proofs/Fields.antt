@@ -48,7 +48,7 @@ field-mod (suc n) v =
 pub field-low : (n high low : ℕ) → low < 2 ^ n → field n (high * 2 ^ n + low) ≡ field n low
 field-low n high low fits = sym (field-mod n (high * 2 ^ n + low)) ∙ ap (field n) (mod_low high n low fits)
 
--- two fields, one behind the other, are one field
+-- two fields, one after the other, are one field
 pub field-append : (m n high low : ℕ) → low < 2 ^ n → field m high ++ field n low ≡ field (m + n) (high * 2 ^ n + low)
 field-append m n high low fits =
     sym (field-add m n (high * 2 ^ n + low) ∙ ap (λ h. field m h ++ field n (high * 2 ^ n + low)) (shr_high high n low fits) ∙ ap (λ t. field m high ++ t) (field-low n high low fits))

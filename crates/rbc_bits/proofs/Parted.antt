@@ -1,4 +1,4 @@
--- A part of a message's bits: in a word, or behind it.
+-- A part of a message's bits: in a word, or after it.
 use Rattle.std.proofs.Common.{◌≡◌, ◌⊎◌, inl, inr, ℕ, ◌^◌, ◌<◌, Bool, List, [], ◌∷◌, ◌++◌, length, Ok, Err, refl, ap, ◌∙◌, append_assoc, arith}
 use Rattle.std.proofs.lemmas.List.{length-append}
 use Rattle.rbc_bits.specs.Bits.{field}
@@ -6,14 +6,14 @@ use Rattle.rbc_bits.specs.Reading.{field_at}
 use Rattle.rbc_bits.proofs.Taking.{field_at-field, field_at-few}
 
 module _ (word others : List Bool) (one : (word ≡ []) ⊎ (others ≡ [])) where
-  none_behind : (xs ys : List Bool) → (xs ≡ []) ⊎ (ys ≡ []) → 0 < length xs → ys ≡ []
-  none_behind xs ys (inl e) more = absurd (omega (arith, ap length e, more))
-  none_behind xs ys (inr e) more = e
+  none_after : (xs ys : List Bool) → (xs ≡ []) ⊎ (ys ≡ []) → 0 < length xs → ys ≡ []
+  none_after xs ys (inl e) more = absurd (omega (arith, ap length e, more))
+  none_after xs ys (inr e) more = e
 
   -- where the word has some bits, these are the last
   pub too_few : {F : Type 0} (short : F) (n : ℕ) → 0 < length word → length word < n → field_at short n (word ++ others) ≡ Err short
   too_few short n more few =
-      field_at-few short n (word ++ others) (omega (arith, length-append word others, ap length (none_behind word others one more), few))
+      field_at-few short n (word ++ others) (omega (arith, length-append word others, ap length (none_after word others one more), few))
 
   -- a field of the word is the field of all
   pub taken_of : {F : Type 0} (short : F) (n v : ℕ) (new : List Bool) → v < 2 ^ n → word ≡ field n v ++ new → field_at short n (word ++ others) ≡ Ok (v, new ++ others)

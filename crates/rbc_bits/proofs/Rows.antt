@@ -1,4 +1,4 @@
--- What a row has: up to 128 bits in a word, and up to 128 behind them in another.
+-- What a row has: up to 128 bits in a word, and up to 128 after them in another.
 use Rattle.std.proofs.Common.{◌≡◌, ◌⊎◌, inl, inr, ℕ, ◌+◌, ◌-◌, ◌*◌, ◌/◌, ◌%◌, ◌^◌, ◌<◌, ◌≤◌, Bool, false, List, [], ◌++◌, length, take, replicate, refl, sym, ap, subst, ◌∙◌, append_assoc, length-append, arith}
 use Rattle.std.specs.Prelude.{bit_and, bit_or}
 use Rattle.std.specs.Int.{bytes_high_first}
@@ -100,9 +100,9 @@ module _ (front back first second : ℕ) (row : IsRow front back first second) w
 
   -- ---- the bytes
 
-  -- the zero bits behind both words
-  behind : (field first front ++ field (128 - first) 0) ++ (field second back ++ field (128 - second) 0) ≡ (field first front ++ field second back) ++ replicate (256 - (first + second)) false
-  behind =
+  -- the zero bits after both words
+  following : (field first front ++ field (128 - first) 0) ++ (field second back ++ field (128 - second) 0) ≡ (field first front ++ field second back) ++ replicate (256 - (first + second)) false
+  following =
       let a = 128 - first in
       let b = 128 - second in
       let count : a + b ≡ 256 - (first + second) = omega (arith, row.first-few, row.second-few) in
@@ -125,7 +125,7 @@ module _ (front back first second : ℕ) (row : IsRow front back first second) w
       ap (λ n. replicate n false) (let e : 256 - (first + second) ≡ fill + rest = omega (arith, row.first-few, row.second-few, l) in e) ∙ sym (replicate-append-replicate fill rest false) in
       let text : bits_of all ≡ (bits ++ replicate fill false) ++ replicate rest false =
       bits_of-append (bytes_high_first 16 one) (bytes_high_first 16 two) ∙ ap (λ t. t ++ bits_of (bytes_high_first 16 two)) (bits_of-bytes_high_first 16 one ∙ one-is)
-      ∙ ap (λ t. (field first front ++ field (128 - first) 0) ++ t) (bits_of-bytes_high_first 16 two ∙ two-is) ∙ behind ∙ ap (λ t. bits ++ t) zeros ∙ sym (append_assoc bits (replicate fill false) (replicate rest false)) in
+      ∙ ap (λ t. (field first front ++ field (128 - first) 0) ++ t) (bits_of-bytes_high_first 16 two ∙ two-is) ∙ following ∙ ap (λ t. bits ++ t) zeros ∙ sym (append_assoc bits (replicate fill false) (replicate rest false)) in
       ap bits_of bytes-are ∙ sym (take-bits_of k all (omega (arith, k-is, size, row.first-few, row.second-few))) ∙ ap (take (8 * k)) text
       ∙ take_at (bits ++ replicate fill false) (replicate rest false) (8 * k) (omega (arith, k-is, l, length-append bits (replicate fill false), length-replicate fill false))
 

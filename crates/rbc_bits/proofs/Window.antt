@@ -1,4 +1,4 @@
--- What a reader has: the bits behind those used, as many as are left to it.
+-- What a reader has: the bits after those used, as many as are left to it.
 use Rattle.std.proofs.Common.{◌≡◌, ℕ, zero, suc, ◌+◌, ◌-◌, ◌*◌, ◌/◌, ◌^◌, ◌<◌, ◌≤◌, Bool, false, ltb, List, [], ◌∷◌, ◌++◌, length, take, drop, get_or, Ok, Err, refl, sym, ap, ◌∙◌, append_assoc, arith}
 use Rattle.std.proofs.lemmas.Bool.{lt-ltb, le-ltb}
 use Rattle.std.proofs.lemmas.List.{take-append-drop, take_at, drop_at, take-take, drop-take, drop-drop, length-take-le, length-drop, take_more}
@@ -32,7 +32,7 @@ pub part_at-short : {F : Type 0} (short : F) (n : ℕ) (bits : List Bool) → le
 unfolding part_at
 part_at-short short n bits lt = rw (lt-ltb (length bits) n lt) refl
 
--- a part of n bits is the field that stands behind the used bits
+-- a part of n bits is the field that follows the used bits
 pub window-field : (used n v : ℕ) (bits : List Bool) → drop used bits ≡ field n v ++ drop (used + n) bits → window used n bits ≡ field n v
 window-field used n v bits e = ap (take n) e ∙ take_at (field n v) (drop (used + n) bits) n (length-field n v)
 
@@ -50,14 +50,14 @@ window-number bytes first count used n after number within le whole e =
     let others = bits_of (drop count (drop first bytes)) in
     let value = number / 2 ^ after in
     let width : 8 * count ≡ s + (n + after) = omega arith in
-    let behind : bits_of (drop first bytes) ≡ field (8 * count) number ++ others =
+    let following : bits_of (drop first bytes) ≡ field (8 * count) number ++ others =
     ap bits_of (sym (take-append-drop count (drop first bytes))) ∙ bits_of-append (take count (drop first bytes)) (drop count (drop first bytes)) ∙ ap (λ t. t ++ others) e in
     let cut : field (8 * count) number ++ others ≡ field s (number / 2 ^ (n + after)) ++ ((field n value ++ field after number) ++ others) =
     ap (λ w. field w number ++ others) width ∙ ap (λ t. t ++ others) (parts s n after number) ∙ append_assoc (field s (number / 2 ^ (n + after))) (field n value ++ field after number) others in
     let from : drop used bits ≡ drop s (bits_of (drop first bytes)) =
     ap (λ u. drop u bits) (let k : used ≡ 8 * first + s = omega arith in k) ∙ sym (drop-drop s (8 * first) bits) ∙ ap (drop s) (drop-bits_of first bytes (omega arith)) in
     let there : drop used bits ≡ field n value ++ (field after number ++ others) =
-    from ∙ ap (drop s) (behind ∙ cut) ∙ drop_at (field s (number / 2 ^ (n + after))) ((field n value ++ field after number) ++ others) s (length-field s _) ∙ append_assoc (field n value) (field after number) others in
+    from ∙ ap (drop s) (following ∙ cut) ∙ drop_at (field s (number / 2 ^ (n + after))) ((field n value ++ field after number) ++ others) s (length-field s _) ∙ append_assoc (field n value) (field after number) others in
     let rest : drop (used + n) bits ≡ field after number ++ others =
     sym (drop-drop n used bits) ∙ ap (drop n) there ∙ drop_at (field n value) (field after number ++ others) n (length-field n value) in
     there ∙ ap (λ t. field n value ++ t) (sym rest)

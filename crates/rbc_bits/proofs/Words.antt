@@ -24,7 +24,7 @@ moved number n after le =
     ap (take n) (field-mod 128 x ∙ ap (λ k. field k x) width ∙ field-add n (s + after) x)
     ∙ take_at (field n (x / 2 ^ (s + after))) (field (s + after) x) n (length-field n _) ∙ ap (field n) value
 
--- the field of the first n bits, and the bits behind it
+-- the field of the first n bits, and the bits after it
 pub taken : (word left n : ℕ) → n ≤ left → left ≤ 128
     → take left (field 128 word) ≡ field n (word / 2 ^ (128 - n)) ++ take (left - n) (field 128 (word * 2 ^ n % 2 ^ 128))
 taken word left n le few =
@@ -36,12 +36,12 @@ taken word left n le few =
     let whole : left ≡ length head + k = omega (arith, length-field n (word / 2 ^ m)) in
     let fit : k ≤ length (field m word) = omega (arith, length-field m word) in
     let split : field 128 word ≡ head ++ field m word = ap (λ w. field w word) front ∙ field-add n m word in
-    let behind : field 128 (word * 2 ^ n % 2 ^ 128) ≡ field m word ++ field n (word * 2 ^ n) =
+    let following : field 128 (word * 2 ^ n % 2 ^ 128) ≡ field m word ++ field n (word * 2 ^ n) =
     field-mod 128 (word * 2 ^ n) ∙ ap (λ w. field w (word * 2 ^ n)) back ∙ field-add m n (word * 2 ^ n) ∙ ap (λ v. field m v ++ field n (word * 2 ^ n)) (shl-shr word n) in
     ap (take left) split ∙ ap (λ l. take l (head ++ field m word)) whole ∙ take-append-add head (field m word) k
-    ∙ ap (λ t. head ++ t) (sym (ap (take k) behind ∙ take-append-le k (field m word) (field n (word * 2 ^ n)) fit))
+    ∙ ap (λ t. head ++ t) (sym (ap (take k) following ∙ take-append-le k (field m word) (field n (word * 2 ^ n)) fit))
 
--- two numbers of eight bytes, one behind the other
+-- two numbers of eight bytes, one after the other
 pub joined_words : (bytes : List ℕ) (high low : ℕ) → 8 ≤ length bytes → low < 2 ^ 64 → bits_of (take 8 bytes) ≡ field 64 high → bits_of (take 8 (drop 8 bytes)) ≡ field 64 low
     → bits_of (take 16 bytes) ≡ field 128 (high * 2 ^ 64 + low)
 joined_words bytes high low enough fits first second =
@@ -51,9 +51,9 @@ joined_words bytes high low enough fits first second =
     let parts : take 16 bytes ≡ xs ++ take 8 ys = ap (take 16) (sym (take-append-drop 8 bytes)) ∙ ap (λ n. take n (xs ++ ys)) sixteen ∙ take-append-add xs ys 8 in
     ap bits_of parts ∙ bits_of-append xs (take 8 ys) ∙ ap (λ t. t ++ bits_of (take 8 ys)) first ∙ ap (λ t. field 64 high ++ t) second ∙ field-append 64 64 high low fits
 
--- how many bits are behind a field
-pub length-behind : (bits rest : List Bool) (n v : ℕ) → bits ≡ field n v ++ rest → length bits ≡ n + length rest
-length-behind bits rest n v e = omega (arith, ap length e, length-append (field n v) rest, length-field n v)
+-- how many bits are after a field
+pub length-following : (bits rest : List Bool) (n v : ℕ) → bits ≡ field n v ++ rest → length bits ≡ n + length rest
+length-following bits rest n v e = omega (arith, ap length e, length-append (field n v) rest, length-field n v)
 
 -- the number of the first n bits has n binary digits
 pub high : (word n : ℕ) → word < 2 ^ 128 → n ≤ 128 → word / 2 ^ (128 - n) < 2 ^ n

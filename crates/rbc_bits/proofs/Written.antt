@@ -1,4 +1,4 @@
--- What a writer has: whole bytes, and fewer than 64 bits behind them.
+-- What a writer has: whole bytes, and fewer than 64 bits after them.
 use Rattle.std.proofs.Common.{◌≡◌, ℕ, ◌+◌, ◌-◌, ◌*◌, ◌/◌, ◌%◌, ◌^◌, ◌<◌, ◌≤◌, false, List, ◌++◌, length, take, replicate, sym, ap, ◌∙◌, append_assoc, length-append, arith}
 use Rattle.std.specs.Int.{w64, to_be_bytes, bytes_high_first}
 use Rattle.std.specs.Prelude.{bit_and, bit_or}
@@ -18,7 +18,7 @@ masked n number lt = rw (one_shl n 128 lt) (and_mask number n)
 pub masked_64 : (n number : ℕ) → n < 64 → bit_and number ((1 * 2 ^ n) % 2 ^ 64 - 1) ≡ number % 2 ^ n
 masked_64 n number lt = rw (one_shl n 64 lt) (and_mask number n)
 
--- a number of n bits behind one of so many that both have room in a word
+-- a number of n bits after one of so many that both have room in a word
 pub joined : (w held count n value : ℕ) → held < 2 ^ count → count + n ≤ w → value < 2 ^ n → bit_or (held * 2 ^ n % 2 ^ w) value ≡ held * 2 ^ n + value
 joined w held count n value held-fits room fits =
     rw (shl_whole held count n w held-fits room) (or_shifted held n value fits)
@@ -36,7 +36,7 @@ held_back bytes held count n value held-fits room fits =
     rw (joined 64 held count n value held-fits (omega arith) fits)
     (ap (λ t. bits_of bytes ++ t) (sym (field-append count n held value fits)) ∙ sym (append_assoc (bits_of bytes) (field count held) (field n value)))
 
--- eight bytes, and the bits behind them
+-- eight bytes, and the bits after them
 pub word_fits : (held count n value : ℕ) → held < 2 ^ count → count < 64 → n ≤ 64 → 64 ≤ count + n → value < 2 ^ n
     → bit_or (held * 2 ^ n % 2 ^ 128) value / 2 ^ (count + n - 64) < 2 ^ 64
 word_fits held count n value held-fits small width full fits =

@@ -24,6 +24,6 @@ value_of (b ∷ bits) = (if b then 2 ^ length bits else 0) + value_of bits
 abbrev pub filling : ℕ → ℕ
 filling n = (8 - n % 8) % 8
 
--- bits, and zero bits behind them to whole bytes
+-- bits, and zero bits after them to whole bytes
 unfoldable pub filled : List Bool → List Bool
 filled bits = bits ++ replicate (filling (length bits)) false

@@ -134,7 +134,7 @@ impl<'a> BitReader<'a> {
 // How many bits stand in sixteen bytes that end with the last of them, wherever that is.
 const MOST_IN_A_WORD: u32 = 121;
 
-// The field of n bits behind the first `used` bits: out of eight bytes, where it lies in them.
+// The field of n bits after the first `used` bits: out of eight bytes, where it lies in them.
 #[inline(always)]
 fn field_from(bytes: &[u8], used: u32, n: u32) -> u64
     requires small { length bytes.now ≤ 2 ^ 28 }
@@ -153,7 +153,7 @@ fn field_from(bytes: &[u8], used: u32, n: u32) -> u64
     }
 }
 
-// Where the eight bytes begin that are looked at for a field behind the first `used` bits: at the field's first byte,
+// Where the eight bytes begin that are looked at for a field after the first `used` bits: at the field's first byte,
 // or sooner where fewer than eight are left.
 #[inline(always)]
 fn first_of_eight(count: usize, used: u32) -> usize

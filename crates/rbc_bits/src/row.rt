@@ -16,7 +16,7 @@ const MOST_BYTES: usize = 32;
 pub struct BitRow {
     /// The first bits.
     front: u128,
-    /// The bits behind 128 others.
+    /// The bits after 128 others.
     back: u128,
     /// How many bits the front has.
     first: u32,
@@ -99,7 +99,7 @@ impl BitRow {
     }
 }
 
-// The bits that a word holds, with zero bits behind them.
+// The bits that a word holds, with zero bits after them.
 #[inline(always)]
 fn at_top(held: u128, count: u32) -> u128
     requires count { count ≤ 128 }
@@ -112,7 +112,7 @@ fn at_top(held: u128, count: u32) -> u128
     held << (128 - count)
 }
 
-// The bits that a word holds, behind those of a writer.
+// The bits that a word holds, after those of a writer.
 fn write(writer: &mut BitWriter, held: u128, count: u32) -> Result<(), BitFault>
     requires count { count ≤ 128 }
     requires held { held < 2 ^ count }
@@ -137,7 +137,7 @@ fn halves(word: u128) -> (u64, u64)
     ((word >> 64) as u64, low as u64)
 }
 
-// The first bytes of four words, the highest first. The list stays in registers: so it is not copied behind the call.
+// The first bytes of four words, the highest first. The list stays in registers: so it is not copied after the call.
 #[inline(always)]
 fn bytes_of(
     alloc: Global,

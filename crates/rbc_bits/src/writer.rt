@@ -5,7 +5,7 @@ use crate::fault::BitFault;
 use std::alloc::Global;
 use std::marker::Model;
 
-/// The bits that were written so far: whole bytes, and fewer than 64 bits behind them. A refusal writes nothing.
+/// The bits that were written so far: whole bytes, and fewer than 64 bits after them. A refusal writes nothing.
 #[derive(Debug, Drop)]
 pub struct BitWriter {
     bytes: Vec<u8>,
@@ -76,7 +76,7 @@ impl BitWriter {
     }
 }
 
-// A field with which 64 bits are full, behind bits that are held: eight bytes more. What comes out are the bits behind
+// A field with which 64 bits are full, after bits that are held: eight bytes more. What comes out are the bits after
 // them.
 #[inline(always)]
 fn push_full(

@@ -3,7 +3,7 @@ use Rattle.std.proofs.Common.{◌≢◌, subst, ◌≡◌, ℕ, zero, suc, ◌+�
 use Rattle.std.specs.List.{insert}
 use Rattle.std.proofs.lemmas.Bool.{and_right}
 use Rattle.rbc_spec.specs.SectionRuns.{within}
-use Rattle.law_base.proofs.Runs.{within_behind}
+use Rattle.law_base.proofs.Runs.{within_after}
 use Rattle.rbc_book.specs.Runs.{run_page, At, AreInOrder, AreApart, GoesOn, GoesOnAt, sections_of}
 use Rattle.rbc_book.specs.Edits.{with_page, changed_at, resized, IsWhole, IsFirst, IsLast, IsInner, IsJoined, IsWritten}
 use Rattle.rbc_book.specs.declared.page.Page.{Page}
@@ -11,7 +11,7 @@ use Rattle.rbc_book.specs.declared.run.Run.{Run}
 use Rattle.rbc_book.proofs.Places.{changed_is, stands_at}
 use Rattle.rbc_book.proofs.Splits.{before, from, is_inside, split_at, IsSingledOut, inside_from, split-outside, at_first, at_second, single_first, single_inside}
 use Rattle.rbc_book.proofs.Neighbours.{first_of, last_of, first-is, rest-is, last-is}
-use Rattle.rbc_book.proofs.Writes.{used_order, written_first, written_behind, written_apart}
+use Rattle.rbc_book.proofs.Writes.{used_order, written_first, written_after, written_apart}
 
 -- ## A whole run
 
@@ -31,8 +31,8 @@ module _ (s size i : ℕ) (page : Page) (runs turned : List Run) (here : At (IsW
   pub whole_first : (new : List Run) → i ≡ 0 → IsJoined i turned new → IsWritten s size page runs new
   whole_first new first joins = written_first s size i page runs runs whole_at.0 whole_out whole_at.1 new first (subst (λ xs. IsJoined i xs new) turned_is joins)
 
-  pub whole_behind : (mid new : List Run) (ahead : ℕ) → suc ahead ≡ i → IsJoined i turned mid → IsJoined ahead mid new → IsWritten s size page runs new
-  whole_behind mid new ahead before one two = written_behind s size i page runs runs whole_at.0 whole_out whole_at.1 mid new ahead before (subst (λ xs. IsJoined i xs mid) turned_is one) two
+  pub whole_after : (mid new : List Run) (ahead : ℕ) → suc ahead ≡ i → IsJoined i turned mid → IsJoined ahead mid new → IsWritten s size page runs new
+  whole_after mid new ahead before one two = written_after s size i page runs runs whole_at.0 whole_out whole_at.1 mid new ahead before (subst (λ xs. IsJoined i xs mid) turned_is one) two
 
 -- ## The first sections of a run
 
@@ -93,11 +93,11 @@ last-off i s [] r m at inside other = absurd at
 last-off zero s (x ∷ xs) r m at inside other = rw at (rw inside (λ h. other h.2))
 last-off (suc i) s (x ∷ xs) r m at inside other = last-off i s xs r m at inside other
 
-behind-not : (i s : ℕ) (runs : List Run) (r m : Run) → At (λ p. p ≡ r) i runs → is_inside s r ≡ true → ¬ At (λ q. GoesOn m q) (suc i) runs → GoesOnAt (suc i) (set (split_at i s runs) (suc i) m) → ⊥
-behind-not i s [] r m at inside none = absurd at
-behind-not zero s (x ∷ []) r m at inside none = rw at (rw inside (λ h. h))
-behind-not zero s (x ∷ y ∷ ys) r m at inside none = rw at (rw inside none)
-behind-not (suc i) s (x ∷ xs) r m at inside none = behind-not i s xs r m at inside none
+after-not : (i s : ℕ) (runs : List Run) (r m : Run) → At (λ p. p ≡ r) i runs → is_inside s r ≡ true → ¬ At (λ q. GoesOn m q) (suc i) runs → GoesOnAt (suc i) (set (split_at i s runs) (suc i) m) → ⊥
+after-not i s [] r m at inside none = absurd at
+after-not zero s (x ∷ []) r m at inside none = rw at (rw inside (λ h. h))
+after-not zero s (x ∷ y ∷ ys) r m at inside none = rw at (rw inside none)
+after-not (suc i) s (x ∷ xs) r m at inside none = after-not i s xs r m at inside none
 
 module _ (i s size : ℕ) (page : Page) (runs : List Run) (r : Run) (at : At (λ p. p ≡ r) i runs) (some : 1 ≤ size) (is : IsLast s size page r) (none : ¬ At (λ q. GoesOn (last_of s size page r) q) (i + 1) runs) (order : AreInOrder 0 runs) (apart : AreApart runs) where
   last_inside : is_inside s r ≡ true
@@ -108,7 +108,7 @@ module _ (i s size : ℕ) (page : Page) (runs : List Run) (r : Run) (at : At (λ
 
   last_out : IsSingledOut s size runs (split_at i s runs) (suc i)
   last_out =
-      let outside : is_inside (s + size) (from s r) ≡ false = and_right (nat_lt s (s + size)) (within (sections_of (from s r)) (s + size)) (within_behind (sections_of (from s r)) (s + size) (omega (arith, is.0, is.1))) in
+      let outside : is_inside (s + size) (from s r) ≡ false = and_right (nat_lt s (s + size)) (within (sections_of (from s r)) (s + size)) (within_after (sections_of (from s r)) (s + size) (omega (arith, is.0, is.1))) in
       subst (λ mid. IsSingledOut s size runs mid (suc i)) (split-outside (suc i) (s + size) (split_at i s runs) (from s r) last_second outside)
       (single_inside s size i runs r at some (omega (arith, is.0, is.1)) (omega (arith, is.0)) order apart)
 
@@ -120,7 +120,7 @@ module _ (i s size : ℕ) (page : Page) (runs : List Run) (r : Run) (at : At (λ
 
   last_used : IsWritten s size page runs (set (split_at i s runs) (suc i) l)
   last_used = written_apart s size (suc i) page runs (split_at i s runs) (from s r) last_out last_second
-      (behind-not i s runs r l at last_inside (λ on. none (subst (λ n. At (λ q. GoesOn (last_of s size page r) q) n runs) (let e : suc i ≡ i + 1 = omega arith in e) (subst (λ x. At (λ q. GoesOn x q) (suc i) runs) l_is on))))
+      (after-not i s runs r l at last_inside (λ on. none (subst (λ n. At (λ q. GoesOn (last_of s size page r) q) n runs) (let e : suc i ≡ i + 1 = omega arith in e) (subst (λ x. At (λ q. GoesOn x q) (suc i) runs) l_is on))))
       (λ a later. let here : a ≡ i = omega (arith, later) in subst (λ n. GoesOnAt n (set (split_at i s runs) (suc i) l) → ⊥) (sym here) (last-off i s runs r l at last_inside is.2))
 
   -- as the code changes the row

@@ -1,4 +1,4 @@
--- Laws of a section that is put behind all runs, and of the runs of a new book.
+-- Laws of a section that is put after all runs, and of the runs of a new book.
 use Rattle.std.proofs.Common.{if◌then◌else◌, ◌⊎◌, subst, ◌≡◌, ℕ, zero, suc, ◌+◌, ◌<◌, ◌≤◌, ◌==◌, nat_lt, inl, inr, cond, List, [], ◌∷◌, ◌++◌, length, Option, Some, None, option_map, option_and_then, refl, ap, sym, ◌∙◌, arith}
 use Rattle.std.proofs.lemmas.Bool.{cases_lt, lt-ltb, le-ltb}
 use Rattle.std.proofs.lemmas.Bool.Decides.{eqb_tells}
@@ -6,7 +6,7 @@ use Rattle.std.proofs.lemmas.Option.{slice_get_past}
 use Rattle.std.proofs.lemmas.List.Elements.{All-head, All-tail, All-push, All-weaker}
 use Rattle.rbc_spec.specs.Line.{Line, IsLine}
 use Rattle.rbc_spec.specs.SectionRuns.{within}
-use Rattle.law_base.proofs.Runs.{within_from, within_before, within_behind}
+use Rattle.law_base.proofs.Runs.{within_from, within_before, within_after}
 use Rattle.rbc_book.specs.Sheet.{Spot, page_in, track_in, page_on, track_on, home_track}
 use Rattle.rbc_book.specs.Runs.{most, AreInOrder, AreApart, GoesOnAt, sections_of, sections_in, spot_of, spot_at, sheet_of}
 use Rattle.rbc_book.specs.Edits.{AreBefore, IsJoined, IsAppended}
@@ -26,7 +26,7 @@ has_alone s spot k = elim (eqb_tells k s) [
     | inl low ↦ within_before (sections_of (alone s spot)) k low
     | inr high ↦ elim (cases_lt k (s + 1)) [
       | inl here ↦ absurd (e.1 (omega arith))
-      | inr behind ↦ within_behind (sections_of (alone s spot)) k behind
+      | inr after ↦ within_after (sections_of (alone s spot)) k after
     ]
   ])
 ]
@@ -37,7 +37,7 @@ spots-push s spot (r ∷ rs) k all =
     let rest = spots-push s spot rs k (All-tail (λ q. q.first + q.count ≤ s) r rs all) in
     let end : r.first + r.count ≤ s = All-head (λ q. q.first + q.count ≤ s) r rs all in
     elim (eqb_tells k s) [
-      | inl e ↦ rw (within_behind (sections_of r) k (omega (arith, e.1, end))) rest
+      | inl e ↦ rw (within_after (sections_of r) k (omega (arith, e.1, end))) rest
       | inr e ↦ rw (e.0) (ap (λ o. cond (within (sections_of r) k) (Some (spot_of r)) o) (rest ∙ rw (e.0) refl))
     ]
 
@@ -98,8 +98,8 @@ module _ (s : ℕ) (spot : Spot) (old pushed : List Run) (is : pushed ≡ old ++
   }
 
   -- joined with the last
-  pub appended_behind : (new : List Run) (last : ℕ) → suc last ≡ length old → IsJoined last pushed new → IsAppended s spot old new
-  appended_behind new last is_last joins = record {
+  pub appended_after : (new : List Run) (last : ℕ) → suc last ≡ length old → IsJoined last pushed new → IsAppended s spot old new
+  appended_after new last is_last joins = record {
     spots = λ k. joined_spots last pushed new k joins ∙ pushed_spots k;
     order = joined_order last pushed new joins pushed_order;
     apart = joined_apart last pushed new joins (λ j h. omega (arith, is_last, pushed_seams j h));

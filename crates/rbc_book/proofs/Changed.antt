@@ -134,6 +134,6 @@ not_within : (first n : ℕ) → within (record { first = first; count = n }) (f
 unfolding within
 not_within first n = grind (arith, nat_tests)
 
--- the section behind those that are taken is as it was
-pub behind_taken : (first n t : ℕ) (a b : Pages) → IsTaken (record { first = first; count = n }) t a b → entry_at b (first + n) ≡ entry_at a (first + n)
-behind_taken first n t a b so_far = so_far.entry (first + n) ∙ ap (λ x. cond x (Taken t) (entry_at a (first + n))) (not_within first n)
+-- the section after those that are taken is as it was
+pub after_taken : (first n t : ℕ) (a b : Pages) → IsTaken (record { first = first; count = n }) t a b → entry_at b (first + n) ≡ entry_at a (first + n)
+after_taken first n t a b so_far = so_far.entry (first + n) ∙ ap (λ x. cond x (Taken t) (entry_at a (first + n))) (not_within first n)

@@ -1,4 +1,4 @@
--- Laws of runs that are joined, of a run that is used anew, and of a section behind all runs.
+-- Laws of runs that are joined, of a run that is used anew, and of a section after all runs.
 use Rattle.std.proofs.Common.{◌⊎◌, subst, ◌≡◌, ℕ, zero, suc, ◌+◌, ◌<◌, ◌≤◌, ◌||◌, inl, inr, Bool, true, false, cond, List, [], ◌∷◌, length, set, Some, refl, ap, sym, ◌∙◌, arith}
 use Rattle.std.specs.List.{remove}
 use Rattle.std.proofs.lemmas.Bool.{cases_lt, or_left, or_right, or_cases}
@@ -117,8 +117,8 @@ joined_before i s old new joins all = elim joins [
 ]
 
 -- what could be one with the next at a place is so no longer
-pub joined_behind : (i : ℕ) (old new : List Run) → IsJoined i old new → ((j : ℕ) → GoesOnAt j old → (j ≡ i) ⊎ (suc j ≡ i)) → (j : ℕ) → GoesOnAt j new → suc j ≡ i
-joined_behind i old new joins seams j h = elim joins [
+pub joined_after : (i : ℕ) (old new : List Run) → IsJoined i old new → ((j : ℕ) → GoesOnAt j old → (j ≡ i) ⊎ (suc j ≡ i)) → (j : ℕ) → GoesOnAt j new → suc j ≡ i
+joined_after i old new joins seams j h = elim joins [
   | inl apart ↦
       let on : GoesOnAt j old = subst (GoesOnAt j) apart.0 h in
       elim (seams j on) [
@@ -151,7 +151,7 @@ joined_apart i old new joins seams j h = elim joins [
 
 -- ## The code
 
--- two runs that stand one behind the other
+-- two runs that stand one after the other
 pub goes_on_at : (i : ℕ) (runs : List Run) (r q : Run) → At (λ p. p ≡ r) i runs → At (λ p. p ≡ q) (suc i) runs → GoesOn r q → GoesOnAt i runs
 goes_on_at i [] r q at next on = absurd at
 goes_on_at zero (p ∷ []) r q at next on = absurd next
@@ -164,17 +164,17 @@ goes_not_on zero (p ∷ []) r q at next not_on on = absurd next
 goes_not_on zero (p ∷ o ∷ os) r q at next not_on on = not_on (subst (λ x. GoesOn r x) next (subst (λ x. GoesOn x o) at on))
 goes_not_on (suc i) (p ∷ ps) r q at next not_on on = goes_not_on i ps r q at next not_on on
 
-pub nothing_behind : (i : ℕ) (runs : List Run) → length runs ≤ suc i → ¬ GoesOnAt i runs
-nothing_behind i [] short on = on
-nothing_behind zero (p ∷ []) short on = on
-nothing_behind zero (p ∷ o ∷ os) short on = let no : ⊥ = omega arith in no
-nothing_behind (suc i) (p ∷ ps) short on = nothing_behind i ps (omega arith) on
+pub nothing_after : (i : ℕ) (runs : List Run) → length runs ≤ suc i → ¬ GoesOnAt i runs
+nothing_after i [] short on = on
+nothing_after zero (p ∷ []) short on = on
+nothing_after zero (p ∷ o ∷ os) short on = let no : ⊥ = omega arith in no
+nothing_after (suc i) (p ∷ ps) short on = nothing_after i ps (omega arith) on
 
 -- the sum of their sections fits
 pub sum_fits : (i n : ℕ) (runs : List Run) (r q : Run) → AreInOrder n runs → At (λ p. p ≡ q) (suc i) runs → GoesOn r q → r.count + q.count ≤ 65535
 sum_fits i n runs r q order next on = omega (arith, on.0, (order_at n runs (suc i) q order next).bound, most_is)
 
--- what stands behind the place is taken away
+-- what follows the place is taken away
 pub join-removed : (i : ℕ) (runs : List Run) (r q : Run) → At (λ p. p ≡ r) i runs → At (λ p. p ≡ q) (i + 1) runs → GoesOn r q → IsJoined i runs (remove (set runs i (joined r q)) (i + 1))
 join-removed i runs r q at next on =
     let after = at_next (λ p. p ≡ q) runs i next in
@@ -184,7 +184,7 @@ pub join-not : (i : ℕ) (runs : List Run) (r q : Run) → At (λ p. p ≡ r) i 
 join-not i runs r q at next not_on = inl (refl, goes_not_on i runs r q at (at_next (λ p. p ≡ q) runs i next) not_on)
 
 pub join-nothing : (i : ℕ) (runs : List Run) → length runs ≤ i + 1 → IsJoined i runs runs
-join-nothing i runs short = inl (refl, nothing_behind i runs (omega (arith, short)))
+join-nothing i runs short = inl (refl, nothing_after i runs (omega (arith, short)))
 
 pub sum_fits_next : (i : ℕ) (runs : List Run) (r q : Run) → AreInOrder 0 runs → At (λ p. p ≡ q) (i + 1) runs → GoesOn r q → r.count + q.count ≤ 65535
 sum_fits_next i runs r q order next on = sum_fits i 0 runs r q order (at_next (λ p. p ≡ q) runs i next) on

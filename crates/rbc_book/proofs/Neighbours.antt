@@ -1,8 +1,8 @@
--- Laws of sections that go over to the run before their own, or to the one behind.
+-- Laws of sections that go over to the run before their own, or to the one after.
 use Rattle.std.proofs.Common.{◌≢◌, subst, ◌≡◌, ℕ, zero, suc, ◌+◌, ◌-◌, ◌<◌, ◌≤◌, nat_lt, inl, inr, true, false, List, [], ◌∷◌, set, Some, refl, ap, sym, ◌∙◌, arith}
 use Rattle.std.proofs.lemmas.Bool.{cases_Bool, and_right}
 use Rattle.rbc_spec.specs.SectionRuns.{within}
-use Rattle.law_base.proofs.Runs.{within_true, within_from, within_behind}
+use Rattle.law_base.proofs.Runs.{within_true, within_from, within_after}
 use Rattle.rbc_book.specs.Sheet.{page_in}
 use Rattle.rbc_book.specs.Runs.{run_page, At, AreInOrder, AreApart, GoesOn, GoesOnAt, sections_of}
 use Rattle.rbc_book.specs.Edits.{joined, joined_at, with_page, changed_at, resized, stretch, Has, IsFirst, IsLast, IsWritten}
@@ -11,7 +11,7 @@ use Rattle.rbc_book.specs.declared.run.Run.{Run}
 use Rattle.rbc_book.proofs.Rows.{at_is, at_next, spot_of_run}
 use Rattle.rbc_book.proofs.Splits.{before, from, is_inside, split_at, IsSingledOut, inside_from, split-outside, at_first, at_second, single_first, single_inside}
 use Rattle.rbc_book.proofs.Joins.{goes_on_at}
-use Rattle.rbc_book.proofs.Writes.{written_behind}
+use Rattle.rbc_book.proofs.Writes.{written_after}
 use Rattle.rbc_book.proofs.Places.{changed_is, set_before}
 
 -- ## The page is the same
@@ -88,7 +88,7 @@ module _ (a s size : ℕ) (page : Page) (runs : List Run) (q r : Run) (at : At (
   on_m = subst (GoesOn q) (sym (first-is s size page r first)) on
 
   moved : IsWritten s size page runs (set (set runs a (joined q m)) (suc a) (from (s + size) r))
-  moved = written_behind s size (suc a) page runs (split_at (suc a) (s + size) runs) (before (s + size) r) out (at_first (suc a) (s + size) runs r next inside)
+  moved = written_after s size (suc a) page runs (split_at (suc a) (s + size) runs) (before (s + size) r) out (at_first (suc a) (s + size) runs r next inside)
       (set (split_at (suc a) (s + size) runs) (suc a) m) (set (set runs a (joined q m)) (suc a) (from (s + size) r)) a refl
       (inl (refl, ahead-off a (s + size) runs r m next inside other)) (inr (ahead-is a (s + size) runs q r m at next inside, ahead-on a (s + size) runs q r m at next inside on_m))
 
@@ -113,32 +113,32 @@ first_joined i s size page runs mid new q r at wide is some ahead on order apart
     subst (IsWritten s size page runs) (sym new_is) (subst (λ n. IsWritten s size page runs (set (set runs (i - 1) (joined q (first_of size page r))) n (without_first s size r))) again
     (moved_ahead (i - 1) s size page runs q r ahead next is.0 wide is.1 on order apart))
 
--- ## To the run behind
+-- ## To the run after
 
 -- the last sections of a run, as they are used from now on
 abbrev pub last_of : ℕ → ℕ → Page → Run → Run
 last_of s size page r = record { first = s; count = size; track = r.track; is_wished = page.is_wished; entry = page.entry }
 
-behind-is : (i s : ℕ) (runs : List Run) (r n m : Run) → At (λ p. p ≡ r) i runs → At (λ p. p ≡ n) (suc i) runs → is_inside s r ≡ true
+after-is : (i s : ℕ) (runs : List Run) (r n m : Run) → At (λ p. p ≡ r) i runs → At (λ p. p ≡ n) (suc i) runs → is_inside s r ≡ true
     → set (set runs i (before s r)) (suc i) (joined m n) ≡ joined_at (suc i) (set (split_at i s runs) (suc i) m)
-behind-is i s [] r n m at next inside = absurd at
-behind-is zero s (x ∷ []) r n m at next inside = absurd next
-behind-is zero s (x ∷ y ∷ ys) r n m at next inside = rw (at, next) (rw inside refl)
-behind-is (suc i) s (x ∷ xs) r n m at next inside = ap (λ rs. x ∷ rs) (behind-is i s xs r n m at next inside)
+after-is i s [] r n m at next inside = absurd at
+after-is zero s (x ∷ []) r n m at next inside = absurd next
+after-is zero s (x ∷ y ∷ ys) r n m at next inside = rw (at, next) (rw inside refl)
+after-is (suc i) s (x ∷ xs) r n m at next inside = ap (λ rs. x ∷ rs) (after-is i s xs r n m at next inside)
 
-behind-on : (i s : ℕ) (runs : List Run) (r n m : Run) → At (λ p. p ≡ r) i runs → At (λ p. p ≡ n) (suc i) runs → is_inside s r ≡ true → GoesOn m n
+after-on : (i s : ℕ) (runs : List Run) (r n m : Run) → At (λ p. p ≡ r) i runs → At (λ p. p ≡ n) (suc i) runs → is_inside s r ≡ true → GoesOn m n
     → GoesOnAt (suc i) (set (split_at i s runs) (suc i) m)
-behind-on i s [] r n m at next inside on = absurd at
-behind-on zero s (x ∷ []) r n m at next inside on = absurd next
-behind-on zero s (x ∷ y ∷ ys) r n m at next inside on = rw (at, next) (rw inside on)
-behind-on (suc i) s (x ∷ xs) r n m at next inside on = behind-on i s xs r n m at next inside on
+after-on i s [] r n m at next inside on = absurd at
+after-on zero s (x ∷ []) r n m at next inside on = absurd next
+after-on zero s (x ∷ y ∷ ys) r n m at next inside on = rw (at, next) (rw inside on)
+after-on (suc i) s (x ∷ xs) r n m at next inside on = after-on i s xs r n m at next inside on
 
-behind-off : (i s : ℕ) (runs : List Run) (r n m : Run) → At (λ p. p ≡ r) i runs → At (λ p. p ≡ n) (suc i) runs → is_inside s r ≡ true → run_page r ≢ run_page m
+after-off : (i s : ℕ) (runs : List Run) (r n m : Run) → At (λ p. p ≡ r) i runs → At (λ p. p ≡ n) (suc i) runs → is_inside s r ≡ true → run_page r ≢ run_page m
     → GoesOnAt i (joined_at (suc i) (set (split_at i s runs) (suc i) m)) → ⊥
-behind-off i s [] r n m at next inside other = absurd at
-behind-off zero s (x ∷ []) r n m at next inside other = absurd next
-behind-off zero s (x ∷ y ∷ ys) r n m at next inside other = rw (at, next) (rw inside (λ h. other h.2))
-behind-off (suc i) s (x ∷ xs) r n m at next inside other = behind-off i s xs r n m at next inside other
+after-off i s [] r n m at next inside other = absurd at
+after-off zero s (x ∷ []) r n m at next inside other = absurd next
+after-off zero s (x ∷ y ∷ ys) r n m at next inside other = rw (at, next) (rw inside (λ h. other h.2))
+after-off (suc i) s (x ∷ xs) r n m at next inside other = after-off i s xs r n m at next inside other
 
 pub last-is : (s size : ℕ) (page : Page) (r : Run) → s + size ≡ r.first + r.count → size < r.count → with_page page (from s r) ≡ last_of s size page r
 last-is s size page r last more = let one : r.count - (s - r.first) ≡ size = omega (arith, last, more) in λ i. record { first = s; count = one i; track = r.track; is_wished = page.is_wished; entry = page.entry }
@@ -156,7 +156,7 @@ module _ (i s size : ℕ) (page : Page) (runs : List Run) (r n : Run) (at : At (
 
   cut_out : IsSingledOut s size runs (split_at i s runs) (suc i)
   cut_out =
-      let outside : is_inside (s + size) (from s r) ≡ false = and_right (nat_lt s (s + size)) (within (sections_of (from s r)) (s + size)) (within_behind (sections_of (from s r)) (s + size) (omega (arith, last, more))) in
+      let outside : is_inside (s + size) (from s r) ≡ false = and_right (nat_lt s (s + size)) (within (sections_of (from s r)) (s + size)) (within_after (sections_of (from s r)) (s + size) (omega (arith, last, more))) in
       subst (λ mid. IsSingledOut s size runs mid (suc i)) (split-outside (suc i) (s + size) (split_at i s runs) (from s r) second_at outside)
       (single_inside s size i runs r at some (omega (arith, last, more)) (omega (arith, last)) order apart)
 
@@ -167,13 +167,13 @@ module _ (i s size : ℕ) (page : Page) (runs : List Run) (r n : Run) (at : At (
   on_l = subst (λ x. GoesOn x n) (sym (last-is s size page r last more)) on
 
   shifted : IsWritten s size page runs (set (set runs i (before s r)) (suc i) (joined l n))
-  shifted = subst (IsWritten s size page runs) (sym (behind-is i s runs r n l at next has_last))
-      (written_behind s size (suc i) page runs (split_at i s runs) (from s r) cut_out second_at
+  shifted = subst (IsWritten s size page runs) (sym (after-is i s runs r n l at next has_last))
+      (written_after s size (suc i) page runs (split_at i s runs) (from s r) cut_out second_at
       (joined_at (suc i) (set (split_at i s runs) (suc i) l)) (joined_at (suc i) (set (split_at i s runs) (suc i) l)) i refl
-      (inr (refl, behind-on i s runs r n l at next has_last on_l)) (inl (refl, behind-off i s runs r n l at next has_last differs)))
+      (inr (refl, after-on i s runs r n l at next has_last on_l)) (inl (refl, after-off i s runs r n l at next has_last differs)))
 
-  pub moved_behind : IsWritten s size page runs (set (set runs i (before s r)) (i + 1) (joined (last_of s size page r) n))
-  moved_behind =
+  pub moved_after : IsWritten s size page runs (set (set runs i (before s r)) (i + 1) (joined (last_of s size page r) n))
+  moved_after =
       let here : suc i ≡ i + 1 = omega arith in
       subst (λ k. IsWritten s size page runs (set (set runs i (before s r)) k (joined (last_of s size page r) n))) here
       (subst (λ x. IsWritten s size page runs (set (set runs i (before s r)) (suc i) (joined x n))) (last-is s size page r last more) shifted)
@@ -181,13 +181,13 @@ module _ (i s size : ℕ) (page : Page) (runs : List Run) (r n : Run) (at : At (
 -- as the code changes the row
 pub last_joined : (i s size : ℕ) (page : Page) (runs mid new : List Run) (r n : Run) → At (λ p. p ≡ r) i runs → 1 ≤ size → IsLast s size page r → At (λ p. p ≡ n) (i + 1) runs → GoesOn (last_of s size page r) n
     → AreInOrder 0 runs → AreApart runs → mid ≡ changed_at (resized r.first (s - r.first)) i runs → new ≡ changed_at (resized s (size + n.count)) (i + 1) mid → IsWritten s size page runs new
-last_joined i s size page runs mid new r n at wide is behind on order apart one two =
+last_joined i s size page runs mid new r n at wide is after on order apart one two =
     let back : suc i ≡ i + 1 = omega arith in
-    let next : At (λ p. p ≡ n) (suc i) runs = at_next (λ p. p ≡ n) runs i behind in
+    let next : At (λ p. p ≡ n) (suc i) runs = at_next (λ p. p ≡ n) runs i after in
     let mid_is : mid ≡ set runs i (before s r) = one ∙ changed_is (resized r.first (s - r.first)) i runs r at in
     let at_mid : At (λ p. p ≡ n) (i + 1) mid = subst (λ xs. At (λ p. p ≡ n) (i + 1) xs) (sym mid_is)
     (subst (λ k. At (λ p. p ≡ n) k (set runs i (before s r))) back (set_before (λ p. p ≡ n) i runs (before s r) next)) in
     let run_is : resized s (size + n.count) n ≡ joined (last_of s size page r) n = (λ j. record { first = s; count = size + n.count; track = sym on.1 j; is_wished = (sym on.2 j).is_wished; entry = (sym on.2 j).entry }) in
     let new_is : new ≡ set (set runs i (before s r)) (i + 1) (joined (last_of s size page r) n) = two ∙ changed_is (resized s (size + n.count)) (i + 1) mid n at_mid
     ∙ ap (λ x. set mid (i + 1) x) run_is ∙ ap (λ xs. set xs (i + 1) (joined (last_of s size page r) n)) mid_is in
-    subst (IsWritten s size page runs) (sym new_is) (moved_behind i s size page runs r n at next is.0 wide is.1 on order apart)
+    subst (IsWritten s size page runs) (sym new_is) (moved_after i s size page runs r n at next is.0 wide is.1 on order apart)

@@ -57,5 +57,5 @@ none_open sheet s none = ap is_open_in none
 pub run_open : (sheet : Sheet) (s : ℕ) (r : Run) (b : Bool) → IsRunOf sheet s r → is_open (entry_of r.entry) ≡ b → is_open_on sheet s ≡ b
 run_open sheet s r b run is = ap is_open_in (run.each s run.has) ∙ is
 
-pub behind_next : (sheet : Sheet) (s : ℕ) (r : Run) → IsRunOf sheet s r → s < r.first + r.count
-behind_next sheet s r run = (within_true (sections_of r) s run.has).1
+pub after_next : (sheet : Sheet) (s : ℕ) (r : Run) → IsRunOf sheet s r → s < r.first + r.count
+after_next sheet s r run = (within_true (sections_of r) s run.has).1

@@ -20,7 +20,7 @@ changed_length f i [] = refl
 changed_length f zero (q ∷ qs) = refl
 changed_length f (suc i) (q ∷ qs) = ap suc (changed_length f i qs)
 
--- the run behind stays
+-- the run after stays
 pub set_before : (P : Run → Type 0) (i : ℕ) (runs : List Run) (x : Run) → At P (suc i) runs → At P (suc i) (set runs i x)
 set_before P i [] x at = absurd at
 set_before P zero (q ∷ qs) x at = at

@@ -3,7 +3,7 @@ use Rattle.std.proofs.Common.{if◌then◌else◌, subst, ◌≡◌, ℕ, zero, 
 use Rattle.std.specs.List.{range_with_len}
 use Rattle.std.proofs.lemmas.Bool.{cases_lt, lt-ltb, le-ltb}
 use Rattle.rbc_spec.specs.SectionRuns.{within}
-use Rattle.law_base.proofs.Runs.{within_true, within_behind}
+use Rattle.law_base.proofs.Runs.{within_true, within_after}
 use Rattle.rbc_book.specs.Sheet.{spot_on}
 use Rattle.rbc_book.specs.Runs.{most, At, IsRunOf, AreInOrder, sections_of, sections_in, spot_of, spot_at, sheet_of}
 use Rattle.rbc_book.specs.declared.run.Run.{Run}
@@ -84,11 +84,11 @@ first_from from (q ∷ qs) zero d order lt = order.0
 first_from from (q ∷ qs) (suc i) d order lt = omega (arith, order.0, first_from (q.first + q.count) qs i d order.3 (omega arith))
 
 -- a run ends where a later one begins, or before
-pub one_behind_another : (from : ℕ) (runs : List Run) (i j : ℕ) (d : Run) → AreInOrder from runs → i < j → j < length runs → (get_or runs i d).first + (get_or runs i d).count ≤ (get_or runs j d).first
-one_behind_another from [] i j d order less lt = absurd (let no : ⊥ = omega arith in no)
-one_behind_another from (q ∷ qs) i zero d order less lt = absurd (let no : ⊥ = omega arith in no)
-one_behind_another from (q ∷ qs) zero (suc j) d order less lt = first_from (q.first + q.count) qs j d order.3 (omega arith)
-one_behind_another from (q ∷ qs) (suc i) (suc j) d order less lt = one_behind_another (q.first + q.count) qs i j d order.3 (omega arith) (omega arith)
+pub one_after_another : (from : ℕ) (runs : List Run) (i j : ℕ) (d : Run) → AreInOrder from runs → i < j → j < length runs → (get_or runs i d).first + (get_or runs i d).count ≤ (get_or runs j d).first
+one_after_another from [] i j d order less lt = absurd (let no : ⊥ = omega arith in no)
+one_after_another from (q ∷ qs) i zero d order less lt = absurd (let no : ⊥ = omega arith in no)
+one_after_another from (q ∷ qs) zero (suc j) d order less lt = first_from (q.first + q.count) qs j d order.3 (omega arith)
+one_after_another from (q ∷ qs) (suc i) (suc j) d order less lt = one_after_another (q.first + q.count) qs i j d order.3 (omega arith) (omega arith)
 
 -- ## What is said of a section
 
@@ -99,7 +99,7 @@ spot_of_run from (q ∷ qs) zero k r order at has = rw at (rw has refl)
 spot_of_run from (q ∷ qs) (suc i) k r order at has =
     let ends = within_true (sections_of r) k has in
     let later = order_from (q.first + q.count) qs i r order.3 at in
-    rw (within_behind (sections_of q) k (omega (arith, later, ends.0))) (spot_of_run (q.first + q.count) qs i k r order.3 at has)
+    rw (within_after (sections_of q) k (omega (arith, later, ends.0))) (spot_of_run (q.first + q.count) qs i k r order.3 at has)
 
 -- nothing where no run has it
 pub spot_none : (runs : List Run) (s : ℕ) → ((i : ℕ) (d : Run) → i < length runs → within (sections_of (get_or runs i d)) s ≡ false) → spot_at runs s ≡ None
@@ -110,11 +110,11 @@ pub most_is : most ≡ 65535
 unfolding most
 most_is = refl
 
--- nothing behind the greatest number
+-- nothing after the greatest number
 spot_past : (from : ℕ) (runs : List Run) (k : ℕ) → AreInOrder from runs → most ≤ k → spot_at runs k ≡ None
 spot_past from [] k order past = refl
 spot_past from (r ∷ rs) k order past =
-    rw (within_behind (sections_of r) k (omega (arith, order.2, past))) (spot_past (r.first + r.count) rs k order.3 past)
+    rw (within_after (sections_of r) k (omega (arith, order.2, past))) (spot_past (r.first + r.count) rs k order.3 past)
 
 -- ## The sheet of a row
 

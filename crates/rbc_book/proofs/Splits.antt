@@ -17,7 +17,7 @@ before s r = record { first = r.first; count = s - r.first; track = r.track; is_
 abbrev pub from : ℕ → Run → Run
 from s r = record { first = s; count = r.count - (s - r.first); track = r.track; is_wished = r.is_wished; entry = r.entry }
 
--- the section is in the run, behind its first
+-- the section is in the run, after its first
 abbrev pub is_inside : ℕ → Run → Bool
 is_inside s r = nat_lt r.first s && within (sections_of r) s
 
@@ -40,13 +40,13 @@ pub record IsSingledOut (s size : ℕ) (old new : List Run) (place : ℕ) : Type
 
 -- where the section stands that is inside a run
 pub record IsInside (s : ℕ) (r : Run) : Type 0 where
-  pub behind_first : r.first < s
+  pub after_first : r.first < s
   pub before_end : s < r.first + r.count
 
 pub inside_true : (s : ℕ) (r : Run) → is_inside s r ≡ true → IsInside s r
 inside_true s r h =
     let both = and_parts (nat_lt r.first s) (within (sections_of r) s) h in
-    record { behind_first = ltb-true r.first s both.0; before_end = (within_true (sections_of r) s both.1).1 }
+    record { after_first = ltb-true r.first s both.0; before_end = (within_true (sections_of r) s both.1).1 }
 
 pub inside_from : (s : ℕ) (r : Run) → r.first < s → s < r.first + r.count → is_inside s r ≡ true
 inside_from s r low high = and_from (nat_lt r.first s) (within (sections_of r) s) (lt-ltb r.first s low) (within_from (sections_of r) s (omega arith) high)
@@ -56,12 +56,12 @@ divided : (s : ℕ) (r : Run) (k : ℕ) → IsInside s r → within (sections_of
 divided s r k inside = same_tests (within (sections_of r) k) (within (sections_of (before s r)) k || within (sections_of (from s r)) k)
     (λ has. let ends = within_true (sections_of r) k has in
     elim (cases_lt k s) [
-      | inl low ↦ or_left (within (sections_of (before s r)) k) (within (sections_of (from s r)) k) (within_from (sections_of (before s r)) k ends.0 (omega (arith, inside.behind_first)))
-      | inr high ↦ or_right (within (sections_of (before s r)) k) (within (sections_of (from s r)) k) (within_from (sections_of (from s r)) k high (omega (arith, inside.behind_first, inside.before_end, ends.1)))
+      | inl low ↦ or_left (within (sections_of (before s r)) k) (within (sections_of (from s r)) k) (within_from (sections_of (before s r)) k ends.0 (omega (arith, inside.after_first)))
+      | inr high ↦ or_right (within (sections_of (before s r)) k) (within (sections_of (from s r)) k) (within_from (sections_of (from s r)) k high (omega (arith, inside.after_first, inside.before_end, ends.1)))
     ])
     (λ one. elim (or_cases (within (sections_of (before s r)) k) (within (sections_of (from s r)) k) one) [
-      | inl low ↦ let ends = within_true (sections_of (before s r)) k low in within_from (sections_of r) k ends.0 (omega (arith, inside.behind_first, inside.before_end, ends.1))
-      | inr high ↦ let ends = within_true (sections_of (from s r)) k high in within_from (sections_of r) k (omega (arith, inside.behind_first, ends.0)) (omega (arith, inside.behind_first, inside.before_end, ends.1))
+      | inl low ↦ let ends = within_true (sections_of (before s r)) k low in within_from (sections_of r) k ends.0 (omega (arith, inside.after_first, inside.before_end, ends.1))
+      | inr high ↦ let ends = within_true (sections_of (from s r)) k high in within_from (sections_of r) k (omega (arith, inside.after_first, ends.0)) (omega (arith, inside.after_first, inside.before_end, ends.1))
     ])
 
 either : {X : Type 0} (whole a b : Bool) (x y : X) → whole ≡ (a || b) → cond a x (cond b x y) ≡ cond whole x y
@@ -83,12 +83,12 @@ order-split i s n [] order = order
 order-split zero s n (r ∷ rs) order = elim (cases_Bool (is_inside s r)) [
   | inl inside ↦
       let is = inside_true s r inside in
-      let end : r.first + r.count ≡ s + (r.count - (s - r.first)) = omega (arith, is.behind_first, is.before_end) in
+      let end : r.first + r.count ≡ s + (r.count - (s - r.first)) = omega (arith, is.after_first, is.before_end) in
       rw inside (
         order.0,
-        omega (arith, is.behind_first),
-        omega (arith, is.behind_first, is.before_end, order.2),
-        (omega (arith, is.behind_first), omega (arith, is.behind_first, is.before_end), omega (arith, end, order.2), subst (λ m. AreInOrder m rs) end order.3),
+        omega (arith, is.after_first),
+        omega (arith, is.after_first, is.before_end, order.2),
+        (omega (arith, is.after_first), omega (arith, is.after_first, is.before_end), omega (arith, end, order.2), subst (λ m. AreInOrder m rs) end order.3),
       )
   | inr outside ↦ rw outside order
 ]
@@ -97,7 +97,7 @@ order-split (suc i) s n (r ∷ rs) order = (order.0, order.1, order.2, order-spl
 pub count-split : (i s : ℕ) (runs : List Run) → sections_in (split_at i s runs) ≡ sections_in runs
 count-split i s [] = refl
 count-split zero s (r ∷ rs) = elim (cases_Bool (is_inside s r)) [
-  | inl inside ↦ let is = inside_true s r inside in rw inside (omega (arith, is.behind_first, is.before_end))
+  | inl inside ↦ let is = inside_true s r inside in rw inside (omega (arith, is.after_first, is.before_end))
   | inr outside ↦ rw outside refl
 ]
 count-split (suc i) s (r ∷ rs) = ap (λ n. r.count + n) (count-split i s rs)
@@ -115,7 +115,7 @@ first-split (suc i) s r (q ∷ qs) h = h
 -- who follows the second part follows the run
 last-split : (s : ℕ) (r : Run) (rs : List Run) → IsInside s r → IsFollowed (from s r) rs → IsFollowed r rs
 last-split s r [] inside h = h
-last-split s r (q ∷ qs) inside h = (omega (arith, inside.behind_first, inside.before_end, h.0), h.1, h.2)
+last-split s r (q ∷ qs) inside h = (omega (arith, inside.after_first, inside.before_end, h.0), h.1, h.2)
 
 -- two runs of a divided row that could be one stand at the place, or could be one before
 abbrev pub Seam : ℕ → List Run → ℕ → Type 0
@@ -199,12 +199,12 @@ module _ (s size i : ℕ) (old mid : List Run) (r : Run) (begins : r.first ≡ s
     ];
   }
 
--- sections of a run, behind its first
+-- sections of a run, after its first
 pub single_inside : (s size i : ℕ) (runs : List Run) (r : Run) → At (λ q. q ≡ r) i runs → 1 ≤ size → r.first < s → s + size ≤ r.first + r.count → AreInOrder 0 runs → AreApart runs
     → IsSingledOut s size runs (split_at (suc i) (s + size) (split_at i s runs)) (suc i)
-single_inside s size i runs r at some behind fits order apart =
-    let inside : is_inside s r ≡ true = inside_from s r behind (omega (arith, some, fits)) in
-    second s size (suc i) runs (split_at i s runs) (from s r) refl some (omega (arith, behind, fits)) (at_second i s runs r at inside) (order-split i s 0 runs order)
+single_inside s size i runs r at some after fits order apart =
+    let inside : is_inside s r ≡ true = inside_from s r after (omega (arith, some, fits)) in
+    second s size (suc i) runs (split_at i s runs) (from s r) refl some (omega (arith, after, fits)) (at_second i s runs r at inside) (order-split i s 0 runs order)
     (spots-split i s runs) (count-split i s runs) (λ j h. ap suc (no_seam runs apart i j (seams-split i s runs j h)))
 
 -- the first sections of a run

@@ -1,7 +1,7 @@
 -- Laws of a run that is used anew.
 use Rattle.std.proofs.Common.{if◌then◌else◌, ◌⊎◌, subst, ◌≡◌, ℕ, zero, suc, ◌+◌, inl, inr, true, cond, List, [], ◌∷◌, set, Some, refl, ap, sym, ◌∙◌, arith}
 use Rattle.rbc_spec.specs.SectionRuns.{within}
-use Rattle.law_base.proofs.Runs.{within_true, within_behind}
+use Rattle.law_base.proofs.Runs.{within_true, within_after}
 use Rattle.std.proofs.lemmas.Bool.{cases_Bool}
 use Rattle.rbc_book.specs.Sheet.{page_in, track_in}
 use Rattle.rbc_book.specs.Runs.{At, AreInOrder, AreApart, GoesOnAt, sections_of, sections_in, spot_of, spot_at}
@@ -10,7 +10,7 @@ use Rattle.rbc_book.specs.declared.page.Page.{Page}
 use Rattle.rbc_book.specs.declared.run.Run.{Run}
 use Rattle.rbc_book.proofs.Splits.{IsSingledOut}
 use Rattle.rbc_book.proofs.Rows.{at_is, order_from, spot_of_run}
-use Rattle.rbc_book.proofs.Joins.{joined_spots, joined_order, joined_count, joined_behind, joined_apart}
+use Rattle.rbc_book.proofs.Joins.{joined_spots, joined_order, joined_count, joined_after, joined_apart}
 
 order-set : (i n : ℕ) (page : Page) (runs : List Run) (r : Run) → At (λ q. q ≡ r) i runs → AreInOrder n runs → AreInOrder n (set runs i (with_page page r))
 order-set i n page [] r at order = order
@@ -52,7 +52,7 @@ spots-set (suc i) n s size page (q ∷ qs) r order at whole k =
     let rest = spots-set i (q.first + q.count) s size page qs r order.3 at whole k in
     elim (cases_Bool (within (stretch s size) k)) [
       | inl has ↦ let ends = within_true (stretch s size) k has in
-          rw (within_behind (sections_of q) k (omega (arith, ends.0, whole.0, order_from (q.first + q.count) qs i r order.3 at))) rest
+          rw (within_after (sections_of q) k (omega (arith, ends.0, whole.0, order_from (q.first + q.count) qs i r order.3 at))) rest
       | inr not ↦ rw not (ap (λ o. cond (within (sections_of q) k) (Some (spot_of q)) o) (rest ∙ rw not refl))
     ]
 
@@ -104,21 +104,21 @@ module _ (s size place : ℕ) (page : Page) (old single : List Run) (r : Run) (o
   pub written_first : (new : List Run) → place ≡ 0 → IsJoined place used new → IsWritten s size page old new
   written_first new first joins = written new
       (joined_order place used new joins used_order)
-      (λ j h. let no : ⊥ = omega (arith, first, joined_behind place used new joins seams j h) in no)
+      (λ j h. let no : ⊥ = omega (arith, first, joined_after place used new joins seams j h) in no)
       (joined_count place used new joins)
       (λ k. joined_spots place used new k joins)
 
   -- and joined with the one before
-  pub written_behind : (mid new : List Run) (ahead : ℕ) → suc ahead ≡ place → IsJoined place used mid → IsJoined ahead mid new → IsWritten s size page old new
-  written_behind mid new ahead before one two = written new
+  pub written_after : (mid new : List Run) (ahead : ℕ) → suc ahead ≡ place → IsJoined place used mid → IsJoined ahead mid new → IsWritten s size page old new
+  written_after mid new ahead before one two = written new
       (joined_order ahead mid new two (joined_order place used mid one used_order))
-      (joined_apart ahead mid new two (λ j h. omega (arith, before, joined_behind place used mid one seams j h)))
+      (joined_apart ahead mid new two (λ j h. omega (arith, before, joined_after place used mid one seams j h)))
       (joined_count ahead mid new two ∙ joined_count place used mid one)
       (λ k. joined_spots ahead mid new k two ∙ joined_spots place used mid k one)
 
   -- apart from both
   pub written_apart : ¬ GoesOnAt place used → ((ahead : ℕ) → suc ahead ≡ place → ¬ GoesOnAt ahead used) → IsWritten s size page old used
-  written_apart behind ahead = written used used_order (λ j h. elim (seams j h) [
-    | inl here ↦ behind (subst (λ n. GoesOnAt n used) here h)
+  written_apart after ahead = written used used_order (λ j h. elim (seams j h) [
+    | inl here ↦ after (subst (λ n. GoesOnAt n used) here h)
     | inr before ↦ ahead j before h
   ]) refl (λ k. refl)

@@ -15,7 +15,7 @@ abbrev pub joined_with : Run → List Run → List Run
 joined_with r [] = r ∷ []
 joined_with r (q ∷ qs) = joined r q ∷ qs
 
--- the runs at a place and behind it as one
+-- the runs at a place and after it as one
 abbrev pub joined_at : ℕ → List Run → List Run
 joined_at i [] = []
 joined_at zero (r ∷ rs) = joined_with r rs
@@ -67,7 +67,7 @@ IsInner s size page r = (r.first < s) × (s + size < r.first + r.count) × (run_
 abbrev pub AreBefore : ℕ → List Run → Type 0
 AreBefore s runs = All (λ r. r.first + r.count ≤ s) runs
 
--- a section is put behind all runs
+-- a section is put after all runs
 pub record IsAppended (s : ℕ) (spot : Spot) (old new : List Run) : Type 0 where
   pub spots : (k : ℕ) → spot_at new k ≡ (if k == s then Some spot else spot_at old k)
   pub order : AreInOrder 0 new

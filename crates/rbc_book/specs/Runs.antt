@@ -44,7 +44,7 @@ At P i [] = ⊥
 At P zero (r ∷ rs) = P r
 At P (suc i) (r ∷ rs) = At P i rs
 
--- no run is empty, and each begins behind the one before
+-- no run is empty, and each begins after the one before
 abbrev pub AreInOrder : ℕ → List Run → Type 0
 AreInOrder from [] = Unit {0}
 AreInOrder from (r ∷ rs) =
@@ -55,7 +55,7 @@ abbrev pub IsFollowed : Run → List Run → Type 0
 IsFollowed r [] = ⊥
 IsFollowed r (q ∷ qs) = GoesOn r q
 
--- the run behind this place goes on with the one at it
+-- the run after this place goes on with the one at it
 abbrev pub GoesOnAt : ℕ → List Run → Type 0
 GoesOnAt i [] = ⊥
 GoesOnAt zero (r ∷ rs) = IsFollowed r rs

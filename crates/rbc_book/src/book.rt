@@ -153,7 +153,7 @@ impl Book {
         })
     }
 
-    // Takes an open section into use for a train, and those behind it that its run has too, at most so many in all:
+    // Takes an open section into use for a train, and those after it that its run has too, at most so many in all:
     // how many they are.
     #[inline]
     fn take_part(&mut self, s: u16, most: u16, nid_engine: u32) -> u16
@@ -169,7 +169,7 @@ impl Book {
         size
     }
 
-    /// Takes open sections into use for a train, one behind another: the claims on them.
+    /// Takes consecutive open sections into use for a train: the claims on them.
     pub fn take_run(&mut self, first: u16, count: u16, nid_engine: u32) -> Claims
         requires numbers { first + count ≤ 65535 }
         requires open { (s : ℕ) → within (record { first = first; count = count }) s ≡ true

@@ -38,7 +38,7 @@ pub struct Claims {
 
 impl Claims {
     ghost use Rattle.std.specs.Prelude.{◌≡◌, ◌+◌, ◌-◌, ◌<◌, ◌≤◌};
-    ghost use Rattle.rbc_spec.specs.SectionRuns.{behind};
+    ghost use Rattle.rbc_spec.specs.SectionRuns.{next_after};
     ghost use Rattle.rbc_book.specs.Claim.{claim_on, claims_on, claimed, claims_train};
 
     /// The first of the sections, numbered over the whole line.
@@ -58,7 +58,7 @@ impl Claims {
     /// The claim on the first of them goes off.
     pub fn cut_front(&mut self) -> Claim
         requires some { 0 < (claimed self.old).count }
-        requires numbers { behind (claimed self.old) ≤ 65535 }
+        requires numbers { next_after (claimed self.old) ≤ 65535 }
         ensures claim { result ≡ claim_on (claimed self.old).first (claims_train self.old) }
         ensures rest { self.new ≡ claims_on
             (record { first = (claimed self.old).first + 1; count = (claimed self.old).count - 1 })

@@ -61,7 +61,7 @@ pub(crate) fn join(runs: &mut Vec<Run>, i: usize)
 }
 
 // Writes the page of so many sections from one on, which the run at a place has: in that run, or in the one before or
-// behind, or in a run of their own.
+// after, or in a run of their own.
 #[inline(never)]
 pub(crate) fn write_at(runs: &mut Vec<Run>, i: usize, s: u16, size: u16, page: Page)
     requires some { 1 ≤ size }
@@ -80,14 +80,14 @@ pub(crate) fn write_at(runs: &mut Vec<Run>, i: usize, s: u16, size: u16, page: P
         write_whole(runs, i, s, size, page);
     } else if run.first == s {
         write_first(runs, i, s, size, page);
-    } else if run.behind() == u32::from(s) + u32::from(size) {
+    } else if run.next_after() == u32::from(s) + u32::from(size) {
         write_last(runs, i, s, size, page);
     } else {
         write_inside(runs, i, s, size, page);
     }
 }
 
-// Puts a section behind all runs, as one of the last run where that can be.
+// Puts a section after all runs, as one of the last run where that can be.
 pub(crate) fn append(runs: &mut Vec<Run>, s: u16, track: u8, page: Page) -> Result<(), AllocError>
     requires order { AreInOrder 0 runs.old.items }
     requires apart { AreApart runs.old.items }

@@ -26,7 +26,7 @@ fn ahead_of(runs: &[Run], i: usize, next: Run) -> Option<Run>
 }
 
 // The run at a place, where it goes on with this one.
-fn behind_of(runs: &[Run], i: usize, run: Run) -> Option<Run>
+fn after_of(runs: &[Run], i: usize, run: Run) -> Option<Run>
     ensures some { IfSome result (λ r. At (λ q. q ≡ r) i runs.now × GoesOn run r) }
     ensures none { result ≡ None → ¬ At (λ r. GoesOn run r) i runs.now }
 {
@@ -108,7 +108,7 @@ pub(crate) fn write_last(runs: &mut Vec<Run>, i: usize, s: u16, size: u16, page:
         ..run
     };
     let count = s - run.first;
-    if let Some(next) = behind_of(runs, i + 1, alone) {
+    if let Some(next) = after_of(runs, i + 1, alone) {
         resize(runs, i, run.first, count);
         resize(runs, i + 1, s, size + next.count);
     } else {

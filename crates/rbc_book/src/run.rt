@@ -32,8 +32,8 @@ impl Run {
         }
     }
 
-    /// The number behind its last section.
-    pub(crate) fn behind(self) -> u32
+    /// The number after that of its last section.
+    pub(crate) fn next_after(self) -> u32
         ensures { result ≡ self.first + self.count }
     {
         u32::from(self.first) + u32::from(self.count)
@@ -44,14 +44,14 @@ impl Run {
     pub(crate) fn contains(self, s: u16) -> bool
         ensures { result ≡ within (sections_of self) s }
     {
-        self.first <= s && u32::from(s) < self.behind()
+        self.first <= s && u32::from(s) < self.next_after()
     }
 
     /// Whether the next run goes on where this one ends, on its track and used alike: the two are one run then.
     pub(crate) fn goes_on(self, next: Run) -> bool
         ensures { MatchBool result (GoesOn self next) (¬ GoesOn self next) }
     {
-        self.behind() == u32::from(next.first)
+        self.next_after() == u32::from(next.first)
             && self.track == next.track
             && self.page() == next.page()
     }

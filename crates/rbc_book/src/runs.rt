@@ -77,7 +77,7 @@ impl Runs {
             if !run.entry.is_open() {
                 return count;
             }
-            count = (run.behind() - u32::from(first)) as u16;
+            count = (run.next_after() - u32::from(first)) as u16;
         }
         most
     }
@@ -103,7 +103,7 @@ impl Runs {
         Some(page)
     }
 
-    /// Changes the page of a section, and of those behind it that its run has too, at most so many in all: the page
+    /// Changes the page of a section, and of those after it that its run has too, at most so many in all: the page
     /// that they had, and how many they are. None where the section has no page.
     #[inline]
     pub(crate) fn change_part(&mut self, s: u16, most: u16, change: Change) -> Option<(Page, u16)>
@@ -129,7 +129,7 @@ impl Runs {
     }
 }
 
-// The place of the run that has the section: the half is cut off that stands before it or behind.
+// The place of the run that has the section: the half is cut off that stands before it or after.
 fn find(runs: &[Run], s: u16) -> Option<usize>
     requires { AreInOrder 0 runs.now }
     ensures some { IfSome result (λ i. At (λ r. within (sections_of r) s ≡ true) i runs.now) }
@@ -142,7 +142,7 @@ fn find(runs: &[Run], s: u16) -> Option<usize>
         let run = runs[middle];
         if s < run.first {
             high = middle;
-        } else if u32::from(s) < run.behind() {
+        } else if u32::from(s) < run.next_after() {
             return Some(middle);
         } else {
             low = middle + 1;

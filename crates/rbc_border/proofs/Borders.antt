@@ -3,7 +3,7 @@ use Rattle.std.proofs.Common.{◌≡◌, ℕ, ◌-◌, ◌==◌, ◌&&◌, Bool,
 use Rattle.std.specs.Option.{option_map_or}
 use Rattle.std.proofs.lemmas.List.{append-nil, length-take-le, take-replicate}
 use Rattle.rbc_spec.specs.Maps.{has, put}
-use Rattle.rbc_spec.specs.SectionRuns.{SectionRun, no_run, most_in_hand, within, behind, is_empty, part_before, part_from, all_of}
+use Rattle.rbc_spec.specs.SectionRuns.{SectionRun, no_run, most_in_hand, within, next_after, is_empty, part_before, part_from, all_of}
 use Rattle.rbc_spec.specs.Line.{Line, is_home}
 use Rattle.rbc_spec.specs.Sections.{is_on}
 use Rattle.rbc_spec.specs.Frame.{RouteAsk, RouteReturn}
@@ -55,10 +55,10 @@ module _ (k : Centre) (b : BorderState) (border : HasBorder k b) where
 module _ (line : Line) (next : ℕ) (way : Way) (k : Centre) (b : BorderState) (m : Mission) (border : HasBorder k b) (is : k.mission b.engine ≡ Some m) (of : IsWayOf way m) where
   -- where it is due, by the mission and by its way
   abbrev due_at : Mission → Centre → Bool
-  due_at n j = ((is_home line next (behind n.hand) && is_on line n.place.track (behind n.hand)) && nat_lt n.hand.count most_in_hand) && (is_empty n.pool && is_none (j.route_ask b.engine))
+  due_at n j = ((is_home line next (next_after n.hand) && is_on line n.place.track (next_after n.hand)) && nat_lt n.hand.count most_in_hand) && (is_empty n.pool && is_none (j.route_ask b.engine))
 
   due_same : due_at m k ≡ is_due line next way b
-  due_same = λ i. ((is_home line next (behind (of.sections i)) && is_on line (of.on i) (behind (of.sections i))) && nat_lt (of.sections i).count most_in_hand) && (is_empty (border.has_pool m is i) && is_none (border.has_ask i))
+  due_same = λ i. ((is_home line next (next_after (of.sections i)) && is_on line (of.on i) (next_after (of.sections i))) && nat_lt (of.sections i).count most_in_hand) && (is_empty (border.has_pool m is i) && is_none (border.has_ask i))
 
   asked_so : (x : Bool) → is_due line next way b ≡ x → ask_route_if_due line b.engine next k ≡ cond x (ask_route b.engine next m k) (rest k)
   asked_so x is_so =
@@ -68,12 +68,12 @@ module _ (line : Line) (next : ℕ) (way : Way) (k : Centre) (b : BorderState) (
   pub not_due : is_due line next way b ≡ false → ask_route_if_due line b.engine next k ≡ rest (with_border b k)
   not_due is_so = asked_so false is_so ∙ ap rest (same_border k b border)
 
-  pub due : (first most : ℕ) → is_due line next way b ≡ true → first ≡ behind (run_of way.hand) → most ≡ min (32 - way.hand.count) (512 - behind (run_of way.hand))
+  pub due : (first most : ℕ) → is_due line next way b ≡ true → first ≡ next_after (run_of way.hand) → most ≡ min (32 - way.hand.count) (512 - next_after (run_of way.hand))
       → ask_route_if_due line b.engine next k ≡ send next (RouteAsk b.engine first most) (with_border (record b { asked = Some first }) k)
   unfolding ◌>>◌
   due first most is_so first_is most_is =
-      let first_of : behind m.hand ≡ first = ap behind of.sections ∙ sym first_is in
-      let most_of : min (most_in_hand - m.hand.count) (512 - behind m.hand) ≡ most = ap (λ (r : SectionRun). min (most_in_hand - r.count) (512 - behind r)) of.sections ∙ sym most_is in
+      let first_of : next_after m.hand ≡ first = ap next_after of.sections ∙ sym first_is in
+      let most_of : min (most_in_hand - m.hand.count) (512 - next_after m.hand) ≡ most = ap (λ (r : SectionRun). min (most_in_hand - r.count) (512 - next_after r)) of.sections ∙ sym most_is in
       asked_so true is_so
       ∙ (λ i. record {
         state = record k { route_ask = put k.route_ask b.engine (Some (first_of i)) };
@@ -106,11 +106,11 @@ an_answer line from r b asked home = answers_is line from r b ∙ (λ i. asked i
 pub wanted_is : (line : Line) (r : SectionRun) (way : Option Way) (o : Option Mission) (b : BorderState) → GoesOn way o → ((m : Mission) → o ≡ Some m → m.pool ≡ b.pool) → has (is_wanted line r) o ≡ wants line r way b
 wanted_is line r None None b goes pool = refl
 wanted_is line r None (Some m) b goes pool =
-    ap (λ x. ((r.first == behind m.hand) && is_on line m.place.track r.first) && (not x && is_empty m.pool)) goes
-    ∙ and_false ((r.first == behind m.hand) && is_on line m.place.track r.first)
+    ap (λ x. ((r.first == next_after m.hand) && is_on line m.place.track r.first) && (not x && is_empty m.pool)) goes
+    ∙ and_false ((r.first == next_after m.hand) && is_on line m.place.track r.first)
 wanted_is line r (Some way) None b goes pool = absurd goes
 wanted_is line r (Some way) (Some m) b goes pool =
-    λ i. ((r.first == behind (goes.1.sections i)) && is_on line (goes.1.on i) r.first) && (not (goes.0 i) && is_empty (pool m refl i))
+    λ i. ((r.first == next_after (goes.1.sections i)) && is_on line (goes.1.on i) r.first) && (not (goes.0 i) && is_empty (pool m refl i))
 
 module _ (line : Line) (c from : ℕ) (r : SectionRun) (way : Option Way) (k : Centre) (b : BorderState) (border : HasBorder k b) (goes : GoesOn way (k.mission b.engine)) where
   abbrev taken : Centre → Reply

@@ -11,7 +11,7 @@ use Rattle.rbc_spec.specs.Outcome.{Told}
 use Rattle.rbc_spec.specs.Centre.{Centre, Shut, Open, Taken, is_taken_for, is_out_for}
 use Rattle.rbc_spec.specs.Acts.{freed}
 use Rattle.law_base.proofs.Puts.{itself}
-use Rattle.law_base.proofs.Runs.{within_from, within_behind}
+use Rattle.law_base.proofs.Runs.{within_from, within_after}
 use Rattle.rbc_book.specs.Book.{Pages, is_own, entry_at, wish_at}
 use Rattle.rbc_book.specs.Claim.{section_of, claim_on, claim_if, is_taken_by}
 use Rattle.rbc_book.specs.declared.claim.Claim.{Claim}
@@ -112,7 +112,7 @@ module _ (t from k s : ℕ) (a b : Pages) (is : s ≡ from + k) (so_far : Brings
       (λ i. is_out_for t ((so_far.entry s ∙ ap (λ x. entry_then (is_out_for t) x (entry_at a s) (wish_at a s)) out) i) && (so_far.wish s ∙ ap (λ x. wish_then (is_out_for t) x (entry_at a s) (wish_at a s)) out) i)
     where
       past : within (record { first = from; count = k }) (from + k) ≡ false
-      past = within_behind (record { first = from; count = k }) (from + k) (omega arith)
+      past = within_after (record { first = from; count = k }) (from + k) (omega arith)
 
 -- ## What is told
 

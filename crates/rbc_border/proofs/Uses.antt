@@ -25,7 +25,7 @@ module _ (line : Line) (c t : ℕ) (k : Centre) (book : Pages) (has : HasBook li
   pub none_used : ((s : ℕ) → s < section_count line → is_used_for t (entry_at book s) ≡ false) → uses_some line c k t ≡ false
   none_used none = any-range_none (λ j. is_home line c j && is_used_for t (k.book j)) 0 (section_count line) (λ s low high. used_is s ∙ none s (omega (arith, high)))
 
-  -- no section behind the last is in use
+  -- no section after the last is in use
   below : (s : ℕ) → is_used_for t (entry_at book s) ≡ true → s < section_count line
   below s used = elim (cases_lt s (section_count line)) [
     | inl low ↦ low

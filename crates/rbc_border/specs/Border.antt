@@ -1,7 +1,7 @@
 -- A train at the border to the next centre: the lent sections that follow its hand, and the question for more.
 use Rattle.std.specs.Prelude.{◌≡◌, ℕ, ◌+◌, ◌<◌, ◌≤◌, ◌==◌, Bool, true, false, ◌&&◌, length, replicate, Option, Some, None, option_map, is_none, nat_lt}
 use Rattle.rbc_spec.specs.Maps.{has, put}
-use Rattle.rbc_spec.specs.SectionRuns.{SectionRun, no_run, most_in_hand, behind, is_empty, all_of}
+use Rattle.rbc_spec.specs.SectionRuns.{SectionRun, no_run, most_in_hand, next_after, is_empty, all_of}
 use Rattle.rbc_spec.specs.Line.{Line, is_home}
 use Rattle.rbc_spec.specs.Sections.{is_on}
 use Rattle.rbc_spec.specs.Centre.{Centre, Mission}
@@ -51,11 +51,11 @@ GoesOn (Some way) (Some m) = (m.is_ended ≡ false) × IsWayOf way m
 
 -- ## What is asked for, and what is told
 
--- the next section behind the hand is of the next centre's home and on the track, the hand has room, the pool is empty,
--- and no question stands
+-- the next section in advance of the hand is of the next centre's home and on the track, the hand has room, the pool is
+-- empty, and no question stands
 abbrev pub is_due : Line → ℕ → Way → BorderState → Bool
 is_due line next way b =
-    ((is_home line next (behind (run_of way.hand)) && is_on line way.track (behind (run_of way.hand)))
+    ((is_home line next (next_after (run_of way.hand)) && is_on line way.track (next_after (run_of way.hand)))
     && nat_lt way.hand.count most_in_hand)
     && (is_empty b.pool && is_none b.asked)
 
@@ -67,7 +67,7 @@ answers line from r b =
 
 -- they follow the hand of the mission that goes on, on its track, and the pool is empty
 abbrev pub wants : Line → SectionRun → Option Way → BorderState → Bool
-wants line r way b = has (λ w. (r.first == behind (run_of w.hand)) && is_on line w.track r.first) way && is_empty b.pool
+wants line r way b = has (λ w. (r.first == next_after (run_of w.hand)) && is_on line w.track r.first) way && is_empty b.pool
 
 -- ## In memory
 

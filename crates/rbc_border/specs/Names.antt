@@ -12,7 +12,7 @@ IsName (Name t home) = Unit {0}
 abbrev pub IsAllNames : Holding → Type 0
 IsAllNames hand = All IsName hand.holds
 
--- so many of the first sections of one hand came behind the last of another
+-- so many of the first sections of one hand came after the last of another
 pub record PassesOn (count : ℕ) (old_from old_to new_from new_to : Holding) : Type 0 where
   pub left : new_from ≡ record { first = old_from.first + count; holds = drop count old_from.holds }
   pub came : new_to ≡ record old_to { holds = old_to.holds ++ take count old_from.holds }

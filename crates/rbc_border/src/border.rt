@@ -2,7 +2,7 @@ ghost use Rattle.std.specs.Prelude.{◌≡◌, ◌+◌, ◌-◌, ◌++◌, ◌<�
 ghost use Rattle.std.specs.Option.{option_map_or};
 ghost use Rattle.rbc_spec.specs.Maps.{has};
 ghost use Rattle.rbc_spec.specs.Line as track;
-ghost use Rattle.rbc_spec.specs.SectionRuns.{no_run, within, behind, is_empty, joined, part_before, part_from};
+ghost use Rattle.rbc_spec.specs.SectionRuns.{no_run, within, next_after, is_empty, joined, part_before, part_from};
 ghost use Rattle.rbc_spec.specs.Frame.{HasRunRange, RouteAsk, RouteReturn};
 ghost use Rattle.rbc_spec.specs.Centre.{Centre, Mission};
 ghost use Rattle.rbc_spec.specs.Acts as acts;
@@ -85,18 +85,18 @@ impl Border {
         }
     }
 
-    /// The sections behind the hand of the train's mission are asked for, where they are due: the first of them is of
-    /// the next centre's home and on the track, the hand has fewer than 32, the pool is empty, and no question stands.
-    /// None exactly where they are not due, and then nothing changes.
+    /// The sections in advance of the hand of the train's mission are asked for, where they are due: the first of them
+    /// is of the next centre's home and on the track, the hand has fewer than 32, the pool is empty, and no question
+    /// stands. None exactly where they are not due, and then nothing changes.
     pub fn ask(&mut self, line: &Line, next: u8, way: Way) -> Option<Question>
         ensures question { result ≡ (if is_due line.now next way self.old
             then Some (record {
-              first = behind (run_of way.hand);
-              most = min (32 - way.hand.count) (512 - behind (run_of way.hand));
+              first = next_after (run_of way.hand);
+              most = min (32 - way.hand.count) (512 - next_after (run_of way.hand));
             }) else None) }
         ensures state { self.new
             ≡ (if is_due line.now next way self.old then record self.old {
-              asked = Some (behind (run_of way.hand));
+              asked = Some (next_after (run_of way.hand));
             } else self.old) }
         ensures range { 1 ≤ way.hand.count
             → IfSome result (λ q. HasRunRange 1 31 (record { first = q.first; count = q.most })) }
@@ -105,11 +105,11 @@ impl Border {
             → rules.ask_route_if_due line.now self.old.engine next k
             ≡ sending next (option_map (λ q. RouteAsk self.old.engine q.first q.most) result) (with_border self.new k) }
     {
-        let behind = way.hand.behind();
+        let next_after = way.hand.next_after();
         if !self.is_due(line, next, way) {
             return None;
         }
-        let first = behind as u16;
+        let first = next_after as u16;
         self.asked = Some(first);
         Some(Question {
             first,
@@ -120,9 +120,9 @@ impl Border {
     // Whether more sections have to be asked for.
     fn is_due(&self, line: &Line, next: u8, way: Way) -> bool
         ensures value { result ≡ is_due line.now next way self.now }
-        ensures first { result ≡ true → behind (run_of way.hand) < 512 }
+        ensures first { result ≡ true → next_after (run_of way.hand) < 512 }
     {
-        is_of(line, next, way.track, way.hand.behind())
+        is_of(line, next, way.track, way.hand.next_after())
             && way.hand.count < Hand::ROOM
             && self.names.is_empty()
             && self.asked.is_none()
@@ -190,17 +190,17 @@ impl Border {
     {
         match way {
             Some(way) => {
-                u32::from(sections.first) == way.hand.behind()
-                    && is_of(line, from, way.track, way.hand.behind())
+                u32::from(sections.first) == way.hand.next_after()
+                    && is_of(line, from, way.track, way.hand.next_after())
                     && self.names.is_empty()
             }
             None => false,
         }
     }
 
-    /// A section is wished back by the interlocking of its home: it leaves the pool with all behind it, and these have
-    /// to be returned. None exactly where the pool has it not, and then nothing changes: a section of the hand may be
-    /// proposed to be cut off.
+    /// A section is wished back by the interlocking of its home: it leaves the pool with all that follow it, and these
+    /// have to be returned. None exactly where the pool has it not, and then nothing changes: a section of the hand may
+    /// be proposed to be cut off.
     pub fn withdraw(&mut self, s: u16) -> Option<SectionRun>
         ensures run { option_map run_of result
             ≡ (if within self.old.pool s then Some (part_from s self.old.pool) else None) }
@@ -236,12 +236,12 @@ impl Border {
         pool
     }
 
-    /// The train's hand is to be longer by so many sections: those of them that are of the pool come behind its last.
+    /// The train's hand is to be longer by so many sections: those of them that are of the pool come after its last.
     /// How many have come. What is left of the pool follows the longer hand.
     pub fn feed(&mut self, count: u16, hand: &mut Hand) -> u16
         requires hand { 1 ≤ (run hand.old).count }
         requires room { (run hand.old).count + count ≤ 32 }
-        requires next { 0 < self.old.pool.count → behind (run hand.old) ≡ self.old.pool.first }
+        requires next { 0 < self.old.pool.count → next_after (run hand.old) ≡ self.old.pool.first }
         ensures fed { result ≡ min count self.old.pool.count }
         ensures pool { self.new
             ≡ (if is_empty self.old.pool then self.old else record self.old { pool = rest_of count self.old.pool }) }

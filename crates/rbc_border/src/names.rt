@@ -1,5 +1,5 @@
 ghost use Rattle.std.specs.Prelude.{◌≡◌, ◌+◌, ◌-◌, ◌≤◌, ◌<◌, length, take, replicate, true};
-ghost use Rattle.rbc_spec.specs.SectionRuns.{behind, is_empty};
+ghost use Rattle.rbc_spec.specs.SectionRuns.{next_after, is_empty};
 ghost use Rattle.rbc_hand.specs.Tokens.{Name, held_of};
 ghost use Rattle.rbc_hand.specs.Hands.{run, takes, extended, without_back};
 ghost use Rattle.rbc_border.specs.Names.{IsName, IsAllNames, PassesOn};
@@ -18,7 +18,7 @@ fn spend(token: Token)
     }
 }
 
-// The name of a section comes into a hand, behind its last.
+// The name of a section comes into a hand, after its last.
 fn add(names: &mut Hand, s: u16, nid_engine: u32, home: u8)
     requires { takes (run names.old) s ≡ true }
     ensures { names.new ≡ extended names.old s (Name nid_engine home) }
@@ -63,13 +63,13 @@ pub(crate) fn spend_back(names: &mut Hand, count: u16)
     }
 }
 
-// The first name comes behind the last section of a hand.
+// The first name comes after the last section of a hand.
 fn pass_first(names: &mut Hand, hand: &mut Hand)
     requires some { 0 < length names.old.holds }
     requires hand { 0 < length hand.old.holds }
     requires room { length hand.old.holds < 32 }
     requires number { names.old.first < 65535 }
-    requires next { behind (run hand.old) ≡ names.old.first }
+    requires next { next_after (run hand.old) ≡ names.old.first }
     ensures { PassesOn 1 names.old hand.old names.new hand.new }
 {
     if let Some(token) = names.cut_front() {
@@ -79,13 +79,13 @@ fn pass_first(names: &mut Hand, hand: &mut Hand)
     }
 }
 
-/// So many of the first names come behind the last section of a hand.
+/// So many of the first names come after the last section of a hand.
 pub(crate) fn pass(names: &mut Hand, count: u16, hand: &mut Hand)
     requires some { count ≤ length names.old.holds }
     requires hand { 0 < length hand.old.holds }
     requires room { length hand.old.holds + count ≤ 32 }
     requires numbers { 0 < count → names.old.first + count ≤ 65535 }
-    requires next { 0 < count → behind (run hand.old) ≡ names.old.first }
+    requires next { 0 < count → next_after (run hand.old) ≡ names.old.first }
     ensures { PassesOn count names.old hand.old names.new hand.new }
 {
     for _ in 0..count {

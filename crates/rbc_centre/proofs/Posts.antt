@@ -127,7 +127,7 @@ may_first links d xs ys may =
       numbers = λ has. let numbers = may.numbers has in omega (arith, numbers, sum);
     }
 
--- the rest, behind a first part
+-- the rest, after a first part
 pub may_after : (stamp : ℕ) (sent : ℕ → List spec.Body) (old new : List (Link Body)) (d : ℕ) (xs ys : List spec.Body) → HasPosted body_of stamp sent old new → sent d ≡ xs
     → MayPost old d (xs ++ ys) → MayPost new d ys
 may_after stamp sent old new d xs ys posted is may =

@@ -36,7 +36,7 @@ posted_in_range stamp bodies links low high may d = of_bodies (bodies d) (may d)
         let numbers = may.numbers (All-head (IsFit links d) x xs may.each).linked in
         in_range stamp (length (sent_to links d)) (x ∷ xs) low high numbers (All-weaker (IsFit links d) HasBodyRange (λ b fit. fit.range) (x ∷ xs) may.each)
 
--- behind those that were sent too
+-- after those that were sent too
 pub each_frame_after : (stamp : ℕ) (bodies : ℕ → List spec.Body) (old new : List (Link Body)) → 1 ≤ stamp → stamp ≤ last_stamp → ((d : ℕ) → MayPost old d (bodies d))
     → HasPosted body_of stamp bodies old new → ((d : ℕ) → All HasFrameRanges (frames_by body_of (sent_to old d)))
     → (d : ℕ) → All HasFrameRanges (frames_by body_of (sent_to new d))

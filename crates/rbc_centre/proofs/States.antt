@@ -95,7 +95,7 @@ part_of_train part none line states t i state number at =
 pub part_of_foreign : {X : Type 0} (part : TrainState → X) (none : X) (line : Line) (states : List TrainState) (t : ℕ) → train_number line t ≡ None → none ≡ of_trains part none line states t
 part_of_foreign part none line states t number = sym (ap (λ n. option_map_or part (option_and_then (λ j. slice_get states j) n) none) number)
 
--- what holds of each state, behind a change of one
+-- what holds of each state, after a change of one
 pub each_after : (P : ℕ → TrainState → Type 0) (states : List TrainState) (i : ℕ) (new : TrainState) → i < length states → P i new
     → ((j : ℕ) (p : TrainState) → j ≢ i → slice_get states j ≡ Some p → P j p) → (j : ℕ) (p : TrainState) → slice_get (set states i new) j ≡ Some p → P j p
 each_after P states i new within here others j p found = elim (eqb_tells j i) as (λ _. P j p) [
@@ -110,7 +110,7 @@ each_after P states i new within here others j p found = elim (eqb_tells j i) as
 pub other_train : (line : Line) (t u i j : ℕ) → train_number line t ≡ Some i → train_number line u ≡ Some j → j ≢ i → u ≢ t
 other_train line t u i j at_t at_u apart same = apart (let e : Some j ≡ Some i = sym at_u ∙ ap (train_number line) same ∙ at_t in cc)
 
--- what holds of each train of the line, by its number, behind a change of one
+-- what holds of each train of the line, by its number, after a change of one
 pub each_train_after : (P : ℕ → ℕ → TrainState → Type 0) (line : Line) (states : List TrainState) (t i : ℕ) (state : TrainState) → i < length states → train_number line t ≡ Some i → P t i state
     → ((u j : ℕ) (p : TrainState) → u ≢ t → train_number line u ≡ Some j → slice_get states j ≡ Some p → P u j p)
     → (u j : ℕ) (p : TrainState) → train_number line u ≡ Some j → slice_get (set states i state) j ≡ Some p → P u j p

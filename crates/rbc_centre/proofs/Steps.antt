@@ -67,7 +67,7 @@ module _ (line : Line) (c before clock : ℕ) (old_book new_book : Pages) (old_d
   abbrev left : centre.Centre
   left = stands_for line c clock new_book new_desk new new_states
 
-  -- as many frames were sent before as the links have, also behind an event that a link has taken
+  -- as many frames were sent before as the links have, also after an event that a link has taken
   counted : ((d : ℕ) → sent_to mid d ≡ sent_to old d) → (d : ℕ) → length (sent_to mid d) ≡ length (k.sent d)
   unfolding stands_for
   counted same d = ap length (same d) ∙ sym (length-map (sent_to old d) (frame_by body_of))

@@ -1,4 +1,4 @@
--- A centre behind the message or the frame of one train.
+-- A centre after the message or the frame of one train.
 use Rattle.std.proofs.Common.{◌≡◌, ◌⊎◌, inl, inr, ℕ, ◌+◌, ◌<◌, ◌≤◌, Bool, false, true, List, [], Option, Some, None, length, map, slice_get, set, is_none, sym, ap, ◌∙◌, refl, subst, arith, All, Result, Ok, Err}
 use Rattle.std.proofs.Math.Logic.{∥∥₁_elim}
 use Rattle.std.specs.Result.{OnErr}

@@ -33,7 +33,7 @@ pub record MayPost (links : List (Link Body)) (d : ℕ) (bodies : List spec.Body
   pub room : has_link links d ≡ true → length bodies ≤ room_to links d
   pub numbers : has_link links d ≡ true → length (sent_to links d) + length bodies ≤ 65536
 
--- these bodies went on the links, and the list has their frames, behind those that it had
+-- these bodies went on the links, and the list has their frames, after those that it had
 pub record HasSent (stamp : ℕ) (bodies : ℕ → List spec.Body) (old new : List (Link Body))
     (before after : List SentFrame) : Type 0 where
   pub posted : HasPosted body_of stamp bodies old new

@@ -42,7 +42,7 @@ pub struct Outcome {
     pub frames: Frames,
     /// What the interlocking is answered.
     pub word: Option<Word>,
-    /// The sections that were wished back and are shut now, of which the interlocking is told behind that.
+    /// The sections that were wished back and are shut now, of which the interlocking is told after that.
     pub told: Told,
     /// What the link said to a frame that was delivered.
     pub link: Option<LinkAnswer>,
@@ -185,7 +185,7 @@ impl Outcome {
     }
 }
 
-// The answer and the order behind it, where they are, in place of what stood there.
+// The answer and the order after it, where they are, in place of what stood there.
 #[inline(always)]
 fn write_in_order(
     sayings: &mut ArrayVec<Saying, 2>,

@@ -4,7 +4,7 @@ use Rattle.std.proofs.lemmas.Bool.{cases_Bool}
 use Rattle.std.specs.Prelude.{nat_le, ◌&&◌}
 use Rattle.std.proofs.lemmas.Bool.{false≢true}
 use Rattle.std.proofs.lemmas.Bool.Decides.{nat_tests}
-use Rattle.rbc_spec.specs.SectionRuns.{SectionRun, behind, longest}
+use Rattle.rbc_spec.specs.SectionRuns.{SectionRun, next_after, longest}
 use Rattle.rbc_spec.specs.Line.{Line, end}
 use Rattle.rbc_spec.specs.Place.{Place, group_start}
 use Rattle.rbc_book.specs.Book.{Pages}
@@ -47,11 +47,11 @@ at_most : (x y : ℕ) → nat_le x y ≡ true → x ≤ y
 at_most x y h = grind (arith, nat_tests)
 
 -- where each section that follows may follow, the hand's end has room in L_ENDSECTION as before
-pub has_room : (line : Line) (book : Pages) (pool : SectionRun) (place : Place) (hand : SectionRun) (n : ℕ) → ((k : ℕ) → k < n → may_follow line book pool place (behind hand + k) ≡ true) → may_request line hand place ≡ true
-    → end line (behind hand + n - 1) ≤ group_start line place + 32767
+pub has_room : (line : Line) (book : Pages) (pool : SectionRun) (place : Place) (hand : SectionRun) (n : ℕ) → ((k : ℕ) → k < n → may_follow line book pool place (next_after hand + k) ≡ true) → may_request line hand place ≡ true
+    → end line (next_after hand + n - 1) ≤ group_start line place + 32767
 has_room line book pool place hand zero each asked =
-    let at : behind hand + 0 - 1 ≡ behind hand - 1 = omega arith in
+    let at : next_after hand + 0 - 1 ≡ next_after hand - 1 = omega arith in
     at_most _ (group_start line place + 32767) (ap (λ s. nat_le (end line s) (group_start line place + 32767)) at ∙ last_holds _ _ asked)
 has_room line book pool place hand (suc n) each asked =
-    let at : behind hand + suc n - 1 ≡ behind hand + n = omega arith in
+    let at : next_after hand + suc n - 1 ≡ next_after hand + n = omega arith in
     at_most _ (group_start line place + 32767) (ap (λ s. nat_le (end line s) (group_start line place + 32767)) at ∙ last_holds _ _ (each n (omega arith)))

@@ -1,6 +1,6 @@
 -- What a request for a movement authority may be given (3.8).
 use Rattle.std.specs.Prelude.{ℕ, ◌+◌, ◌-◌, ◌*◌, Bool, ◌&&◌, ◌||◌, nat_le}
-use Rattle.rbc_spec.specs.SectionRuns.{SectionRun, behind, within}
+use Rattle.rbc_spec.specs.SectionRuns.{SectionRun, next_after, within}
 use Rattle.rbc_spec.specs.Line.{Line, end}
 use Rattle.rbc_spec.specs.Sections.{is_on}
 use Rattle.rbc_spec.specs.Centre.{is_open}
@@ -10,8 +10,8 @@ use Rattle.rbc_book.specs.Book.{Pages, entry_at}
 -- the safe front end is not past the hand's end, which has room in L_ENDSECTION
 abbrev pub may_request : Line → SectionRun → Place → Bool
 may_request line hand place =
-    nat_le place.front (10 * end line (behind hand - 1))
-    && nat_le (end line (behind hand - 1)) (group_start line place + 32767)
+    nat_le place.front (10 * end line (next_after hand - 1))
+    && nat_le (end line (next_after hand - 1)) (group_start line place + 32767)
 
 -- the section may follow in the hand: on the track, open in this book or of the pool, and its end has room in
 -- L_ENDSECTION

@@ -1,5 +1,5 @@
 ghost use Rattle.std.specs.Prelude.{◌≡◌, ◌+◌, ◌-◌, ◌<◌, ◌≤◌, ◌||◌, ℕ, true};
-ghost use Rattle.rbc_spec.specs.SectionRuns.{behind, longest, within};
+ghost use Rattle.rbc_spec.specs.SectionRuns.{next_after, longest, within};
 ghost use Rattle.rbc_spec.specs.Centre.{is_open};
 ghost use Rattle.rbc_spec.specs.Place.{group_start};
 ghost use Rattle.rbc_book.specs.Book.{entry_at};
@@ -29,14 +29,14 @@ pub(crate) fn following(
     requires start { start ≡ group_start line.now (place_of place.now) }
     requires bound { start ≤ 1024000 }
     ensures value { result
-        ≡ longest (grants.may_follow line.now book.now (run_of pool) (place_of place.now)) (behind (run_of hand))
+        ≡ longest (grants.may_follow line.now book.now (run_of pool) (place_of place.now)) (next_after (run_of hand))
         (32 - hand.count) }
     ensures bound { result ≤ 32 - hand.count }
 {
     let room = Hand::ROOM.saturating_sub(hand.count);
-    let open = open_behind(book, hand, room);
+    let open = open_ahead(book, hand, room);
     for k in 0..room {
-        let s = hand.behind() + u32::from(k);
+        let s = hand.next_after() + u32::from(k);
         let is_known_open = k < open;
         if !may_follow(line, book, pool, place, start, s, is_known_open) {
             return k;
@@ -45,11 +45,11 @@ pub(crate) fn following(
     room
 }
 
-// How many sections behind the hand are open in this book, one after another, at most so many.
-fn open_behind(book: &Book, hand: SectionRun, most: u16) -> u16
-    ensures { (k : ℕ) → k < result → is_open (entry_at book.now (behind (run_of hand) + k)) ≡ true }
+// How many sections in advance of the hand are open in this book, one after another, at most so many.
+fn open_ahead(book: &Book, hand: SectionRun, most: u16) -> u16
+    ensures { (k : ℕ) → k < result → is_open (entry_at book.now (next_after (run_of hand) + k)) ≡ true }
 {
-    let first = hand.behind();
+    let first = hand.next_after();
     if first > u32::from(u16::MAX) {
         return 0;
     }

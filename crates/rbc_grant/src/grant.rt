@@ -1,5 +1,5 @@
 ghost use Rattle.std.specs.Prelude.{◌≡◌, ℕ, ◌+◌, ◌-◌, ◌<◌, ◌≤◌, true};
-ghost use Rattle.rbc_spec.specs.SectionRuns.{behind, longest};
+ghost use Rattle.rbc_spec.specs.SectionRuns.{next_after, longest};
 ghost use Rattle.rbc_spec.specs.Line.{end, IsLine};
 ghost use Rattle.rbc_spec.specs.Place as spec;
 ghost use Rattle.rbc_hand.specs.SectionRuns.{run_of};
@@ -23,10 +23,10 @@ pub struct Grant {
 
 /// Where the last section of the hand ends, in metres from the start of its track.
 pub fn hand_end(line: &Line, hand: SectionRun) -> u32
-    ensures value { result ≡ end line.now (behind (run_of hand) - 1) }
+    ensures value { result ≡ end line.now (next_after (run_of hand) - 1) }
     ensures bound { result ≤ 1024000 }
 {
-    section_end(line, hand.behind().saturating_sub(1))
+    section_end(line, hand.next_after().saturating_sub(1))
 }
 
 /// Whether a request from this place may be answered: the safe front end is not past the hand's end, which is at most
@@ -51,22 +51,23 @@ pub fn answer_request(
     place: &Place,
 ) -> Grant
     ensures sections { result.sections
-        ≡ longest (grants.may_follow line.now book.now (run_of pool) (place_of place.now)) (behind (run_of hand))
+        ≡ longest (grants.may_follow line.now book.now (run_of pool) (place_of place.now)) (next_after (run_of hand))
         (32 - hand.count) }
     // No more than there is room for.
     ensures room { result.sections ≤ 32 - hand.count }
     // Each of them may follow.
     ensures each { (k : ℕ) → k < result.sections
-        → grants.may_follow line.now book.now (run_of pool) (place_of place.now) (behind (run_of hand) + k) ≡ true }
+        → grants.may_follow line.now book.now (run_of pool) (place_of place.now) (next_after (run_of hand) + k) ≡ true }
     ensures end { result.end
-        ≡ end line.now (behind (run_of hand) + result.sections - 1) - spec.group_start line.now (place_of place.now) }
+        ≡ end line.now (next_after (run_of hand) + result.sections - 1)
+            - spec.group_start line.now (place_of place.now) }
     ensures line { IsLine line.now }
     // L_ENDSECTION has room for it, where the request may be answered.
     ensures fits { grants.may_request line.now (run_of hand) (place_of place.now) ≡ true → result.end ≤ 32767 }
 {
     let start = group_start(line, place);
     let sections = following(line, book, pool, hand, place, start);
-    let last = (hand.behind() + u32::from(sections)).saturating_sub(1);
+    let last = (hand.next_after() + u32::from(sections)).saturating_sub(1);
     Grant {
         sections,
         end: section_end(line, last).saturating_sub(start),

@@ -4,7 +4,7 @@ use Rattle.std.specs.List.{AllByRecursion}
 use Rattle.std.proofs.lemmas.Bool.{cases_lt, and_parts, and_from, or_right, lt-ltb, eq-eqb, ltb-true, eqb-true}
 use Rattle.std.proofs.lemmas.Bool.Decides.{eqb_tells}
 use Rattle.std.proofs.lemmas.List.{map-append, length-map, append-nil}
-use Rattle.rbc_spec.specs.SectionRuns.{SectionRun, behind}
+use Rattle.rbc_spec.specs.SectionRuns.{SectionRun, next_after}
 use Rattle.rbc_book.specs.Claim.{claimed, claims_train, claims_on}
 use Rattle.rbc_book.specs.declared.claim.Claims.{Claims}
 use Rattle.rbc_hand.specs.Tokens.{Held, Own, section_of, held_of, token_of}
@@ -57,7 +57,7 @@ cut_some first new room x is =
         sections = follow-front first new (x ∷ []) is.sections;
         count = omega (arith, long, is.count);
         room = is.room;
-        behind = omega (arith, long, is.behind);
+        next_after = omega (arith, long, is.next_after);
       };
       token = sym (at_last (map held_of (new ++ x ∷ [])) (map-append held_of new (x ∷ [])));
     }
@@ -105,7 +105,7 @@ front_own t first (x ∷ xs) ys all = (all.0, front_own t first xs ys all.1)
 pub rest_own : (t first : ℕ) (old new : List Token) (r : Option Token) → old ≡ new ++ option_to_list r → IsAllOwn t (holding first old) → IsAllOwn t (holding first new)
 rest_own t first old new r split all = front_own t first new (option_to_list r) (subst (λ xs. IsAllOwn t (holding first xs)) split all)
 
--- ## A section comes behind the last
+-- ## A section comes after the last
 
 -- the section may come
 pub record Fits (h : Holding) (s : ℕ) : Type 0 where
@@ -149,20 +149,20 @@ extends first old new room more x from push same begins fits is =
           (moved old first from (λ some. begins ∙ at_some (length (map held_of old)) (section_of x) first (omega (arith, held, some))) is.sections) (omega (arith, held, next)));
       count = omega (arith, fits.room, held, long);
       room = omega (arith, is.room, same);
-      behind = omega (arith, fits.number, next, held, long);
+      next_after = omega (arith, fits.number, next, held, long);
     }
 
-pub takes_next : (r : SectionRun) (s : ℕ) → r.count < 32 → s < 65535 → s ≡ behind r → takes r s ≡ true
+pub takes_next : (r : SectionRun) (s : ℕ) → r.count < 32 → s < 65535 → s ≡ next_after r → takes r s ≡ true
 unfolding takes
 takes_next r s room number next =
-    and_from _ _ (and_from _ _ (lt-ltb r.count 32 room) (lt-ltb s 65535 number)) (or_right (r.count == 0) (s == behind r) (eq-eqb s (behind r) next))
+    and_from _ _ (and_from _ _ (lt-ltb r.count 32 room) (lt-ltb s 65535 number)) (or_right (r.count == 0) (s == next_after r) (eq-eqb s (next_after r) next))
 
 pub takes_first : (r : SectionRun) (s : ℕ) → r.count ≡ 0 → s < 65535 → takes r s ≡ true
 unfolding takes
 takes_first r s none number =
-    and_from _ _ (and_from _ _ (lt-ltb r.count 32 (omega (arith, none))) (lt-ltb s 65535 number)) (ap (λ b. b || (s == behind r)) (eq-eqb r.count 0 none))
+    and_from _ _ (and_from _ _ (lt-ltb r.count 32 (omega (arith, none))) (lt-ltb s 65535 number)) (ap (λ b. b || (s == next_after r)) (eq-eqb r.count 0 none))
 
--- ## Claims come behind the last
+-- ## Claims come after the last
 
 follow-append : (first : ℕ) (xs ys : List Token) → Follow first xs → Follow (first + length xs) ys → Follow first (xs ++ ys)
 follow-append first [] ys h rest = subst (λ n. Follow n ys) (let e : first + 0 ≡ first = omega arith in e) rest
@@ -219,7 +219,7 @@ pushed_more k claims left rest token old new more so_far is cut push =
 
 -- the tokens with those of the claims are a hand
 pub extends_own : (first from t room more : ℕ) (r : SectionRun) (old new : List Token) → new ≡ old ++ own_tokens r.first r.count t → more ≡ room
-    → from ≡ cond (length (map held_of old) == 0) r.first first → length (map held_of old) + r.count ≤ 32 → behind r ≤ 65535
+    → from ≡ cond (length (map held_of old) == 0) r.first first → length (map held_of old) + r.count ≤ 32 → next_after r ≤ 65535
     → (0 < length (map held_of old) → first + length (map held_of old) ≡ r.first) → IsHand first old room → IsHand from new more
 extends_own first from t room more r old new push same begins fits numbers next is =
     let held : length (map held_of old) ≡ length old = length-map old held_of in
@@ -234,7 +234,7 @@ extends_own first from t room more r old new push same begins fits numbers next 
           (subst (λ s. Follow s (own_tokens r.first r.count t)) (sym at) (own-follow r.first r.count t)));
       count = omega (arith, fits, held, long);
       room = omega (arith, is.room, same);
-      behind = omega (arith, numbers, at, long);
+      next_after = omega (arith, numbers, at, long);
     }
 
 -- and hold what they held, and the claims

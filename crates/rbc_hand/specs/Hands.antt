@@ -1,7 +1,7 @@
 -- Hands: consecutive sections, and what is held of each.
 use Rattle.std.specs.Prelude.{◌≡◌, ℕ, zero, suc, ◌+◌, ◌-◌, ◌≤◌, ◌==◌, Bool, ◌&&◌, ◌||◌, List, [], ◌∷◌, ◌++◌, length, map, take, drop, if◌then◌else◌, Option, option_map, nat_lt, slice_get}
 use Rattle.std.specs.List.{AllByRecursion}
-use Rattle.rbc_spec.specs.SectionRuns.{SectionRun, behind, is_empty}
+use Rattle.rbc_spec.specs.SectionRuns.{SectionRun, next_after, is_empty}
 use Rattle.rbc_hand.specs.declared.token.Token.{Token}
 use Rattle.rbc_hand.specs.Tokens.{Held, Own, section_of, held_of, token_of}
 
@@ -44,10 +44,10 @@ run_without_front r = if is_empty r then r else shorter_in_front r
 abbrev pub run_without_back : SectionRun → SectionRun
 run_without_back r = record r { count = r.count - 1 }
 
--- the section may come behind the last of a hand: there is room, and it follows it, or the hand is empty. No line has a
+-- the section may come after the last of a hand: there is room, and it follows it, or the hand is empty. No line has a
 -- section 65 535
 unfoldable pub takes : SectionRun → ℕ → Bool
-takes r s = (nat_lt r.count 32 && nat_lt s 65535) && (is_empty r || (s == behind r))
+takes r s = (nat_lt r.count 32 && nat_lt s 65535) && (is_empty r || (s == next_after r))
 
 -- the hand with one section more
 abbrev pub extended : Holding → ℕ → Held → Holding
@@ -84,4 +84,4 @@ pub record IsHand (first : ℕ) (tokens : List Token) (capacity : ℕ) : Type 0 
   pub sections : Follow first tokens
   pub count : length tokens ≤ 32
   pub room : 32 ≤ capacity
-  pub behind : first + length tokens ≤ 65535
+  pub next_after : first + length tokens ≤ 65535

@@ -1,6 +1,6 @@
 ghost use Rattle.std.specs.Prelude.{◌≡◌, ◌==◌, ◌<◌, ℕ, ◌+◌, ◌-◌, ◌≤◌, ◌++◌, length, replicate, true, not, is_some, if◌then◌else◌, Ok, Err, IsOk, IsSome, IfOk, IfSome};
 ghost use Rattle.std.specs.VecDeque.{deque_capacity};
-ghost use Rattle.rbc_spec.specs.SectionRuns.{behind};
+ghost use Rattle.rbc_spec.specs.SectionRuns.{next_after};
 ghost use Rattle.rbc_book.specs.Claim.{claimed, claims_train};
 ghost use Rattle.rbc_hand.specs.Hands.{own_tokens};
 
@@ -33,10 +33,10 @@ impl Model for Hand {
     ghost invariant = { λ h. IsHand h.first h.tokens.items (deque_capacity h.tokens) };
 }
 
-// Puts the tokens of claims behind these, which have the room.
+// Puts the tokens of claims after these, which have the room.
 fn push_claims(tokens: &mut VecDeque<Token>, mut claims: Claims)
     requires room { length tokens.old.items + (claimed claims).count ≤ deque_capacity tokens.old }
-    requires numbers { behind (claimed claims) ≤ 65535 }
+    requires numbers { next_after (claimed claims) ≤ 65535 }
     ensures items { tokens.new.items ≡ tokens.old.items
         ++ own_tokens (claimed claims).first (claimed claims).count (claims_train claims) }
     ensures capacity { deque_capacity tokens.new ≡ deque_capacity tokens.old }
@@ -96,7 +96,7 @@ impl Hand {
         self.run().is_empty()
     }
 
-    /// Whether a section may come behind the last: there is room, and it is the next in number, or the hand is empty. A
+    /// Whether a section may come after the last: there is room, and it is the next in number, or the hand is empty. A
     /// section 65 535, which no line has, may not.
     #[tactic(auto, unfolding(crate::specs::Hands::takes))]
     pub fn takes(&self, section: u16) -> bool
@@ -105,17 +105,17 @@ impl Hand {
         let run = self.run();
         run.count < Hand::ROOM
             && section < u16::MAX
-            && (run.is_empty() || u32::from(section) == run.behind())
+            && (run.is_empty() || u32::from(section) == run.next_after())
     }
 
-    // The first section with one more behind the last.
+    // The first section with one more after the last.
     fn first_with(&self, section: u16) -> u16
         ensures { result ≡ (if length self.now.holds == 0 then section else self.now.first) }
     {
         if self.is_empty() { section } else { self.first }
     }
 
-    /// Adds a section behind the last, or begins an empty hand with it. A token that may not come there is handed back.
+    /// Adds a section after the last, or begins an empty hand with it. A token that may not come there is handed back.
     pub fn extend(&mut self, token: Token) -> Result<(), Token>
         ensures answer { result ≡ (if takes (run self.old) (section_of token) then Ok tt else Err token) }
         ensures hand { self.new ≡ (if takes (run self.old) (section_of token)
@@ -124,7 +124,7 @@ impl Hand {
             then joined (run self.old) (one (section_of token)) else run self.old) }
         // A section that follows the last at once is taken where there is room, and any where the hand is empty.
         ensures follows { (run self.old).count < 32 → section_of token < 65535
-            → section_of token ≡ behind (run self.old)
+            → section_of token ≡ next_after (run self.old)
             → IsOk result × (run self.new ≡ longer (run self.old)) }
         ensures begins { (run self.old).count ≡ 0 → section_of token < 65535
             → IsOk result × (run self.new ≡ one (section_of token)) }
@@ -139,11 +139,11 @@ impl Hand {
         Ok(())
     }
 
-    /// Adds the sections of claims behind the last, or begins an empty hand with them.
+    /// Adds the sections of claims after the last, or begins an empty hand with them.
     pub fn extend_own(&mut self, claims: Claims)
         requires room { length self.old.holds + (claimed claims).count ≤ 32 }
-        requires numbers { behind (claimed claims) ≤ 65535 }
-        requires next { 0 < length self.old.holds → behind (run self.old) ≡ (claimed claims).first }
+        requires numbers { next_after (claimed claims) ≤ 65535 }
+        requires next { 0 < length self.old.holds → next_after (run self.old) ≡ (claimed claims).first }
         ensures { self.new ≡ record {
           first = if length self.old.holds == 0 then (claimed claims).first else self.old.first;
           holds = self.old.holds ++ replicate (claimed claims).count (Own (claims_train claims));

@@ -1,4 +1,4 @@
-//! The sections that a train has in its movement authority, one behind another: of each the token that the centre
+//! The consecutive sections that a train has in its movement authority: of each the token that the centre
 //! holds, a claim on a section of its own home, or the name of one that another home has lent. Tokens can't be copied
 //! or dropped, and a hand hands each out once.
 //!

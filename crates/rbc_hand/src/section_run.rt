@@ -1,5 +1,5 @@
 ghost use Rattle.std.specs.Prelude.{◌≡◌};
-ghost use Rattle.rbc_spec.specs.SectionRuns.{behind, is_empty, within};
+ghost use Rattle.rbc_spec.specs.SectionRuns.{next_after, is_empty, within};
 
 /// Consecutive sections: the first by its number over the whole line, and how many they are.
 #[derive(Clone, Copy, Debug, PartialEq, Eq)]
@@ -23,12 +23,12 @@ impl SectionRun {
     pub fn contains(self, section: u16) -> bool
         ensures { result ≡ within (run_of self) section }
     {
-        self.first <= section && u32::from(section) < self.behind()
+        self.first <= section && u32::from(section) < self.next_after()
     }
 
-    /// The number of the section behind the last.
-    pub fn behind(self) -> u32
-        ensures { result ≡ behind (run_of self) }
+    /// The number of the section in advance of the last.
+    pub fn next_after(self) -> u32
+        ensures { result ≡ next_after (run_of self) }
     {
         u32::from(self.first) + u32::from(self.count)
     }

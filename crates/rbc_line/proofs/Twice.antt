@@ -58,7 +58,7 @@ names_from : (names : List (Bor (List ℕ))) (i : ℕ) (d : Bor (List ℕ)) → 
     → has_twice bytes_eq (map (λ name. name.now) (drop i names)) ≡ (list_any (bytes_eq (get_or names i d).now) (map (λ name. name.now) (drop (i + 1) names)) || has_twice bytes_eq (map (λ name. name.now) (drop (i + 1) names)))
 names_from names i d within = rw (drop_more names i d within)
 
--- a name that stands behind itself too
+-- a name that also occurs after itself
 pub name_seen : (names rest : List (Bor (List ℕ))) (i : ℕ) (d : Bor (List ℕ)) (whole : Bool) → i < length names
     → whole ≡ has_twice bytes_eq (map (λ name. name.now) (drop i names)) → true ≡ list_any (bytes_eq (get_or names i d).now) (map (λ name. name.now) rest) → rest ≡ drop (i + 1) names → true ≡ whole
 name_seen names rest i d whole within so_far seen same =

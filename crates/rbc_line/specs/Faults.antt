@@ -35,7 +35,7 @@ is_outside low high (negsuc n) = true
 abbrev pub is_name : List ℕ → Bool
 is_name name = (nat_le 1 (length name) && nat_le (length name) 16) && list_all is_ascii_alphanumeric name
 
--- one of the values stands again behind itself
+-- one of the values occurs again after itself
 abbrev pub has_twice : {K : Type 0} → (K → K → Bool) → List K → Bool
 has_twice same [] = false
 has_twice same (x ∷ xs) = list_any (same x) xs || has_twice same xs

@@ -89,7 +89,7 @@ fn is_among(name: &str, names: &[&str]) -> bool
     names.iter().any(|other| name == *other)
 }
 
-/// One of the names stands again behind itself. There are few.
+/// One of the names occurs again after itself. There are few.
 fn has_name_twice(names: &[&str]) -> bool
     ensures { result ≡ has_twice bytes_eq (map (λ name. name.now) names.now) }
 {
@@ -101,7 +101,7 @@ fn has_name_twice(names: &[&str]) -> bool
     false
 }
 
-/// One of the numbers stands again behind itself.
+/// One of the numbers occurs again after itself.
 fn has_number_twice(alloc: Global, numbers: &[i64]) -> Result<bool, AllocError>
     ensures { IfOk result (λ found. found ≡ has_twice int_eq numbers.now) }
 {

@@ -17,16 +17,16 @@ any_same : {X : Type 0} (p q : X → Bool) (xs : List X) → ((x : X) → p x �
 any_same p q [] same = refl
 any_same p q (x ∷ xs) same = rw (same x, any_same p q xs same) refl
 
-get_behind : {X : Type 0} (front xs : List X) (x : X) → slice_get (front ++ x ∷ xs) (length front) ≡ Some x
-get_behind [] xs x = refl
-get_behind (y ∷ front) xs x = get_behind front xs x
+get_after : {X : Type 0} (front xs : List X) (x : X) → slice_get (front ++ x ∷ xs) (length front) ≡ Some x
+get_after [] xs x = refl
+get_after (y ∷ front) xs x = get_after front xs x
 
 -- the test of some item is that of the item at some place
 any_at : {X : Type 0} (test : X → Bool) (front xs : List X) (n : ℕ) → n ≡ length front
     → list_any test xs ≡ list_any (λ d. option_map_or test (slice_get (front ++ xs) d) false) (range_with_len n (length xs))
 any_at test front [] n at = refl
 any_at test front (x ∷ xs) n at =
-    let here : slice_get (front ++ x ∷ xs) n ≡ Some x = ap (slice_get (front ++ x ∷ xs)) at ∙ get_behind front xs x in
+    let here : slice_get (front ++ x ∷ xs) n ≡ Some x = ap (slice_get (front ++ x ∷ xs)) at ∙ get_after front xs x in
     let next : n + 1 ≡ length (front ++ x ∷ []) = simp (length-append) (omega (arith, at)) in
     let rest = any_at test (front ++ x ∷ []) xs (n + 1) next in
     let joined : (front ++ x ∷ []) ++ xs ≡ front ++ x ∷ xs = append_assoc front (x ∷ []) xs in

@@ -13,7 +13,7 @@ pub length_numbered : (stamp n : ℕ) (bodies : List Body) → length (numbered 
 length_numbered stamp n [] = refl
 length_numbered stamp n (b ∷ bs) = ap suc (length_numbered stamp (n + 1) bs)
 
--- two lists of bodies in a row are numbered the second behind the first
+-- two lists of bodies in a row are numbered the second after the first
 pub numbered_append : (stamp n : ℕ) (xs ys : List Body) → numbered stamp n (xs ++ ys) ≡ numbered stamp n xs ++ numbered stamp (n + length xs) ys
 numbered_append stamp n [] ys = ap (λ m. numbered stamp m ys) (let e : n ≡ n + 0 = omega arith in e)
 numbered_append stamp n (x ∷ xs) ys =

@@ -1,4 +1,4 @@
--- Fields that stand one behind the other: their bytes have one reading.
+-- Consecutive fields: their bytes have one reading.
 use Rattle.std.proofs.Common.{◌≡◌, ℕ, ◌+◌, ◌^◌, ◌<◌, List, [], ◌∷◌, ◌++◌, length, drop, refl, sym, ap, ◌∙◌, length-append}
 use Rattle.std.proofs.lemmas.List.{drop_at}
 use Rattle.byteorder.specs.Endian.{big_bytes, big_number}
@@ -9,7 +9,7 @@ pub spelled-cons : (f : Field) (fields : List Field) → spelled (f ∷ fields) 
 unfolding spelled
 spelled-cons f fields = refl
 
--- a number of so many bytes, and what stands behind it, are told from each other
+-- a number of so many bytes, and what follows it, are told from each other
 pub one_number : (n x y : ℕ) (xs ys : List ℕ) → x < 256 ^ n → y < 256 ^ n → big_bytes n x ++ xs ≡ big_bytes n y ++ ys → (x ≡ y) × (xs ≡ ys)
 one_number n x y xs ys x-fits y-fits e = (
   sym (big_number-reads_back n x xs x-fits) ∙ ap (big_number n) e ∙ big_number-reads_back n y ys y-fits,

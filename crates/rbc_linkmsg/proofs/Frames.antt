@@ -46,7 +46,7 @@ kind-fits kinds.Cancel = omega arith
 kind-fits kinds.TakingOver = omega arith
 kind-fits kinds.Yield = omega arith
 
--- the header's three numbers, and the body behind them
+-- the header's three numbers, and the body after them
 pub frame_parts : (f : Frame) → spelled (frame_fields f) ≡ big_bytes 4 f.number ++ (big_bytes 4 f.stamp ++ (big_bytes 1 (kind_number (kind_of f.body)) ++ spelled (body_fields f.body)))
 unfolding spelled
 frame_parts f = refl

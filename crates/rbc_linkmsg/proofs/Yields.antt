@@ -15,9 +15,9 @@ use Rattle.rbc_linkmsg.proofs.Readings.{frame_kind}
 use Rattle.rbc_linkmsg.proofs.Headers.{header}
 
 -- the number that the bytes from this place on begin with
-number_behind : (n place x : ℕ) (bytes rest : List ℕ) → x < 256 ^ n → drop place bytes ≡ big_bytes n x ++ rest → x ≡ number_at n place bytes
+number_after : (n place x : ℕ) (bytes rest : List ℕ) → x < 256 ^ n → drop place bytes ≡ big_bytes n x ++ rest → x ≡ number_at n place bytes
 unfolding number_at
-number_behind n place x bytes rest fits e = sym (ap (λ t. big_number n t) e ∙ big_number-reads_back n x rest fits)
+number_after n place x bytes rest fits e = sym (ap (λ t. big_number n t) e ∙ big_number-reads_back n x rest fits)
 
 same_fields : (bytes : List ℕ) (number t heard track n group front rear first count : ℕ) → number ≡ number_at 4 9 bytes → t ≡ number_at 4 13 bytes → heard ≡ number_at 4 17 bytes → track ≡ number_at 1 21 bytes
     → n ≡ number_at 1 22 bytes → group ≡ number_at 4 23 bytes → front ≡ number_at 4 27 bytes → rear ≡ number_at 4 31 bytes → first ≡ number_at 2 35 bytes → count ≡ number_at 1 37 bytes
@@ -31,23 +31,23 @@ unfolding spelled
 yield_fields bytes n s k number t heard d e p hand h text =
     let fit = fit_body (Yield number t heard d e p hand) h in
     same_fields bytes number t heard p.track (flags d e p.rear) p.group (distance p.front) (rear_distance p.rear) hand.first hand.count
-    (number_behind 4 9 number bytes _ fit.0 (ap (drop 9) text))
-    (number_behind 4 13 t bytes _ fit.1.0 (ap (drop 13) text))
-    (number_behind 4 17 heard bytes _ fit.1.1.0 (ap (drop 17) text))
-    (number_behind 1 21 p.track bytes _ fit.1.1.1.0 (ap (drop 21) text))
-    (number_behind 1 22 (flags d e p.rear) bytes _ fit.1.1.1.1.0 (ap (drop 22) text))
-    (number_behind 4 23 p.group bytes _ fit.1.1.1.1.1.0 (ap (drop 23) text))
-    (number_behind 4 27 (distance p.front) bytes _ fit.1.1.1.1.1.1.0 (ap (drop 27) text))
-    (number_behind 4 31 (rear_distance p.rear) bytes _ fit.1.1.1.1.1.1.1.0 (ap (drop 31) text))
-    (number_behind 2 35 hand.first bytes _ fit.1.1.1.1.1.1.1.1.0 (ap (drop 35) text))
-    (number_behind 1 37 hand.count bytes _ fit.1.1.1.1.1.1.1.1.1.0 (ap (drop 37) text))
+    (number_after 4 9 number bytes _ fit.0 (ap (drop 9) text))
+    (number_after 4 13 t bytes _ fit.1.0 (ap (drop 13) text))
+    (number_after 4 17 heard bytes _ fit.1.1.0 (ap (drop 17) text))
+    (number_after 1 21 p.track bytes _ fit.1.1.1.0 (ap (drop 21) text))
+    (number_after 1 22 (flags d e p.rear) bytes _ fit.1.1.1.1.0 (ap (drop 22) text))
+    (number_after 4 23 p.group bytes _ fit.1.1.1.1.1.0 (ap (drop 23) text))
+    (number_after 4 27 (distance p.front) bytes _ fit.1.1.1.1.1.1.0 (ap (drop 27) text))
+    (number_after 4 31 (rear_distance p.rear) bytes _ fit.1.1.1.1.1.1.1.0 (ap (drop 31) text))
+    (number_after 2 35 hand.first bytes _ fit.1.1.1.1.1.1.1.1.0 (ap (drop 35) text))
+    (number_after 1 37 hand.count bytes _ fit.1.1.1.1.1.1.1.1.1.0 (ap (drop 37) text))
 
 first_value : (n x y : ℕ) (xs ys : List Field) → (n, x) ∷ xs ≡ (n, y) ∷ ys → x ≡ y
 first_value n x y xs ys e =
     let first : (n, x) ≡ (n, y) = cc in
     ap (λ (f : Field). f.1) first
 
--- of these fields, those behind the train
+-- of these fields, those after the train
 pub yielding_fields : (bytes : List ℕ) (number t heard : ℕ) (d e : Bool) (p : YieldedPlace) (hand : SectionRun) → body_fields (Yield number t heard d e p hand) ≡ raw_fields bytes
     → (heard ≡ number_at 4 17 bytes) × (place_fields d e p ≡ raw_place_fields bytes) × (run_fields hand ≡ raw_run_fields bytes)
 yielding_fields bytes number t heard d e p hand same = (

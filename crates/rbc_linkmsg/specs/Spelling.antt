@@ -12,7 +12,7 @@ use Rattle.rbc_spec.specs.Frame.{Body, AskRight, GiveRight, RefuseRight, ReturnR
 abbrev pub Field : Type 0
 Field = ℕ × ℕ
 
--- the bytes of fields that stand one behind the other
+-- the bytes of consecutive fields
 unfoldable pub spelled : List Field → List ℕ
 spelled [] = []
 spelled (f ∷ fields) = big_bytes f.0 f.1 ++ spelled fields
@@ -58,7 +58,7 @@ place_fields has_data is_ended place =
     (1, place.track) ∷ (1, flags has_data is_ended place.rear) ∷ (4, place.group) ∷ (4, distance place.front)
     ∷ (4, rear_distance place.rear) ∷ []
 
--- the fields behind the kind, which begin with the handover's number, where there is one, and NID_ENGINE
+-- the fields after the kind, which begin with the handover's number, where there is one, and NID_ENGINE
 abbrev pub body_fields : Body → List Field
 body_fields (AskRight t) = (4, t) ∷ []
 body_fields (GiveRight t) = (4, t) ∷ []

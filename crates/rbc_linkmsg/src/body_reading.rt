@@ -13,7 +13,7 @@ use crate::kind::FrameKind;
 use crate::reading::{read_run, take_u8, take_u16, take_u32};
 use rbc_hand::SectionRun;
 
-/// The body that the bytes behind the kind spell. A Yield, whose flags may be refused, has a reader of its own.
+/// The body that the bytes after the kind spell. A Yield, whose flags may be refused, has a reader of its own.
 #[inline(always)]
 pub(crate) fn read_body(kind: FrameKind, bytes: &[u8]) -> Body
     requires length { 9 + length bytes.now ≡ kind_length kind }

@@ -32,7 +32,7 @@ pub(crate) fn kind_of(body: Body) -> FrameKind
     }
 }
 
-/// The fields behind the kind.
+/// The fields after the kind.
 pub(crate) fn put_body(bytes: &mut Vec<u8>, body: Body) -> Result<(), AllocError>
     requires { HasBodyRange (body_of body) }
     ensures { OnOk result

@@ -82,7 +82,7 @@ fn check_length(kind: FrameKind, bytes: &[u8]) -> Result<(), FrameFault>
     }
 }
 
-// The number on the link, the stamp, the kind's byte, and the bytes behind them.
+// The number on the link, the stamp, the kind's byte, and the bytes after them.
 #[inline(always)]
 fn read_header(bytes: &[u8]) -> (u32, u32, u8, &[u8])
     requires { 9 ≤ length bytes.now }

@@ -1,4 +1,4 @@
-//! The numbers at the front of bytes, the highest byte first, each with the bytes behind it.
+//! The numbers at the front of bytes, the highest byte first, each with the bytes after it.
 
 ghost use Rattle.std.specs.Prelude.{◌≡◌, ◌+◌, ◌≤◌, ◌++◌, length};
 ghost use Rattle.rbc_hand.specs.SectionRuns.{run_of};

@@ -16,7 +16,7 @@ use crate::ranges::is_engine;
 use byteorder::{BigEndian, ByteOrder};
 use rbc_hand::SectionRun;
 
-/// The body that the bytes of a Yield spell behind the kind. It is none where they spell none.
+/// The body that the bytes of a Yield spell after the kind. It is none where they spell none.
 #[inline(always)]
 #[tactic(auto, unfolding(crate::specs::Spelling::spelled))]
 pub(crate) fn read_yield(bytes: &[u8]) -> Option<Body>
@@ -143,7 +143,7 @@ fn read_hand(bytes: &[u8]) -> Option<SectionRun>
     }
     let first = u16_at(bytes, 35);
     let hand = SectionRun { first, count };
-    if hand.behind() > 512 {
+    if hand.next_after() > 512 {
         return None;
     }
     Some(hand)

@@ -27,7 +27,7 @@ IsReplaying l =
     Replays (line_of l.core) (number_of l.core) (beginning (line_of l.core) (number_of l.core)) (map entry_of l.entries)
     (state_of l.core)
 
--- the event was taken: it stands behind the entries, whole, with the outcome of the centre's step, and the centre is as
+-- the event was taken: it follows the entries, whole, with the outcome of the centre's step, and the centre is as
 -- that step leaves it
 pub record Appends (old new : LogValue) (event : EventInMemory) (outcome : Outcome) : Type 0 where
   pub room : length old.entries < most_entries

@@ -99,7 +99,7 @@ fn all_entries(alloc: Global, logs: &[&CentreLog]) -> Result<Vec<Entry>, AllocEr
     Ok(all)
 }
 
-/// Copies entries behind those that are there.
+/// Copies entries after those that are there.
 fn add_entries(all: &mut Vec<Entry>, entries: &[Entry]) -> Result<(), AllocError>
     ensures entries { OnOk result
         (map written_of all.new.items ≡ map written_of all.old.items ++ map written_of entries.now) }

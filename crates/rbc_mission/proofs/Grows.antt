@@ -2,9 +2,9 @@
 use Rattle.std.proofs.Common.{◌≡◌, ℕ, ◌+◌, ◌-◌, ◌<◌, ◌≤◌, ◌&&◌, true, false, cond, not, min, ◌++◌, length, replicate, refl, ap, sym, ◌∙◌, arith, inl, inr}
 use Rattle.std.proofs.lemmas.Bool.{cases_Bool, cases_lt, false≢true}
 use Rattle.std.proofs.lemmas.List.{length-append, length-replicate}
-use Rattle.rbc_spec.specs.SectionRuns.{SectionRun, within, behind}
+use Rattle.rbc_spec.specs.SectionRuns.{SectionRun, within, next_after}
 use Rattle.rbc_spec.specs.Centre.{Mission, Taken, is_open}
-use Rattle.law_base.proofs.Runs.{within_true, within_from, within_behind, within_none}
+use Rattle.law_base.proofs.Runs.{within_true, within_from, within_after, within_none}
 use Rattle.rbc_book.specs.Book.{Pages, is_own, entry_at}
 use Rattle.rbc_book.proofs.Pages.{foreign_is_shut}
 use Rattle.rbc_hand.specs.Tokens.{Held, Name}
@@ -39,11 +39,11 @@ module _ (m : Mission) (count fed : ℕ) (book : Pages) (hand fed_hand : Holding
   abbrev pub still : SectionRun
   still = next_of (count - fed) (run fed_hand)
 
-  begins : behind m.hand ≡ hand.first + length hand.holds
-  begins = ap behind is
+  begins : next_after m.hand ≡ hand.first + length hand.holds
+  begins = ap next_after is
 
-  goes_on : behind (run fed_hand) ≡ hand.first + length hand.holds + fed
-  goes_on = let e : behind (run fed_hand) ≡ hand.first + (length hand.holds + fed) = ap behind fed_run in omega (arith, e)
+  goes_on : next_after (run fed_hand) ≡ hand.first + length hand.holds + fed
+  goes_on = let e : next_after (run fed_hand) ≡ hand.first + (length hand.holds + fed) = ap next_after fed_run in omega (arith, e)
 
   -- the sections that are still to be added are of those that are added
   pub still_inside : (s : ℕ) → within still s ≡ true → within (next_of count m.hand) s ≡ true
@@ -57,7 +57,7 @@ module _ (m : Mission) (count fed : ℕ) (book : Pages) (hand fed_hand : Holding
     | inl some ↦
         let ends = within_true still s here in
         let follows = grows.follows some in
-        within_behind m.pool s (omega (arith, ends, begins, goes_on, most, follows))
+        within_after m.pool s (omega (arith, ends, begins, goes_on, most, follows))
     | inr none ↦ within_none m.pool s (omega (arith, none))
   ])
 
@@ -71,9 +71,9 @@ module _ (m : Mission) (count fed : ℕ) (book : Pages) (hand fed_hand : Holding
   pub others_shut : (s : ℕ) → within (next_of count m.hand) s ≡ true → within still s ≡ false → is_open (entry_at book s) ≡ false
   others_shut s here other =
       let ends = within_true (next_of count m.hand) s here in
-      elim (cases_lt s (behind (run fed_hand))) [
+      elim (cases_lt s (next_after (run fed_hand))) [
         | inl before ↦ ap is_open (foreign_is_shut book s (fed_away s (omega (arith, ends, begins)) (omega (arith, before, goes_on))))
-        | inr behind_it ↦ absurd (false≢true (sym other ∙ within_from still s behind_it (omega (arith, ends, begins, goes_on, most))))
+        | inr after_it ↦ absurd (false≢true (sym other ∙ within_from still s after_it (omega (arith, ends, begins, goes_on, most))))
       ]
 
   -- the names are held for the train

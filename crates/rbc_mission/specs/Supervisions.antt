@@ -4,7 +4,7 @@ use Rattle.std.specs.Option.{option_map_or}
 use Rattle.rbc_spec.specs.Maps.{has, put}
 use Rattle.rbc_spec.specs.Line.{Line}
 use Rattle.rbc_spec.specs.Place.{Place}
-use Rattle.rbc_spec.specs.SectionRuns.{SectionRun, no_run, within, behind, is_empty, joined, part_before}
+use Rattle.rbc_spec.specs.SectionRuns.{SectionRun, no_run, within, next_after, is_empty, joined, part_before}
 use Rattle.rbc_spec.specs.Centre as spec
 use Rattle.rbc_spec.specs.Centre.{is_open}
 use Rattle.rbc_spec.specs.Acts.{part_at}
@@ -64,7 +64,7 @@ handing_in c = option_and_then (λ (m : spec.Mission). m.handing) c.mission
 pub record HasRouteForm (m : spec.Mission) : Type 0 where
   pub some : 1 ≤ m.hand.count
   pub most : m.hand.count ≤ 32
-  pub numbers : behind m.hand ≤ 65535
+  pub numbers : next_after m.hand ≤ 65535
   pub few : m.pool.count ≤ 31
 
 -- ## What is done to it
@@ -108,20 +108,20 @@ with_front line count m =
       handing = still_handing line m.place.track (front_of count m.hand) m.handing;
     })
 
--- the mission at this place, with so many sections behind its hand: first those of its pool
+-- the mission at this place, with so many more sections in its hand: first those of its pool
 abbrev pub with_next : Place → ℕ → spec.Mission → spec.Mission
 with_next place count m = extended_by (next_of count m.hand) (record m { place = place })
 
--- so many sections behind the hand of the mission; none where no mission stands
+-- so many sections in advance of the hand of the mission; none where no mission stands
 abbrev pub next_sections : ℕ → SupervisionState → SectionRun
 next_sections count c = option_map_or (λ m. next_of count m.hand) c.mission no_run
 
--- so many sections behind the hand of a mission may be added to it: the pool follows the hand and has no section of the
--- book's home, and each that is not of the pool is open
+-- so many sections in advance of the hand of a mission may be added to it: the pool follows the hand and has no section
+-- of the book's home, and each that is not of the pool is open
 pub record MayGrow (m : spec.Mission) (count : ℕ) (book : Pages) : Type 0 where
   pub most : m.hand.count + count ≤ 32
-  pub numbers : behind m.hand + count ≤ 65535
-  pub follows : 0 < m.pool.count → behind m.hand ≡ m.pool.first
+  pub numbers : next_after m.hand + count ≤ 65535
+  pub follows : 0 < m.pool.count → next_after m.hand ≡ m.pool.first
   pub away : (s : ℕ) → within m.pool s ≡ true → is_own book s ≡ false
   pub free : (s : ℕ) → within (next_of count m.hand) s ≡ true → within m.pool s ≡ false
       → is_open (entry_at book s) ≡ true

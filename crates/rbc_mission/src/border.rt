@@ -22,9 +22,9 @@ use rbc_line::Line;
 impl Supervision {
     ghost use Rattle.rbc_mission.specs.Supervisions.{pool_of, with_pool, without_section, HasSupervision, with_supervision};
 
-    /// The next centre is asked for the sections behind the hand of the mission, where they are due: the first of them
-    /// is of its home and on the track, the hand has fewer than 32, the pool is empty, and no question stands. None
-    /// exactly where they are not due or no mission stands, and then nothing changes.
+    /// The next centre is asked for the sections in advance of the hand of the mission, where they are due: the first
+    /// of them is of its home and on the track, the hand has fewer than 32, the pool is empty, and no question stands.
+    /// None exactly where they are not due or no mission stands, and then nothing changes.
     pub fn ask(&mut self, line: &Line, next: u8) -> Option<Question>
         ensures state { self.new ≡ option_map_or (λ q. record self.old { asked = Some q.first }) result self.old }
         ensures range { IfSome result (λ q. HasRunRange 1 31 (record { first = q.first; count = q.most })) }
@@ -76,9 +76,9 @@ impl Supervision {
         })
     }
 
-    /// A section is wished back by the interlocking of its home: it leaves the pool with all behind it, and these have
-    /// to be returned. None exactly where the pool has it not, and then nothing changes: a section of the hand may be
-    /// proposed to be cut off.
+    /// A section is wished back by the interlocking of its home: it leaves the pool with all that follow it, and these
+    /// have to be returned. None exactly where the pool has it not, and then nothing changes: a section of the hand may
+    /// be proposed to be cut off.
     pub fn withdraw(&mut self, s: u16) -> Option<SectionRun>
         ensures run { option_map run_of result
             ≡ (if within (pool_of self.old) s then Some (part_from s (pool_of self.old)) else None) }

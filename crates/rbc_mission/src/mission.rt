@@ -141,7 +141,7 @@ impl Supervision {
         }
     }
 
-    /// The train is at this place, and so many sections come behind its last: first those of its pool, and then open
+    /// The train is at this place, and so many sections come after its last: first those of its pool, and then open
     /// ones.
     #[inline(always)]
     pub fn lengthen(&mut self, place: Place, count: u16, book: &mut Book)
@@ -157,7 +157,7 @@ impl Supervision {
     {
         if let Some(mission) = self.mission {
             let fed = self.border.feed(count, &mut self.hand);
-            let next = rbc_allocation::behind(self.hand.run(), count - fed);
+            let next = rbc_allocation::run_after(self.hand.run(), count - fed);
             rbc_allocation::take_run(&mut self.hand, next, self.nid_engine, book);
             self.mission = Some(MissionFacts { place, ..mission });
         }

@@ -76,7 +76,7 @@ fn token_from(line: &Line, s: u16, nid_engine: u32, book: &mut Book) -> Token
     }
 }
 
-// A section comes behind the last of the hand.
+// A section comes after the last of the hand.
 fn add(hand: &mut Hand, token: Token, book: &mut Book)
     requires { takes (run hand.old) (section_of token) ≡ true }
     ensures hand { hand.new ≡ extended hand.old (section_of token) (held_of token) }

@@ -38,7 +38,7 @@ impl Released {
     }
 }
 
-/// What leaves with these sections of a hand: the pool behind them too, unless it stays.
+/// What leaves with these sections of a hand: the pool after them too, unless it stays.
 pub(crate) fn leaving(sections: SectionRun, border: &mut Border, stays: bool) -> SectionRun
     requires hand { sections.count ≤ 32 }
     requires pool { border.old.pool.count ≤ 31 }

@@ -6,7 +6,7 @@ use Rattle.rbc_msgs.specs.declared.fault.MsgFault.{MsgFault}
 use Rattle.rbc_msgs.specs.declared.fault.MsgFault.TheVariants as message
 use Rattle.rbc_msgs.specs.declared.fault.StreamFault.{StreamFault}
 use Rattle.rbc_msgs.specs.declared.fault.StreamFault.TheVariants.{Message, Failed}
-use Rattle.rbc_msgs.proofs.Streams.{adds-then, adds-behind, halts-then, halts-behind}
+use Rattle.rbc_msgs.proofs.Streams.{adds-then, adds-after, halts-then, halts-after}
 use Rattle.rbc_msgs.proofs.OneReading.{one-adding, rest-no-fault, one-fault}
 
 one-kept : (before : Option (List ℕ)) (x y : List ℕ) → before ≡ Some x → before ≡ Some y → x ≡ y
@@ -22,15 +22,15 @@ known fault h e = h (ap (λ f. Err (Message f)) e)
 
 both-bytes : (old new : List TrainText) (kept a b r : List ℕ) → Adds old new (kept ++ a) r → Adds old new (kept ++ (a ++ b)) (r ++ b)
 both-bytes old new kept a b r p =
-    subst (λ x. Adds old new x (r ++ b)) (append_assoc kept a b) (adds-behind old new (kept ++ a) r b p)
+    subst (λ x. Adds old new x (r ++ b)) (append_assoc kept a b) (adds-after old new (kept ++ a) r b p)
 
 -- the messages of the first piece, and then those of what it left and the second
 pub adds-both : (old mid new : List TrainText) (a b r s : List ℕ) → Adds old mid a r → Adds mid new (r ++ b) s → Adds old new (a ++ b) s
-adds-both old mid new a b r s p q = adds-then old mid new (a ++ b) (r ++ b) s (adds-behind old mid a r b p) q
+adds-both old mid new a b r s p q = adds-then old mid new (a ++ b) (r ++ b) s (adds-after old mid a r b p) q
 
 then-halts : (old new : List TrainText) (kept a b : List ℕ) (fault : MsgFault) → Halts old new (kept ++ a) fault → Halts old new (kept ++ (a ++ b)) fault
 then-halts old new kept a b fault h =
-    subst (λ x. Halts old new x fault) (append_assoc kept a b) (halts-behind old new (kept ++ a) b fault h)
+    subst (λ x. Halts old new x fault) (append_assoc kept a b) (halts-after old new (kept ++ a) b fault h)
 
 pub fed-then : (before middle after : Option (List ℕ)) (a b : List ℕ) (old mid new : List TrainText) (result : Result (Unit {0}) StreamFault)
     → Continues before a old mid middle → Fed middle b mid new result after → Fed before (a ++ b) old new result after

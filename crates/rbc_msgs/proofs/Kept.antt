@@ -1,4 +1,4 @@
--- What can stand behind a packet that is kept.
+-- What can follow a packet that is kept.
 use Rattle.std.proofs.Common.{◌≡◌, ◌≢◌, inl, inr, ℕ, zero, suc, ◌≤◌, Bool, true, false, ltb, leb, eqb, not, List, [], ◌∷◌, ◌++◌, length, Result, Ok, Err, refl, ap, length-append, arith}
 use borrow.Author.Tests.{ltb-false}
 use Rattle.std.specs.Result.{IfErr}
@@ -17,62 +17,62 @@ use Rattle.rbc_msgs.specs.TrainText.{TrainText}
 use Rattle.rbc_msgs.specs.Reading.{packet_read, end_at}
 use Rattle.rbc_msgs.specs.TrainReading.{further_packet_at, further_at}
 use Rattle.rbc_msgs.specs.TrainSpelling.{packet_bits}
-use Rattle.rbc_msgs.specs.Kept.{data_packets, kept_packets, IsBehindPackets, MayKeep}
+use Rattle.rbc_msgs.specs.Kept.{data_packets, kept_packets, IsAfterPackets, MayKeep}
 use Rattle.rbc_msgs.proofs.Further.{IsRead}
 use Rattle.rbc_msgs.proofs.NotShort.{ltb-cases}
 
 -- ---- steps
 
-abbrev IsBehind : {A : Type 0} → Result A MsgFault → Type 0
-IsBehind r = IfErr r IsBehindPackets
+abbrev IsAfter : {A : Type 0} → Result A MsgFault → Type 0
+IsAfter r = IfErr r IsAfterPackets
 
-behind-then : {A B : Type 0} (r : Result A MsgFault) (f : A → Result B MsgFault) → IsBehind r → ((x : A) → IsBehind (f x)) → IsBehind (r >>= f)
-behind-then (Ok x) f p q = q x
-behind-then (Err fault) f p q = p
+after-then : {A B : Type 0} (r : Result A MsgFault) (f : A → Result B MsgFault) → IsAfter r → ((x : A) → IsAfter (f x)) → IsAfter (r >>= f)
+after-then (Ok x) f p q = q x
+after-then (Err fault) f p q = p
 
--- a step behind such a packet
-keeps-then : {A B : Type 0} (packets : B → List Packet) (r : Result A MsgFault) (f : A → Result B MsgFault) → IsBehind r → ((x : A) → MayKeep packets (f x)) → MayKeep packets (r >>= f)
+-- a step after such a packet
+keeps-then : {A B : Type 0} (packets : B → List Packet) (r : Result A MsgFault) (f : A → Result B MsgFault) → IsAfter r → ((x : A) → MayKeep packets (f x)) → MayKeep packets (r >>= f)
 keeps-then packets (Ok x) f p q = q x
 keeps-then packets (Err fault) f p q = p
 
--- the step that met it, and what stands behind
+-- the step that met it, and what follows
 met-then : {A B : Type 0} (first : A → List Packet) (packets : B → List Packet) (r : Result A MsgFault) (f : A → Result B MsgFault) → MayKeep first r → ((x : A) → first x ≢ [] → MayKeep packets (f x)) → MayKeep packets (r >>= f)
 met-then first packets (Ok x) f p q = q x p
 met-then first packets (Err fault) f p q = p
 
 -- ---- packets
 
-behind-packet : {A : Type 0} (r : Result A PacketFault) → IsBehind (packet_read r)
-behind-packet (Ok x) = tt
-behind-packet (Err packet.Short) = tt
-behind-packet (Err packet.Length) = tt
-behind-packet (Err packet.Value) = tt
-behind-packet (Err packet.Memory) = tt
+after-packet : {A : Type 0} (r : Result A PacketFault) → IsAfter (packet_read r)
+after-packet (Ok x) = tt
+after-packet (Err packet.Short) = tt
+after-packet (Err packet.Length) = tt
+after-packet (Err packet.Value) = tt
+after-packet (Err packet.Memory) = tt
 
 some-packet : (p : Packet) (ps : List Packet) → p ∷ ps ≢ []
 some-packet p ps e = cc
 
-behind-refuse : (b : Bool) (fault : MsgFault) → IsBehindPackets fault → IsBehind (refuse b fault)
-behind-refuse true fault h = h
-behind-refuse false fault h = tt
+after-refuse : (b : Bool) (fault : MsgFault) → IsAfterPackets fault → IsAfter (refuse b fault)
+after-refuse true fault h = h
+after-refuse false fault h = tt
 
-behind-field : (n : ℕ) (bits : List Bool) → n ≤ length bits → IsBehind (field_at faults.Short n bits)
+after-field : (n : ℕ) (bits : List Bool) → n ≤ length bits → IsAfter (field_at faults.Short n bits)
 unfolding field_at
-behind-field n bits le = let t : ltb (length bits) n ≡ false = le-ltb _ _ le in rw t tt
+after-field n bits le = let t : ltb (length bits) n ≡ false = le-ltb _ _ le in rw t tt
 
-behind-further_packet : (bits : List Bool) → 8 ≤ length bits → IsBehind (further_packet_at bits)
+after-further_packet : (bits : List Bool) → 8 ≤ length bits → IsAfter (further_packet_at bits)
 unfolding further_packet_at
-behind-further_packet bits le =
-    behind-then (field_at faults.Short 8 bits) _ (behind-field 8 bits le) (λ n. behind-then (refuse (eqb n.0 0) faults.Value) _ (behind-refuse (eqb n.0 0) faults.Value tt) (λ _. behind-packet (opaque_at n.0 n.1)))
+after-further_packet bits le =
+    after-then (field_at faults.Short 8 bits) _ (after-field 8 bits le) (λ n. after-then (refuse (eqb n.0 0) faults.Value) _ (after-refuse (eqb n.0 0) faults.Value tt) (λ _. after-packet (opaque_at n.0 n.1)))
 
-behind-further : (n : ℕ) (bits : List Bool) → IsBehind (further_at n bits)
+after-further : (n : ℕ) (bits : List Bool) → IsAfter (further_at n bits)
 unfolding further_at
-behind-further zero bits = tt
-behind-further (suc n) bits =
+after-further zero bits = tt
+after-further (suc n) bits =
     elim (ltb-cases (length bits) 8) [
       | inl t ↦ rw t tt
       | inr t ↦
-          rw t (behind-then (further_packet_at bits) _ (behind-further_packet bits (ltb-false _ _ t)) (λ first. behind-then (further_at n first.1) _ (behind-further n first.1) (λ others. tt)))
+          rw t (after-then (further_packet_at bits) _ (after-further_packet bits (ltb-false _ _ t)) (λ first. after-then (further_at n first.1) _ (after-further n first.1) (λ others. tt)))
     ]
 
 -- where 8 or more bits are left, a further packet is kept, or has a fault
@@ -81,7 +81,7 @@ unfolding further_at
 keeps-further zero bits long enough = absurd (omega arith)
 keeps-further (suc n) bits long enough =
     let t : ltb (length bits) 8 ≡ false = le-ltb _ _ long in
-    rw t (keeps-then (λ x. x.0) (further_packet_at bits) _ (behind-further_packet bits long) (λ first. keeps-then (λ x. x.0) (further_at n first.1) _ (behind-further n first.1) (λ others. some-packet first.0 others.0)))
+    rw t (keeps-then (λ x. x.0) (further_packet_at bits) _ (after-further_packet bits long) (λ first. keeps-then (λ x. x.0) (further_at n first.1) _ (after-further n first.1) (λ others. some-packet first.0 others.0)))
 
 pub further-kept : (all left : List Bool) (ps : List Packet) → IsRead all left ps → 8 ≤ length left → MayKeep (λ x. x.0) (further_at (length all) all)
 further-kept all left ps h long =
@@ -89,35 +89,35 @@ further-kept all left ps h long =
 
 -- ---- a whole message
 
-behind-end : (bits : List Bool) → IsBehind (end_at faults.Packet bits)
+after-end : (bits : List Bool) → IsAfter (end_at faults.Packet bits)
 unfolding end_at
-behind-end bits =
-    behind-then (refuse (leb 8 (length bits)) faults.Packet) _ (behind-refuse (leb 8 (length bits)) faults.Packet tt)
-    (λ _. behind-then (field_at faults.Short (length bits) bits) _ (behind-field (length bits) bits (omega arith)) (λ x. behind-refuse (not (eqb x.0 0)) faults.Padding tt))
+after-end bits =
+    after-then (refuse (leb 8 (length bits)) faults.Packet) _ (after-refuse (leb 8 (length bits)) faults.Packet tt)
+    (λ _. after-then (field_at faults.Short (length bits) bits) _ (after-field (length bits) bits (omega arith)) (λ x. after-refuse (not (eqb x.0 0)) faults.Padding tt))
 
 one-of : (front back : List Packet) → front ≢ [] → front ++ back ≢ []
 one-of [] back ne = absurd (ne refl)
 one-of (p ∷ front) back ne = some-packet p (front ++ back)
 
-one-behind : (front back : List Packet) → back ≢ [] → front ++ back ≢ []
-one-behind [] back ne = ne
-one-behind (p ∷ front) back ne = some-packet p (front ++ back)
+one-after : (front back : List Packet) → back ≢ [] → front ++ back ≢ []
+one-after [] back ne = ne
+one-after (p ∷ front) back ne = some-packet p (front ++ back)
 
 module _ (t_train nid_engine : ℕ) where
-  -- what is tested behind the body
+  -- what is tested after the body
   abbrev ended : TrainBody → List Packet × List Bool → Result TrainText MsgFault
   ended body further = end_at faults.Packet further.1 >>= λ _. Ok (record { t_train = t_train; nid_engine = nid_engine; body = body; further = further.0 })
 
   -- the further packets were wanted
-  pub keeps-behind : (body : TrainBody) (bits : List Bool) → MayKeep (λ x. x.0) (further_at (length bits) bits)
+  pub keeps-after : (body : TrainBody) (bits : List Bool) → MayKeep (λ x. x.0) (further_at (length bits) bits)
       → MayKeep kept_packets (further_at (length bits) bits >>= λ further. ended body further)
-  keeps-behind body bits h =
-      met-then (λ x. x.0) kept_packets (further_at (length bits) bits) _ h (λ further ne. keeps-then kept_packets (end_at faults.Packet further.1) _ (behind-end further.1) (λ _. one-behind (data_packets body) further.0 ne))
+  keeps-after body bits h =
+      met-then (λ x. x.0) kept_packets (further_at (length bits) bits) _ h (λ further ne. keeps-then kept_packets (end_at faults.Packet further.1) _ (after-end further.1) (λ _. one-after (data_packets body) further.0 ne))
 
   -- the train data were wanted
   pub keeps-data : (read : Result (TrainBody × List Bool) MsgFault) → MayKeep (λ x. data_packets x.0) read
       → MayKeep kept_packets (read >>= λ body. further_at (length body.1) body.1 >>= λ further. ended body.0 further)
   keeps-data read h =
       met-then (λ x. data_packets x.0) kept_packets read _ h
-      (λ body ne. keeps-then kept_packets (further_at (length body.1) body.1) _ (behind-further (length body.1) body.1)
-      (λ further. keeps-then kept_packets (end_at faults.Packet further.1) _ (behind-end further.1) (λ _. one-of (data_packets body.0) further.0 ne)))
+      (λ body ne. keeps-then kept_packets (further_at (length body.1) body.1) _ (after-further (length body.1) body.1)
+      (λ further. keeps-then kept_packets (end_at faults.Packet further.1) _ (after-end further.1) (λ _. one-of (data_packets body.0) further.0 ne)))

@@ -139,7 +139,7 @@ err-many bytes fault e =
 pub whole-many : (bytes : List ℕ) (n : ℕ) → needed_at bytes ≡ Ok n → n ≤ length bytes → 3 ≤ length bytes
 whole-many bytes n e whole = let range = needed-range bytes n e in omega arith
 
--- ---- faults, whatever comes behind
+-- ---- faults, whatever follows
 
 pub shows-front : (a b : List ℕ) (fault : MsgFault) → ShowsFault a fault → ShowsFault (a ++ b) fault
 shows-front a b fault (inl e) = inl (needed-front a b (err-many a fault e) ∙ e)
@@ -154,7 +154,7 @@ shows-front a b fault (inr h) =
 
 -- ---- spellings
 
--- as many bytes are needed as there are, also where more stand behind
+-- as many bytes are needed as there are, also where more follow
 pub spelled-needed : (first later : List ℕ) (m : TrainText) → SpellsTrain first m → needed_at (first ++ later) ≡ Ok (length first)
 spelled-needed first later m s =
     let l = l_message_at-again first m s in

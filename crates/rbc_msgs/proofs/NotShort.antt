@@ -46,7 +46,7 @@ long-refuse : (b : Bool) (fault : MsgFault) → fault ≢ faults.Short → IsLon
 long-refuse true fault ne = long-err fault ne
 long-refuse false fault ne = long-ok tt
 
--- a test, and what stands behind it
+-- a test, and what follows it
 long-tested : {B : Type 0} (b : Bool) (fault : MsgFault) (r : Result B MsgFault) → fault ≢ faults.Short → (b ≡ false → IsLong r) → IsLong (refuse b fault >>= λ _. r)
 long-tested true fault r ne q = long-err fault ne
 long-tested false fault r ne q = q refl
@@ -206,7 +206,7 @@ long-whole least l bytes same many =
     long-then (field_at faults.Short 18 (bits_of bytes)) (λ start. Ok start.1) (long-field 18 (bits_of bytes) (omega (arith, length-bits_of bytes))) (λ x e. long-ok x.1) in
     rw (there, no-more) (long-tested (ltb l least) faults.Length (field_at faults.Short 18 (bits_of bytes) >>= λ start. Ok start.1) (λ e. cc) (λ t. bits))
 
--- the bits behind L_MESSAGE
+-- the bits after L_MESSAGE
 whole-bits : List ℕ → Result (List Bool) MsgFault
 whole-bits bytes = field_at faults.Short 18 (bits_of bytes) >>= λ start. Ok start.1
 
@@ -226,9 +226,9 @@ whole-left least l bytes bits e =
     let same : four.0.1 ≡ bits = cc four.2 in
     (ltb-false l least (not-refused _ faults.Length one.0 one.1), omega (arith, left-of 18 (bits_of bytes) four.0 four.1, length-bits_of bytes, ap length same))
 
-long-behind : (start : ℕ × ℕ) (k : TrainNumber) (bytes : List ℕ) → start.1 ≡ length bytes → 3 ≤ start.1 → start_at bytes ≡ Ok start → train_of_number start.0 ≡ Ok k → least_train_length k ≤ start.1 → IsLong (read_train bytes)
+long-after : (start : ℕ × ℕ) (k : TrainNumber) (bytes : List ℕ) → start.1 ≡ length bytes → 3 ≤ start.1 → start_at bytes ≡ Ok start → train_of_number start.0 ≡ Ok k → least_train_length k ≤ start.1 → IsLong (read_train bytes)
 unfolding read_train
-long-behind start k bytes same many s-at n-at least =
+long-after start k bytes same many s-at n-at least =
     let ten = least-some k in
     rw (s-at, n-at) (long-then (whole_at (least_train_length k) start.1 bytes) _ (long-whole (least_train_length k) start.1 bytes same many) (λ bits e.
     let left = (whole-left (least_train_length k) start.1 bytes bits e).1 in
@@ -245,4 +245,4 @@ long-read bytes e =
     let range = needed-range bytes (length bytes) e in
     let h = announced bytes (length bytes) (sym (needed-many bytes (omega arith)) ∙ e) in
     let same = h.same in
-    long-behind h.start h.number bytes h.same (omega arith) h.started h.known (ltb-false _ _ h.enough)
+    long-after h.start h.number bytes h.same (omega arith) h.started h.known (ltb-false _ _ h.enough)

@@ -70,4 +70,4 @@ one-row bytes r s (m ∷ ms) (n ∷ ns) p q r-ends s-ends =
 pub one-adding : (old new whole : List TrainText) (bytes r s : List ℕ) → Adds old new bytes r → Adds old whole bytes s → IsEnd r → IsEnd s → (whole ≡ new) × (s ≡ r)
 one-adding old new whole bytes r s p q r-ends s-ends =
     let same = one-row bytes s r q.messages p.messages q.spelled p.spelled s-ends r-ends in
-    (q.behind ∙ ap (λ x. old ++ x) same.0 ∙ sym p.behind, same.1)
+    (q.added ∙ ap (λ x. old ++ x) same.0 ∙ sym p.added, same.1)

@@ -21,7 +21,7 @@ position-spelled old part new p header len whole =
 pub field-spelled : (old mid new : List Bool) (n v : ℕ) (p : Position) → old ≡ field n v ++ mid → mid ≡ joined (position_packet p) ++ new → old ≡ joined ((n, v) ∷ position_packet p) ++ new
 field-spelled old mid new n v p first second = first ∙ ap (λ t. field n v ++ t) second ∙ sym (field-parts n v (position_packet p) new)
 
--- a packet behind it
+-- a packet after it
 pub packet-spelled : (old mid new : List Bool) (p : Position) (k : Packet) → old ≡ joined (position_packet p) ++ mid → mid ≡ packet_bits k ++ new
     → old ≡ (joined (position_packet p) ++ packet_bits k) ++ new
 packet-spelled old mid new p k first second =

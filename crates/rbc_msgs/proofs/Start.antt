@@ -8,7 +8,7 @@ use Rattle.rbc_bits.specs.Bits.{field, bits_of}
 use Rattle.rbc_bits.proofs.Bytes.{bits_of-cons, bits_of-single}
 use Rattle.rbc_bits.proofs.Fields.{field-add, field-append}
 
--- a byte, the field of the ten bits behind it, and the six bits behind that
+-- a byte, the field of the ten bits after it, and the six bits after that
 pub start_fields : (bytes : List ℕ) → 3 ≤ length bytes → ((i : ℕ) → get_or bytes i 0 < 256)
     → bits_of (take 3 bytes) ≡ field 8 (get_or bytes 0 0) ++ (field 10 (get_or bytes 1 0 * 4 + get_or bytes 2 0 / 64) ++ field 6 (get_or bytes 2 0))
 start_fields [] le fit = absurd (omega (arith, le))

@@ -1,4 +1,4 @@
--- Messages of a stream, added one behind another.
+-- Messages of a stream, added in order.
 use Rattle.std.proofs.Common.{◌≡◌, ◌≢◌, inl, inr, ℕ, ◌+◌, ◌-◌, ◌<◌, ◌≤◌, Bool, true, eqb, List, [], ◌∷◌, ◌++◌, length, take, drop, max, Ok, Err, refl, sym, ap, ◌∙◌, subst, append_assoc, length-drop, arith}
 use Rattle.std.proofs.lemmas.List.{append-nil, take-append-drop, take_all, length-take, drop-drop, nil_from_length}
 use borrow.Author.Tests.{eqb-true}
@@ -18,33 +18,33 @@ spell-then : (ms ns : List TrainText) (a r s : List ℕ) → Spell a ms r → Sp
 spell-then [] ns a r s p q = subst (λ x. Spell x ns s) (sym p) q
 spell-then (m ∷ ms) ns a r s p q = (p.0, p.1, p.2, p.3, spell-then ms ns p.1 r s p.4 q)
 
-spell-behind : (ms : List TrainText) (a r b : List ℕ) → Spell a ms r → Spell (a ++ b) ms (r ++ b)
-spell-behind [] a r b p = ap (λ x. x ++ b) p
-spell-behind (m ∷ ms) a r b p =
-    (p.0, p.1 ++ b, ap (λ x. x ++ b) p.2 ∙ append_assoc p.0 p.1 b, p.3, spell-behind ms p.1 r b p.4)
+spell-after : (ms : List TrainText) (a r b : List ℕ) → Spell a ms r → Spell (a ++ b) ms (r ++ b)
+spell-after [] a r b p = ap (λ x. x ++ b) p
+spell-after (m ∷ ms) a r b p =
+    (p.0, p.1 ++ b, ap (λ x. x ++ b) p.2 ∙ append_assoc p.0 p.1 b, p.3, spell-after ms p.1 r b p.4)
 
 -- ---- messages added
 
 pub adds-none : (old : List TrainText) (bytes : List ℕ) → Adds old old bytes bytes
-adds-none old bytes = record { messages = []; behind = sym (append-nil old); spelled = refl }
+adds-none old bytes = record { messages = []; added = sym (append-nil old); spelled = refl }
 
 pub adds-one : (old new : List TrainText) (bytes first later : List ℕ) (m : TrainText) → new ≡ old ++ m ∷ [] → SpellsTrain first m → bytes ≡ first ++ later → Adds old new bytes later
 adds-one old new bytes first later m e s parts =
-    record { messages = m ∷ []; behind = e; spelled = (first, later, parts, s, refl) }
+    record { messages = m ∷ []; added = e; spelled = (first, later, parts, s, refl) }
 
--- those of what was left come behind
+-- those of what was left come after
 pub adds-then : (old mid new : List TrainText) (a r s : List ℕ) → Adds old mid a r → Adds mid new r s → Adds old new a s
 adds-then old mid new a r s p q =
     record {
       messages = p.messages ++ q.messages;
-      behind = q.behind ∙ ap (λ x. x ++ q.messages) p.behind ∙ append_assoc old p.messages q.messages;
+      added = q.added ∙ ap (λ x. x ++ q.messages) p.added ∙ append_assoc old p.messages q.messages;
       spelled = spell-then p.messages q.messages a r s p.spelled q.spelled;
     }
 
--- whatever comes behind
-pub adds-behind : (old new : List TrainText) (a r b : List ℕ) → Adds old new a r → Adds old new (a ++ b) (r ++ b)
-adds-behind old new a r b p =
-    record { messages = p.messages; behind = p.behind; spelled = spell-behind p.messages a r b p.spelled }
+-- whatever follows
+pub adds-after : (old new : List TrainText) (a r b : List ℕ) → Adds old new a r → Adds old new (a ++ b) (r ++ b)
+adds-after old new a r b p =
+    record { messages = p.messages; added = p.added; spelled = spell-after p.messages a r b p.spelled }
 
 -- ---- faults
 
@@ -59,9 +59,9 @@ pub halts-then : (old mid new : List TrainText) (a r : List ℕ) (fault : MsgFau
 halts-then old mid new a r fault p h =
     record { rest = h.rest; adds = adds-then old mid new a r h.rest p h.adds; shows = h.shows }
 
-pub halts-behind : (old new : List TrainText) (a b : List ℕ) (fault : MsgFault) → Halts old new a fault → Halts old new (a ++ b) fault
-halts-behind old new a b fault h =
-    record { rest = h.rest ++ b; adds = adds-behind old new a h.rest b h.adds; shows = λ ne. shows-front h.rest b fault (h.shows ne) }
+pub halts-after : (old new : List TrainText) (a b : List ℕ) (fault : MsgFault) → Halts old new a fault → Halts old new (a ++ b) fault
+halts-after old new a b fault h =
+    record { rest = h.rest ++ b; adds = adds-after old new a h.rest b h.adds; shows = λ ne. shows-front h.rest b fault (h.shows ne) }
 
 -- ---- nothing has come
 
@@ -81,7 +81,7 @@ joined-twice rest piece r1 r2 first second e1 e2 =
 -- the first bytes show a fault
 pub halts-early : (old : List TrainText) (rest piece r1 : List ℕ) (first : ℕ) (fault : MsgFault) → r1 ≡ rest ++ take first piece → needed_at r1 ≡ Err fault → Halts old old (rest ++ piece) fault
 halts-early old rest piece r1 first fault e at =
-    subst (λ x. Halts old old x fault) (glue rest piece r1 first e) (halts-behind old old r1 (drop first piece) fault (halts-here old r1 fault (λ _. inl at)))
+    subst (λ x. Halts old old x fault) (glue rest piece r1 first e) (halts-after old old r1 (drop first piece) fault (halts-here old r1 fault (λ _. inl at)))
 
 -- as many bytes are needed as the first ones say, unless these were all
 needed-more : (r1 r2 piece : List ℕ) (first second n : ℕ) → r2 ≡ r1 ++ take second (drop first piece) → (length r1 < 3 → first ≡ length piece) → needed_at r1 ≡ Ok n → needed_at r2 ≡ Ok n
@@ -104,7 +104,7 @@ halts-whole old new rest piece r1 r2 first second n fault e1 e2 all at whole sam
       refused = ap read_train (take_all n r2 (omega arith)) ∙ refused ne;
     }) in
     let there : Halts old old (rest ++ piece) fault =
-    subst (λ x. Halts old old x fault) (glue r1 (drop first piece) r2 second e2 ∙ glue rest piece r1 first e1) (halts-behind old old r2 (drop second (drop first piece)) fault (halts-here old r2 fault shows)) in
+    subst (λ x. Halts old old x fault) (glue r1 (drop first piece) r2 second e2 ∙ glue rest piece r1 first e1) (halts-after old old r2 (drop second (drop first piece)) fault (halts-here old r2 fault shows)) in
     subst (λ x. Halts old x (rest ++ piece) fault) (sym same) there
 
 -- the whole message is read
@@ -130,7 +130,7 @@ rest-on rest piece r1 r2 first second n h e1 e2 within all few at spent no-more 
 
 -- ---- slices
 
--- what stands behind the first i
+-- what follows the first i
 pub the-end : (i : ℕ) (xs : List ℕ) → take (length xs - i) (drop i xs) ≡ drop i xs
 the-end i xs = take_all (length xs - i) (drop i xs) (omega (arith, length-drop i xs))
 
@@ -146,7 +146,7 @@ length-end i xs = ap length (the-end i xs)
 
 from-piece : (old mid : List TrainText) (rest piece r1 : List ℕ) (used : ℕ) → r1 ≡ [] → Adds old mid (rest ++ take used piece) r1 → Adds old mid (rest ++ piece) (drop used piece)
 from-piece old mid rest piece r1 used none p =
-    let q = adds-behind old mid (rest ++ take used piece) r1 (drop used piece) p in
+    let q = adds-after old mid (rest ++ take used piece) r1 (drop used piece) p in
     let all : Adds old mid (rest ++ piece) (r1 ++ drop used piece) = subst (λ x. Adds old mid x (r1 ++ drop used piece)) (glue rest piece (rest ++ take used piece) used refl) q in
     subst (λ x. Adds old mid (rest ++ piece) (x ++ drop used piece)) none all
 
@@ -162,7 +162,7 @@ halts-on old mid new rest piece r1 used fault none p h =
     let h-here : Halts mid new (drop used piece) fault = subst (λ x. Halts mid new x fault) (the-end used piece) h in
     halts-then old mid new (rest ++ piece) (drop used piece) fault (from-piece old mid rest piece r1 used none p) h-here
 
--- memory ran out behind the last message
+-- memory ran out after the last message
 pub halts-at-end : (old new : List TrainText) (bytes end : List ℕ) (fault : MsgFault) → Adds old new bytes end → fault ≡ Memory → Halts old new bytes fault
 halts-at-end old new bytes end fault p e = halts-then old new new bytes end fault p (halts-memory new end fault e)
 

@@ -8,7 +8,7 @@ use Rattle.rbc_bits.proofs.Taking.{field_at-field}
 use Rattle.rbc_packets.specs.Layout.{Field, joined, widths, track_packet}
 use Rattle.rbc_packets.specs.TrackSpelling.{authority_fields, transition_fields, session_order_fields}
 use Rattle.rbc_packets.proofs.Filled.{filled-parts, length-filled, length-filled_bits}
-use Rattle.rbc_packets.proofs.Joined.{joined-nil, joined-cons, joined-behind, length-joined}
+use Rattle.rbc_packets.proofs.Joined.{joined-nil, joined-cons, joined-followed, length-joined}
 use Rattle.rbc_packets.proofs.TrackAgain.{authority_at-again, transition_at-again, session_order_at-again}
 use Rattle.rbc_msgs.specs.declared.fault.MsgFault.{MsgFault}
 use Rattle.rbc_msgs.specs.declared.fault.MsgFault.TheVariants.{Short, Length, Missing}
@@ -27,18 +27,18 @@ fields-bits : (l_message : ℕ) (m : TrackMessage) → joined (track_fields l_me
 unfolding joined
 fields-bits l_message m = refl
 
--- what stands behind L_MESSAGE
-behind : TrackMessage → List Bool → List Bool
-behind m rest = field 32 m.t_train ++ (field 1 0 ++ (field 24 m.nid_lrbg ++ (joined (track_body_fields m.body) ++ rest)))
+-- what follows L_MESSAGE
+after_length : TrackMessage → List Bool → List Bool
+after_length m rest = field 32 m.t_train ++ (field 1 0 ++ (field 24 m.nid_lrbg ++ (joined (track_body_fields m.body) ++ rest)))
 
-parts : (l_message : ℕ) (m : TrackMessage) (rest : List Bool) → joined (track_fields l_message m) ++ rest ≡ field 8 (track_number m.body) ++ (field 10 l_message ++ behind m rest)
-unfolding behind
+parts : (l_message : ℕ) (m : TrackMessage) (rest : List Bool) → joined (track_fields l_message m) ++ rest ≡ field 8 (track_number m.body) ++ (field 10 l_message ++ after_length m rest)
+unfolding after_length
 parts l_message m rest = rw (fields-bits l_message m) (simp append_assoc)
 
 fillings : ℕ → TrackMessage → List Bool
 fillings l_message m = replicate (filling (length (joined (track_fields l_message m)))) false
 
-starts-spelled : (bytes : List ℕ) (m : TrackMessage) → SpellsTrack bytes m → starts bytes (track_number m.body) (behind m (fillings (length bytes) m))
+starts-spelled : (bytes : List ℕ) (m : TrackMessage) → SpellsTrack bytes m → starts bytes (track_number m.body) (after_length m (fillings (length bytes) m))
 unfolding fillings
 starts-spelled bytes m s = s.text ∙ filled-parts (joined (track_fields (length bytes) m)) ∙ parts (length bytes) m _
 
@@ -51,7 +51,7 @@ length-fields l_message m = omega (arith, length-joined (track_fields l_message 
 pub spells-parts : (bytes : List ℕ) (m : TrackMessage) (n : ℕ) (rest left : List Bool)
     → n ≡ track_number m.body → bits_of bytes ≡ field 8 n ++ (field 10 (length bytes) ++ (field 32 m.t_train ++ (field 1 0 ++ (field 24 m.nid_lrbg ++ rest))))
     → rest ≡ joined (track_body_fields m.body) ++ left → IsFilling left → length bytes < length_limit → TrackFits m → SpellsTrack bytes m
-unfolding behind
+unfolding after_length
 spells-parts bytes m n rest left number-at start body fill limit fits =
     let all : bits_of bytes ≡ joined (track_fields (length bytes) m) ++ left =
     start ∙ ap (λ k. field 8 k ++ (field 10 (length bytes) ++ (field 32 m.t_train ++ (field 1 0 ++ (field 24 m.nid_lrbg ++ rest))))) number-at
@@ -77,7 +77,7 @@ put-together bytes (Some m) n t g b rest left number-at start body limit time gr
 
 -- ---- what is spelled so is read
 
--- a packet, and the bits behind it
+-- a packet, and the bits after it
 packet-parts : (n : ℕ) (fields : List Field) (rest : List Bool) → joined ((8, n) ∷ fields) ++ rest ≡ field 8 n ++ (joined fields ++ rest)
 packet-parts n fields rest = ap (λ t. t ++ rest) (joined-cons (8, n) fields) ∙ append_assoc (field 8 n) (joined fields) rest
 
@@ -154,7 +154,7 @@ most TrainRejected = omega arith
 most TrainAccepted = omega arith
 
 one-field : (n v : ℕ) (rest : List Bool) → joined ((n, v) ∷ []) ++ rest ≡ field n v ++ rest
-one-field n v rest = joined-behind ((n, v) ∷ []) rest
+one-field n v rest = joined-followed ((n, v) ∷ []) rest
 
 no-field : (rest : List Bool) → joined [] ++ rest ≡ rest
 no-field rest = ap (λ t. t ++ rest) joined-nil
@@ -173,7 +173,7 @@ body-again TrainRejected rest fits = rw (no-field rest) refl
 body-again TrainAccepted rest fits = rw (no-field rest) refl
 
 pub read_track-again : (bytes : List ℕ) (m : TrackMessage) → SpellsTrack bytes m → read_track bytes ≡ Ok m
-unfolding read_track behind fillings
+unfolding read_track after_length fillings
 read_track-again bytes m s =
     let bits = joined (track_fields (length bytes) m) in
     let wide : 75 + widths (track_body_fields m.body) ≤ 8 * length bytes = omega (arith, length-filled bytes bits s.text, length-fields (length bytes) m) in
@@ -193,7 +193,7 @@ written bytes m l_message all all-is text l-is fits =
     let len : length bytes ≡ l_message = omega (arith, length-filled bytes (joined (track_fields l_message m)) spelled, length-fields l_message m) in
     record { text = spelled ∙ ap (λ k. filled (joined (track_fields k m))) (sym len); l_message = omega (arith, most m.body); fits = fits }
 
--- the header, and what is written behind it
+-- the header, and what is written after it
 pub written-parts : (m : TrackMessage) (number l_message : ℕ) (header all : List Bool) → header ≡ joined ((8, number) ∷ (10, l_message) ∷ (32, m.t_train) ∷ (1, 0) ∷ (24, m.nid_lrbg) ∷ [])
     → number ≡ track_number m.body → all ≡ header ++ joined (track_body_fields m.body) → all ≡ joined (track_fields l_message m)
 unfolding joined

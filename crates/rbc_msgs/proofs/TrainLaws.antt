@@ -16,7 +16,7 @@ use Rattle.rbc_packets.specs.OpaqueReading.{opaque_bits, opaque_at}
 use Rattle.rbc_packets.specs.PositionSpelling.{position_fields, PositionFits}
 use Rattle.rbc_packets.specs.declared.position.Position.{Position}
 use Rattle.rbc_packets.proofs.Filled.{filled-parts, length-filled, length-filled_bits}
-use Rattle.rbc_packets.proofs.Joined.{joined-cons, joined-behind, length-joined}
+use Rattle.rbc_packets.proofs.Joined.{joined-cons, joined-followed, length-joined}
 use Rattle.rbc_packets.proofs.PositionAgain.{position_at-again}
 use Rattle.rbc_packets.proofs.OpaqueAgain.{opaque_at-again}
 use Rattle.rbc_msgs.specs.declared.fault.MsgFault.{MsgFault}
@@ -39,20 +39,20 @@ use Rattle.rbc_msgs.proofs.Steps.{start_at-again, whole_at-again, time_at-again,
 further-bits : TrainText → List Bool
 further-bits m = flat_map packet_bits m.further
 
--- what stands behind L_MESSAGE
-behind : TrainText → List Bool → List Bool
-behind m rest = field 32 m.t_train ++ (field 24 m.nid_engine ++ (train_body_bits m.body ++ (further-bits m ++ rest)))
+-- what follows L_MESSAGE
+after_length : TrainText → List Bool → List Bool
+after_length m rest = field 32 m.t_train ++ (field 24 m.nid_engine ++ (train_body_bits m.body ++ (further-bits m ++ rest)))
 
-parts : (l_message : ℕ) (m : TrainText) (rest : List Bool) → train_bits l_message m ++ rest ≡ field 8 (train_number m.body) ++ (field 10 l_message ++ behind m rest)
-unfolding train_bits behind further-bits
+parts : (l_message : ℕ) (m : TrainText) (rest : List Bool) → train_bits l_message m ++ rest ≡ field 8 (train_number m.body) ++ (field 10 l_message ++ after_length m rest)
+unfolding train_bits after_length further-bits
 parts l_message m rest =
-    append_assoc (joined (train_header l_message m)) (train_body_bits m.body ++ flat_map packet_bits m.further) rest ∙ joined-behind (train_header l_message m) ((train_body_bits m.body ++ flat_map packet_bits m.further) ++ rest)
+    append_assoc (joined (train_header l_message m)) (train_body_bits m.body ++ flat_map packet_bits m.further) rest ∙ joined-followed (train_header l_message m) ((train_body_bits m.body ++ flat_map packet_bits m.further) ++ rest)
     ∙ ap (λ t. field 8 (train_number m.body) ++ (field 10 l_message ++ (field 32 m.t_train ++ (field 24 m.nid_engine ++ t)))) (append_assoc (train_body_bits m.body) (flat_map packet_bits m.further) rest)
 
 fillings : ℕ → TrainText → List Bool
 fillings l_message m = replicate (filling (length (train_bits l_message m))) false
 
-starts-spelled : (bytes : List ℕ) (m : TrainText) → SpellsTrain bytes m → starts bytes (train_number m.body) (behind m (fillings (length bytes) m))
+starts-spelled : (bytes : List ℕ) (m : TrainText) → SpellsTrain bytes m → starts bytes (train_number m.body) (after_length m (fillings (length bytes) m))
 unfolding fillings
 starts-spelled bytes m s = s.text ∙ filled-parts (train_bits (length bytes) m) ∙ parts (length bytes) m _
 
@@ -76,9 +76,9 @@ pub spells : (bytes : List ℕ) (m : TrainText) (n l_message start : ℕ) (b c d
     → n ≡ train_number m.body → length bytes ≡ l_message → Begins (bits_of (take 3 bytes)) (field 8 n ++ field 10 l_message) → bits_of bytes ≡ field 18 start ++ b
     → b ≡ field 32 m.t_train ++ c → c ≡ field 24 m.nid_engine ++ d → d ≡ train_body_bits m.body ++ e → e ≡ flat_map packet_bits m.further ++ f → IsFilling f
     → length bytes < length_limit → TrainFits m → SpellsTrain bytes m
-unfolding behind further-bits
+unfolding after_length further-bits
 spells bytes m n l_message start b c d e f number-at len front whole t engine body further fill limit fits =
-    let tail : b ≡ behind m f =
+    let tail : b ≡ after_length m f =
     t ∙ ap (λ x. field 32 m.t_train ++ x) (engine ∙ ap (λ x. field 24 m.nid_engine ++ x) (body ∙ ap (λ x. train_body_bits m.body ++ x) further)) in
     let all : bits_of bytes ≡ train_bits (length bytes) m ++ f =
     start-found bytes n l_message start b front whole len ∙ ap (λ k. field 8 k ++ (field 10 (length bytes) ++ b)) number-at ∙ ap (λ x. field 8 (train_number m.body) ++ (field 10 (length bytes) ++ x)) tail ∙ sym (parts (length bytes) m f) in
@@ -89,7 +89,7 @@ pub spells-alone : (bytes : List ℕ) (m : TrainText) (n : ℕ) (rest left : Lis
     → n ≡ train_number m.body → bits_of bytes ≡ field 8 n ++ (field 10 (length bytes) ++ (field 32 m.t_train ++ (field 24 m.nid_engine ++ rest)))
     → rest ≡ train_body_bits m.body ++ left → m.further ≡ [] → IsFilling left → length bytes < length_limit
     → m.t_train < unknown_time → m.nid_engine < 2 ^ 24 → TrainBodyFits m.body → SpellsTrain bytes m
-unfolding behind further-bits
+unfolding after_length further-bits
 spells-alone bytes m n rest left number-at start body none fill limit time engine fits =
     let after : left ≡ flat_map packet_bits m.further ++ left = ap (λ ps. flat_map packet_bits ps ++ left) (sym none) in
     let tail = body ∙ ap (λ x. train_body_bits m.body ++ x) after in
@@ -100,13 +100,13 @@ spells-alone bytes m n rest left number-at start body none fill limit time engin
 
 -- ---- what is spelled so is read: packets
 
--- a field, and what stands behind it
+-- a field, and what follows it
 pub field-parts : (n v : ℕ) (fields : List Field) (rest : List Bool) → joined ((n, v) ∷ fields) ++ rest ≡ field n v ++ (joined fields ++ rest)
 field-parts n v fields rest = ap (λ t. t ++ rest) (joined-cons (n, v) fields) ∙ append_assoc (field n v) (joined fields) rest
 
 packet-parts : (p : Packet) (rest : List Bool) → packet_bits p ++ rest ≡ field 8 p.nid_packet ++ (opaque_bits p ++ rest)
 packet-parts p rest =
-    append_assoc (joined ((8, p.nid_packet) ∷ [])) (opaque_bits p) rest ∙ joined-behind ((8, p.nid_packet) ∷ []) (opaque_bits p ++ rest)
+    append_assoc (joined ((8, p.nid_packet) ∷ [])) (opaque_bits p) rest ∙ joined-followed ((8, p.nid_packet) ∷ []) (opaque_bits p ++ rest)
 
 pub length-packet : (p : Packet) → length (packet_bits p) ≡ 21 + length p.bits
 unfolding opaque_bits
@@ -235,7 +235,7 @@ body-again (StartOfMission status position) rest fits =
 body-again SessionEstablished rest fits = refl
 
 pub read_train-again : (bytes : List ℕ) (m : TrainText) → SpellsTrain bytes m → read_train bytes ≡ Ok m
-unfolding read_train behind fillings further-bits
+unfolding read_train after_length fillings further-bits
 read_train-again bytes m s =
     let bits = train_bits (length bytes) m in
     let wide : 74 + length (train_body_bits m.body) ≤ 8 * length bytes = omega (arith, length-filled bytes bits s.text, length-bits (length bytes) m) in
@@ -262,7 +262,7 @@ written bytes m l_message all all-is text l-is limit fits =
     let len : length bytes ≡ l_message = omega (arith, length-filled bytes (train_bits l_message m) spelled, same-length l_message 0 m) in
     record { text = spelled ∙ ap (λ k. filled (train_bits k m)) (sym len); l_message = omega arith; fits = fits }
 
--- the header, and what is written behind it
+-- the header, and what is written after it
 pub written-parts : (m : TrainText) (l_message : ℕ) (header body all : List Bool) → header ≡ joined (train_header l_message m) → body ≡ header ++ train_body_bits m.body
     → all ≡ body ++ flat_map packet_bits m.further → all ≡ train_bits l_message m
 unfolding train_bits

@@ -15,15 +15,15 @@ data_packets other = []
 abbrev pub kept_packets : TrainText → List Packet
 kept_packets m = data_packets m.body ++ m.further
 
--- a fault that can be found behind a packet that is kept: these four are found before any
-abbrev pub IsBehindPackets : MsgFault → Type 0
-IsBehindPackets Short = ⊥
-IsBehindPackets Length = ⊥
-IsBehindPackets UnknownNumber = ⊥
-IsBehindPackets Missing = ⊥
-IsBehindPackets fault = Unit {0}
+-- a fault that can be found after a packet that is kept: these four are found before any
+abbrev pub IsAfterPackets : MsgFault → Type 0
+IsAfterPackets Short = ⊥
+IsAfterPackets Length = ⊥
+IsAfterPackets UnknownNumber = ⊥
+IsAfterPackets Missing = ⊥
+IsAfterPackets fault = Unit {0}
 
--- a packet may have been kept: what was read has one, or its fault can be found behind one
+-- a packet may have been kept: what was read has one, or its fault can be found after one
 abbrev pub MayKeep : {A : Type 0} → (A → List Packet) → Result A MsgFault → Type 0
 MayKeep packets (Ok x) = packets x ≢ []
-MayKeep packets (Err fault) = IsBehindPackets fault
+MayKeep packets (Err fault) = IsAfterPackets fault

@@ -22,7 +22,7 @@ start_at bytes = do
   l_message ← field_at Short 10 number.1
   Ok (number.0, l_message.0)
 
--- The bits behind them. L_MESSAGE is at least what the message needs, and as many bytes are there.
+-- The bits after them. L_MESSAGE is at least what the message needs, and as many bytes are there.
 unfoldable pub whole_at : ℕ → ℕ → List ℕ → Result (List Bool) MsgFault
 whole_at least l_message bytes = do
   _ ← refuse (nat_lt l_message least) Length
@@ -63,7 +63,7 @@ abbrev pub packet_read : {A : Type 0} → Result A PacketFault → Result A MsgF
 packet_read (Ok x) = Ok x
 packet_read (Err fault) = Err (packet_fault fault)
 
--- behind the last field: fewer than 8 bits, else the fault more, and all of them zero
+-- after the last field: fewer than 8 bits, else the fault more, and all of them zero
 unfoldable pub end_at : MsgFault → List Bool → Result (Unit {0}) MsgFault
 end_at more bits = do
   _ ← refuse (nat_le 8 (length bits)) more

@@ -1,4 +1,4 @@
--- The messages of a train on a stream of bytes, one behind another, in whatever pieces the bytes come (profile).
+-- The consecutive messages of a train on a stream of bytes, in whatever pieces the bytes come (profile).
 use Rattle.std.specs.Prelude.{◌≡◌, ◌≢◌, ◌⊎◌, ℕ, ◌<◌, ◌≤◌, List, [], ◌∷◌, ◌++◌, length, take, Option, Some, None, Result, Ok, Err, nat_lt, if◌then◌else◌}
 use Rattle.rbc_packets.specs.Steps.{◌>>=◌, refuse}
 use Rattle.rbc_msgs.specs.TrainText.{TrainText}
@@ -32,7 +32,7 @@ pub record IsRest (bytes : List ℕ) : Type 0 where
   pub at : needed_at bytes ≡ Ok needed
   pub fewer : length bytes < needed
 
--- the fault is there with the message's last byte, whatever stands behind it
+-- the fault is there with the message's last byte, whatever follows it
 pub record ShowsAtLast (bytes : List ℕ) (fault : MsgFault) : Type 0 where
   pub l_message : ℕ
   pub at : needed_at bytes ≡ Ok l_message
@@ -46,19 +46,19 @@ ShowsFault bytes fault = (needed_at bytes ≡ Err fault) ⊎ ShowsAtLast bytes f
 
 -- ## Whole streams
 
--- the bytes are the spellings of these messages, one behind another, and then the rest
+-- the bytes are the spellings of these messages, in order, and then the rest
 abbrev pub Spell : List ℕ → List TrainText → List ℕ → Type 0
 Spell bytes [] rest = bytes ≡ rest
 Spell bytes (m ∷ others) rest =
     (first : List ℕ) × (later : List ℕ) × (bytes ≡ first ++ later) × SpellsTrain first m × Spell later others rest
 
--- new is old and, behind it, the messages that the bytes spell up to the rest
+-- new is old and, after it, the messages that the bytes spell up to the rest
 pub record Adds (old new : List TrainText) (bytes rest : List ℕ) : Type 0 where
   pub messages : List TrainText
-  pub behind : new ≡ old ++ messages
+  pub added : new ≡ old ++ messages
   pub spelled : Spell bytes messages rest
 
--- the same, and behind the last of them the fault, or memory ran out there
+-- the same, and after the last of them the fault, or memory ran out there
 pub record Halts (old new : List TrainText) (bytes : List ℕ) (fault : MsgFault) : Type 0 where
   pub rest : List ℕ
   pub adds : Adds old new bytes rest

@@ -18,13 +18,13 @@ end_of_authority_at bits = do
   authority ← packet_read (authority_at found.1)
   Ok (authority.0.l_endsection, authority.1)
 
--- packet 131 behind its number
+-- packet 131 after its number
 unfoldable pub transition_order_at : List Bool → Result (TrackBody × List Bool) MsgFault
 transition_order_at bits = do
   transition ← packet_read (transition_at bits)
   Ok (Transition transition.0.d_rbctr transition.0.nid_c transition.0.nid_rbc, transition.1)
 
--- packet 42 behind its number
+-- packet 42 after its number
 unfoldable pub end_of_session_at : List Bool → Result (TrackBody × List Bool) MsgFault
 end_of_session_at bits = do
   order ← packet_read (session_order_at bits)
@@ -37,7 +37,7 @@ general_at bits = do
   if found.0 == 131 then transition_order_at found.1
       else (if found.0 == 42 then end_of_session_at found.1 else Err Missing)
 
--- what stands behind the header. M_VERSION has to be version 2.0
+-- what follows the header. M_VERSION has to be version 2.0
 abbrev pub track_body_at : TrackNumber → List Bool → Result (TrackBody × List Bool) MsgFault
 track_body_at number.MovementAuthority bits = end_of_authority_at bits >>= λ l. Ok (Authority l.0, l.1)
 track_body_at number.DataAcknowledged bits = field_at Short 32 bits >>= λ stamp. Ok (DataAcknowledged stamp.0, stamp.1)

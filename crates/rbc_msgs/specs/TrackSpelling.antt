@@ -22,7 +22,7 @@ track_number TrainAccepted = 41
 abbrev pub track_header : ℕ → TrackMessage → List Field
 track_header l_message m = (8, track_number m.body) ∷ (10, l_message) ∷ (32, m.t_train) ∷ (1, 0) ∷ (24, m.nid_lrbg) ∷ []
 
--- the fields behind the header: packet 15; T_TRAIN of the train data; packet 131 or 42; M_VERSION, which is 32 for
+-- the fields after the header: packet 15; T_TRAIN of the train data; packet 131 or 42; M_VERSION, which is 32 for
 -- version 2.0
 abbrev pub track_body_fields : TrackBody → List Field
 track_body_fields (Authority l) = (8, 15) ∷ track_packet (authority_fields (record { l_endsection = l }))

@@ -30,7 +30,7 @@ data_packet_at bits = do
   found ← required_at 11 bits
   packet_read (opaque_at 11 found.1)
 
--- ## What stands behind the header, by NID_MESSAGE
+-- ## What follows the header, by NID_MESSAGE
 
 unfoldable pub train_data_at : List Bool → Result (TrainBody × List Bool) MsgFault
 train_data_at bits = do

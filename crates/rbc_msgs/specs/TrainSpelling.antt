@@ -39,7 +39,7 @@ position_packet p = (8, 0) ∷ train_packet (position_fields p)
 abbrev pub packet_bits : Packet → List Bool
 packet_bits p = joined ((8, p.nid_packet) ∷ []) ++ opaque_bits p
 
--- the fixed fields and the packets that have to stand behind the header: Q_MARQSTREASON; T_TRAIN of the request that is
+-- the fixed fields and the packets that have to follow the header: Q_MARQSTREASON; T_TRAIN of the request that is
 -- answered; Q_STATUS
 abbrev pub train_body_bits : TrainBody → List Bool
 train_body_bits (TrainData position packet) = joined (position_packet position) ++ packet_bits packet

@@ -3,7 +3,7 @@ use Rattle.std.specs.Prelude.{ℕ, List}
 use Rattle.rbc_packets.specs.Packet.{Packet}
 use Rattle.rbc_msgs.specs.declared.train_body.TrainBody.{TrainBody}
 
--- the header; what stands behind it; and the further packets in their order
+-- the header; what follows it; and the further packets in their order
 pub record TrainText : Type 0 where
   pub t_train : ℕ
   pub nid_engine : ℕ

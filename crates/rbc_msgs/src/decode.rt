@@ -41,7 +41,7 @@ pub fn decode_train(alloc: Global, bytes: &[u8]) -> Result<TrainMsg, MsgFault>
     ensures only { (m : TrainText) → SpellsTrain bytes.now m → Gives (λ x. x) result (Ok m) }
     // Which fault it is.
     ensures exact { Gives (λ x. x) result (read_train bytes.now) }
-    // Memory is wanted only where a packet is kept, or where the fault can be found behind one.
+    // Memory is wanted only where a packet is kept, or where the fault can be found after one.
     ensures memory { IfErr result (λ e. e ≡ MsgFault.Memory → MayKeep kept_packets (read_train bytes.now)) }
 {
     if bytes.len() == USUAL_LENGTH {

@@ -31,7 +31,7 @@ pub(crate) fn start_of(bytes: &[u8]) -> Result<(u64, usize), MsgFault>
     Ok((u64::from(bytes[0]), l_message))
 }
 
-/// The bits behind L_MESSAGE, of a message of at least so many bytes.
+/// The bits after L_MESSAGE, of a message of at least so many bytes.
 #[tactic(auto, unfolding(crate::specs::Reading::whole_at))]
 #[inline(always)]
 pub(crate) fn whole(least: usize, l_message: usize, bytes: &[u8]) -> Result<BitReader<'_>, MsgFault>
@@ -110,7 +110,7 @@ pub(crate) fn take_number(reader: &mut BitReader) -> Result<u64, MsgFault>
     }
 }
 
-/// What stands behind the last field: the filling bits, and the fault `more` where they are 8 or more.
+/// What follows the last field: the filling bits, and the fault `more` where they are 8 or more.
 #[tactic(auto, unfolding(crate::specs::Reading::end_at))]
 #[inline(always)]
 pub(crate) fn end(mut reader: BitReader, more: MsgFault) -> Result<(), MsgFault>

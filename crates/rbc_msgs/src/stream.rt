@@ -8,7 +8,7 @@ use std::alloc::Global;
 use std::marker::Model;
 use std::mem;
 
-/// The bytes that come from a train, in whatever pieces, as messages that stand one behind another (profile).
+/// The bytes that come from a train, in whatever pieces, as consecutive messages (profile).
 /// It keeps what has come of a message that is not whole, at most 1 022 bytes. After a fault it reads nothing more.
 #[derive(Debug, Drop)]
 pub struct Stream {

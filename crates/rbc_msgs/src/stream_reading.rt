@@ -1,4 +1,4 @@
-//! Messages of a train that stand one behind another: whole ones are read where they lie, and only what is left of a
+//! Consecutive messages of a train: whole ones are read where they lie, and only what is left of a
 //! piece is copied.
 
 ghost use Rattle.std.specs.Prelude.{◌≡◌, ◌≢◌, ◌⊎◌, ◌<◌, ◌≤◌, ◌++◌, ◌∷◌, [], Err, length, take, drop, max, IfOk, IfErr, OnOk, OnErr, IsOkUnless};
@@ -21,7 +21,7 @@ const START_BYTES: usize = 3;
 // The most bytes that a message has.
 const MOST_BYTES: usize = 1023;
 
-/// Reads the messages of the rest and the piece behind it. What is left is the rest then.
+/// Reads the messages of the rest and the piece after it. What is left is the rest then.
 pub(crate) fn read_on(
     alloc: Global,
     rest: &mut Vec<u8>,

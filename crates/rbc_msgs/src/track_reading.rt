@@ -1,4 +1,4 @@
-//! What stands behind the header of a centre's message, in the order of the tests.
+//! What follows the header of a centre's message, in the order of the tests.
 
 ghost use Rattle.std.specs.Prelude.{◌≡◌, ◌++◌, ◌∷◌, IfOk};
 ghost use Rattle.rbc_bits.specs.Bits.{field};

@@ -1,4 +1,4 @@
-//! The parts of a centre's message, written one behind the other, and how long they are.
+//! The parts of a centre's message, written one after the other, and how long they are.
 
 ghost use Rattle.std.specs.Prelude.{◌≡◌, ◌<◌, ◌++◌, ◌^◌, ◌∷◌, [], length, IfOk, IsOkUnless};
 ghost use Rattle.rbc_bits.specs.Bits.{bits_of, filled};

@@ -28,7 +28,7 @@ impl Model for TrainMsg {
 }
 
 impl TrainMsg {
-    /// A message of the train with this NID_ENGINE, as its clock shows T_TRAIN, with further packets behind its body.
+    /// A message of the train with this NID_ENGINE, as its clock shows T_TRAIN, with further packets after its body.
     pub fn new(t_train: u32, nid_engine: u32, body: TrainBody, further: Packets) -> TrainMsg
         requires time { t_train < unknown_time }
         requires engine { nid_engine < 2 ^ 24 }
@@ -68,7 +68,7 @@ impl TrainMsg {
         &self.body
     }
 
-    /// The packets behind those that the message must have, in their order.
+    /// The packets after those that the message must have, in their order.
     pub fn further(&self) -> &[Opaque]
         ensures value { result.now ≡ self.now.further }
         ensures numbers { All (λ p. p.nid_packet ≢ 0) result.now }

@@ -18,7 +18,7 @@ impl TrainMsg {
     }
 }
 
-// What stands behind the header.
+// What follows the header.
 fn copied_body(alloc: Global, body: &TrainBody) -> Result<TrainBody, AllocError>
     ensures { IfOk result (λ copy. copy ≡ body.now) }
 {

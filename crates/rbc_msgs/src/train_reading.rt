@@ -1,4 +1,4 @@
-//! What stands behind the header of a train's message, in the order of the tests.
+//! What follows the header of a train's message, in the order of the tests.
 
 ghost use Rattle.std.specs.Prelude.{◌≡◌, ◌^◌, ◌<◌, ◌++◌, [], ◌∷◌, length, IfOk, IfErr};
 ghost use Rattle.std.specs.List.{flat_map, AllByRecursion};

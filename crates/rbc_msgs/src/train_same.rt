@@ -20,7 +20,7 @@ impl TrainMsg {
     }
 }
 
-// Whether both say the same behind the header.
+// Whether both say the same after the header.
 fn is_same_body(a: &TrainBody, b: &TrainBody) -> bool
     ensures { IsTrue result ↔ (a.now ≡ b.now) }
 {

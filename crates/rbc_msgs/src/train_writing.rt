@@ -1,4 +1,4 @@
-//! The parts of a train's message, written one behind the other, and how long they are.
+//! The parts of a train's message, written one after the other, and how long they are.
 
 ghost use Rattle.std.specs.Prelude.{◌≡◌, ◌≢◌, ◌+◌, ◌<◌, ◌≤◌, ◌++◌, ◌^◌, length, All, IfOk, IfErr, OnOk, IsOkUnless};
 ghost use Rattle.std.specs.List.{flat_map, AllByRecursion};
@@ -176,7 +176,7 @@ pub(crate) fn bytes(
     }
 }
 
-// The bytes of bits, of a position report behind them, and of further packets.
+// The bytes of bits, of a position report after them, and of further packets.
 #[inline(always)]
 fn with_position(
     alloc: Global,
@@ -197,7 +197,7 @@ fn with_position(
     finish(alloc, l_message, row, further)
 }
 
-// The bytes of bits, and of further packets behind them.
+// The bytes of bits, and of further packets after them.
 #[inline(always)]
 fn finish(
     alloc: Global,
@@ -217,7 +217,7 @@ fn finish(
     with_packets(writer, further)
 }
 
-// The bytes of what is written, and of further packets behind it, in their order.
+// The bytes of what is written, and of further packets after it, in their order.
 fn with_packets(mut writer: BitWriter, packets: &[Opaque]) -> Result<Vec<u8>, EncodeFault>
     requires { All (λ p. p.nid_packet ≢ 0) packets.now }
     ensures ok { IfOk result (λ bytes. bits_of bytes.items ≡ filled (writer ++ flat_map packet_bits packets.now)) }

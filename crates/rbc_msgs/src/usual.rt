@@ -23,11 +23,11 @@ use rbc_packets::{Packets, Position};
 use rbc_vars::{QMarqstreason, QStatus, TTrain};
 use std::alloc::Global;
 
-// How many bytes train data have at least behind a position report of the usual length. Where there are so many, the
+// How many bytes train data have at least after a position report of the usual length. Where there are so many, the
 // places of the report's fields are known.
 const SHORTEST_DATA: usize = 28;
 
-// T_TRAIN, NID_ENGINE, and the bits behind the header.
+// T_TRAIN, NID_ENGINE, and the bits after the header.
 #[derive(Drop)]
 struct Header<'a> {
     t_train: u32,
@@ -215,7 +215,7 @@ fn read_header(number: TrainNumber, bytes: &[u8]) -> Option<Header<'_>>
     })
 }
 
-// A position report of the usual length, behind which nothing but filling bits stands.
+// A position report of the usual length, after which nothing but filling bits stands.
 #[inline(always)]
 fn last_position(mut rest: BitReader) -> Option<Position>
     ensures taken { IfSome result
@@ -230,7 +230,7 @@ fn last_position(mut rest: BitReader) -> Option<Position>
     Some(position)
 }
 
-// NID_PACKET and L_PACKET of a position report of the usual length, and the bits behind them.
+// NID_PACKET and L_PACKET of a position report of the usual length, and the bits after them.
 #[inline(always)]
 fn position_bits(reader: &mut BitReader) -> Option<BitWord>
     ensures taken { IfSome result (λ bits. reader.old ≡ field 8 0 ++ (field 13 129 ++ (bits ++ reader.new))) }

@@ -18,7 +18,7 @@ use crate::track::{TrackBody, TrackMsg};
 use rbc_bits::BitReader;
 use rbc_packets::{Authority, SessionOrder, Transition};
 
-// T_TRAIN, NID_LRBG, and the bits behind the header.
+// T_TRAIN, NID_LRBG, and the bits after the header.
 #[derive(Drop)]
 struct Header<'a> {
     t_train: u32,
@@ -125,7 +125,7 @@ fn read_header(number: TrackNumber, bytes: &[u8]) -> Option<Header<'_>>
     })
 }
 
-// The message with this header and body, where nothing but filling bits stands behind them.
+// The message with this header and body, where nothing but filling bits follows them.
 #[inline(always)]
 fn message(header: Header, body: TrackBody) -> Option<TrackMsg>
     requires time { header.t_train < unknown_time }

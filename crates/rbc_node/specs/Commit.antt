@@ -15,7 +15,7 @@ pub record Fits (share : ShareValue) (log : LogValue) : Type 0 where
   pub centre : number_of log.core ≡ share.centre
   pub last : IfSome (last_receipt share) (Has log.entries)
 
--- the log took the event, with this outcome in its last entry, and the share has that entry's receipt behind the others
+-- the log took the event, with this outcome in its last entry, and the share has that entry's receipt after the others
 pub record Commits (old new : ShareValue) (before after : LogValue) (event : Event) (outcome : Outcome) : Type 0 where
   pub fits : Fits old before
   pub appends : Appends before after event outcome

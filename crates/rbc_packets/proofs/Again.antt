@@ -14,9 +14,9 @@ use Rattle.rbc_packets.specs.declared.fault.PacketFault.TheVariants.{Short, Leng
 use Rattle.rbc_packets.specs.Layout.{Field, joined, widths, train_packet, track_packet}
 use Rattle.rbc_packets.specs.Steps.{Takes}
 use Rattle.rbc_packets.specs.Reading.{train_part_at, track_part_at, none_left, fixed_at, q_scale_at, direction_at, q_length_at, m_level_at}
-use Rattle.rbc_packets.proofs.Joined.{joined-cons, joined-behind, length-joined}
+use Rattle.rbc_packets.proofs.Joined.{joined-cons, joined-followed, length-joined}
 
--- what was read, and the bits behind it, are what the program answered
+-- what was read, and the bits after it, are what the program answered
 pub takes-only : {A F : Type 0} (r : Result A F) (new rest : List Bool) (x : A) (read : Result (A × List Bool) F) → Takes (λ y. y) r new read → read ≡ Ok (x, rest) → (r ≡ Ok x) × (new ≡ rest)
 takes-only {A = A} (Ok y) new rest x read t e = let p : (y, new) ≡ (x, rest) = cc in (ap (λ (q : A × List Bool). Ok q.0) p, ap (λ (q : A × List Bool). q.1) p)
 takes-only {A = A} (Err f) new rest x read t e = absurd cc
@@ -63,14 +63,14 @@ track_part_at-again part rest few =
     let n : 23 + length part - 23 ≡ length part = omega arith in
     rw (field_at-field Short 2 1 (field 13 (23 + length part) ++ (part ++ rest)) (omega arith), field_at-field Short 13 (23 + length part) (part ++ rest) (omega arith), long, n, part_at-part Short (length part) part rest refl) refl
 
--- the bits of a packet behind NID_PACKET
+-- the bits of a packet after NID_PACKET
 pub train_packet-parts : (fields : List Field) (rest : List Bool) → joined (train_packet fields) ++ rest ≡ field 13 (21 + length (joined fields)) ++ (joined fields ++ rest)
 train_packet-parts fields rest =
     ap (λ t. t ++ rest) (joined-cons (13, 21 + widths fields) fields) ∙ append_assoc (field 13 (21 + widths fields)) (joined fields) rest ∙ ap (λ n. field 13 (21 + n) ++ (joined fields ++ rest)) (sym (length-joined fields))
 
 pub track_packet-parts : (fields : List Field) (rest : List Bool) → joined (track_packet fields) ++ rest ≡ field 2 1 ++ (field 13 (23 + length (joined fields)) ++ (joined fields ++ rest))
 track_packet-parts fields rest =
-    joined-behind (track_packet fields) rest ∙ ap (λ t. field 2 1 ++ (field 13 (23 + widths fields) ++ t)) (sym (joined-behind fields rest)) ∙ ap (λ n. field 2 1 ++ (field 13 (23 + n) ++ (joined fields ++ rest))) (sym (length-joined fields))
+    joined-followed (track_packet fields) rest ∙ ap (λ t. field 2 1 ++ (field 13 (23 + widths fields) ++ t)) (sym (joined-followed fields rest)) ∙ ap (λ n. field 2 1 ++ (field 13 (23 + n) ++ (joined fields ++ rest))) (sym (length-joined fields))
 
 -- ---- what the code read is spelled so
 

@@ -1,4 +1,4 @@
--- The bits of fields that stand one behind the other.
+-- The bits of consecutive fields.
 use Rattle.std.proofs.Common.{◌≡◌, ℕ, ◌+◌, ◌*◌, ◌^◌, ◌<◌, Bool, List, [], ◌∷◌, ◌++◌, length, refl, sym, ap, ◌∙◌, append_assoc, length-append, arith}
 use Rattle.std.proofs.lemmas.List.{append-nil}
 use Rattle.rbc_bits.specs.Bits.{field}
@@ -30,24 +30,24 @@ length-joined (f ∷ fields) =
     let l = length-append (field f.0 f.1) (joined fields) in
     rw (joined-cons f fields, l, length-field f.0 f.1, length-joined fields) refl
 
--- ---- fields, and bits behind them
+-- ---- fields, and bits after them
 
-abbrev pub behind : List Field → List Bool → List Bool
-behind [] rest = rest
-behind (f ∷ fields) rest = field f.0 f.1 ++ behind fields rest
+abbrev pub followed : List Field → List Bool → List Bool
+followed [] rest = rest
+followed (f ∷ fields) rest = field f.0 f.1 ++ followed fields rest
 
-pub joined-behind : (fields : List Field) (rest : List Bool) → joined fields ++ rest ≡ behind fields rest
-joined-behind [] rest = ap (λ t. t ++ rest) joined-nil
-joined-behind (f ∷ fields) rest =
-    ap (λ t. t ++ rest) (joined-cons f fields) ∙ append_assoc (field f.0 f.1) (joined fields) rest ∙ ap (λ t. field f.0 f.1 ++ t) (joined-behind fields rest)
+pub joined-followed : (fields : List Field) (rest : List Bool) → joined fields ++ rest ≡ followed fields rest
+joined-followed [] rest = ap (λ t. t ++ rest) joined-nil
+joined-followed (f ∷ fields) rest =
+    ap (λ t. t ++ rest) (joined-cons f fields) ∙ append_assoc (field f.0 f.1) (joined fields) rest ∙ ap (λ t. field f.0 f.1 ++ t) (joined-followed fields rest)
 
-pub behind-append : (a b : List Field) (rest : List Bool) → behind (a ++ b) rest ≡ behind a (behind b rest)
-behind-append [] b rest = refl
-behind-append (f ∷ fields) b rest = ap (λ t. field f.0 f.1 ++ t) (behind-append fields b rest)
+pub followed-append : (a b : List Field) (rest : List Bool) → followed (a ++ b) rest ≡ followed a (followed b rest)
+followed-append [] b rest = refl
+followed-append (f ∷ fields) b rest = ap (λ t. field f.0 f.1 ++ t) (followed-append fields b rest)
 
 -- ---- what is written
 
--- fields behind what stands already, and others behind them
+-- fields after what stands already, and others after them
 pub written-then : (w x y : List Bool) (a b : List Field) → x ≡ w ++ joined a → y ≡ x ++ joined b → y ≡ w ++ joined (a ++ b)
 written-then w x y a b p q =
     q ∙ ap (λ t. t ++ joined b) p ∙ append_assoc w (joined a) (joined b) ∙ ap (λ t. w ++ t) (sym (joined-append a b))

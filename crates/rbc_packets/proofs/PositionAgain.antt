@@ -15,15 +15,15 @@ use Rattle.rbc_packets.specs.declared.position.Position.{Position}
 use Rattle.rbc_packets.specs.Layout.{joined, widths, train_packet}
 use Rattle.rbc_packets.specs.PositionSpelling.{location_fields, train_length_fields, running_fields, level_fields, position_fields, LocationFits, TrainLengthFits, LevelFits, PositionFits}
 use Rattle.rbc_packets.specs.PositionReading.{location_at, train_length_at, level_at, position_fields_at, position_at}
-use Rattle.rbc_packets.proofs.Joined.{behind, joined-behind, behind-append, length-joined, widths-append}
+use Rattle.rbc_packets.proofs.Joined.{followed, joined-followed, followed-append, length-joined, widths-append}
 use Rattle.rbc_packets.proofs.Again.{q_scale_at-again, direction_at-again, q_length_at-again, m_level_at-again, none_left-again, train_part_at-again, train_packet-parts}
 
-location_at-again : (l : Location) (rest : List Bool) → LocationFits l → location_at (behind (location_fields l) rest) ≡ Ok (l, rest)
+location_at-again : (l : Location) (rest : List Bool) → LocationFits l → location_at (followed (location_fields l) rest) ≡ Ok (l, rest)
 unfolding location_at
 location_at-again l rest fits =
     rw (q_scale_at-again l.q_scale _, field_at-field Length 24 l.nid_lrbg _ fits.nid_lrbg, field_at-field Length 15 l.d_lrbg _ fits.d_lrbg, direction_at-again l.q_dirlrbg _, direction_at-again l.q_dlrbg _, field_at-field Length 15 l.l_doubtover _ fits.l_doubtover, field_at-field Length 15 l.l_doubtunder rest fits.l_doubtunder) refl
 
-train_length_at-again : (l : TrainLength) (rest : List Bool) → TrainLengthFits l → train_length_at (behind (train_length_fields l) rest) ≡ Ok (l, rest)
+train_length_at-again : (l : TrainLength) (rest : List Bool) → TrainLengthFits l → train_length_at (followed (train_length_fields l) rest) ≡ Ok (l, rest)
 unfolding train_length_at
 train_length_at-again train_length.NoInformation rest fits = rw (q_length_at-again q_length.NoInformation rest) refl
 train_length_at-again (train_length.ConfirmedByDevice l) rest fits =
@@ -32,7 +32,7 @@ train_length_at-again (train_length.ConfirmedByDriver l) rest fits =
     rw (q_length_at-again q_length.ConfirmedByDriver (field 15 l ++ rest), field_at-field Length 15 l rest fits) refl
 train_length_at-again train_length.Lost rest fits = rw (q_length_at-again q_length.Lost rest) refl
 
-level_at-again : (l : Level) (rest : List Bool) → LevelFits l → level_at (behind (level_fields l) rest) ≡ Ok (l, rest)
+level_at-again : (l : Level) (rest : List Bool) → LevelFits l → level_at (followed (level_fields l) rest) ≡ Ok (l, rest)
 unfolding level_at
 level_at-again level.Level0 rest fits = rw (m_level_at-again m_level.Level0 rest) refl
 level_at-again (level.Ntc n) rest fits =
@@ -44,10 +44,10 @@ level_at-again level.Spare5 rest fits = rw (m_level_at-again m_level.Spare5 rest
 level_at-again level.Spare6 rest fits = rw (m_level_at-again m_level.Spare6 rest) refl
 level_at-again level.Spare7 rest fits = rw (m_level_at-again m_level.Spare7 rest) refl
 
--- the fields one part behind the other
-parts : (p : Position) (rest : List Bool) → joined (position_fields p) ++ rest ≡ behind (location_fields p.location) (behind (train_length_fields p.train_length) (behind (running_fields p) (behind (level_fields p.level) rest)))
+-- the fields one part after the other
+parts : (p : Position) (rest : List Bool) → joined (position_fields p) ++ rest ≡ followed (location_fields p.location) (followed (train_length_fields p.train_length) (followed (running_fields p) (followed (level_fields p.level) rest)))
 parts p rest =
-    joined-behind (position_fields p) rest ∙ ap (behind (location_fields p.location)) (behind-append (train_length_fields p.train_length) (running_fields p ++ level_fields p.level) rest)
+    joined-followed (position_fields p) rest ∙ ap (followed (location_fields p.location)) (followed-append (train_length_fields p.train_length) (running_fields p ++ level_fields p.level) rest)
 
 position_fields_at-again : (p : Position) (rest : List Bool) → PositionFits p → position_fields_at (joined (position_fields p) ++ rest) ≡ Ok (p, rest)
 unfolding position_fields_at

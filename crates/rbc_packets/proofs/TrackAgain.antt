@@ -10,7 +10,7 @@ use Rattle.rbc_packets.specs.declared.session_order.SessionOrder.{SessionOrder}
 use Rattle.rbc_packets.specs.Layout.{Field, joined, widths, track_packet}
 use Rattle.rbc_packets.specs.TrackSpelling.{no_radio, authority_fields, transition_fields, session_order_fields, AuthorityFits, TransitionFits, SessionOrderFits}
 use Rattle.rbc_packets.specs.TrackReading.{sections_at, no_more_at, radio_at, authority_fields_at, transition_fields_at, session_order_fields_at, authority_at, transition_at, session_order_at}
-use Rattle.rbc_packets.proofs.Joined.{behind, joined-behind, length-joined}
+use Rattle.rbc_packets.proofs.Joined.{followed, joined-followed, length-joined}
 use Rattle.rbc_packets.proofs.Again.{fixed_at-again, none_left-again, track_part_at-again, track_packet-parts}
 
 sections_at-again : (rest : List Bool) → sections_at (field 2 1 ++ (field 7 0 ++ (field 10 1023 ++ (field 5 0 ++ rest)))) ≡ Ok (tt, rest)
@@ -28,9 +28,9 @@ unfolding radio_at
 radio_at-again rest =
     rw (fixed_at-again 64 no_radio (field 1 0 ++ rest) (omega arith), fixed_at-again 1 0 rest (omega arith)) refl
 
--- the fields of a packet, and nothing behind them
-whole : (fields : List Field) → joined fields ≡ behind fields []
-whole fields = sym (append-nil (joined fields)) ∙ joined-behind fields []
+-- the fields of a packet, and nothing after them
+whole : (fields : List Field) → joined fields ≡ followed fields []
+whole fields = sym (append-nil (joined fields)) ∙ joined-followed fields []
 
 few : (fields : List Field) → widths fields ≤ 200 → length (joined fields) < 8169
 few fields le = omega (arith, length-joined fields)

@@ -1,4 +1,4 @@
--- How packets and messages are laid out (SUBSET-026 chapters 7 and 8): their fields stand one behind the other, bit by
+-- How packets and messages are laid out (SUBSET-026 chapters 7 and 8): their fields are consecutive, bit by
 -- bit.
 use Rattle.std.specs.Prelude.{ℕ, ◌+◌, Bool, List, [], ◌∷◌, ◌++◌}
 use Rattle.rbc_bits.specs.Bits.{field}
@@ -7,7 +7,7 @@ use Rattle.rbc_bits.specs.Bits.{field}
 abbrev pub Field : Type 0
 Field = ℕ × ℕ
 
--- the bits of fields that stand one behind the other
+-- the bits of consecutive fields
 unfoldable pub joined : List Field → List Bool
 joined [] = []
 joined (f ∷ fields) = field f.0 f.1 ++ joined fields
@@ -17,7 +17,7 @@ abbrev pub widths : List Field → ℕ
 widths [] = 0
 widths (f ∷ fields) = f.0 + widths fields
 
--- what stands behind NID_PACKET of a train's packet: L_PACKET, which counts the bits of the whole packet, and its
+-- what follows NID_PACKET of a train's packet: L_PACKET, which counts the bits of the whole packet, and its
 -- fields
 abbrev pub train_packet : List Field → List Field
 train_packet fields = (13, 21 + widths fields) ∷ fields

@@ -6,11 +6,11 @@ use Rattle.rbc_packets.specs.Packet.{Packet}
 use Rattle.rbc_packets.specs.Reading.{train_part_at}
 use Rattle.rbc_packets.specs.declared.fault.PacketFault.{PacketFault}
 
--- what stands behind NID_PACKET: L_PACKET, and the bits
+-- what follows NID_PACKET: L_PACKET, and the bits
 unfoldable pub opaque_bits : Packet → List Bool
 opaque_bits p = joined ((13, 21 + length p.bits) ∷ []) ++ p.bits
 
--- a packet of this NID_PACKET behind it
+-- a packet of this NID_PACKET after it
 unfoldable pub opaque_at : ℕ → List Bool → Result (Packet × List Bool) PacketFault
 opaque_at nid_packet bits = do
   part ← train_part_at bits

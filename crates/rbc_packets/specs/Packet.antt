@@ -1,4 +1,4 @@
--- A packet that is kept without being read: its NID_PACKET, and the bits behind L_PACKET.
+-- A packet that is kept without being read: its NID_PACKET, and the bits after L_PACKET.
 use Rattle.std.specs.Prelude.{ℕ, ◌^◌, ◌<◌, Bool, List, length}
 
 pub record Packet : Type 0 where

@@ -68,7 +68,7 @@ level_at bits = do
   m_level ← m_level_at bits
   nid_ntc_at m_level.0 m_level.1
 
--- the fields behind the header
+-- the fields after the header
 unfoldable pub position_fields_at : List Bool → Result (Position × List Bool) PacketFault
 position_fields_at bits = do
   location ← location_at bits
@@ -89,14 +89,14 @@ position_fields_at bits = do
     level.1,
   )
 
--- all bits behind the header, and the bits behind the packet
+-- all bits after the header, and the bits after the packet
 abbrev pub position_part_at : List Bool → List Bool → Result (Position × List Bool) PacketFault
 position_part_at bits rest = do
   position ← position_fields_at bits
   _ ← none_left position.1
   Ok (position.0, rest)
 
--- the packet behind NID_PACKET, and the bits behind it
+-- the packet after NID_PACKET, and the bits after it
 unfoldable pub position_at : List Bool → Result (Position × List Bool) PacketFault
 position_at bits = do
   part ← train_part_at bits

@@ -38,7 +38,7 @@ level_fields level.Spare5 = (3, 5) ∷ []
 level_fields level.Spare6 = (3, 6) ∷ []
 level_fields level.Spare7 = (3, 7) ∷ []
 
--- all fields behind the header
+-- all fields after the header
 abbrev pub position_fields : Position → List Field
 position_fields p =
     location_fields p.location ++ (train_length_fields p.train_length ++ (running_fields p ++ level_fields p.level))

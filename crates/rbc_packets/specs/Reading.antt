@@ -1,4 +1,4 @@
--- The order in which the parts that packets have in common are tested (profile). Bits begin behind NID_PACKET.
+-- The order in which the parts that packets have in common are tested (profile). Bits begin after NID_PACKET.
 use Rattle.std.specs.Prelude.{ℕ, ◌-◌, ◌==◌, Bool, not, List, length, Result, Ok, nat_lt}
 use Rattle.std.specs.Option.{ok_or}
 use Rattle.rbc_bits.specs.Reading.{field_at, part_at}
@@ -13,7 +13,7 @@ use Rattle.rbc_packets.specs.declared.fault.PacketFault.TheVariants.{Short, Leng
 
 -- ## Headers
 
--- the bits of a train's packet behind its header, and those behind the packet: L_PACKET has at least the header's 21
+-- the bits of a train's packet after its header, and those after the packet: L_PACKET has at least the header's 21
 -- bits
 unfoldable pub train_part_at : List Bool → Result (List Bool × List Bool) PacketFault
 train_part_at bits = do
@@ -31,7 +31,7 @@ track_part_at bits = do
   _ ← refuse (not (q_dir.0 == 1)) Value
   Ok part
 
--- behind the last field of a packet nothing may stand
+-- after the last field of a packet nothing may stand
 unfoldable pub none_left : List Bool → Result (Unit {0}) PacketFault
 none_left bits = refuse (nat_lt 0 (length bits)) Length
 

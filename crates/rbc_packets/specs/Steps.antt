@@ -1,4 +1,4 @@
--- Reading as a function that answers a value and the bits behind it, or the first fault.
+-- Reading as a function that answers a value and the bits after it, or the first fault.
 use Rattle.std.specs.Prelude.{◌≡◌, ◌≢◌, Bool, true, false, List, Result, Ok, Err}
 
 -- a step, and then the next with what it gave
@@ -12,7 +12,7 @@ abbrev pub refuse : {F : Type 0} → Bool → F → Result (Unit {0}) F
 refuse true fault = Err fault
 refuse false fault = Ok tt
 
--- what the program answered, seen by view, and the bits behind it, are what reading gives
+-- what the program answered, seen by view, and the bits after it, are what reading gives
 abbrev pub Takes : {F A B : Type 0} → (A → B) → Result A F → List Bool → Result (B × List Bool) F → Type 0
 Takes view (Ok x) rest read = read ≡ Ok (view x, rest)
 Takes view (Err e) rest read = read ≡ Err e

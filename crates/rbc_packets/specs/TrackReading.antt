@@ -33,7 +33,7 @@ authority_fields_at bits = do
   others ← no_more_at l_endsection.1
   Ok (record { l_endsection = l_endsection.0 }, others.1)
 
--- packet 15 behind NID_PACKET, and the bits behind it
+-- packet 15 after NID_PACKET, and the bits after it
 unfoldable pub authority_at : List Bool → Result (Authority × List Bool) PacketFault
 authority_at bits = do
   part ← track_part_at bits
@@ -56,7 +56,7 @@ transition_fields_at bits = do
   radio ← radio_at nid_rbc.1
   Ok (record { d_rbctr = d_rbctr.0; nid_c = nid_c.0; nid_rbc = nid_rbc.0 }, radio.1)
 
--- packet 131 behind NID_PACKET, and the bits behind it
+-- packet 131 after NID_PACKET, and the bits after it
 unfoldable pub transition_at : List Bool → Result (Transition × List Bool) PacketFault
 transition_at bits = do
   part ← track_part_at bits
@@ -72,7 +72,7 @@ session_order_fields_at bits = do
   radio ← radio_at nid_rbc.1
   Ok (record { nid_c = nid_c.0; nid_rbc = nid_rbc.0 }, radio.1)
 
--- packet 42 behind NID_PACKET, and the bits behind it
+-- packet 42 after NID_PACKET, and the bits after it
 unfoldable pub session_order_at : List Bool → Result (SessionOrder × List Bool) PacketFault
 session_order_at bits = do
   part ← track_part_at bits

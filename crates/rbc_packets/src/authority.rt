@@ -25,7 +25,7 @@ impl Authority {
     /// L_PACKET: how many bits the packet has.
     pub const L_PACKET: u64 = 66;
 
-    /// Reads the packet behind its NID_PACKET.
+    /// Reads the packet after its NID_PACKET.
     #[inline(always)]
     pub fn read_packet(reader: &mut BitReader) -> Result<Self, PacketFault>
         // What is read is spelled so.

@@ -1,4 +1,4 @@
-//! The packets of radio messages (SUBSET-026 7.4): each a struct of typed fields, read from the bits behind NID_PACKET
+//! The packets of radio messages (SUBSET-026 7.4): each a struct of typed fields, read from the bits after NID_PACKET
 //! with the first fault that is met, and written as its one spelling.
 //!
 //! Bodies and proofs are free. The clauses of public functions stay, since the crates above stand on them.

@@ -9,7 +9,7 @@ use crate::reading::{direction, q_scale, take};
 use rbc_bits::{BitPart, BitRow, BitWord};
 use rbc_vars::{DLrbg, Direction, LDoubtover, LDoubtunder, NidLrbg, QScale};
 
-/// Where the train is: its estimated front end from a balise group, and how far it may be behind and ahead of it.
+/// Where the train is: its estimated front end from a balise group, and how far it may be in rear and in advance of it.
 #[derive(Clone, Copy, Debug, PartialEq, Eq)]
 pub struct Location {
     /// The balise group.
@@ -22,7 +22,7 @@ pub struct Location {
     pub q_dirlrbg: Direction,
     /// On which side of the group its front end is.
     pub q_dlrbg: Direction,
-    /// How far it may be behind.
+    /// How far it may be in rear.
     pub l_doubtover: LDoubtover,
     /// How far it may be ahead.
     pub l_doubtunder: LDoubtunder,

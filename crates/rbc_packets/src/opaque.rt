@@ -13,14 +13,14 @@ use smallvec::SmallVec;
 use std::alloc::Global;
 use std::marker::Model;
 
-// How many bits a row has room for behind a header, a position report and the header of a packet.
+// How many bits a row has room for after a header, a position report and the header of a packet.
 const MOST_FEW: u32 = 24;
 
 // How many bytes stand in the value itself: those of a word.
 const IN_PLACE: usize = 16;
 
-/// A packet of a train that is kept without being read: its NID_PACKET, and the bits behind its header. It stands
-/// behind a pointer, since few messages have one, and each is as large as the largest.
+/// A packet of a train that is kept without being read: its NID_PACKET, and the bits after its header. It is under a
+/// pointer, since few messages have one, and each is as large as the largest.
 #[derive(Debug, Drop)]
 pub struct Opaque {
     kept: Box<Kept>,
@@ -64,7 +64,7 @@ impl Opaque {
         }
     }
 
-    /// Reads the packet of this NID_PACKET behind it.
+    /// Reads the packet of this NID_PACKET after it.
     #[inline(always)]
     pub fn read_packet(
         alloc: Global,
@@ -109,7 +109,7 @@ impl Opaque {
         Ok(writer)
     }
 
-    /// Writes the packet into a row. None where it has more than 24 bits behind its header: then nothing is written.
+    /// Writes the packet into a row. None where it has more than 24 bits after its header: then nothing is written.
     #[inline(always)]
     pub fn put_few(&self, row: &mut BitRow) -> Option<()>
         requires room { length row.old + 45 ≤ 256 }
@@ -137,7 +137,7 @@ impl Opaque {
         self.kept.nid_packet
     }
 
-    /// The bits behind the header.
+    /// The bits after the header.
     pub fn bits(&self) -> BitReader<'_>
         ensures bits { result ≡ self.now.bits }
         ensures few { length result < 8171 }

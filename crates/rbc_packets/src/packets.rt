@@ -4,7 +4,7 @@ use crate::opaque::Opaque;
 use std::alloc::{AllocError, Global};
 use std::marker::Model;
 
-/// Packets of a train that are kept without being read, in their order. They stand behind one pointer, and none take no
+/// Packets of a train that are kept without being read, in their order. They are under one pointer, and none take no
 /// memory.
 #[derive(Debug, Drop)]
 pub struct Packets {

@@ -34,17 +34,17 @@ pub struct Position {
 // The bits of the header and of the fields that each report has, but for Q_LENGTH and M_LEVEL.
 const FIXED_BITS: u64 = 109;
 
-// The bits behind the header of a report with L_TRAININT and without NID_NTC.
+// The bits after the header of a report with L_TRAININT and without NID_NTC.
 const USUAL_BITS: u32 = 108;
 
-// The fewest bits behind the header.
+// The fewest bits after the header.
 const LEAST_BITS: u32 = 93;
 
 impl Position {
     /// NID_PACKET of a position report.
     pub const NID_PACKET: u64 = 0;
 
-    /// Reads the packet behind its NID_PACKET.
+    /// Reads the packet after its NID_PACKET.
     #[inline(always)]
     pub fn read_packet(reader: &mut BitReader) -> Result<Self, PacketFault>
         // What is read is spelled so.
@@ -74,7 +74,7 @@ impl Position {
         Ok(position)
     }
 
-    /// The bits behind the header of a packet that has as many as most reports: those of a train whose length is known,
+    /// The bits after the header of a packet that has as many as most reports: those of a train whose length is known,
     /// and that runs under no national system. None where it has fewer or more, or where they stand in no word.
     #[inline(always)]
     pub fn usual_bits(reader: &mut BitReader) -> Option<BitWord>
@@ -114,7 +114,7 @@ impl Position {
         })
     }
 
-    // All bits behind the header, which stand in no word. It is a function of its own, so that the fields of the others
+    // All bits after the header, which stand in no word. It is a function of its own, so that the fields of the others
     // are read with no test of where they stand.
     #[inline(never)]
     fn far(bits: BitReader) -> Result<Self, PacketFault>
@@ -125,7 +125,7 @@ impl Position {
         Position::whole(bits.part())
     }
 
-    // All bits behind the header. It is a call, and the only one of `fields`, so that the part stays in registers from
+    // All bits after the header. It is a call, and the only one of `fields`, so that the part stays in registers from
     // field to field.
     #[inline(never)]
     fn whole(mut part: BitPart) -> Result<Self, PacketFault>
@@ -199,7 +199,7 @@ impl Position {
     }
 }
 
-// All bits behind the header in one word, where they may be enough.
+// All bits after the header in one word, where they may be enough.
 #[inline(always)]
 fn in_word<'a>(bits: &BitReader<'a>) -> Option<BitPart<'a>>
     ensures { IfSome result (λ part. part ≡ bits.now) }

@@ -24,7 +24,7 @@ const TRACK_HEADER: u32 = 23;
 /// NID_RADIO of all ones: no number is given.
 pub(crate) const NO_RADIO: u64 = 18_446_744_073_709_551_615;
 
-/// The bits of a train's packet behind its header.
+/// The bits of a train's packet after its header.
 #[tactic(auto, unfolding(crate::specs::Reading::train_part_at))]
 #[inline(always)]
 pub(crate) fn train_part<'a>(reader: &mut BitReader<'a>) -> Result<BitReader<'a>, PacketFault>
@@ -39,7 +39,7 @@ pub(crate) fn train_part<'a>(reader: &mut BitReader<'a>) -> Result<BitReader<'a>
     cut(reader, l_packet - TRAIN_HEADER)
 }
 
-/// The bits of a packet of a centre behind its header. Q_DIR is nominal.
+/// The bits of a packet of a centre after its header. Q_DIR is nominal.
 #[tactic(auto, unfolding(crate::specs::Reading::track_part_at))]
 #[inline(always)]
 pub(crate) fn track_part<'a>(reader: &mut BitReader<'a>) -> Result<BitReader<'a>, PacketFault>
@@ -59,7 +59,7 @@ pub(crate) fn track_part<'a>(reader: &mut BitReader<'a>) -> Result<BitReader<'a>
     Ok(part)
 }
 
-/// Behind the last field of a packet nothing may stand.
+/// After the last field of a packet nothing may stand.
 #[tactic(auto, unfolding(crate::specs::Reading::none_left))]
 #[inline(always)]
 pub(crate) fn end(part: BitPart) -> Result<(), PacketFault>

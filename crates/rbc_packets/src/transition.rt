@@ -31,7 +31,7 @@ impl Transition {
     /// L_PACKET: how many bits the packet has.
     pub const L_PACKET: u64 = 129;
 
-    /// Reads the packet behind its NID_PACKET.
+    /// Reads the packet after its NID_PACKET.
     #[inline(always)]
     pub fn read_packet(reader: &mut BitReader) -> Result<Self, PacketFault>
         // What is read is spelled so.

@@ -67,7 +67,7 @@ none_up_to test (suc n) fail =
     (found_same test n (record { first = 0; count = 0 }) (record { first = 0; count = 0 }) (fail n (omega arith)) refl
     (none_up_to test n (λ s lt. fail s (omega arith))))
 
--- where none of those behind passes, what is found stays
+-- where none of those after it passes, what is found stays
 pub found_all : (test : ℕ → Bool) (n k : ℕ) (r : SectionRun) → ((s : ℕ) → n ≤ s → test s ≡ false) → IsFound test n r → IsFound test (n + k) r
 found_all test n zero r fail so_far = let e : n + zero ≡ n = omega arith in rw e so_far
 found_all test n (suc k) r fail so_far =

@@ -1,6 +1,6 @@
 pub mod Longest
 pub mod Ends
 pub mod Found
-pub mod Behind
+pub mod InRear
 pub mod CoverRun
 pub mod TrackEnd

@@ -19,14 +19,14 @@ place_from track metres p = record {
       (p.scale * p.l_doubtover + 10 * l)) p.l_trainint;
 }
 
--- the run with one section more behind its last, which is its first where it was empty
+-- the run with one section more after its last, which is its first where it was empty
 abbrev pub with_last : SectionRun → ℕ → SectionRun
 with_last r s = if is_empty r then record { first = s; count = 1 } else record { first = r.first; count = r.count + 1 }
 
--- a section is behind: of an earlier track, or of this one and ending at or before the rear end, in decimetres; where
+-- a section is in rear: of an earlier track, or of this one and ending at or before the rear end, in decimetres; where
 -- that is not known the whole track is
-abbrev pub is_behind : Line → ℕ → Option ℤ → ℕ → Bool
-is_behind line track rear s =
+abbrev pub is_in_rear : Line → ℕ → Option ℤ → ℕ → Bool
+is_in_rear line track rear s =
     option_map_or (λ p. nat_lt p.track track
     || ((p.track == track) && option_map_or (λ r. int_le (pos (10 * end line s)) r) rear true))
     (section line s) false

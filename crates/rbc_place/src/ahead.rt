@@ -1,26 +1,27 @@
-//! Where the line goes on behind a train, found by halving: sections are numbered track by track, and rise on each.
+//! Where the line goes on in advance of a rear end, found by halving: sections are numbered track by track, and rise on
+//! each.
 
 ghost use Rattle.std.specs.Prelude.{◌≡◌, ◌*◌, ◌<◌, ◌≤◌, ℕ, pos, int_le, true, false, length};
 ghost use Rattle.std.specs.Option.{option_map_or};
 ghost use Rattle.rbc_spec.specs.Line.{IsLine, end};
-ghost use Rattle.rbc_place.specs.Places.{is_behind};
+ghost use Rattle.rbc_place.specs.Places.{is_in_rear};
 
 use crate::sections::section_end;
 use rbc_line::Line;
 
-/// The first section of the line that is not behind the rear end, in decimetres from the start of this track: of a
+/// The first section of the line that is not in rear of the rear end, in decimetres from the start of this track: of a
 /// later track, or of this one and ending past it. Where the rear end is not known, the first of a later track.
 pub(crate) fn first_ahead(line: &Line, track: u8, rear: Option<i32>) -> u16
     ensures bound { result ≤ length line.now.sections }
-    ensures behind { (s : ℕ) → s < result → is_behind line.now track rear s ≡ true }
-    ensures ahead { (s : ℕ) → result ≤ s → is_behind line.now track rear s ≡ false }
+    ensures in_rear { (s : ℕ) → s < result → is_in_rear line.now track rear s ≡ true }
+    ensures ahead { (s : ℕ) → result ≤ s → is_in_rear line.now track rear s ≡ false }
     ensures line { IsLine line.now }
 {
     let mut low = 0;
     let mut high = line.section_count();
     while low < high {
         let middle = low + (high - low) / 2;
-        if is_behind(line, track, rear, middle) {
+        if is_in_rear(line, track, rear, middle) {
             low = middle + 1;
         } else {
             high = middle;
@@ -29,9 +30,9 @@ pub(crate) fn first_ahead(line: &Line, track: u8, rear: Option<i32>) -> u16
     low
 }
 
-// Whether the section is behind the rear end.
-fn is_behind(line: &Line, track: u8, rear: Option<i32>, s: u16) -> bool
-    ensures { result ≡ is_behind line.now track rear s }
+// Whether the section is in rear of the rear end.
+fn is_in_rear(line: &Line, track: u8, rear: Option<i32>, s: u16) -> bool
+    ensures { result ≡ is_in_rear line.now track rear s }
 {
     match line.section(s) {
         Some(section) => {

@@ -1,6 +1,6 @@
 ghost use Rattle.std.specs.Prelude.{◌≡◌, ◌<◌, ◌≤◌, length};
 ghost use Rattle.rbc_spec.specs.Line.{IsLine};
-ghost use Rattle.rbc_spec.specs.SectionRuns.{behind};
+ghost use Rattle.rbc_spec.specs.SectionRuns.{next_after};
 ghost use Rattle.rbc_spec.specs.Place as spec;
 ghost use Rattle.rbc_hand.specs.SectionRuns.{run_of};
 ghost use Rattle.rbc_place.specs.Places.{place_of, with_last};
@@ -31,11 +31,11 @@ pub fn covers(line: &Line, place: &Place, s: u16) -> bool
 pub fn covered(line: &Line, place: &Place) -> SectionRun
     ensures value { run_of result ≡ spec.covered line.now (place_of place.now) }
     // Each of them is a section of the line.
-    ensures bound { behind (run_of result) ≤ length line.now.sections }
+    ensures bound { next_after (run_of result) ≤ length line.now.sections }
     ensures line { IsLine line.now }
 {
     let mut run = SectionRun { first: 0, count: 0 };
-    // What lies behind the rear end is not covered, nor is what follows the first section ahead that is not.
+    // What lies in rear of the rear end is not covered, nor is what follows the first section ahead that is not.
     for s in first_ahead(line, place.track, place.rear)..line.section_count() {
         if !covers(line, place, s) {
             return run;

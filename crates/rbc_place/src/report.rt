@@ -26,7 +26,7 @@ pub fn extent(line: &Line, position: &Position) -> Option<Place>
     }
     let s = line.section_of_group(position.location.nid_lrbg.value() as u32)?;
     let section = line.section(s)?;
-    Some(place_behind(section, position))
+    Some(place_ahead(section, position))
 }
 
 /// The place of a report, where it is on this track.
@@ -92,9 +92,9 @@ fn confirmed_metres(length: TrainLength) -> Option<u32>
     }
 }
 
-/// The place behind a group at the start of a section.
+/// The place of a train in advance of a group at the start of a section.
 #[inline(always)]
-fn place_behind(section: Section, position: &Position) -> Place
+fn place_ahead(section: Section, position: &Position) -> Place
     requires { section.start + section.metres ≤ 1024000 }
     ensures value { place_of result ≡ place_from section.track section.start (position_of position.now) }
     ensures group { result.group < 2 ^ 24 }
@@ -114,7 +114,7 @@ fn place_behind(section: Section, position: &Position) -> Place
     }
 }
 
-/// The safe rear end of a train with this estimated front end, whose front may be so far behind it.
+/// The safe rear end of a train with this estimated front end, whose front may be so far in rear of it.
 #[inline(always)]
 fn rear_end(front: u32, doubt: u32, length: TrainLength) -> Option<i32>
     requires front { front ≤ 20000000 }

@@ -53,9 +53,9 @@ pub fn track_end(line: &Line, track: u8) -> u32
     ensures value { result ≡ spec.track_end line.now track }
     ensures bound { result ≤ 1024000 }
 {
-    let behind = u32::from(first_ahead(line, track, None));
-    if behind > 0 && is_on(line, track, behind - 1) {
-        section_end(line, behind - 1)
+    let in_rear = u32::from(first_ahead(line, track, None));
+    if in_rear > 0 && is_on(line, track, in_rear - 1) {
+        section_end(line, in_rear - 1)
     } else {
         0
     }

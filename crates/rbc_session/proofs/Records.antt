@@ -22,16 +22,16 @@ IsAbsent slots t = (k : ℕ) (r : Record) → IsAt slots k r → r.nid_engine �
 IsOne : Slots → Type 0
 IsOne slots = (j k : ℕ) (p q : Record) → IsAt slots j p → IsAt slots k q → p.nid_engine ≡ q.nid_engine → j ≡ k
 
-one_behind : (slot : Option Record) (rest : Slots) → IsOne (slot ∷ rest) → IsOne rest
+one_of_rest : (slot : Option Record) (rest : Slots) → IsOne (slot ∷ rest) → IsOne rest
 unfolding IsOne
-one_behind slot rest one j k p q at_j at_k same = let next : suc j ≡ suc k = one (suc j) (suc k) p q at_j at_k same in omega arith
+one_of_rest slot rest one j k p q at_j at_k same = let next : suc j ≡ suc k = one (suc j) (suc k) p q at_j at_k same in omega arith
 
 -- the phase of a train that has a record
 found_phase : (slots : Slots) (k : ℕ) (r : Record) (t : ℕ) → IsOne slots → IsAt slots k r → r.nid_engine ≡ t → phase_in slots t ≡ record_phase r
 unfolding IsOne
 found_phase [] k r t one at same = absurd (none-some r at)
 found_phase (None ∷ rest) zero r t one at same = absurd (none-some r at)
-found_phase (None ∷ rest) (suc k) r t one at same = found_phase rest k r t (one_behind None rest one) at same
+found_phase (None ∷ rest) (suc k) r t one at same = found_phase rest k r t (one_of_rest None rest one) at same
 found_phase (Some p ∷ rest) zero r t one at same =
     let is : p ≡ r = same_Some p r at in
     elim (eqb_tells p.nid_engine t) [
@@ -41,7 +41,7 @@ found_phase (Some p ∷ rest) zero r t one at same =
 found_phase (Some p ∷ rest) (suc k) r t one at same =
     elim (eqb_tells p.nid_engine t) [
       | inl e ↦ absurd (let first : 0 ≡ suc k = one 0 (suc k) p r refl at (e.1 ∙ sym same) in omega arith)
-      | inr e ↦ rw (e.0) (found_phase rest k r t (one_behind (Some p) rest one) at same)
+      | inr e ↦ rw (e.0) (found_phase rest k r t (one_of_rest (Some p) rest one) at same)
     ]
 
 -- the phase of a train that has none

@@ -11,13 +11,13 @@ abbrev pub is_free : ShorteningFacts → Bool
 is_free m = (m.is_up && not m.is_ended) && is_none m.proposal
 
 -- the section is in the hand, and not its first
-abbrev pub is_cut_behind_first : SectionRun → ℕ → Bool
-is_cut_behind_first hand s = within hand s && not (s == hand.first)
+abbrev pub is_cut_after_first : SectionRun → ℕ → Bool
+is_cut_after_first hand s = within hand s && not (s == hand.first)
 
 -- a request to shorten before section s, which starts there, may be made
 unfoldable pub may_shorten_at : ℕ → ShorteningFacts → ℕ → Bool
 may_shorten_at metres m s =
-    is_free m && ((is_cut_behind_first (run_of m.hand) s && nat_le m.front (10 * metres))
+    is_free m && ((is_cut_after_first (run_of m.hand) s && nat_le m.front (10 * metres))
     && nat_le metres (m.group_start + 32767))
 
 -- what it asks for

@@ -5,7 +5,7 @@ ghost use Rattle.rbc_spec.specs.Centre as spec;
 ghost use Rattle.rbc_spec.specs.Acts.{may_propose};
 ghost use Rattle.rbc_hand.specs.SectionRuns.{run_of};
 ghost use Rattle.rbc_shorten.specs.Facts.{AreFactsOf};
-ghost use Rattle.rbc_shorten.specs.Requests.{may_shorten, may_shorten_at, shortening, shortening_at, is_free, is_cut_behind_first};
+ghost use Rattle.rbc_shorten.specs.Requests.{may_shorten, may_shorten_at, shortening, shortening_at, is_free, is_cut_after_first};
 
 use crate::facts::{Shortening, ShorteningFacts};
 use rbc_hand::SectionRun;
@@ -42,7 +42,7 @@ fn may_be_asked(facts: ShorteningFacts, s: u16, start: u32) -> bool
     ensures room { result ≡ true → start ≤ facts.group_start + 32767 }
 {
     is_free(facts)
-        && is_cut_behind_first(facts.hand, s)
+        && is_cut_after_first(facts.hand, s)
         && u64::from(facts.front) <= 10 * u64::from(start)
         && u64::from(start) <= u64::from(facts.group_start) + FARTHEST
 }
@@ -55,8 +55,8 @@ fn is_free(facts: ShorteningFacts) -> bool
 }
 
 // Whether the section is in the hand, and not its first.
-fn is_cut_behind_first(hand: SectionRun, s: u16) -> bool
-    ensures { result ≡ is_cut_behind_first (run_of hand) s }
+fn is_cut_after_first(hand: SectionRun, s: u16) -> bool
+    ensures { result ≡ is_cut_after_first (run_of hand) s }
 {
     hand.contains(s) && s != hand.first
 }

@@ -36,23 +36,23 @@ before_run : (a count s : ℕ) → s < a → within (record { first = a; count =
 unfolding within
 before_run a count s low = and_left _ _ (lt-leb a s low)
 
-behind_run : (a count s : ℕ) → a + count ≤ s → within (record { first = a; count = count }) s ≡ false
+after_run : (a count s : ℕ) → a + count ≤ s → within (record { first = a; count = count }) s ≡ false
 unfolding within
-behind_run a count s high = and_right _ _ (le-ltb s (a + count) high)
+after_run a count s high = and_right _ _ (le-ltb s (a + count) high)
 
--- nothing is found before the first number, nor behind the last
+-- nothing is found before the first number, nor after the last
 none_before : (test : ℕ → Bool) (a n s : ℕ) → s < a → within (run_of (found test a n)) s ≡ false
-none_before test a zero s low = behind_run 0 0 s (omega arith)
+none_before test a zero s low = after_run 0 0 s (omega arith)
 none_before test a (suc n) s low = by_test (test a)
     (λ (passes : test a ≡ true). rw (found_kept test a n passes) (before_run a _ s low))
     (λ (fails : test a ≡ false). rw (found_left test a n fails) (none_before test (a + 1) n s (omega arith)))
 
-none_behind : (test : ℕ → Bool) (a n s : ℕ) → a + n ≤ s → within (run_of (found test a n)) s ≡ false
-none_behind test a zero s high = behind_run 0 0 s (omega arith)
-none_behind test a (suc n) s high = by_test (test a)
+none_after : (test : ℕ → Bool) (a n s : ℕ) → a + n ≤ s → within (run_of (found test a n)) s ≡ false
+none_after test a zero s high = after_run 0 0 s (omega arith)
+none_after test a (suc n) s high = by_test (test a)
     (λ (passes : test a ≡ true). rw (found_kept test a n passes)
-    (behind_run a (length (found test (a + 1) n) + 1) s (omega (arith, few_found test (a + 1) n))))
-    (λ (fails : test a ≡ false). rw (found_left test a n fails) (none_behind test (a + 1) n s (omega arith)))
+    (after_run a (length (found test (a + 1) n) + 1) s (omega (arith, few_found test (a + 1) n))))
+    (λ (fails : test a ≡ false). rw (found_left test a n fails) (none_after test (a + 1) n s (omega arith)))
 
 -- where nothing passes, nothing is found
 none_found : (test : ℕ → Bool) (a n : ℕ) → ((s : ℕ) → a ≤ s → test s ≡ false) → found test a n ≡ []
@@ -99,9 +99,9 @@ convex_run test a (suc n) convex s low high = by_test (test a)
     (λ (here : s ≡ a). none_before test (a + 1) n s (omega arith) ∙ sym fails ∙ ap test (sym here))
     (λ (apart : s ≡ a → ⊥). convex_run test (a + 1) n convex s (omega arith) (omega arith))))
 
--- the same from 0, where no number behind the last passes
+-- the same from 0, where no number after the last passes
 pub convex_run_of : (test : ℕ → Bool) (n s : ℕ) → IsConvex test → (n ≤ s → test s ≡ false) → within (run_of (found test 0 n)) s ≡ test s
 convex_run_of test n s convex outside = ⊎_elim
     (λ (low : s < n). convex_run test 0 n convex s (omega arith) (omega arith))
-    (λ (high : n ≤ s). none_behind test 0 n s (omega arith) ∙ sym (outside high))
+    (λ (high : n ≤ s). none_after test 0 n s (omega arith) ∙ sym (outside high))
     (cases_lt s n)

@@ -21,7 +21,7 @@ use Rattle.rbc_spec.specs.ReadOff.{StandsFor, Held, seen, held_at, handed_over, 
 pub contains_head : {X : Type 0} (x : X) (xs : List X) → Contains (x ∷ xs) x
 contains_head x xs = (zero, omega arith, refl)
 
--- what is behind the head of a list is in the list
+-- what follows the head of a list is in the list
 pub contains_more : {X : Type 0} (y x : X) (xs : List X) → Contains xs x → Contains (y ∷ xs) x
 contains_more y x xs is = (suc is.0, omega (arith, is.1), is.2)
 

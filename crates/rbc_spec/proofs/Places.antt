@@ -159,7 +159,7 @@ covers_convex line ok place s m e from to one two =
       ends = rear_more place.rear (10 * end line s) (10 * end line m) (omega (arith, ends_rise line place.track s m first.on on from)) first.ends;
     })
 
--- no section behind the line's last is covered
+-- no section after the line's last is covered
 covers_past : (line : Line) (place : Place) (s : ℕ) → section_count line ≤ s → covers line place s ≡ false
 covers_past line place s past =
     and_left (is_on line place.track s && nat_lt (10 * start line s) place.front) _

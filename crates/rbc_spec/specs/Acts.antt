@@ -3,7 +3,7 @@ use Rattle.std.specs.Prelude.{ℕ, ◌+◌, ◌-◌, ◌*◌, ◌==◌, Bool, tr
 use Rattle.std.specs.Option.{option_map_or}
 use Rattle.std.specs.List.{filter, range_with_len}
 use Rattle.rbc_spec.specs.Maps.{put}
-use Rattle.rbc_spec.specs.SectionRuns.{SectionRun, no_run, most_in_hand, within, behind, is_empty, shared}
+use Rattle.rbc_spec.specs.SectionRuns.{SectionRun, no_run, most_in_hand, within, next_after, is_empty, shared}
 use Rattle.rbc_spec.specs.Line.{Line, is_home, start, registrar}
 use Rattle.rbc_spec.specs.Sections.{nid_rbc, home_run}
 use Rattle.rbc_spec.specs.Place.{Place, covered, group_start, has_room}
@@ -122,7 +122,7 @@ set_mission t mission = become (λ k. record k { mission = put k.mission t missi
 abbrev pub change_mission : ℕ → (Mission → Mission) → Act
 change_mission t change = become (λ k. record k { mission = put k.mission t (option_map change (k.mission t)) })
 
--- the pool goes home, behind what has left from the end of the hand
+-- the pool is returned to its home, after the sections that have left the end of the hand
 abbrev pub return_pool : Line → ℕ → ℕ → Mission → Act
 return_pool line c t mission =
     returned line c t mission.place.track mission.pool >> change_mission t (λ n. record n { pool = no_run })
@@ -195,10 +195,10 @@ announce line t group d m k =
     >> say t group (Transition (start line border - group_start line m.place) line.nid_c (nid_rbc line d))
     $ k
 
--- the sections behind the hand are asked for, as many as the hand has room for
+-- asks for the sections in advance of the hand, as many as the hand has room for
 abbrev pub ask_route : ℕ → ℕ → Mission → Act
 ask_route t d m =
-    let first = behind m.hand in
+    let first = next_after m.hand in
     send d (RouteAsk t first (min (most_in_hand - m.hand.count) (512 - first)))
     >> become (λ k. record k { route_ask = put k.route_ask t (Some first) })
 

@@ -5,7 +5,7 @@ use Rattle.std.specs.Option.{option_map_or}
 use Rattle.std.specs.List.{find, range_with_len}
 use Rattle.rbc_spec.specs.Maps.{has, put}
 use Rattle.rbc_spec.specs.Maps.{put_pair}
-use Rattle.rbc_spec.specs.SectionRuns.{SectionRun, no_run, within, behind, is_empty, part_before, part_from, longest, all_of}
+use Rattle.rbc_spec.specs.SectionRuns.{SectionRun, no_run, within, next_after, is_empty, part_before, part_from, longest, all_of}
 use Rattle.rbc_spec.specs.Line.{Line, is_home, section, next_centre, train_number, section_of_group}
 use Rattle.rbc_spec.specs.Sections.{is_on, is_on_track}
 use Rattle.rbc_spec.specs.Place.{Place, group_start}
@@ -65,7 +65,7 @@ route_asked line c d t first most k =
 -- the lent sections follow the hand of a mission that goes on, whose pool is empty
 abbrev pub is_wanted : Line → SectionRun → Mission → Bool
 is_wanted line r m =
-    ((r.first == behind m.hand) && is_on line m.place.track r.first) && (not m.is_ended && is_empty m.pool)
+    ((r.first == next_after m.hand) && is_on line m.place.track r.first) && (not m.is_ended && is_empty m.pool)
 
 -- what was asked for goes into the pool, or home again
 abbrev pub route_told : Line → ℕ → ℕ → ℕ → SectionRun → Act
@@ -119,9 +119,9 @@ may_arrive line c k t track s =
     if is_home line c s then is_out_for t (k.book s)
     else has (λ p. not (has (λ n. n == p.home) (next_centre line c track))) (section line s)
 
--- a handover is taken under the number that was announced, after this centre said that it takes over, where neither
--- mission nor right are here, the hand is a run of the place's track, and the place's group is of that track and not
--- behind its front
+-- a handover is taken under the number that was announced, after this centre said that it takes over. Neither mission
+-- nor right are here, and the hand is a run of the place's track. The place's group is of that track, and not in
+-- advance of its front
 abbrev pub may_take : Line → ℕ → Centre → ℕ → ℕ → ℕ → Place → SectionRun → Bool
 may_take line c k d number t place hand =
     (has (λ e. (e.number == number) && e.is_taking) (k.expects d t) && (is_none (k.mission t) && not (k.has_right t)))

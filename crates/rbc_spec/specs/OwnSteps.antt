@@ -4,7 +4,7 @@ use Rattle.std.specs.Prelude.{◌≡◌, ◌+◌, ◌-◌, ◌*◌, ◌≤◌, �
 use Rattle.std.specs.Option.{option_map_or}
 use Rattle.std.specs.List.{list_any, range_with_len}
 use Rattle.rbc_spec.specs.Maps.{put, put_pair}
-use Rattle.rbc_spec.specs.SectionRuns.{SectionRun, most_in_hand, within, behind, all_of}
+use Rattle.rbc_spec.specs.SectionRuns.{SectionRun, most_in_hand, within, next_after, all_of}
 use Rattle.rbc_spec.specs.Line.{Line, is_home, start, end}
 use Rattle.rbc_spec.specs.Sections.{section_count, is_on}
 use Rattle.rbc_spec.specs.Place.{Place, covered, is_cleared, group_start, farthest, has_room, fit_place, place_on}
@@ -98,13 +98,13 @@ Starts line t c (Some place) v said new =
 
 -- ## Request
 
--- the section may not follow in the hand at centre c: it is not on the track, or not released with home c, or would be
--- the 33rd, or ends too far behind the group
+-- why the section may not follow in the hand at centre c. It is not on the track, or not released with home c. Or it
+-- would be the 33rd, or ends too far in advance of the group
 pub data Ends (line : Line) (v : LineState) (c : ℕ) (place : Place) (hand : SectionRun) : Type 0 where
-  off_track : is_on line place.track (behind hand) ≡ false → Ends line v c place hand
-  not_free : (is_home line c (behind hand) && is_mark_open (v.mark (behind hand))) ≡ false → Ends line v c place hand
+  off_track : is_on line place.track (next_after hand) ≡ false → Ends line v c place hand
+  not_free : (is_home line c (next_after hand) && is_mark_open (v.mark (next_after hand))) ≡ false → Ends line v c place hand
   full : hand.count ≡ most_in_hand → Ends line v c place hand
-  too_far : has_room line place (end line (behind hand)) ≡ false → Ends line v c place hand
+  too_far : has_room line place (end line (next_after hand)) ≡ false → Ends line v c place hand
 
 -- a section by which the hand is extended: released with home c, or kept for the train and no start waits for it
 abbrev pub may_be_given : Line → LineState → ℕ → ℕ → ℕ → Bool
@@ -118,13 +118,13 @@ pub record Extends (line : Line) (v : LineState) (t c : ℕ) (place : Place) (sa
   pub count : ℕ
   pub is_hand : IsHand v t hand
   pub each : all_of (λ s. may_be_given line v c t s && is_on line place.track s)
-      (record { first = behind hand; count = count }) ≡ true
+      (record { first = next_after hand; count = count }) ≡ true
   pub ends : Ends line v c place (record { first = hand.first; count = hand.count + count })
   pub room : hand.count + count ≤ most_in_hand
-  pub within_reach : end line (behind hand + count - 1) ≤ group_start line place + farthest
-  pub says_it : Says t c place.group (Authority (end line (behind hand + count - 1) - group_start line place)) [] v
+  pub within_reach : end line (next_after hand + count - 1) ≤ group_start line place + farthest
+  pub says_it : Says t c place.group (Authority (end line (next_after hand + count - 1) - group_start line place)) [] v
       (change_mission t (λ m. record m { place = place })
-      (mark_all (within (record { first = behind hand; count = count })) (Given t) v)) said new
+      (mark_all (within (record { first = next_after hand; count = count })) (Given t) v)) said new
 
 -- ## Report, end of mission, shortening
 
@@ -163,7 +163,7 @@ stopping_words line t c place v =
 abbrev pub ended : ℕ → LineState → LineState
 ended t v = change_mission t (λ m. record m { is_ended = true; proposal = None }) v
 
--- the sections of the hand behind the last that is kept
+-- the sections of the hand in advance of the last that is kept
 abbrev pub is_cut_of : LineState → ℕ → ℕ → ℕ → Bool
 is_cut_of v t last_kept s = is_given_to t (v.mark s) && nat_lt last_kept s
 

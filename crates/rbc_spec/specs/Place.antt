@@ -41,13 +41,14 @@ abbrev pub has_place : Position → Bool
 has_place p =
     ((p.is_nominal && p.is_level_2) && is_known p.d_lrbg) && (is_known p.l_doubtover && is_known p.l_doubtunder)
 
--- the estimated front end, in decimetres, behind a group at the start of section s
+-- the estimated front end, in decimetres, of a train in advance of a group at the start of section s
 abbrev pub estimated_front : Line → ℕ → Position → ℕ
 estimated_front line s p = 10 * start line s + p.scale * p.d_lrbg
 
--- the place behind a group at the start of section s of a track. L_TRAININT is read in metres whatever the scale
-abbrev pub place_behind : Line → ℕ → Section → Position → Place
-place_behind line s q p = record {
+-- the place of a train in advance of a group at the start of section s of a track. L_TRAININT is read in metres
+-- whatever the scale
+abbrev pub place_ahead : Line → ℕ → Section → Position → Place
+place_ahead line s q p = record {
   track = q.track;
   group = p.nid_lrbg;
   front = estimated_front line s p + p.scale * p.l_doubtunder;
@@ -58,7 +59,7 @@ place_behind line s q p = record {
 unfoldable pub extent : Line → Position → Option Place
 extent line p =
     if has_place p
-    then option_and_then (λ s. option_map (λ q. place_behind line s q p) (section line s))
+    then option_and_then (λ s. option_map (λ q. place_ahead line s q p) (section line s))
     (section_of_group line p.nid_lrbg)
     else None
 

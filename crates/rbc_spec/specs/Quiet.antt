@@ -1,4 +1,4 @@
--- The quiet steps of the one line centre, which it may take of its own behind an event. Only an admitted start gives a
+-- The quiet steps of the one line centre, which it may take of its own after an event. Only an admitted start gives a
 -- section, and none frees a given one.
 use Rattle.std.specs.Prelude.{◌≡◌, ◌+◌, ◌-◌, ◌*◌, ◌≤◌, ◌<◌, ℕ, List, [], ◌∷◌, ◌++◌, max, Bool, true, false, ◌==◌, ◌&&◌, Some, None}
 use Rattle.std.specs.Option.{option_map_or}
@@ -95,8 +95,8 @@ pub record Proposes (line : Line) (v : LineState) (t c s : ℕ) (said : Said) (n
             (record { stamp = v.said t c + 1; last_kept = s - 1 });
       }) v) said new
 
--- message 24 with packet 131 (3.15.1): the next centre of the track, and where its first section in the hand begins,
--- which is not behind the group and has room in D_RBCTR
+-- message 24 with packet 131 (3.15.1): the next centre of the track, and the start of its first section in the hand.
+-- That start is not in rear of the group, and has room in D_RBCTR
 pub record Orders (line : Line) (v : LineState) (t c : ℕ) (said : Said) (new : LineState) : Type 0 where
   pub mission : LineMission
   pub next : ℕ

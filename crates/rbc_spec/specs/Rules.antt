@@ -2,7 +2,7 @@
 use Rattle.std.specs.Prelude.{ℕ, ◌+◌, ◌-◌, ◌*◌, ◌==◌, Bool, true, false, ◌&&◌, ◌||◌, not, if◌then◌else◌, [], ◌∷◌, Some, None, is_none, nat_lt, nat_le, option_map}
 use Rattle.std.specs.Option.{option_map_or}
 use Rattle.rbc_spec.specs.Maps.{has, put}
-use Rattle.rbc_spec.specs.SectionRuns.{SectionRun, no_run, most_in_hand, within, behind, is_empty, part_before, part_from, joined, longest, passing, all_of}
+use Rattle.rbc_spec.specs.SectionRuns.{SectionRun, no_run, most_in_hand, within, next_after, is_empty, part_before, part_from, joined, longest, passing, all_of}
 use Rattle.rbc_spec.specs.Line.{Line, is_centre, is_home, start, end, next_centre, registrar}
 use Rattle.rbc_spec.specs.Sections.{is_on}
 use Rattle.rbc_spec.specs.Place.{Place, Position, covered, is_cleared, group_start, has_room, place_on, fit_place}
@@ -88,7 +88,7 @@ start_mission line c t is_valid position k =
 
 -- L_ENDSECTION of an authority for the hand, counted from the group of the mission's place
 abbrev pub authority : Line → Mission → ℕ
-authority line m = end line (behind m.hand - 1) - group_start line m.place
+authority line m = end line (next_after m.hand - 1) - group_start line m.place
 
 -- the section may follow in the hand: on the track, released here or next in the pool, and its end has room in
 -- L_ENDSECTION
@@ -100,14 +100,14 @@ may_follow line c k m s =
 abbrev pub extension : Line → ℕ → Centre → Mission → SectionRun
 extension line c k m =
     record {
-      first = behind m.hand;
-      count = longest (may_follow line c k m) (behind m.hand) (most_in_hand - m.hand.count);
+      first = next_after m.hand;
+      count = longest (may_follow line c k m) (next_after m.hand) (most_in_hand - m.hand.count);
     }
 
 -- the mission with a longer hand, and what is left of its pool
 abbrev pub extended_by : SectionRun → Mission → Mission
 extended_by r m =
-    record m { hand = joined m.hand r; pool = if is_empty m.pool then m.pool else part_from (behind r) m.pool }
+    record m { hand = joined m.hand r; pool = if is_empty m.pool then m.pool else part_from (next_after r) m.pool }
 
 -- a handover to centre d is announced where none stands and the hand has a section of home d
 abbrev pub announce_if_due : Line → ℕ → ℕ → Act
@@ -115,11 +115,11 @@ announce_if_due line t d = with_mission t (λ m.
     where_so (λ k. is_none m.handing && not (is_empty (part_at line d m.place.track m.hand)))
     (announce line t m.place.group d m))
 
--- more sections are asked for where the next behind the hand is on the track and of home d, the hand has room, the pool
--- is empty, and no ask stands
+-- more sections are asked for if the next section in advance of the hand is on the track and of home d. Besides, the
+-- hand must have room, the pool must be empty, and no ask may be pending
 abbrev pub ask_route_if_due : Line → ℕ → ℕ → Act
 ask_route_if_due line t d = with_mission t (λ m. where_so
-    (λ k. ((is_home line d (behind m.hand) && is_on line m.place.track (behind m.hand))
+    (λ k. ((is_home line d (next_after m.hand) && is_on line m.place.track (next_after m.hand))
     && nat_lt m.hand.count most_in_hand) && (is_empty m.pool && is_none (k.route_ask t)))
     (ask_route t d m))
 
@@ -151,7 +151,7 @@ clear line c t m place =
     if r.count == m.hand.count
     then (leave line c t m.place.track (joined m.hand m.pool) >> close line c t m)
     else (leave line c t m.place.track r
-    >> set_mission t (Some (record m { place = place; hand = part_from (behind r) m.hand })))
+    >> set_mission t (Some (record m { place = place; hand = part_from (next_after r) m.hand })))
 
 abbrev pub report_here : Line → ℕ → ℕ → Position → Mission → Act
 report_here line c t position m = option_map_or (clear line c t m) (place_on line m.place.track position) rest
@@ -179,7 +179,7 @@ report line c t position k =
 
 -- ## Shortening (3.8.6)
 
--- the hand is cut behind the last section kept, with what the pool has; an emptied hand closes the mission
+-- the hand is cut after the last section kept, with what the pool has; an emptied hand closes the mission
 abbrev pub cut : Line → ℕ → ℕ → ℕ → Mission → Act
 cut line c t last_kept m =
     let tail = part_from (last_kept + 1) m.hand in

@@ -99,7 +99,7 @@ abbrev pub TellsInOrder : List Word → Type 0
 TellsInOrder words =
     (i j s e : ℕ) → i < j → slice_get words i ≡ Some (Told s) → slice_get words j ≡ Some (Told e) → s < e
 
--- the piece of an event: its own step, then quiet steps of its centre, none behind a silent message, and what they say
+-- the piece of an event: its own step, then quiet steps of its centre, none after a silent message, and what they say
 -- in order, sections that are told by their numbers. The piece of a delivery is quiet steps alone
 pub record Piece (line : Line) (v : LineState) (event : Event) (outcome : Outcome) (new : LineState) : Type 0 where
   pub own : Said

@@ -26,9 +26,9 @@ within r s = nat_le r.first s && nat_lt s (r.first + r.count)
 abbrev pub all_of : (ℕ → Bool) → SectionRun → Bool
 all_of test r = list_all test (range_with_len r.first r.count)
 
--- the first number behind the run
-abbrev pub behind : SectionRun → ℕ
-behind r = r.first + r.count
+-- the first number after the run: the section in advance of it, if its track has one
+abbrev pub next_after : SectionRun → ℕ
+next_after r = r.first + r.count
 
 abbrev pub is_empty : SectionRun → Bool
 is_empty r = r.count == 0
@@ -38,11 +38,11 @@ abbrev pub part_before : ℕ → SectionRun → SectionRun
 part_before s r = record { first = r.first; count = min r.count (s - r.first) }
 
 abbrev pub part_from : ℕ → SectionRun → SectionRun
-part_from s r = record { first = max r.first s; count = behind r - max r.first s }
+part_from s r = record { first = max r.first s; count = next_after r - max r.first s }
 
 -- what two runs share
 abbrev pub shared : SectionRun → SectionRun → SectionRun
-shared a b = part_from b.first (part_before (behind b) a)
+shared a b = part_from b.first (part_before (next_after b) a)
 
 -- a run and one that follows it at once, as one; an empty one adds nothing
 abbrev pub joined : SectionRun → SectionRun → SectionRun

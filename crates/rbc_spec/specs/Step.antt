@@ -3,7 +3,7 @@ use Rattle.std.specs.Prelude.{ℕ, ◌+◌, ◌-◌, ◌*◌, ◌==◌, Bool, tr
 use Rattle.std.specs.Option.{option_map_or}
 use Rattle.std.specs.List.{find, list_any, range_with_len}
 use Rattle.rbc_spec.specs.Maps.{has, put}
-use Rattle.rbc_spec.specs.SectionRuns.{behind}
+use Rattle.rbc_spec.specs.SectionRuns.{next_after}
 use Rattle.rbc_spec.specs.Line.{Line, is_home, is_linked, end, train_number}
 use Rattle.rbc_spec.specs.Sections.{section_count}
 use Rattle.rbc_spec.specs.Place.{Position, extent, has_front, has_room, place_on}
@@ -36,8 +36,8 @@ is_awaited line c k t position = is_expected line k t
 -- a request has a place on the mission's track, not past the hand's end, which has room in L_ENDSECTION
 abbrev pub may_request : Line → Mission → Position → Bool
 may_request line m position = option_map_or
-    (λ place. nat_le place.front (10 * end line (behind m.hand - 1))
-    && has_room line place (end line (behind m.hand - 1)))
+    (λ place. nat_le place.front (10 * end line (next_after m.hand - 1))
+    && has_room line place (end line (next_after m.hand - 1)))
     (place_on line m.place.track position) false
 
 -- the train is not supervised here, and its message does not concern this centre otherwise
@@ -172,7 +172,7 @@ refusal line c k event =
     if nat_lt last_stamp (stamp_of k event) then Some ClockEnd
     else (if has_full_link line c k then Some LinkFull else None)
 
--- bodies as frames: numbered behind those sent before, with the step's stamp
+-- bodies as frames: numbered on from those sent before, with the step's stamp
 abbrev pub numbered : ℕ → ℕ → List Body → List Frame
 numbered stamp count [] = []
 numbered stamp count (body ∷ bodies) =

@@ -23,7 +23,7 @@ WholeLineTheorem = (line : Line) (events : List Event) (answers : List Answer) (
 
 -- Whatever has happened to the centres of a line, and whatever event they answer next: the one line centre may meet
 -- that event with the same answer, between the states that are read off them; the event keeps its promises, and the new
--- world is sound. A refused event changes nothing, so this holds also of events behind refused ones
+-- world is sound. A refused event changes nothing, so this also holds of events after refused ones
 abbrev pub EachEventTheorem : Type 0
 EachEventTheorem =
     (line : Line) (w new : World) (events : List Event) (answers : List Answer) (event : Event) (answer : Answer)
@@ -58,12 +58,12 @@ pub record ForcedMessageStep (line : Line) (v : LineState) (c : ℕ) (m : TrainM
 abbrev pub MayPropose : Line → LineState → ℕ → ℕ → ℕ → Type 0
 MayPropose line v t c s = (said : Said) × (new : LineState) × Proposes line v t c s said new
 
--- behind an unset it is sent where it may be, and nothing else is done
+-- after an unset it is sent if it may be, and nothing else is done
 pub data Asks (line : Line) (v : LineState) (c s : ℕ) : List Quiet → Type 0 where
   asked : (t : ℕ) → MayPropose line v t c s → Asks line v c s (Propose t c s ∷ [])
   not_asked : ((t : ℕ) → MayPropose line v t c s → ⊥) → Asks line v c s []
 
--- what follows an event's own step: message 9 behind an unset that asks for it, and no other quiet step
+-- what follows an event's own step: message 9 after an unset that asks for it, and no other quiet step
 abbrev pub ForcedQuietSteps : Line → LineState → Event → List Quiet → Type 0
 ForcedQuietSteps line mid (Unset c s) quiets = Asks line mid c s quiets
 ForcedQuietSteps line mid event quiets = quiets ≡ []

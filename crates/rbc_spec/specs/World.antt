@@ -46,7 +46,7 @@ new_world line = record { at = beginning line; trains = [] }
 abbrev pub frame_sent : World → ℕ → ℕ → ℕ → Option Frame
 frame_sent w a b number = if number == 0 then None else slice_get ((w.at a).sent b) (number - 1)
 
--- the frames on the way from a to b: those sent behind the last that was taken
+-- the frames on the way from a to b: those sent after the last that was taken
 abbrev pub way : World → ℕ → ℕ → List Frame
 way w a b = drop ((w.at b).taken a) ((w.at a).sent b)
 

@@ -46,7 +46,7 @@ pub fn a_stamp_is_heard_once()
     ensures later { (stamp last : ℕ) → last < stamp → is_stale stamp (Some last) ≡ false }
 {}
 
-/// Behind so many frames one number is the next, those up to it are old, and those past it come too early.
+/// After so many frames one number is the next, those up to it are old, and those past it come too early.
 pub fn one_number_is_next()
     ensures next { (count : ℕ) → offered count (count + 1) ≡ Next }
     ensures old { (count number : ℕ) → number ≤ count → offered count number ≡ Old }

@@ -8,7 +8,7 @@ use Rattle.rbc_spec.specs.Message.{ShorteningRequest}
 use Rattle.rbc_spec.specs.Centre.{Centre, Mission, Proposal}
 use Rattle.rbc_spec.specs.Acts.{Reply, ◌>>◌, may_propose, propose, propose_if_so, where_so, rest}
 use Rattle.rbc_hand.specs.SectionRuns.{run_of}
-use Rattle.rbc_shorten.specs.Requests.{may_shorten_at, shortening_at, is_free, is_cut_behind_first}
+use Rattle.rbc_shorten.specs.Requests.{may_shorten_at, shortening_at, is_free, is_cut_after_first}
 use Rattle.rbc_shorten.specs.declared.facts.ShorteningFacts.{ShorteningFacts}
 use Rattle.rbc_shorten.specs.declared.facts.Shortening.{Shortening}
 use Rattle.rbc_train.proofs.Fits.{and_right}
@@ -71,7 +71,7 @@ unfolding may_shorten_at
 has_room metres s facts x is =
     let parts = some_only _ _ x is in
     let near : metres ≤ facts.group_start + 32767 = leb-true metres (facts.group_start + 32767)
-    (and_right (is_cut_behind_first (run_of facts.hand) s && nat_le facts.front (10 * metres)) (nat_le metres (facts.group_start + 32767))
-    (and_right (is_free facts) ((is_cut_behind_first (run_of facts.hand) s && nat_le facts.front (10 * metres)) && nat_le metres (facts.group_start + 32767)) parts.0)) in
+    (and_right (is_cut_after_first (run_of facts.hand) s && nat_le facts.front (10 * metres)) (nat_le metres (facts.group_start + 32767))
+    (and_right (is_free facts) ((is_cut_after_first (run_of facts.hand) s && nat_le facts.front (10 * metres)) && nat_le metres (facts.group_start + 32767)) parts.0)) in
     let same : metres - facts.group_start ≡ x.l_endsection = ap (λ (y : Shortening). y.l_endsection) parts.1 in
     omega (arith, near, same)

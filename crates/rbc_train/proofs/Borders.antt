@@ -2,7 +2,7 @@
 use Rattle.std.proofs.Common.{◌≡◌, ℕ, ◌+◌, ◌-◌, ◌<◌, ◌≤◌, ◌==◌, true, [], ◌∷◌, ◌++◌, if◌then◌else◌, Option, Some, inl, inr, sym, ap, subst, ◌∙◌, arith}
 use Rattle.std.proofs.lemmas.Bool.{cases_lt}
 use Rattle.std.proofs.lemmas.List.{append-nil}
-use Rattle.rbc_spec.specs.SectionRuns.{SectionRun, within, behind}
+use Rattle.rbc_spec.specs.SectionRuns.{SectionRun, within, next_after}
 use Rattle.rbc_spec.specs.Line.{Line, start, end}
 use Rattle.rbc_spec.specs.Sections.{nid_rbc, is_on}
 use Rattle.rbc_spec.specs.Place.{Place, group_start}
@@ -37,22 +37,22 @@ starts_before line track s on =
 
 -- where the end of a longer hand is near enough, each of its sections begins near enough
 pub near_enough : (line : Line) (m : Mission) (place : Place) (count metres : ℕ) → 1 ≤ m.hand.count
-    → ((s : ℕ) → within m.hand s ≡ true → is_on line m.place.track s ≡ true) → ((j : ℕ) → j < count → is_on line m.place.track (behind m.hand + j) ≡ true)
-    → metres ≡ end line (behind m.hand + count - 1) - group_start line place → metres ≤ 32767
+    → ((s : ℕ) → within m.hand s ≡ true → is_on line m.place.track s ≡ true) → ((j : ℕ) → j < count → is_on line m.place.track (next_after m.hand + j) ≡ true)
+    → metres ≡ end line (next_after m.hand + count - 1) - group_start line place → metres ≤ 32767
     → (s : ℕ) → within (with_next place count m).hand s ≡ true → start line s - group_start line place ≤ 32767
 near_enough line m place count metres some on follow is fits s here =
     let ends = within_true (record { first = m.hand.first; count = m.hand.count + count }) s (ap (λ (r : SectionRun). within r s) (sym (joined_is m.hand count some)) ∙ here) in
-    let last = behind m.hand + count - 1 in
+    let last = next_after m.hand + count - 1 in
     let here_on = on_each s ends.0 (omega (arith, ends.1)) in
     let rises = ends_rise line m.place.track s last here_on (on_each last (omega (arith, some)) (omega (arith, some))) (omega (arith, ends.1)) in
     let starts = starts_before line m.place.track s here_on in
     omega (arith, is, fits, rises, starts)
   where
-    on_each : (e : ℕ) → m.hand.first ≤ e → e < behind m.hand + count → is_on line m.place.track e ≡ true
-    on_each e low high = elim (cases_lt e (behind m.hand)) [
+    on_each : (e : ℕ) → m.hand.first ≤ e → e < next_after m.hand + count → is_on line m.place.track e ≡ true
+    on_each e low high = elim (cases_lt e (next_after m.hand)) [
       | inl within_hand ↦ on e (within_from m.hand e low within_hand)
-      | inr past ↦ let same : behind m.hand + (e - behind m.hand) ≡ e = omega (arith, past) in
-          ap (is_on line m.place.track) (sym same) ∙ follow (e - behind m.hand) (omega (arith, past, high))
+      | inr past ↦ let same : next_after m.hand + (e - next_after m.hand) ≡ e = omega (arith, past) in
+          ap (is_on line m.place.track) (sym same) ∙ follow (e - next_after m.hand) (omega (arith, past, high))
     ]
 
 -- ## What is told

@@ -2,7 +2,7 @@
 use Rattle.std.proofs.Common.{◌≡◌, ℕ, ◌+◌, ◌-◌, ◌<◌, ◌==◌, if◌then◌else◌, Bool, true, false, List, [], length, max, Option, Some, None, option_map, option_and_then, refl, sym, ap, ◌∙◌, subst, arith}
 use Rattle.std.proofs.lemmas.Bool.Decides.{nat_tests}
 use Rattle.rbc_spec.specs.Line.{Line}
-use Rattle.rbc_spec.specs.SectionRuns.{SectionRun, within, behind, part_from, joined}
+use Rattle.rbc_spec.specs.SectionRuns.{SectionRun, within, next_after, part_from, joined}
 use Rattle.rbc_spec.specs.Place.{Place, is_cleared}
 use Rattle.rbc_spec.specs.Centre.{Centre, Mission, Expectation}
 use Rattle.rbc_spec.specs.Acts.{◌>>◌, leave, set_mission, close}
@@ -47,7 +47,7 @@ module _ (line : Line) (c : ℕ) (k : Centre) (old : TrainState) (book : Pages) 
   goes_is : run_of sections ≡ (if front.count == n.hand.count then joined n.hand n.pool else front)
   goes_is = goes ∙ (λ i. cleared_run (counts i) (record old.supervision { mission = there i }))
 
-  rest_is : rest_of front.count n.hand ≡ part_from (behind front) n.hand
+  rest_is : rest_of front.count n.hand ≡ part_from (next_after front) n.hand
   rest_is =
       let less = longest_few (is_cleared line place) n.hand.first n.hand.count in
       let a : n.hand.first + front.count ≡ max n.hand.first (n.hand.first + front.count) = omega arith in

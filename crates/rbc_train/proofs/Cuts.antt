@@ -4,7 +4,7 @@ use Rattle.std.specs.Option.{option_map_or}
 use Rattle.std.proofs.lemmas.Bool.{cond-true, eqb-false}
 use Rattle.std.proofs.lemmas.List.{append-nil}
 use Rattle.rbc_spec.specs.Maps.{put}
-use Rattle.rbc_spec.specs.SectionRuns.{SectionRun, no_run, within, behind, is_empty, part_before, part_from, joined}
+use Rattle.rbc_spec.specs.SectionRuns.{SectionRun, no_run, within, next_after, is_empty, part_before, part_from, joined}
 use Rattle.rbc_spec.specs.Line.{Line}
 use Rattle.rbc_spec.specs.Frame.{Cancel}
 use Rattle.rbc_spec.specs.Centre.{Centre, Mission, Proposal, Handing, Expectation}
@@ -29,7 +29,7 @@ use Rattle.rbc_train.specs.declared.train.TrainState.{TrainState}
 use Rattle.rbc_train.proofs.Frees.{part_leaves, whole_leaves}
 use Rattle.rbc_train.proofs.Joined.{frees_joined, tells_joined}
 
--- the sections of the hand behind those that are kept
+-- the sections of the hand in advance of those that are kept
 module _ (last : ℕ) (hand : SectionRun) where
   abbrev tail : SectionRun
   tail = part_from (last + 1) hand
@@ -62,7 +62,7 @@ module _ (last : ℕ) (hand : SectionRun) where
           ∙ sym (cond-true (is_empty tail) pool (record { first = tail.first; count = tail.count + pool.count }) none)
       by false some = ap (λ (r : SectionRun). joined r pool) (tail_is some)
 
-  ends_alike : behind (rest_of kept_of hand) ≡ behind hand
+  ends_alike : next_after (rest_of kept_of hand) ≡ next_after hand
   ends_alike = omega arith
 
 -- ## The cut
@@ -126,7 +126,7 @@ module _ (line : Line) (c : ℕ) (k : Centre) (old : TrainState) (book : Pages) 
   away : (s : ℕ) → within n.pool s ≡ true → is_own book s ≡ false
   away s here = has.homes s ∙ has.kept.pool.away standing there s here
 
-  follows : is_empty n.pool ≡ false → n.pool.first ≡ behind still
+  follows : is_empty n.pool ≡ false → n.pool.first ≡ next_after still
   follows some = has.kept.pool.follows standing there some ∙ sym (ends_alike last n.hand)
 
   run : run_of sections ≡ joined rear n.pool

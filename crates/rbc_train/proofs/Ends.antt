@@ -164,7 +164,7 @@ module _ (line : Line) (c : ℕ) (k : Centre) (stamp : ℕ) (old : TrainState) (
     reported : reporting at ≡ reply_left line c e mid_at heard
     reported = ap (λ o. option_map_or (λ y. report_here line c e position y at) o (rest at)) (h.parts.has_mission ∙ there) ∙ does at (parts_heard line c k stamp old book rights h.parts)
 
-    -- what the message comes to, by what is done behind what was heard
+    -- what the message comes to, by what is done after what was heard
     answers : (r : Reply) → (((reporting >> standing) >> finishing line c e) at ≡ r) → effect line c k (Train m) ≡ by_reply r
     answers r is =
         let known : k.mission e ≡ Some n = h.parts.has_mission ∙ there in

@@ -1,7 +1,7 @@
 -- What decisions find out of the mission, the book and the line.
 use Rattle.std.proofs.Common.{◌≡◌, ℕ, zero, suc, ◌+◌, ◌-◌, ◌<◌, ◌≤◌, ◌&&◌, ◌||◌, Bool, true, false, refl, sym, ap, ◌∙◌, arith}
 use Rattle.std.proofs.lemmas.Bool.{ne_eqb}
-use Rattle.rbc_spec.specs.SectionRuns.{SectionRun, within, behind, is_empty, all_of}
+use Rattle.rbc_spec.specs.SectionRuns.{SectionRun, within, next_after, is_empty, all_of}
 use Rattle.rbc_spec.specs.Line.{Line, IsLine}
 use Rattle.rbc_spec.specs.Place as place
 use Rattle.rbc_spec.specs.Centre as spec
@@ -27,31 +27,31 @@ or_left_only true b h none = refl
 or_left_only false b h none = sym none ∙ h
 
 -- what may follow and is not of the pool is open
-opened_behind : (line : Line) (book : Pages) (p : place.Place) (m : spec.Mission) (count : ℕ) → ((k : ℕ) → k < count → grants.may_follow line book m.pool p (behind m.hand + k) ≡ true)
-    → (s : ℕ) → within (record { first = behind m.hand; count = count }) s ≡ true → within m.pool s ≡ false → is_open (entry_at book s) ≡ true
-opened_behind line book p m count each s here other =
-    let ends = within_true (record { first = behind m.hand; count = count }) s here in
-    let same : behind m.hand + (s - behind m.hand) ≡ s = omega (arith, ends) in
+opened_after : (line : Line) (book : Pages) (p : place.Place) (m : spec.Mission) (count : ℕ) → ((k : ℕ) → k < count → grants.may_follow line book m.pool p (next_after m.hand + k) ≡ true)
+    → (s : ℕ) → within (record { first = next_after m.hand; count = count }) s ≡ true → within m.pool s ≡ false → is_open (entry_at book s) ≡ true
+opened_after line book p m count each s here other =
+    let ends = within_true (record { first = next_after m.hand; count = count }) s here in
+    let same : next_after m.hand + (s - next_after m.hand) ≡ s = omega (arith, ends) in
     or_left_only (is_open (entry_at book s)) (within m.pool s)
-    (ap (λ x. is_open (entry_at book x) || within m.pool x) (sym same) ∙ and_right _ _ (and_left _ _ (each (s - behind m.hand) (omega (arith, ends))))) other
+    (ap (λ x. is_open (entry_at book x) || within m.pool x) (sym same) ∙ and_right _ _ (and_left _ _ (each (s - next_after m.hand) (omega (arith, ends))))) other
 
 -- so many sections that may follow the hand can be taken into it
-pub grows : (line : Line) (book : Pages) (p : place.Place) (m : spec.Mission) (count : ℕ) → IsLine line → HasRouteForm m → (is_empty m.pool ≡ false → m.pool.first ≡ behind m.hand) → ((s : ℕ) → within m.pool s ≡ true → is_own book s ≡ false)
-    → count ≤ 32 - m.hand.count → ((k : ℕ) → k < count → grants.may_follow line book m.pool p (behind m.hand + k) ≡ true) → MayGrow m count book
+pub grows : (line : Line) (book : Pages) (p : place.Place) (m : spec.Mission) (count : ℕ) → IsLine line → HasRouteForm m → (is_empty m.pool ≡ false → m.pool.first ≡ next_after m.hand) → ((s : ℕ) → within m.pool s ≡ true → is_own book s ≡ false)
+    → count ≤ 32 - m.hand.count → ((k : ℕ) → k < count → grants.may_follow line book m.pool p (next_after m.hand + k) ≡ true) → MayGrow m count book
 grows line book p m count of_line form follows away room each = record {
   most = let a = form.most in omega (arith, room, a);
   numbers = by_count count refl;
   follows = λ some. sym (follows (ne_eqb m.pool.count 0 (λ none. omega (arith, some, none))));
   away = away;
-  free = opened_behind line book p m count each;
+  free = opened_after line book p m count each;
 }
   where
-    by_count : (n : ℕ) → count ≡ n → behind m.hand + count ≤ 65535
+    by_count : (n : ℕ) → count ≡ n → next_after m.hand + count ≤ 65535
     by_count zero e = let a = form.numbers in omega (arith, a, e)
     by_count (suc n) e =
         let h = each n (omega (arith, e)) in
         let on = and_left _ _ (and_left _ _ h) in
-        let few = on_line line p.track (behind m.hand + n) on in
+        let few = on_line line p.track (next_after m.hand + n) on in
         let most = of_line.limits.sections in
         omega (arith, few, most, e)
 

@@ -4,7 +4,7 @@ use Rattle.std.specs.List.{filter, range_with_len}
 use Rattle.std.proofs.lemmas.Bool.{cases_Bool, cases_eq, cond-true, cond-false, ne_eqb}
 use Rattle.std.proofs.lemmas.List.{append-nil}
 use Rattle.std.proofs.lemmas.List.Elements.{filter-append}
-use Rattle.rbc_spec.specs.SectionRuns.{SectionRun, within, behind, is_empty, joined}
+use Rattle.rbc_spec.specs.SectionRuns.{SectionRun, within, next_after, is_empty, joined}
 use Rattle.rbc_spec.specs.Centre.{Shut, Open, is_taken_for}
 use Rattle.law_base.proofs.Lists.{range-append, filter-range_none}
 use Rattle.law_base.proofs.Runs.{within_from, within_joined, joined_empty}
@@ -12,7 +12,7 @@ use Rattle.rbc_book.specs.Book.{Pages, is_own, entry_at, wish_at}
 use Rattle.rbc_book.proofs.Pages.{foreign_is_shut}
 use Rattle.rbc_allocation.specs.Sections.{FreesRun, wished}
 
-module _ (t : ℕ) (a pool : SectionRun) (book : Pages) (follows : is_empty pool ≡ false → pool.first ≡ behind a) (away : (s : ℕ) → within pool s ≡ true → is_own book s ≡ false) where
+module _ (t : ℕ) (a pool : SectionRun) (book : Pages) (follows : is_empty pool ≡ false → pool.first ≡ next_after a) (away : (s : ℕ) → within pool s ≡ true → is_own book s ≡ false) where
   idle : (s : ℕ) → within pool s ≡ true → is_taken_for t (entry_at book s) ≡ false
   idle s here = ap (is_taken_for t) (foreign_is_shut book s (away s here))
 
@@ -43,8 +43,8 @@ module _ (t : ℕ) (a pool : SectionRun) (book : Pages) (follows : is_empty pool
   none_of_pool : filter test (range_with_len pool.first pool.count) ≡ []
   none_of_pool = filter-range_none test pool.first pool.count (λ s low high. fails s (within_from pool s low high))
 
-  none_behind : filter test (range_with_len (a.first + a.count) pool.count) ≡ []
-  none_behind = filter-range_none test (a.first + a.count) pool.count (λ s low high.
+  none_after : filter test (range_with_len (a.first + a.count) pool.count) ≡ []
+  none_after = filter-range_none test (a.first + a.count) pool.count (λ s low high.
       let first : pool.first ≡ a.first + a.count = follows (ne_eqb pool.count 0 (λ none. omega (arith, none, low, high))) in
       fails s (within_from pool s (omega (arith, low, first)) (omega (arith, high, first))))
 
@@ -54,7 +54,7 @@ module _ (t : ℕ) (a pool : SectionRun) (book : Pages) (follows : is_empty pool
         ap (λ n. filter test (range_with_len a.first n)) none
         ∙ sym (ap (λ (r : SectionRun). wished t r book) (cond-true (is_empty a) pool (record { first = a.first; count = a.count + pool.count }) (ap (λ n. n == 0) none)) ∙ none_of_pool)
     | inr some ↦
-        sym (append-nil (wished t a book)) ∙ ap (λ xs. wished t a book ++ xs) (sym none_behind)
+        sym (append-nil (wished t a book)) ∙ ap (λ xs. wished t a book ++ xs) (sym none_after)
         ∙ sym (filter-append test (range_with_len a.first a.count) (range_with_len (a.first + a.count) pool.count))
         ∙ ap (filter test) (sym (range-append a.first a.count pool.count))
         ∙ ap (λ (r : SectionRun). wished t r book) (sym (cond-false (is_empty a) pool (record { first = a.first; count = a.count + pool.count }) (ne_eqb a.count 0 some)))

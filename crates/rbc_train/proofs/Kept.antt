@@ -5,7 +5,7 @@ use Rattle.std.proofs.lemmas.Bool.{eqb-false}
 use Rattle.std.proofs.lemmas.Option.{same_Some}
 use Rattle.rbc_spec.specs.Line.{Line, is_home}
 use Rattle.rbc_spec.specs.Place.{Place}
-use Rattle.rbc_spec.specs.SectionRuns.{SectionRun, no_run, within, behind, is_empty}
+use Rattle.rbc_spec.specs.SectionRuns.{SectionRun, no_run, within, next_after, is_empty}
 use Rattle.rbc_spec.specs.Centre.{Mission, Handing}
 use Rattle.rbc_book.specs.Book.{Pages, is_own}
 use Rattle.rbc_right.specs.Rights.{right_of}
@@ -35,7 +35,7 @@ kept_changed line c p change form hand pool kept = record {
   pool = record {
     follows = λ m is some. let n = mapped change p.supervision.mission m is in
         let runs = same_runs m n.0 n.2 in
-        ap (λ (r : SectionRun). r.first) (sym runs.0) ∙ kept.pool.follows n.0 n.1 (ap is_empty runs.0 ∙ some) ∙ ap behind runs.1;
+        ap (λ (r : SectionRun). r.first) (sym runs.0) ∙ kept.pool.follows n.0 n.1 (ap is_empty runs.0 ∙ some) ∙ ap next_after runs.1;
     away = λ m is s here. let n = mapped change p.supervision.mission m is in
         kept.pool.away n.0 n.1 s (ap (λ r. within r s) (same_runs m n.0 n.2).0 ∙ here);
   };
@@ -46,7 +46,7 @@ kept_changed line c p change form hand pool kept = record {
     same_runs : (m n : Mission) → change n ≡ m → (n.pool ≡ m.pool) × (n.hand ≡ m.hand)
     same_runs m n is = (pool n ∙ ap (λ (x : Mission). x.pool) is, hand n ∙ ap (λ (x : Mission). x.hand) is)
 
--- what is left of a mission behind its first sections
+-- what is left of a mission after its first sections
 left_of : (place : Place) (count : ℕ) (o : Option Mission) (m : Mission) → option_and_then (without_front place count) o ≡ Some m
     → (n : Mission) × (o ≡ Some n) × (count ≡ n.hand.count → ⊥) × (record n { place = place; hand = rest_of count n.hand } ≡ m)
 left_of place count None m is = cc
@@ -73,8 +73,8 @@ kept_cleared line c p left hand place count few is kept = subst (λ (x : Supervi
   form = λ m here. let n = left_of place count p.supervision.mission m here in subst HasRouteForm n.3 (rest_form place count n.0 (kept.form n.0 n.1) (within_hand n.0 n.1) n.2);
   pool = record {
     follows = λ m here some. let n = left_of place count p.supervision.mission m here in
-        let ends : behind n.0.hand ≡ behind (rest_of count n.0.hand) = let room = within_hand n.0 n.1 in omega (arith, room) in
-        ap (λ (x : Mission). x.pool.first) (sym n.3) ∙ kept.pool.follows n.0 n.1 (ap (λ (x : Mission). is_empty x.pool) n.3 ∙ some) ∙ ends ∙ ap (λ (x : Mission). behind x.hand) n.3;
+        let ends : next_after n.0.hand ≡ next_after (rest_of count n.0.hand) = let room = within_hand n.0 n.1 in omega (arith, room) in
+        ap (λ (x : Mission). x.pool.first) (sym n.3) ∙ kept.pool.follows n.0 n.1 (ap (λ (x : Mission). is_empty x.pool) n.3 ∙ some) ∙ ends ∙ ap (λ (x : Mission). next_after x.hand) n.3;
     away = λ m here s in_pool. let n = left_of place count p.supervision.mission m here in
         kept.pool.away n.0 n.1 s (ap (λ (x : Mission). within x.pool s) n.3 ∙ in_pool);
   };
@@ -106,7 +106,7 @@ not_left old new same = (λ i. if is_some (same i) then None else option_map han
     by None = refl
     by (Some h) = refl
 
--- the mission that is left of one behind its first sections has its handover
+-- the mission that is left of one after its first sections has its handover
 pub cleared_handing : (place : Place) (count : ℕ) (o : Option Mission) → is_some (option_and_then (without_front place count) o) ≡ true
     → option_and_then (λ (m : Mission). m.handing) (option_and_then (without_front place count) o) ≡ option_and_then (λ (m : Mission). m.handing) o
 cleared_handing place count None some = cc

@@ -3,7 +3,7 @@ use Rattle.std.proofs.Common.{◌≡◌, ℕ, ◌+◌, ◌-◌, ◌≤◌, ◌&&
 use Rattle.std.specs.Option.{option_map_or}
 use Rattle.std.proofs.lemmas.Bool.{cond-false, ne_eqb}
 use Rattle.rbc_spec.specs.Maps.{put}
-use Rattle.rbc_spec.specs.SectionRuns.{SectionRun, within, behind, is_empty, joined}
+use Rattle.rbc_spec.specs.SectionRuns.{SectionRun, within, next_after, is_empty, joined}
 use Rattle.rbc_spec.specs.Line.{Line, end, next_centre}
 use Rattle.rbc_spec.specs.Place.{Place, Position, place_on, group_start}
 use Rattle.rbc_spec.specs.Message.{TrainMessage, Request, Authority}
@@ -142,12 +142,12 @@ module _ (line : Line) (c : ℕ) (k : Centre) (stamp : ℕ) (old : TrainState) (
         (rw (stands, on) (in_turn given bordering at (replied (with_parts mid book' rights k) answer []) (posted (told e) (replied (with_count announced' (with_parts new book' rights k)) (sayings_of order) [])) extends (borders_there e)))
 
 -- the end of the hand with so many sections more
-pub end_is : (line : Line) (n : Mission) (place : Place) (count metres : ℕ) → 1 ≤ n.hand.count → metres ≡ end line (behind n.hand + count - 1) - group_start line place → authority line (with_next place count n) ≡ metres
+pub end_is : (line : Line) (n : Mission) (place : Place) (count metres : ℕ) → 1 ≤ n.hand.count → metres ≡ end line (next_after n.hand + count - 1) - group_start line place → authority line (with_next place count n) ≡ metres
 end_is line n place count metres some is =
     let r = next_of count n.hand in
     let longer : joined n.hand r ≡ record { first = n.hand.first; count = n.hand.count + count } = cond-false (is_empty n.hand) r (record { first = n.hand.first; count = n.hand.count + count }) (ne_eqb n.hand.count 0 (λ e. omega arith)) in
     let last : n.hand.first + (n.hand.count + count) - 1 ≡ n.hand.first + n.hand.count + count - 1 = omega arith in
-    ap (λ (x : SectionRun). end line (behind x - 1) - group_start line place) longer ∙ ap (λ e. end line e - group_start line place) last ∙ sym is
+    ap (λ (x : SectionRun). end line (next_after x - 1) - group_start line place) longer ∙ ap (λ e. end line e - group_start line place) last ∙ sym is
 
 pub some_mapped : {A B : Type 0} (f : A → B) (o : Option A) → is_some (option_map f o) ≡ is_some o
 some_mapped f (Some x) = refl

@@ -3,7 +3,7 @@ use Rattle.std.proofs.Common.{◌≡◌, ℕ, zero, suc, ◌+◌, ◌-◌, ◌==
 use Rattle.std.specs.List.{list_all, range_with_len}
 use Rattle.std.specs.Option.{option_map_or, option_eq}
 use Rattle.std.proofs.lemmas.Bool.Decides.{nat_tests}
-use Rattle.rbc_spec.specs.SectionRuns.{SectionRun, within, behind, longest, all_of}
+use Rattle.rbc_spec.specs.SectionRuns.{SectionRun, within, next_after, longest, all_of}
 use Rattle.std.proofs.lemmas.Option.{slice_get_past}
 use Rattle.rbc_spec.specs.Line.{Line, is_home, end, registrar}
 use Rattle.rbc_spec.specs.Sections.{is_on}
@@ -36,7 +36,7 @@ all_fails test (suc n) f (suc j) h e =
     by_first false h = refl
 
 -- all of one run are within another
-pub within_all : (hand run : SectionRun) → (run.count == 0 || (nat_le hand.first run.first && nat_le (behind run) (behind hand))) ≡ true → all_of (within hand) run ≡ true
+pub within_all : (hand run : SectionRun) → (run.count == 0 || (nat_le hand.first run.first && nat_le (next_after run) (next_after hand))) ≡ true → all_of (within hand) run ≡ true
 unfolding within
 within_all hand run h = all_each (within hand) run.count run.first (λ j few. grind (arith, nat_tests))
 
@@ -44,7 +44,7 @@ pub within_none : (hand run : SectionRun) → (run.count == 0) ≡ false → nat
 unfolding within
 within_none hand run some low = all_fails (within hand) run.count run.first 0 (grind (arith, nat_tests)) (grind (arith, nat_tests))
 
-pub within_past : (hand run : SectionRun) → (run.count == 0) ≡ false → nat_le (behind run) (behind hand) ≡ false → all_of (within hand) run ≡ false
+pub within_past : (hand run : SectionRun) → (run.count == 0) ≡ false → nat_le (next_after run) (next_after hand) ≡ false → all_of (within hand) run ≡ false
 unfolding within
 within_past hand run some high = all_fails (within hand) run.count run.first (run.count - 1) (grind (arith, nat_tests)) (grind (arith, nat_tests))
 
@@ -59,10 +59,10 @@ open_own book s h = by_page (page_of book s) h
     by_page (Some page) h = refl
     by_page None h = h
 
-pub all_within : (hand run : SectionRun) → (run.count == 0) ≡ false → nat_le hand.first run.first ≡ true → nat_le (behind run) (behind hand) ≡ all_of (within hand) run
-all_within hand run some low = by_end (nat_le (behind run) (behind hand)) refl
+pub all_within : (hand run : SectionRun) → (run.count == 0) ≡ false → nat_le hand.first run.first ≡ true → nat_le (next_after run) (next_after hand) ≡ all_of (within hand) run
+all_within hand run some low = by_end (nat_le (next_after run) (next_after hand)) refl
   where
-    by_end : (b : Bool) → nat_le (behind run) (behind hand) ≡ b → nat_le (behind run) (behind hand) ≡ all_of (within hand) run
+    by_end : (b : Bool) → nat_le (next_after run) (next_after hand) ≡ b → nat_le (next_after run) (next_after hand) ≡ all_of (within hand) run
     by_end true e = e ∙ sym (within_all hand run (rw (some, low, e) refl))
     by_end false e = e ∙ sym (within_past hand run some e)
 

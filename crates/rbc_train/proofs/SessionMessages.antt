@@ -59,7 +59,7 @@ module _ (line : Line) (c : ℕ) (k : Centre) (stamp : ℕ) (old : TrainState) (
         closes line c t heard ∙ ap (λ (u : ℕ). drop_wait line c u (closed_at t heard)) (sym h.parts.kept.one_train)
         ∙ drops (closed_at t heard) (record { covers = waiting.covers; homes = waiting.homes; has_book = waiting.has_book; has_wish = waiting.has_wish; has_wait = waiting.has_wait; has_ask = waiting.has_ask })
 
-    -- the train is answered behind it
+    -- the train is answered after it
     left : (phase : Phase) (body : TrackBody) (phases : ℕ → Phase) (words : List Word) → session_phase session ≡ phase → ((u : ℕ) → phases u ≡ put k.phase t phase u) → words ≡ map (λ s. Told s) told
         → record {
           state = with_wait w book' (record heard { phase = phases; said = put k.said t (heard.said t + 1); mission = put k.mission t (option_map unasked (k.mission t)) });

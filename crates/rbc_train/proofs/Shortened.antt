@@ -108,7 +108,7 @@ module _ (line : Line) (c : ℕ) (k : Centre) (stamp : ℕ) (old : TrainState) (
   keeps_all frees =
       answers rest mid book rights (record { saying = None; order = None; mail = mail_of None; told = [] }) frees refl (then_rest (change_mission t unasked) at ∙ dropped)
 
-  -- another gives back what is behind it
+  -- another gives back what follows it
   pub gives_back : (keep : ℕ) (left : SupervisionState) (hand : Holding) (book' : Pages) (rights' : Rights) (told : List ℕ) (cancelled : Option HandoverName) (letter : Option Letter) (sections : SectionRunCode)
       → freeing line c t position n p ≡ act_of line c t n p (Keep keep)
       → keep ≡ kept_of p.last_kept n.hand → old.supervision.number < length rights → left ≡ record old.supervision { mission = option_and_then (with_front line keep) old.supervision.mission; hand = hand }

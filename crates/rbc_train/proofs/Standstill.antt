@@ -1,4 +1,4 @@
--- What leaves the hand of a train that ends its mission at standstill, behind what it has cleared.
+-- What leaves the hand of a train that ends its mission at standstill, after what it has cleared.
 use Rattle.std.proofs.Common.{◌≡◌, ℕ, zero, suc, ◌+◌, ◌-◌, ◌<◌, ◌≤◌, ◌==◌, ◌&&◌, ◌||◌, not, if◌then◌else◌, Bool, true, false, List, ◌∷◌, ◌++◌, Option, Some, None, is_some, is_none, option_and_then, refl, sym, ap, ◌∙◌, subst, arith, eqb-true}
 use Rattle.std.specs.Option.{option_map_or}
 use Rattle.std.specs.List.{filter, range_with_len}
@@ -11,7 +11,7 @@ use Rattle.rbc_spec.specs.Centre.{Mission, Shut, Open, is_taken_for}
 use Rattle.rbc_spec.specs.Acts.{rest}
 use Rattle.rbc_spec.specs.Rules.{cut_ahead, stand_still}
 use Rattle.law_base.proofs.Longest.{longest_few}
-use Rattle.law_base.proofs.Runs.{within_none, within_behind}
+use Rattle.law_base.proofs.Runs.{within_none, within_after}
 use Rattle.rbc_book.specs.Book.{Pages, entry_at, wish_at}
 use Rattle.rbc_hand.specs.Hands.{Holding}
 use Rattle.rbc_allocation.specs.Sections.{FreesRun, front_of, rest_of, wished}
@@ -169,11 +169,11 @@ filter-range_same p q a (suc n) same =
     ∙ ap (λ xs. if q a then a ∷ xs else xs) later
 
 -- sections that were not given back are wished as before
-pub wished_behind : (t : ℕ) (front r : SectionRun) (book book' : Pages) → FreesRun t front book book' → front.first + front.count ≤ r.first → wished t r book' ≡ wished t r book
-wished_behind t front r book book' frees apart = filter-range_same _ _ r.first r.count (λ s low high. same s (within_past s low))
+pub wished_after : (t : ℕ) (front r : SectionRun) (book book' : Pages) → FreesRun t front book book' → front.first + front.count ≤ r.first → wished t r book' ≡ wished t r book
+wished_after t front r book book' frees apart = filter-range_same _ _ r.first r.count (λ s low high. same s (within_past s low))
   where
     within_past : (s : ℕ) → r.first ≤ s → within front s ≡ false
-    within_past s low = within_behind front s (omega (arith, apart, low))
+    within_past s low = within_after front s (omega (arith, apart, low))
 
     same : (s : ℕ) → within front s ≡ false → (is_taken_for t (entry_at book' s) && wish_at book' s) ≡ (is_taken_for t (entry_at book s) && wish_at book s)
     same s past =
@@ -186,7 +186,7 @@ pub tells_all : (line : Line) (track : ℕ) (position : Position) (book book' : 
     → (a : IsAhead line old.engine track position (hand_of old) book keep all) → LeavesFront line a.place old mid told book book'
     → later ≡ wished old.engine (rest_of keep (uncleared line a.place n.hand)) book' → told ≡ wished old.engine (front_of (cleared_count line a.place (hand_of old)) (hand_of old)) book → told ++ later ≡ all
 tells_all line track position book book' old mid n keep told later all there a leaves later_is told_is =
-    (λ i. told_is i ++ (later_is ∙ wished_behind old.engine (front_of (cleared_count line a.place n.hand) n.hand) (rest_of keep (uncleared line a.place n.hand)) book book' frees (omega arith)) i)
+    (λ i. told_is i ++ (later_is ∙ wished_after old.engine (front_of (cleared_count line a.place n.hand) n.hand) (rest_of keep (uncleared line a.place n.hand)) book book' frees (omega arith)) i)
     ∙ (λ i. wished old.engine (front_of (cleared_count line a.place (hand_of (record old { mission = there i }))) (hand_of (record old { mission = there i }))) book ++ wished old.engine (runs i) book)
     ∙ (λ i. wished old.engine (front_of (cleared_count line a.place (hand_of (record old { mission = sym there i }))) (hand_of (record old { mission = sym there i }))) book
     ++ wished old.engine (rest_of (cleared_count line a.place (hand_of (record old { mission = sym there i })) + keep) (hand_of (record old { mission = sym there i }))) book)

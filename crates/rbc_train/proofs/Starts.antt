@@ -152,7 +152,7 @@ module _ (line : Line) (c : ℕ) (k : Centre) (stamp : ℕ) (old : TrainState) (
       (rw (h.known, h.parts.has_heard, h.timely, h.parts.has_phase, up, h.parts.has_wait, none) refl)
       (starting at (parts_heard line c k stamp old book rights h.parts))
 
-  -- the train is answered behind it
+  -- the train is answered after it
   pub starts_answered : (body : TrackBody) (new : TrainState) (heard : Heard) → ((j : Centre) → started t' start j ≡ say t' unknown_group body j) → new ≡ record mid { said = mid.said + 1 }
       → sayings_of heard.saying ≡ answer_to mid.supervision.engine (mid.said + 1) body → heard ≡ record { saying = heard.saying; order = None; mail = mail_of None; told = [] }
       → effect line c k (Train (record { t_train = stamp; nid_engine = old.supervision.engine; body = StartOfMission is_valid position }))

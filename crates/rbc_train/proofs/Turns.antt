@@ -91,7 +91,7 @@ module _ (line : Line) (c : ℕ) (k : Centre) (stamp : ℕ) (old : TrainState) (
   pub left_heard : (new : TrainState) (book' : Pages) (rights' : Rights) → new.supervision.engine ≡ old.supervision.engine → with_parts new book' rights' heard_at ≡ with_parts new book' rights' k
   left_heard new book' rights' engine = ap (with_parts new book' rights') heard_is ∙ parts_over (record old { heard = Some stamp }) new book book' rights rights' k engine
 
--- something is said to the train behind what was left
+-- something is said to the train after what was left
 pub says : (t group : ℕ) (body : TrackBody) (p : TrainState) (book : Pages) (rights : Rights) (k : Centre) → p.supervision.engine ≡ t
     → say t group body (with_parts p book rights k) ≡ replied (with_parts (record p { said = p.said + 1 }) book rights k)
     (record { nid_engine = t; message = record { t_train = p.said + 1; nid_lrbg = group; body = body } } ∷ []) []

@@ -2,7 +2,7 @@
 -- leaves.
 use Rattle.std.specs.Prelude.{◌≡◌, ◌+◌, ◌≤◌, ◌<◌, ℕ, Bool, List, [], Some, None, Option, Result, Ok, Err, map, is_none, true, false, length}
 use Rattle.rbc_spec.specs.Maps.{put}
-use Rattle.rbc_spec.specs.SectionRuns.{within, behind, is_empty}
+use Rattle.rbc_spec.specs.SectionRuns.{within, next_after, is_empty}
 use Rattle.rbc_spec.specs.Line.{Line, is_home, train_number}
 use Rattle.rbc_spec.specs.Sections.{is_on}
 use Rattle.rbc_spec.specs.Message.{TrainBody, is_stale}
@@ -30,7 +30,7 @@ use Rattle.rbc_train.specs.declared.train.TrainState.{TrainState}
 
 -- the pool of the mission, if one stands, follows its hand, and no section of it is of home c
 pub record HasPoolAt (line : Line) (c : ℕ) (mission : Option Mission) : Type 0 where
-  pub follows : (m : Mission) → mission ≡ Some m → is_empty m.pool ≡ false → m.pool.first ≡ behind m.hand
+  pub follows : (m : Mission) → mission ≡ Some m → is_empty m.pool ≡ false → m.pool.first ≡ next_after m.hand
   pub away : (m : Mission) → mission ≡ Some m → (s : ℕ) → within m.pool s ≡ true → is_home line c s ≡ false
 
 -- The pool of the train's mission follows its hand and is of other homes, what is claimed for a start that waits is

@@ -11,7 +11,7 @@ abbrev pub sayings_of : Option SayingCode → List Saying
 sayings_of (Some p) = saying_of p ∷ []
 sayings_of None = []
 
--- one message or none, and an order or none behind it
+-- one message or none, and an order or none after it
 abbrev pub told_train : Option SayingCode → Option SayingCode → List Saying
 told_train saying None = sayings_of saying
 told_train saying (Some order) = sayings_of saying ++ saying_of order ∷ []

@@ -39,14 +39,14 @@ pub record SendsHome (track : ℕ) (left : SupervisionState) (h : Heard) : Type 
   pub mail : h.mail ≡ mail_home track h.mail.first h.mail.notice h.mail.letter
   pub letter : is_some left.mission ≡ true → (h.mail.letter ≡ None) × (h.mail.notice ≡ notice.Nothing)
 
--- what is cut off the hand of a train that stands still at its place on this track, behind what it has cleared
+-- what is cut off the hand of a train that stands still at its place on this track, after what it has cleared
 abbrev pub left_ahead : Line → ℕ → Position → SectionRun → Cut
 left_ahead line track position hand =
     if position.v_train == 0
     then option_map_or (λ place. ahead_of line (uncleared line place hand) place.front)
     (place_on line track position) Nothing else Nothing
 
--- so many sections are kept behind those that it has cleared, and this is told of all that leaves the hand
+-- so many sections are kept after those that it has cleared, and this is told of all that leaves the hand
 pub record IsAhead (line : Line) (t track : ℕ) (position : Position) (hand : SectionRun) (book : Pages) (keep : ℕ)
     (words : List ℕ) : Type 0 where
   pub still : position.v_train ≡ 0

@@ -25,6 +25,6 @@ told_kept s k = only_told (Done s) (record k { wish = put k.wish s false })
 abbrev pub wishing : ℕ → Centre → Centre
 wishing s k = record k { wish = put k.wish s true }
 
--- the section is in use and wished back: what follows of that, behind the word that it is asked for
+-- the section is in use and wished back: what follows of that, after the word that it is asked for
 abbrev pub told_asked : ℕ → Reply → Reply
 told_asked s reply = record reply { words = Asked s ∷ reply.words }

@@ -56,7 +56,7 @@ impl TrainState {
 
     /// Message 132: the hand is extended by the sections that may follow it, first those of the pool, and the authority
     /// is given up to its end. At a border a handover is announced, and the next centre is asked for the sections
-    /// behind it, where they are due.
+    /// after it, where they are due.
     #[inline(never)]
     pub(crate) fn request(
         &mut self,

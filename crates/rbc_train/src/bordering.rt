@@ -36,8 +36,8 @@ use rbc_vars::{DRbctr, NidC, NidRbc};
 
 impl TrainState {
     /// A handover to the next centre on the track is announced, where the hand has a section of its home and none
-    /// stands: the train is told where the border is. Then that centre is asked for the sections behind the hand, where
-    /// they are due.
+    /// stands: the train is told where the border is. Then that centre is asked for the sections in advance of the
+    /// hand, where they are due.
     #[inline(always)]
     pub(crate) fn at_border(
         &mut self,
@@ -105,7 +105,7 @@ impl TrainState {
         out.order = Some(self.answer(mission.place.group, order));
     }
 
-    // The next centre is asked for the sections behind the hand, where they are due.
+    // The next centre is asked for the sections in advance of the hand, where they are due.
     #[inline(never)]
     fn ask_route(&mut self, line: &Line, next: u8, letter: &mut Option<Letter>)
         requires { letter.old ≡ None }

@@ -6,7 +6,7 @@ use crate::saying::Saying;
 use rbc_mission::Told;
 
 /// What a message comes to that is not left without an answer, or a frame: what the train is answered, and what it is
-/// ordered behind that; what is left for other centres; and the sections that were wished back and are shut now, of
+/// ordered after that; what is left for other centres; and the sections that were wished back and are shut now, of
 /// which the interlocking is told, in rising order.
 #[derive(Debug, Drop)]
 pub struct Heard {

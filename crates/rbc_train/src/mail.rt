@@ -84,7 +84,7 @@ pub struct Mail {
     pub track: u8,
     /// Sections of which each goes to the centre of its home: an empty run where there are none.
     pub first: SectionRun,
-    /// Others that go home behind these.
+    /// Others that go home after these.
     pub second: SectionRun,
     /// What is told of a handover.
     pub notice: Notice,

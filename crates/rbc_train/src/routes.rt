@@ -94,7 +94,7 @@ impl TrainState {
         }
     }
 
-    /// RouteWithdraw: a section of the pool goes home with all behind it. The train is asked to end its authority
+    /// RouteWithdraw: a section of the pool goes home with all that follow it. The train is asked to end its authority
     /// before one of its hand (3.8.6), where that may be asked.
     pub(crate) fn route_withdrawn(&mut self, line: &Line, s: u16, out: &mut Heard)
         requires ready { IsReady self.old out.old }
@@ -141,7 +141,7 @@ impl TrainState {
         ensures says { SaysOnce self.old self.new }
         ensures homes { (s : ℕ) → is_own book.new s ≡ is_own book.old s }
     {
-        if sections.behind() > u32::from(line.section_count()) {
+        if sections.next_after() > u32::from(line.section_count()) {
             return;
         }
         let told = bring_back(book, self.nid_engine(), sections);

@@ -23,7 +23,7 @@ use rbc_vars::TTrain;
 
 impl TrainState {
     /// Message 137: the request that is answered stands no more. A train that has not run past the proposed end gives
-    /// back what is behind it, and a mission without a section closes.
+    /// back what follows it, and a mission without a section closes.
     #[inline(never)]
     pub(crate) fn shortening_granted(
         &mut self,

@@ -37,7 +37,7 @@ pub(crate) fn place_of_start(line: &Line, q_status: QStatus, position: &Position
 pub(crate) fn has_all(hand: SectionRun, run: SectionRun) -> bool
     ensures { result ≡ all_of (within (run_of hand)) (run_of run) }
 {
-    run.is_empty() || (hand.first <= run.first && run.behind() <= hand.behind())
+    run.is_empty() || (hand.first <= run.first && run.next_after() <= hand.next_after())
 }
 
 // Whether all sections of the run are released, and of this centre's home.

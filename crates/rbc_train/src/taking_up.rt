@@ -89,7 +89,7 @@ impl TrainState {
 
     // Whether the mission may go on here: the train is expected from that centre under this number, and it was told
     // that this one is taking over; neither a mission nor the right is here; and each section may arrive, on the track
-    // of the place, whose group is on it and not behind its front.
+    // of the place, whose group is on it and not in advance of its front.
     fn may_take(
         &self,
         line: &Line,
@@ -184,7 +184,7 @@ fn arriving_place(place: YieldedPlace) -> Option<Place>
     })
 }
 
-// Whether the sections are on the track of the place, and its group is on it too, and not behind its front.
+// Whether the sections are on the track of the place, and its group is on it too, and not in advance of its front.
 fn is_placed(line: &Line, place: &Place, hand: SectionRun) -> bool
     ensures { result ≡ ((sections.is_on_track line.now place.now.track (run_of hand) && has
         (sections.is_on line.now place.now.track) (section_of_group line.now place.now.group))

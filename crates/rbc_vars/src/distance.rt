@@ -53,7 +53,7 @@ impl DLrbg {
     }
 }
 
-/// L_DOUBTOVER: how far the train may be behind its estimated position, in the unit of Q_SCALE; 32 767 is unknown.
+/// L_DOUBTOVER: how far the train may be in rear of its estimated position, in the unit of Q_SCALE; 32 767 is unknown.
 #[derive(Clone, Copy, Debug, PartialEq, Eq)]
 pub struct LDoubtover {
     value: u16,

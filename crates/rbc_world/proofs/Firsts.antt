@@ -1,4 +1,5 @@
--- The first item that gives something: at the head or behind it, in a range of numbers, and in a list behind its first items.
+-- The first item that gives something: at the head or after it, in a range of numbers, and in a list after its first
+-- items.
 use Rattle.std.proofs.Common.{◌≡◌, ℕ, zero, suc, ◌+◌, ◌-◌, ◌<◌, ◌≤◌, List, [], ◌∷◌, ◌++◌, length, drop, Option, Some, None, slice_get, refl, sym, ap, ◌∙◌, arith, add-one}
 use Rattle.std.specs.List.{cons_option, filter_map, flat_map, range_with_len}
 use Rattle.std.specs.Option.{option_or, option_and_then}
@@ -17,7 +18,7 @@ head_or : {Y : Type 0} (o : Option Y) (ys : List Y) → slice_get (cons_option o
 head_or (Some y) ys = refl
 head_or None ys = refl
 
--- at the head, or behind it
+-- at the head, or after it
 at_head : {X Y : Type 0} (g : X → Option Y) (x : X) (xs : List X) → first_given g (x ∷ xs) ≡ option_or (g x) (first_given g xs)
 at_head g x xs = head_or (g x) (filter_map g xs)
 
@@ -50,22 +51,22 @@ found_later g c n within is = from_one g c n within ∙ ap (λ o. option_or o (f
 pub found_nowhere : {Y : Type 0} (g : ℕ → Option Y) (c n : ℕ) → n ≤ c → first_from g c n ≡ None
 found_nowhere g c n past = let none : n - c ≡ 0 = omega arith in ap (λ k. first_given g (range_with_len c k)) none
 
--- ## A list behind its first i items
+-- ## A list after its first i items
 
-behind_suc : {X Y : Type 0} (g : X → Option Y) (xs : List X) (i : ℕ) → i < length xs → first_given g (drop i xs) ≡ option_or (option_and_then g (slice_get xs i)) (first_given g (drop (suc i) xs))
-behind_suc g [] i within = absurd (let no : ⊥ = omega arith in no)
-behind_suc g (x ∷ xs) zero within = at_head g x xs
-behind_suc g (x ∷ xs) (suc i) within = behind_suc g xs i (omega arith)
+after_suc : {X Y : Type 0} (g : X → Option Y) (xs : List X) (i : ℕ) → i < length xs → first_given g (drop i xs) ≡ option_or (option_and_then g (slice_get xs i)) (first_given g (drop (suc i) xs))
+after_suc g [] i within = absurd (let no : ⊥ = omega arith in no)
+after_suc g (x ∷ xs) zero within = at_head g x xs
+after_suc g (x ∷ xs) (suc i) within = after_suc g xs i (omega arith)
 
--- the item at i gives it, or one behind
-behind_one : {X Y : Type 0} (g : X → Option Y) (xs : List X) (i : ℕ) → i < length xs → first_given g (drop i xs) ≡ option_or (option_and_then g (slice_get xs i)) (first_given g (drop (i + 1) xs))
-behind_one g xs i within = behind_suc g xs i within ∙ ap (λ k. option_or (option_and_then g (slice_get xs i)) (first_given g (drop k xs))) (sym (add-one i))
+-- the item at i gives it, or one after
+after_one : {X Y : Type 0} (g : X → Option Y) (xs : List X) (i : ℕ) → i < length xs → first_given g (drop i xs) ≡ option_or (option_and_then g (slice_get xs i)) (first_given g (drop (i + 1) xs))
+after_one g xs i within = after_suc g xs i within ∙ ap (λ k. option_or (option_and_then g (slice_get xs i)) (first_given g (drop k xs))) (sym (add-one i))
 
 pub given_here : {X Y : Type 0} (g : X → Option Y) (xs : List X) (i : ℕ) (y : Y) → i < length xs → option_and_then g (slice_get xs i) ≡ Some y → first_given g (drop i xs) ≡ Some y
-given_here g xs i y within is = behind_one g xs i within ∙ ap (λ o. option_or o (first_given g (drop (i + 1) xs))) is
+given_here g xs i y within is = after_one g xs i within ∙ ap (λ o. option_or o (first_given g (drop (i + 1) xs))) is
 
 pub given_later : {X Y : Type 0} (g : X → Option Y) (xs : List X) (i : ℕ) → i < length xs → option_and_then g (slice_get xs i) ≡ None → first_given g (drop i xs) ≡ first_given g (drop (i + 1) xs)
-given_later g xs i within is = behind_one g xs i within ∙ ap (λ o. option_or o (first_given g (drop (i + 1) xs))) is
+given_later g xs i within is = after_one g xs i within ∙ ap (λ o. option_or o (first_given g (drop (i + 1) xs))) is
 
 pub given_nowhere : {X Y : Type 0} (g : X → Option Y) (xs : List X) (i : ℕ) → length xs ≤ i → first_given g (drop i xs) ≡ None
 given_nowhere g xs i past = ap (first_given g) (drop_of_length-le xs past)

@@ -18,7 +18,7 @@ use Rattle.law_reached.proofs.Forced as forced
 use Rattle.rbc_centre.specs.Views.{frame_number}
 use Rattle.rbc_world.specs.Reached.{WasReached}
 
--- ## Behind the events that led to it
+-- ## After the events that led to it
 
 module _ (line : Line) (w : World) (ok : IsLine line) (reached : ∥ WasReached line w ∥₁) where
   pub world_known : IsKnown line w

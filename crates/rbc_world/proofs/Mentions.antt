@@ -42,7 +42,7 @@ or_false : (b : Bool) → (b || false) ≡ b
 or_false true = refl
 or_false false = refl
 
--- a train is one of the list where it was put behind it, and another as it was before
+-- a train is one of the list where it was put after it, and another as it was before
 listed : (u t : ℕ) (trains : List ℕ) (b : Bool) → (u == t) ≡ b → list_any (λ v. u == v) (trains ++ t ∷ []) ≡ (list_any (λ v. u == v) trains || b)
 listed u t trains b is = list_any-append (λ v. u == v) trains (t ∷ []) ∙ ap (λ x. list_any (λ v. u == v) trains || x) (last b is)
   where
@@ -72,7 +72,7 @@ marks_kept marks i false = refl
 pub place_within : (line : Line) (marks : List Bool) (t i : ℕ) → train_number line t ≡ Some i → length marks ≡ length line.trains → i < length marks
 place_within line marks t i at each = let within = position-Some (λ (p : Train). p.nid_engine == t) line.trains i (record { nid_engine = 0; registrar = 0 }) at in omega (arith, within.0)
 
--- the key goes behind the others
+-- the key goes after the others
 new_key : {T : Type 0} (listed : Bool) (old new : T) → true ≡ not listed → (if listed then old else new) ≡ new
 new_key true old new is = absurd (let wrong : true ≡ false = is in cc)
 new_key false old new is = refl

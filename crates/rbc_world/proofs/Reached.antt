@@ -25,7 +25,7 @@ use Rattle.rbc_world.proofs.Steps.{is_centre_within, at_centre, set_told, unset_
 of_ok : {X : Type 0} (p q : X) → ◌≡◌ {A = Result X Refusal} (Ok p) (Ok q) → p ≡ q
 of_ok p q e = cc
 
--- one event behind those of a run
+-- one event after those of a run
 pub run_on : (line : Line) (events : List Event) (w mid new : World) (answers : List Answer) (event : Event) (answer : Answer)
     → world_run line w events ≡ Ok (answers, mid) → world_step line mid event ≡ Ok (answer, new) → world_run line w (events ++ event ∷ []) ≡ Ok (answers ++ answer ∷ [], new)
 run_on line [] w mid new answers event answer is s =
@@ -76,7 +76,7 @@ module _ (line : Line) (cs : List Centre) (trains : List ℕ) (c : ℕ) (k new :
   pub reached_still : (after : List ℕ) → after ≡ trains → one.state_of new ≡ one.state_of k → ∥ WasReached line (stands_for line (set cs c new) after) ∥₁
   reached_still after same kept = subst (λ (w : World). ∥ WasReached line w ∥₁) (sym (ap (stands_for line (set cs c new)) same ∙ world_kept line cs trains c k new at within kept)) before
 
-  -- behind what the centre is told
+  -- after what the centre is told
   pub reached_by_word : {X : Type 0} (outcome : X → Outcome) (event : CentreEvent) (result : Result X StepFault) → MayBeTold (stands_for line cs trains) c event
       → Steps (λ x. (outcome x, one.state_of new)) result (step.step (one.line_of k) (one.number_of k) (one_event event) (one.state_of k)) → OnErr result (one.state_of new ≡ one.state_of k)
       → ∥ WasReached line (stands_for line (set cs c new) trains) ∥₁
@@ -84,7 +84,7 @@ module _ (line : Line) (cs : List Centre) (trains : List ℕ) (c : ℕ) (k new :
       told_on line (stands_for line cs trains) (stands_for line (set cs c new) trains) c event (Answered (outcome x)) (is_centre_within line cs c each within) said (told_ok line cs trains (one_event event) c k new at within of_line of_number each (outcome x) s) before
   reached_by_word outcome event (Err fault) said s kept = reached_still trains refl kept
 
-  -- behind a train's message
+  -- after a train's message
   pub reached_by_message : (m : TrainMessage) (outcome : Outcome) (after : List ℕ) → step.step (one.line_of k) (one.number_of k) (step.Train m) (one.state_of k) ≡ Ok (outcome, one.state_of new)
       → after ≡ mention line m.nid_engine trains → ∥ WasReached line (stands_for line (set cs c new) after) ∥₁
   unfolding stands_for
@@ -92,7 +92,7 @@ module _ (line : Line) (cs : List Centre) (trains : List ℕ) (c : ℕ) (k new :
       goes_on line (stands_for line cs trains) (stands_for line (set cs c new) after) (Bytes c (Ok m)) (Answered outcome)
       (at_centre line (stands_for line cs trains) cs c (Ok m) each within ∙ step_ok line cs trains (step.Train m) c k new at within of_line of_number outcome (mention line m.nid_engine trains) after s named) before
 
-  -- behind a message of no train of the line, or its refusal
+  -- after a message of no train of the line, or its refusal
   pub reached_by_foreign : {X : Type 0} (outcome : X → Outcome) (m : TrainMessage) (result : Result X StepFault) → train_number line m.nid_engine ≡ None
       → Steps (λ x. (outcome x, one.state_of new)) result (step.step (one.line_of k) (one.number_of k) (step.Train m) (one.state_of k)) → OnErr result (one.state_of new ≡ one.state_of k)
       → ∥ WasReached line (stands_for line (set cs c new) trains) ∥₁

@@ -76,7 +76,7 @@ on_way_is line w t =
     in_lists (λ (f : Frame). handed_over t f.body) (λ a. flat_map (λ b. way w a b) (centres_of line)) (centres_of line)
     ∙ (λ i. first_given (λ a. in_lists (λ (f : Frame). handed_over t f.body) (way w a) (centres_of line) i) (centres_of line))
 
--- a frame has the number behind the count of those before it
+-- a frame has the number after the count of those before it
 pub next_number : (frames : List Frame) (i : ℕ) → frame_number frames (i + 1) ≡ slice_get frames i
 next_number frames i = let some : ((i + 1) == 0) ≡ false = grind (arith, nat_tests) in let back : (i + 1) - 1 ≡ i = omega arith in rw some (ap (slice_get frames) back)
 

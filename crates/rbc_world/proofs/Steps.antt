@@ -135,7 +135,7 @@ pub not_sent : (line : Line) (w : World) (from to number : ℕ) → frame_sent w
 unfolding world_step
 not_sent line w from to number none = ap (λ (o : Option Frame). option_map_or (λ g. takes line w to w.trains (step.Deliver from g)) o (Ok (NotSent, w))) none
 
--- ## The piece, behind the events that led to the world
+-- ## The piece, after the events that led to the world
 
 module _ {X : Type 0} (answer : X → Answer) (line : Line) (ok : IsLine line) (w new : World) (e : WorldEvent) (reached : ∥ WasReached line w ∥₁) where
   -- what the definition of a world's step gives

@@ -10,7 +10,7 @@ use Rattle.rbc_msgs.specs.StepMessage.{step_message}
 use Rattle.rbc_train.specs.Letters.{tells_others}
 use Rattle.rbc_msgs.specs.TrainText.{TrainText}
 use Rattle.rbc_msgs.specs.TrainReading.{read_train}
-use Rattle.rbc_msgs.specs.Kept.{kept_packets, IsBehindPackets}
+use Rattle.rbc_msgs.specs.Kept.{kept_packets, IsAfterPackets}
 use Rattle.rbc_msgs.specs.declared.fault.MsgFault.{MsgFault}
 use Rattle.rbc_world.specs.declared.event.WorldEvent.{WorldEvent}
 use Rattle.rbc_world.specs.declared.event.WorldEvent.TheVariants as event
@@ -36,10 +36,10 @@ MakesRoom line trains m =
     ⊎ (mention line m.nid_engine trains ≡ trains ++ m.nid_engine ∷ [])
 
 -- bytes of a train want memory only where their message keeps a packet or makes room, or where their fault can be found
--- behind a packet
+-- after a packet
 abbrev pub BytesTakeMemory : Line → List ℕ → Result TrainText MsgFault → Type 0
 BytesTakeMemory line trains (Ok m) = (kept_packets m ≢ []) ⊎ MakesRoom line trains (step_message m)
-BytesTakeMemory line trains (Err fault) = IsBehindPackets fault
+BytesTakeMemory line trains (Err fault) = IsAfterPackets fault
 
 -- a frame was sent under this number, and is the next that its receiver takes of its sender
 abbrev pub IsNextSent : World → ℕ → ℕ → ℕ → Type 0

@@ -93,7 +93,7 @@ impl World {
         ensures promises { IfOk result
             (λ a. KeepsPromises (line_of self.old) (state_of self.old) (event_of event.now) (answer_of a)
             (state_of self.new)) }
-        // By what they were told, behind whatever led here, no two trains may run over one section, and none over one
+        // By what they were told, after whatever led here, no two trains may run over one section, and none over one
         // that is not released.
         ensures outside { IfOk result
             (λ a. StaysSafeOutside (line_of self.old) (state_of self.old) (event_of event.now) (answer_of a)) }
@@ -135,7 +135,7 @@ impl World {
         ensures promises { IfOk result
             (λ r. KeepsPromises (line_of self.old) (state_of self.old) (event_of event.now) (answer_by r out.new)
             (state_of self.new)) }
-        // By what they were told, behind whatever led here, no two trains may run over one section, and none over one
+        // By what they were told, after whatever led here, no two trains may run over one section, and none over one
         // that is not released.
         ensures outside { IfOk result
             (λ r. StaysSafeOutside (line_of self.old) (state_of self.old) (event_of event.now) (answer_by r out.new)) }

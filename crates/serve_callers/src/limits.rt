@@ -35,7 +35,7 @@ pub(crate) const LEAVING_RESTS: u32 = 50;
 /// How long a connection of the interlocking has before the next one has to leave its seat too, in rests of a door.
 pub(crate) const NEXT_RESTS: u32 = 10;
 
-/// How long trains have behind `stop` until their connections are ended, in rests of a door: some 30 seconds.
+/// How long trains have after `stop` until their connections are ended, in rests of a door: some 30 seconds.
 pub(crate) const GRACE_RESTS: u32 = 1_500;
 
 /// Lets a connection send at once. A read and a write wait for the client no longer than this.

@@ -8,7 +8,7 @@ use std::io::{ErrorKind, Read};
 #[derive(Drop)]
 pub(crate) struct RowReader<R: Drop> {
     reader: R,
-    // What came behind the last line that was given.
+    // What came after the last line that was given.
     held: Vec<u8>,
 }
 
@@ -71,7 +71,7 @@ impl<R: Read + Drop> RowReader<R> {
         }
     }
 
-    // What stands behind the last line feed.
+    // What follows the last line feed.
     fn last(&mut self) -> Came {
         if self.held.is_empty() {
             return Came::End;

@@ -23,9 +23,9 @@ route_of line own t body =
 abbrev pub served_by : ℕ → List (Option ℕ) → Option ℕ
 served_by train serving = option_and_then (λ n. n) (slice_get serving train)
 
--- who serves which train behind a message of this route
-abbrev pub serving_behind : Route → List (Option ℕ) → List (Option ℕ)
-serving_behind r serving = option_map_or (λ n. slice_set (released n serving) r.train (Some n)) r.begins serving
+-- who serves which train after a message of this route
+abbrev pub serving_after : Route → List (Option ℕ) → List (Option ℕ)
+serving_after r serving = option_map_or (λ n. slice_set (released n serving) r.train (Some n)) r.begins serving
 
 -- the connection, if it is another than this
 abbrev pub other_than : ℕ → Option ℕ → Option ℕ
@@ -35,6 +35,6 @@ other_than n None = None
 -- It goes to the connection that serves its train then. Where another served the train before, that one ends.
 abbrev pub directed : Route → List (Option ℕ) → Directed
 directed r serving = record {
-  to = served_by r.train (serving_behind r serving);
+  to = served_by r.train (serving_after r serving);
   ended = option_and_then (λ n. other_than n (served_by r.train serving)) r.begins;
 }

@@ -72,7 +72,7 @@ impl<'a> Exchange<'a> {
     }
 
     // The connection that a message of this route goes to, with its number, if one serves its train. One that served
-    // the train before ends. The board is free again behind it.
+    // the train before ends. The board is free again after it.
     fn direct<R: Wait>(&self, rt: &R, route: &Route) -> Option<(usize, Arc<Connection, Global>)> {
         let mut board = self.board.lock(rt);
         let directed = board.direct(route);

@@ -1,6 +1,6 @@
 ghost use Rattle.std.specs.Prelude.{◌≡◌, ◌↔◌, IsTrue, Contains, IfOk, Some, None, replicate, slice_get, slice_set, option_and_then};
 ghost use Rattle.serve_connections.specs.Serving.{freed, released};
-ghost use Rattle.serve_connections.specs.Routes.{directed, other_than, served_by, serving_behind};
+ghost use Rattle.serve_connections.specs.Routes.{directed, other_than, served_by, serving_after};
 
 use crate::route::Route;
 use std::alloc::{AllocError, Global};
@@ -75,7 +75,7 @@ impl<C: Drop> Switchboard<C> {
     /// Takes a message of this route, and says where it goes. Who serves its train changes where it begins a session.
     pub fn direct(&mut self, route: &Route) -> Directed
         ensures directed { result ≡ directed route.now self.old.serving.items }
-        ensures serving { self.new.serving.items ≡ serving_behind route.now self.old.serving.items }
+        ensures serving { self.new.serving.items ≡ serving_after route.now self.old.serving.items }
         ensures connections { self.new.connections.items ≡ self.old.connections.items }
     {
         let ended = match route.begins {

@@ -11,7 +11,7 @@ use rbc_world::WorldEvent;
 use std::alloc::Global;
 use std::io::Write;
 
-/// Prints what the interlocking is answered behind its event at a centre: the event and what it led to, as a run prints
+/// Prints what the interlocking is answered after its event at a centre: the event and what it led to, as a run prints
 /// them; or, where the commit was refused, the number of the fault.
 pub fn print_commit<W: Write>(
     alloc: Global,

@@ -81,7 +81,7 @@ impl News {
     }
 }
 
-// An event and what it led to, in words, behind its stamp.
+// An event and what it led to, in words, after its stamp.
 fn in_words(alloc: Global, line: &Line, entry: &Entry) -> Result<String, Fault<'static>> {
     let mut printed: Vec<u8> = Vec::new(alloc);
     print_event(alloc, &mut printed, line, &world_event(alloc, entry)?)?;

@@ -31,7 +31,7 @@ pub fn nodes_of(alloc: Global, line: &Line) -> Result<Vec<Node>, AllocError> {
     Ok(nodes)
 }
 
-/// The doors of the centres, and behind them the control door, each with its seats.
+/// The doors of the centres, and after them the control door, each with its seats.
 pub fn doors_of(
     alloc: Global,
     line: &Line,
@@ -45,7 +45,7 @@ pub fn doors_of(
     Ok(doors)
 }
 
-// The door of this number: that of a centre, or behind those the control door.
+// The door of this number: that of a centre, or after those the control door.
 fn door_of(
     alloc: Global,
     line: &Line,
@@ -168,7 +168,7 @@ pub fn exchanges_of<'a>(
     Ok(exchanges)
 }
 
-/// For each centre the journal that it goes on with, behind what its node has.
+/// For each centre the journal that it goes on with, after what its node has.
 pub fn journals_of<R: Wait>(
     rt: &R,
     alloc: Global,

@@ -21,7 +21,7 @@ pub struct Listening {
 }
 
 impl Doors {
-    /// Listens on 127.0.0.1: centre i at the port `first` + i, the control door at the port behind those. For the port
+    /// Listens on 127.0.0.1: centre i at the port `first` + i, the control door at the port after those. For the port
     /// 0 the system picks each port. Where one can't be listened on, a note names it.
     pub fn open<R: Net<Stream = TcpStream, Listener = TcpListener>, N: Notes>(
         rt: &R,
@@ -84,7 +84,7 @@ impl Doors {
     }
 }
 
-// The port of a door: so far behind the first, or 0 where the system picks each.
+// The port of a door: so far past the first, or 0 where the system picks each.
 fn port_of(first: u16, number: u8) -> u32 {
     match first {
         0 => 0,

@@ -122,7 +122,7 @@ pub struct Hall<'a> {
     pub nodes: &'a [Node],
     /// Where the answers of each go on to.
     pub tellers: &'a [Teller<'a>],
-    /// Their doors, and behind those the control door.
+    /// Their doors, and after those the control door.
     pub doors: &'a [Door],
     /// The links of the line, each in one direction.
     pub links: &'a [DirectedLink],

@@ -70,7 +70,7 @@ impl Seat {
     }
 
     /// Whether its connection was heard longer ago than that of the other seat.
-    fn is_behind(&self, other: &Seat) -> bool {
+    fn was_active_before(&self, other: &Seat) -> bool {
         self.heard.load(Ordering::SeqCst) < other.heard.load(Ordering::SeqCst)
     }
 }
@@ -136,7 +136,7 @@ impl Door {
     /// The one of both seats whose connection was heard longer ago.
     pub fn older<'a>(one: Option<&'a Seat>, other: &'a Seat) -> &'a Seat {
         match one {
-            Some(one) if one.is_behind(other) => one,
+            Some(one) if one.was_active_before(other) => one,
             _ => other,
         }
     }

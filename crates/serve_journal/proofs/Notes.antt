@@ -1,19 +1,19 @@
--- Notes of entries, one behind another.
+-- Notes of consecutive entries.
 use Rattle.std.proofs.Common.{◌≡◌, ◌∙◌, ℕ, ◌+◌, ◌<◌, List, [], ◌∷◌, ◌++◌, length, take, get_or, subst, sym, ap}
 use Rattle.std.proofs.lemmas.List.{take_more}
 use Rattle.rbc_log.specs.declared.entry.Entry as log
 use Rattle.cli_journal.specs.declared.entry.Entry as journal
 use Rattle.serve_journal.specs.Noting.{IsNoteOf, AreNotesOf}
 
-notes_behind :
+notes_after :
     (es : List log.Entry) (ns : List journal.Entry) (e : log.Entry) (n : journal.Entry)
     → AreNotesOf es ns → IsNoteOf e n → AreNotesOf (es ++ e ∷ []) (ns ++ n ∷ [])
-notes_behind [] [] e n are is = (is, are)
-notes_behind (e ∷ es) (n ∷ ns) f m are is = (are.0, notes_behind es ns f m are.1 is)
-notes_behind [] (n ∷ ns) f m are is = absurd are
-notes_behind (e ∷ es) [] f m are is = absurd are
+notes_after [] [] e n are is = (is, are)
+notes_after (e ∷ es) (n ∷ ns) f m are is = (are.0, notes_after es ns f m are.1 is)
+notes_after [] (n ∷ ns) f m are is = absurd are
+notes_after (e ∷ es) [] f m are is = absurd are
 
--- the note of the next entry behind those of the first
+-- the note of the next entry after those of the first
 pub notes_next :
     (es : List log.Entry) (i : ℕ) (ns ms : List journal.Entry) (e : log.Entry) (n : journal.Entry)
     → i < length es → e ≡ get_or es i e → ms ≡ ns ++ n ∷ [] → AreNotesOf (take i es) ns → IsNoteOf e n
@@ -23,4 +23,4 @@ notes_next es i ns ms e n low is put are note =
     take_more es i e low ∙ ap (λ (x : log.Entry). take i es ++ x ∷ []) (sym is)
     in
     subst (λ (xs : List journal.Entry). AreNotesOf (take (i + 1) es) xs) (sym put)
-    (subst (λ (xs : List log.Entry). AreNotesOf xs (ns ++ n ∷ [])) (sym front) (notes_behind (take i es) ns e n are note))
+    (subst (λ (xs : List log.Entry). AreNotesOf xs (ns ++ n ∷ [])) (sym front) (notes_after (take i es) ns e n are note))

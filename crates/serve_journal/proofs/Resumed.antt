@@ -1,4 +1,4 @@
--- Entries that are committed again, one behind another.
+-- Entries that are committed again, in order.
 use Rattle.std.proofs.Common.{◌≡◌, ◌∙◌, ℕ, ◌+◌, ◌<◌, List, [], ◌∷◌, ◌++◌, length, take, get_or, slice_get, slice_set, Some, Result, Ok, Err, OnOk, subst, refl, sym, ap}
 use Rattle.std.proofs.lemmas.List.{take_more}
 use Rattle.rbc_centre.specs.declared.event.Event.{Event}
@@ -11,13 +11,13 @@ use Rattle.serve_control.specs.Events.{IsCommitted}
 use Rattle.serve_journal.specs.Resuming.{CommitsAgain, IsResumed, AreResumed}
 
 module _ (nodes : List Node) where
-  resumed_behind :
+  resumed_after :
       (es : List Entry) (e : Entry) (old mid new : List ShareValue)
       → AreResumed nodes es old mid → IsResumed nodes e mid new → AreResumed nodes (es ++ e ∷ []) old new
-  resumed_behind [] e old mid new same is = (new, subst (λ (s : List ShareValue). IsResumed nodes e s new) same is, refl)
-  resumed_behind (d ∷ es) e old mid new (next, is, are) last = (next, is, resumed_behind es e next mid new are last)
+  resumed_after [] e old mid new same is = (new, subst (λ (s : List ShareValue). IsResumed nodes e s new) same is, refl)
+  resumed_after (d ∷ es) e old mid new (next, is, are) last = (next, is, resumed_after es e next mid new are last)
 
-  -- the next entry behind the first
+  -- the next entry after the first
   pub resumed_next :
       (es : List Entry) (i : ℕ) (e : Entry) (old mid new : List ShareValue)
       → i < length es → e ≡ get_or es i e → AreResumed nodes (take i es) old mid → IsResumed nodes e mid new
@@ -27,7 +27,7 @@ module _ (nodes : List Node) where
       take_more es i e low ∙ ap (λ (x : Entry). take i es ++ x ∷ []) (sym is)
       in
       subst (λ (xs : List Entry). AreResumed nodes xs old new) (sym front)
-      (resumed_behind (take i es) e old mid new are last)
+      (resumed_after (take i es) e old mid new are last)
 
   -- one entry, where the commit through the share in its place ends well
   pub resumes :

@@ -3,7 +3,7 @@ use std::thread::Parker;
 use std::time::Duration;
 
 /// How many events may wait to be written before the centre's callers wait for them, whatever they are answered.
-const MOST_BEHIND: u32 = 4_096;
+const MOST_UNWRITTEN: u32 = 4_096;
 
 /// How long the thread that writes rests before it looks for events again, in milliseconds.
 const REST_MS: u64 = 50;
@@ -58,14 +58,14 @@ impl Journal {
         self.wait_for(rt, stamp)
     }
 
-    /// An event with this stamp was committed, behind which nothing leaves the centre. It waits only where the journal
-    /// is far behind, or can't be written.
+    /// An event with this stamp was committed, after which nothing leaves the centre. It waits only where the journal
+    /// is far from it, or can't be written.
     pub fn keeps_up<R: Wait>(&self, rt: &R, stamp: u32) -> bool {
         self.bell.unpark();
         if self.reach.lock(rt).is_stuck {
             self.wait_for(rt, stamp)
         } else {
-            self.wait_for(rt, stamp.saturating_sub(MOST_BEHIND))
+            self.wait_for(rt, stamp.saturating_sub(MOST_UNWRITTEN))
         }
     }
 

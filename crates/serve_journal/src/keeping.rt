@@ -12,7 +12,7 @@ use std::sync::atomic::{AtomicBool, Ordering};
 use std::time::{Clock, Duration};
 use std::{io, thread};
 
-/// How long the thread that writes rests behind a write that failed, in milliseconds.
+/// How long the thread that writes rests after a write that failed, in milliseconds.
 const STUCK_REST_MS: u64 = 500;
 
 /// Who writes the journal of a centre.
@@ -31,7 +31,7 @@ pub struct Keeper<'a, N> {
     pub is_over: &'a AtomicBool,
 }
 
-/// Writes what the centre commits behind the events with which the journal begins, in the order of its log. It ends
+/// Writes what the centre commits after the events with which the journal begins, in the order of its log. It ends
 /// where nothing more is committed and all is written, or where the journal is to be given up, and says whether all is
 /// written.
 pub fn keep_journal<R: Wait + Clock, N: Notes, F: Write + Seek + OpenFile>(

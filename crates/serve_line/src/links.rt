@@ -106,7 +106,7 @@ fn receive<R: Wait, C: Carrier>(
     let signals = link.ends.of_receiver(bell, &hall.state.is_over);
     let taken = desk.node.look(rt).log().core().taken(link.from);
     let seen = pass_over(rt, carrier, seen, taken, signals);
-    let mut order = InOrder::behind(taken);
+    let mut order = InOrder::after(taken);
     let mut share = link.share.lock(rt);
     receive_frames(
         rt, &desk, &mut share, link.from, carrier, seen, &mut order, signals,

@@ -234,7 +234,7 @@ fn write_bounded(stream: &TcpStream, text: &[u8]) {
         }
         match out.write(rest) {
             Ok(count) => match rest.get(count..) {
-                Some(behind) => rest = behind,
+                Some(after) => rest = after,
                 None => return,
             },
             Err(error) if is_rest(error.kind()) => {}
@@ -243,7 +243,7 @@ fn write_bounded(stream: &TcpStream, text: &[u8]) {
     }
 }
 
-// Takes what a browser said behind its request, so that the system does not cut the answer off.
+// Takes what a browser said after its request, so that the system does not cut the answer off.
 fn drain(stream: &TcpStream) {
     let mut source = stream;
     let mut piece = [0u8; 2_048];

@@ -7,7 +7,7 @@ const MESSAGE: u64 = 1000;
 /// How many messages a connection may say.
 #[derive(Clone, Copy, Debug, PartialEq, Eq)]
 pub struct Rate {
-    /// In a second, one behind another.
+    /// In a second, one after another.
     pub per_second: u32,
     /// At once, where it was silent for long enough before.
     pub burst: u32,

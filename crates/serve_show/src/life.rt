@@ -97,7 +97,7 @@ struct Gauge {
 impl Gauge {
     // Notes how much is used, once at 50, at 90 and at 99 percent.
     fn tell<N: Notes>(&mut self, notes: &N, name: &str, thing: &str, used: u64, most: u64) {
-        let mark = mark_behind(used, most);
+        let mark = mark_reached(used, most);
         if mark > self.noted {
             self.noted = mark;
             notes.note(format_args!("{name}: {used} of {most} of its {thing} are used"));
@@ -106,7 +106,7 @@ impl Gauge {
 }
 
 // How much is used up, in percent, where that is noted.
-fn mark_behind(used: u64, most: u64) -> u64 {
+fn mark_reached(used: u64, most: u64) -> u64 {
     let used = used.saturating_mul(100);
     if used >= most.saturating_mul(99) {
         99

@@ -35,7 +35,7 @@ module _ {N : Type 0} (asks : N → ℕ) (follows : N → Bool → ℕ → Type 
   turn-keeps old new o p s t (Some false) keeps h = h
   turn-keeps old new o p s t None keeps h = h
 
-  -- a further turn, behind which the notes know more
+  -- a further turn, after which the notes know more
   pub turns-one : (old new : ℕ → Option Frame) (o p q : N) (r s t : ShareValue) (turns : List (Option Bool)) (came : Option Bool) → Keeps old new
       → TakesTurns asks follows old c from o p r s turns → TakesTurn asks follows new c from p q s t came
       → TakesTurns asks follows new c from o q r t (turns ++ came ∷ [])

@@ -26,7 +26,7 @@ module _ (known : ℕ → Option Frame) (c from : ℕ) where
       → (frames : List Frame) × Delivers known c from o.number old new frames
   delivers o p old new [] (same, stays) = ([], stays)
   delivers o p old new (Some true ∷ turns) (q, mid, (f, outcome, knows, commits, goes), rest) =
-      let behind = delivers q p mid new turns rest in
-      (f ∷ behind.0, (mid, outcome, knows, commits, subst (λ (n : ℕ). Delivers known c from n mid new behind.0) goes behind.1))
+      let after = delivers q p mid new turns rest in
+      (f ∷ after.0, (mid, outcome, knows, commits, subst (λ (n : ℕ). Delivers known c from n mid new after.0) goes after.1))
   delivers o p old new (Some false ∷ turns) (q, mid, (stays, goes), rest) = quiet o q old mid new stays goes (delivers q p mid new turns rest)
   delivers o p old new (None ∷ turns) (q, mid, (stays, goes), rest) = quiet o q old mid new stays goes (delivers q p mid new turns rest)

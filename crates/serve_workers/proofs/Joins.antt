@@ -1,4 +1,4 @@
--- Messages that are committed one behind another.
+-- Messages that are committed in order.
 use Rattle.std.proofs.Common.{◌≡◌, ℕ, List, [], ◌∷◌, ◌++◌, refl, sym, subst}
 use Rattle.rbc_msgs.specs.TrainText.{TrainText}
 use Rattle.rbc_node.specs.Receipts.{ShareValue}

@@ -5,7 +5,7 @@ use Rattle.std.specs.Io.KnownBytes.{Consumes}
 use Rattle.rbc_msgs.specs.TrainText.{TrainText}
 use Rattle.rbc_msgs.specs.Streams.{IsRest, Spell, Adds}
 use Rattle.rbc_msgs.specs.declared.fault.StreamFault.TheVariants.{Message, Failed}
-use Rattle.rbc_msgs.proofs.Streams.{adds-none, adds-then, adds-behind}
+use Rattle.rbc_msgs.proofs.Streams.{adds-none, adds-then, adds-after}
 use Rattle.serve_reading.specs.Intake.{Brings}
 use Rattle.serve_reading.specs.Intake as intake
 use Rattle.serve_reading.specs.declared.reading.IntakeEnd.{IntakeEnd}
@@ -19,14 +19,14 @@ use Rattle.serve_workers.proofs.Joins.{joins-then}
 
 -- the messages that were added to none
 of_adds : (ms : List TrainText) (bytes rest : List ℕ) → Adds [] ms bytes rest → Spell bytes ms rest
-of_adds ms bytes rest h = subst (λ xs. Spell bytes xs rest) (sym h.behind) h.spelled
+of_adds ms bytes rest h = subst (λ xs. Spell bytes xs rest) (sym h.added) h.spelled
 
 -- where a row of messages is cut
 pub spell-split : (ms ns : List TrainText) (a s : List ℕ) → Spell a (ms ++ ns) s → (r : List ℕ) × Spell a ms r × Spell r ns s
 spell-split [] ns a s h = (a, refl, h)
 spell-split (m ∷ ms) ns a s h = let rest = spell-split ms ns h.1 s h.4 in (rest.0, (h.0, h.1, h.2, h.3, rest.1), rest.2)
 
--- what is left behind the messages of one read
+-- what is left after the messages of one read
 abbrev pub Leaves : List ℕ → Option (List ℕ) → Result (Unit {0}) IntakeEnd → Type 0
 Leaves rest after (Ok _) = (after ≡ Some rest) × IsRest rest
 Leaves rest after (Err end.EndOfStream) = IsRest rest
@@ -65,8 +65,8 @@ turn kept piece old messages before after (Err (end.Fault Failed)) is_rest was n
 -- all turns so far, and one more
 pub adds-turn : (read kept piece rest : List ℕ) (done messages : List TrainText) → Adds [] done read kept → Adds [] messages (kept ++ piece) rest → Adds [] (done ++ messages) (read ++ piece) rest
 adds-turn read kept piece rest done messages before now =
-    let behind : Adds done (done ++ messages) (kept ++ piece) rest = record { messages = messages; behind = refl; spelled = of_adds messages (kept ++ piece) rest now } in
-    adds-then [] done (done ++ messages) (read ++ piece) (kept ++ piece) rest (adds-behind [] done read kept piece before) behind
+    let added : Adds done (done ++ messages) (kept ++ piece) rest = record { messages = messages; added = refl; spelled = of_adds messages (kept ++ piece) rest now } in
+    adds-then [] done (done ++ messages) (read ++ piece) (kept ++ piece) rest (adds-after [] done read kept piece before) added
 
 -- the session ends as the reading did
 leaves-end : (c : ℕ) (share : ShareValue) (rest : List ℕ) (after : Option (List ℕ)) (e : IntakeEnd) → Leaves rest after (Err e) → LeavesSo c share rest (end_of_intake e)
@@ -104,7 +104,7 @@ serves-refused c old mid new read kept piece done messages after result fault be
       leaves = (refused.0, refused.1, next, refused.2, refused.3, h.5);
     }
 
--- bytes that were read one behind another
+-- bytes that were read one after another
 pub consumes-then : (a b c : Option (List ℕ)) (xs ys : List ℕ) → Consumes a b xs → Consumes b c ys → Consumes a c (xs ++ ys)
 consumes-then None b c xs ys h k = tt
 consumes-then (Some p) None c xs ys h k = absurd h

@@ -18,7 +18,7 @@ pub record PutsInOrder (known : ℕ → Option Frame) (c to count : ℕ) : Type 
 
 -- ## What is received
 
--- One turn at centre c, behind which the order goes on. The notes know a frame under the number that was asked for, and
+-- One turn at centre c, after which the order goes on. The notes know a frame under the number that was asked for, and
 -- its delivery from another centre was committed with the outcome of its step; or nothing was committed, and the share
 -- stays.
 abbrev pub TakesTurn : {N : Type 0} → (N → ℕ) → (N → Bool → ℕ → Type 0) → (ℕ → Option Frame) → ℕ → ℕ
@@ -29,7 +29,7 @@ TakesTurn asks follows known c from o p old new (Some true) =
 TakesTurn asks follows known c from o p old new (Some false) = (new ≡ old) × follows o false (asks p)
 TakesTurn asks follows known c from o p old new None = (new ≡ old) × follows o false (asks p)
 
--- so it is turn by turn: behind what it had the share has the receipts of what was committed, in their order, and no
+-- so it is turn by turn: after what it had the share has the receipts of what was committed, in their order, and no
 -- others
 abbrev pub TakesTurns : {N : Type 0} → (N → ℕ) → (N → Bool → ℕ → Type 0) → (ℕ → Option Frame) → ℕ → ℕ
     → N → N → ShareValue → ShareValue → List (Option Bool) → Type 0
@@ -38,7 +38,7 @@ TakesTurns {N} asks follows known c from o p old new (came ∷ turns) =
     (q : N) × (mid : ShareValue) × TakesTurn asks follows known c from o q old mid came
     × TakesTurns asks follows known c from q p mid new turns
 
--- The frames are those that the notes know under the number n and the numbers behind it, one behind another; the
+-- The frames are those that the notes know under the number n and the numbers after it, one after another; the
 -- greatest is its own next. Their deliveries from a centre are committed at centre c in that order, each with the
 -- outcome of its step, and nothing else.
 abbrev pub Delivers : (ℕ → Option Frame) → ℕ → ℕ → ℕ → ShareValue → ShareValue → List Frame → Type 0

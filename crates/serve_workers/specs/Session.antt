@@ -14,8 +14,8 @@ use Rattle.rbc_node.specs.declared.fault.ShareFault.{ShareFault}
 use Rattle.serve_workers.specs.declared.end.SessionEnd.{SessionEnd}
 use Rattle.serve_workers.specs.declared.end.SessionEnd.TheVariants.{EndOfStream, Fault, Device, Refused}
 
--- the messages are committed at centre c, one behind another, each with the outcome of its step: the share has their
--- receipts behind what it had, in their order, and no others
+-- the messages are committed at centre c, in order, each with the outcome of its step: the share has their
+-- receipts after what it had, in their order, and no others
 abbrev pub Joins : ℕ → ShareValue → ShareValue → List TrainText → Type 0
 Joins c old new [] = new ≡ old
 Joins c old new (m ∷ messages) =
@@ -39,7 +39,7 @@ BeginsRefused c share bytes fault =
     (first : List ℕ) × (later : List ℕ) × (next : TrainText) × (bytes ≡ first ++ later) × SpellsTrain first next
     × RefusesAt c share (Train next) fault
 
--- What stands behind the last message that was committed: no whole message, and nothing wrong so far, where the source
+-- What follows the last message that was committed: no whole message, and nothing wrong so far, where the source
 -- or the device ended; what shows the fault; the message that was refused
 abbrev pub LeavesSo : ℕ → ShareValue → List ℕ → SessionEnd → Type 0
 LeavesSo c share rest EndOfStream = IsRest rest
@@ -47,7 +47,7 @@ LeavesSo c share rest Device = IsRest rest
 LeavesSo c share rest (Fault fault) = Shows rest fault
 LeavesSo c share rest (Refused fault) = BeginsRefused c share rest fault
 
--- the bytes that were read are the spellings of the messages whose receipts the share has now, one behind another, and
+-- the bytes that were read are the spellings of the messages whose receipts the share has now, in order, and
 -- then the rest
 pub record Serves (c : ℕ) (old new : ShareValue) (read : List ℕ) (end : SessionEnd) : Type 0 where
   pub messages : List TrainText

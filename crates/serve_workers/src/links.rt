@@ -61,7 +61,7 @@ pub fn send_frames<R: Wait, C: Carrier>(
 }
 
 /// Gets the frames that come from a centre, under the numbers of the order, and commits each that it gets at this
-/// centre: behind what it had the share has the receipts of these deliveries, in their order, and no others. Once no
+/// centre: after what it had the share has the receipts of these deliveries, in their order, and no others. Once no
 /// session is left it ends where a commit is refused, and where no frame is there and the sending worker has ended, or
 /// puts nothing for five seconds.
 pub fn receive_frames<R: Wait, C: Carrier, G: Gate, O: Outlet, N: Order>(

@@ -12,7 +12,7 @@ pub trait Order {
     fn number(&self) -> u32
         ensures { result ≡ asks self.now };
 
-    /// Goes on to the next number, behind a turn in which a frame came and was committed, or in which it was not so.
+    /// Goes on to the next number, after a turn in which a frame came and was committed, or in which it was not so.
     fn go_on(&mut self, is_committed: bool)
         ensures { follows self.old is_committed (asks self.new) };
 }
@@ -31,9 +31,9 @@ impl InOrder {
         InOrder { number: 1 }
     }
 
-    /// Asks first for the frame behind this number, which is that of the last frame that was committed. There is no
-    /// number behind the greatest: that is asked for again.
-    pub fn behind(number: u32) -> InOrder
+    /// Asks first for the frame after this number, which is that of the last frame that was committed. There is no
+    /// number after the greatest: that is asked for again.
+    pub fn after(number: u32) -> InOrder
         ensures { result.number ≡ min (number + 1) (2 ^ 32 - 1) }
     {
         InOrder {

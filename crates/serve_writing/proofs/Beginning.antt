@@ -5,7 +5,7 @@ use Rattle.std.proofs.lemmas.List.Elements.{All-push, All-append, All-nil, All-h
 use Rattle.rbc_spec.specs.Message.{TrackMessage}
 use Rattle.serve_writing.specs.Turns.{Act, HandedIn, LetOut, Goes, IsCounted, IsSaidBy, IsTurn, handed_in, let_out, kept}
 
--- a member of a list that is not its head stands behind it
+-- a member of a list that is not its head follows it
 member : (x : TrackMessage) (xs : List TrackMessage) (z : TrackMessage) → Contains (x ∷ xs) z → (x ≡ z) ⊎ Contains xs z
 member x xs z (zero, low, is) = inl is
 member x xs z (suc k, low, is) = inr (k, omega (arith, low), is)
@@ -16,10 +16,10 @@ not_before first [] m counted (k, low, is) = absurd (let no : ⊥ = omega (arith
 not_before first (s ∷ said) m counted holds =
     ⊎_elim
     (λ (same : s ≡ m). let e : m.t_train ≡ first = ap (λ (x : TrackMessage). x.t_train) (sym same) ∙ counted.0 in omega arith)
-    (λ (behind : Contains said m). let e : first + 1 ≤ m.t_train = not_before (first + 1) said m counted.1 behind in omega arith)
+    (λ (after : Contains said m). let e : first + 1 ≤ m.t_train = not_before (first + 1) said m counted.1 after in omega arith)
     (member s said m holds)
 
--- what is said with this number or behind it, is said with the next one or behind that
+-- what is said with this number or after it, is said with the next one or after that
 said_on : (first : ℕ) (s : TrackMessage) (said : List TrackMessage) (m : TrackMessage) → s.t_train ≡ first →
     IsSaidBy first (s ∷ said) m → IsSaidBy (first + 1) said m
 said_on first s said m number is =
@@ -28,7 +28,7 @@ said_on first s said m number is =
     (λ (holds : Contains (s ∷ said) m).
     ⊎_elim
     (λ (same : s ≡ m). inl (let e : m.t_train ≡ first = ap (λ (x : TrackMessage). x.t_train) (sym same) ∙ number in omega arith))
-    (λ (behind : Contains said m). inr behind)
+    (λ (after : Contains said m). inr after)
     (member s said m holds))
     is
 
@@ -41,7 +41,7 @@ turn first s said m counted number is =
     (λ (holds : Contains (s ∷ said) m).
     ⊎_elim
     (λ (same : s ≡ m). same)
-    (λ (behind : Contains said m). absurd (let e : first + 1 ≤ m.t_train = not_before (first + 1) said m counted.1 behind in let no : ⊥ = omega arith in no))
+    (λ (after : Contains said m). absurd (let e : first + 1 ≤ m.t_train = not_before (first + 1) said m counted.1 after in let no : ⊥ = omega arith in no))
     (member s said m holds))
     is
 
@@ -56,20 +56,20 @@ no_turn first m number is =
 all_kept : (P : TrackMessage → Type 0) (next : ℕ) (m : TrackMessage) (early : List TrackMessage) → P m → All P early → All P (kept next m early)
 all_kept P next m early is all = cond_both (nat_lt m.t_train next) early (early ++ m ∷ []) (All P) (λ e. all) (λ e. All-push P early m all is)
 
-all_apart : (P : TrackMessage → Type 0) (m : TrackMessage) (before behind : List TrackMessage) → All P (before ++ m ∷ behind) →
-    All P before × P m × All P behind
-all_apart P m [] behind all = (All-nil P, All-head P m behind all, All-tail P m behind all)
-all_apart P m (x ∷ before) behind all =
-    let apart = all_apart P m before behind (All-tail P x (before ++ m ∷ behind) all) in
-    (All-cons P x before (All-head P x (before ++ m ∷ behind) all) apart.0, apart.1, apart.2)
+all_apart : (P : TrackMessage → Type 0) (m : TrackMessage) (before after : List TrackMessage) → All P (before ++ m ∷ after) →
+    All P before × P m × All P after
+all_apart P m [] after all = (All-nil P, All-head P m after all, All-tail P m after all)
+all_apart P m (x ∷ before) after all =
+    let apart = all_apart P m before after (All-tail P x (before ++ m ∷ after) all) in
+    (All-cons P x before (All-head P x (before ++ m ∷ after) all) apart.0, apart.1, apart.2)
 
 -- what waited, and what waits yet
 all_left : (P : TrackMessage → Type 0) (next : ℕ) (m : TrackMessage) (early left : List TrackMessage) → IsTurn next m early left → All P early →
     P m × All P left
 all_left P next m early left is all =
-    let parts : All P (is.before ++ m ∷ is.behind) = subst (All P) is.waited all in
-    let apart = all_apart P m is.before is.behind parts in
-    (apart.1, subst (All P) (sym is.others) (All-append P is.before is.behind apart.0 apart.2))
+    let parts : All P (is.before ++ m ∷ is.after) = subst (All P) is.waited all in
+    let apart = all_apart P m is.before is.after parts in
+    (apart.1, subst (All P) (sym is.others) (All-append P is.before is.after apart.0 apart.2))
 
 pub beginning : (said : List TrackMessage) (first : ℕ) (early : List TrackMessage) (acts : List Act) →
     IsCounted first said → All (IsSaidBy first said) early → All (IsSaidBy first said) (handed_in acts) →

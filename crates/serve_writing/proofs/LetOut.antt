@@ -13,7 +13,7 @@ pub turn_of : (next : ℕ) (xs ys : List Reply) (i : ℕ) (r : Reply) → i < le
 turn_of next xs ys i r low is number left = let step : suc i ≡ i + 1 = omega arith in record {
   number = ap (λ (reply : Reply). reply.message.t_train) is ∙ number r;
   before = map message_of (take i xs);
-  behind = map message_of (drop (i + 1) xs);
+  after = map message_of (drop (i + 1) xs);
   waited = ap (map message_of) (parted xs i r low is) ∙ map-append message_of (take i xs) (r ∷ drop (i + 1) xs);
   others = ap (map message_of) (left ∙ ap (λ n. take i xs ++ drop n xs) step) ∙ map-append message_of (take i xs) (drop (i + 1) xs);
 }

@@ -1,9 +1,9 @@
--- What a writer of replies leaves: messages of a centre one behind another.
+-- What a writer of replies leaves: consecutive messages of a centre.
 use Rattle.std.specs.Prelude.{◌≡◌, ℕ, List, [], ◌∷◌, ◌++◌, take}
 use Rattle.rbc_spec.specs.Message.{TrackMessage}
 use Rattle.rbc_msgs.specs.TrackSpelling.{SpellsTrack}
 
--- the bytes are the spellings of these messages, one behind another
+-- the bytes are the spellings of these messages, in order
 abbrev pub SpellRow : List ℕ → List TrackMessage → Type 0
 SpellRow bytes [] = bytes ≡ []
 SpellRow bytes (m ∷ others) =
@@ -13,7 +13,7 @@ SpellRow bytes (m ∷ others) =
 abbrev pub IsRow : List ℕ → Type 0
 IsRow bytes = (messages : List TrackMessage) × SpellRow bytes messages
 
--- the same, and behind them a beginning of one message
+-- the same, and after them a beginning of one message
 pub record IsBegunRow (bytes : List ℕ) : Type 0 where
   pub whole : List ℕ
   pub row : IsRow whole

@@ -7,7 +7,7 @@ use Rattle.serve_writing.specs.declared.reply.Reply.{Reply}
 abbrev pub message_of : Reply → TrackMessage
 message_of reply = reply.message
 
--- its turn is this one or comes behind it
+-- its turn is this one or comes after it
 abbrev pub is_due : ℕ → Reply → Bool
 is_due next reply = nat_le next reply.message.t_train
 
@@ -27,9 +27,9 @@ kept next m early = if nat_lt m.t_train next then early else early ++ m ∷ []
 pub record IsTurn (next : ℕ) (m : TrackMessage) (early left : List TrackMessage) : Type 0 where
   pub number : m.t_train ≡ next
   pub before : List TrackMessage
-  pub behind : List TrackMessage
-  pub waited : early ≡ before ++ m ∷ behind
-  pub others : left ≡ before ++ behind
+  pub after : List TrackMessage
+  pub waited : early ≡ before ++ m ∷ after
+  pub others : left ≡ before ++ after
 
 -- what is done with an order: a message is handed in, or let out
 pub data Act : Type 0 where

@@ -1,5 +1,5 @@
 //! What goes to a train over one connection: replies that come over a channel, and the writer that writes them one
-//! behind another; and the order in which a centre's replies to a train go out.
+//! after another; and the order in which a centre's replies to a train go out.
 //!
 //! Bodies are free. What goes over a connection is fixed by docs/FORMATS.md.
 #![tactic(auto)]

@@ -12,7 +12,7 @@ use std::sync::{Mutex, MutexGuard, Wait};
 pub struct Pipe<W: Drop> {
     // How many bytes wait for the writer.
     waiting: AtomicU64,
-    // None behind a reply that was not written whole.
+    // None after a reply that was not written whole.
     out: Mutex<Option<W>>,
 }
 
@@ -23,7 +23,7 @@ pub struct Turn<'a, W: Drop> {
 }
 
 impl<W: Write + Drop> Turn<'_, W> {
-    /// Writes the reply. Behind a write that fails nothing more is written.
+    /// Writes the reply. After a write that fails nothing more is written.
     pub fn write(mut self, reply: &Reply) -> Result<(), WriteFailed> {
         let Some(out) = &mut *self.out else {
             return Err(WriteFailed);

@@ -13,7 +13,7 @@ use std::sync::Wait;
 pub struct WriteFailed;
 
 /// Writes the replies that come, until no more can come, or a write fails. What is written is a row of whole messages;
-/// only behind a write that failed is the last one perhaps no more than begun.
+/// only after a write that failed is the last one perhaps no more than begun.
 pub fn run_writer<R: Wait, W: Write>(
     rt: &R,
     replies: &Receiver<Reply>,

@@ -68,7 +68,7 @@ fn puts_all<C: Carrier>(carrier: &C, seen: &mut C::Seen, count: u32) -> bool
     true
 }
 
-// A full queue is asked for one frame more than it has room for, before the receiver takes the first and behind that:
+// A full queue is asked for one frame more than it has room for, before the receiver takes the first and after that:
 // what the puts say.
 fn put_past_the_room<C: Carrier>(
     carrier: &C,
@@ -80,9 +80,9 @@ fn put_past_the_room<C: Carrier>(
 {
     let full = carrier.put(sender, 65, numbered(65));
     let first = carrier.get(receiver, 1);
-    let behind = carrier.put(sender, 65, numbered(65));
+    let after = carrier.put(sender, 65, numbered(65));
     let again = carrier.get(receiver, 1);
-    ([full, behind], [first, again])
+    ([full, after], [first, again])
 }
 
 #[test]

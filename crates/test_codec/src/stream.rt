@@ -121,7 +121,7 @@ fn written(alloc: Global, message: &TrainMsg) -> Result<String, Fail> {
     Ok(hex::encode_upper(alloc, &bytes)?)
 }
 
-// Adds a text, behind a mark where something was said before.
+// Adds a text, after a mark where something was said before.
 fn add(said: &mut Vec<u8>, mark: &[u8], text: &[u8]) -> Result<(), Fail> {
     if !said.is_empty() {
         said.extend_from_slice(mark)?;
@@ -144,7 +144,7 @@ fn a_megabyte_comes_in_one_piece(rt: HostRuntime) -> Result<(), Fail> {
     Ok(())
 }
 
-// So many whole messages, and behind them the begin of one.
+// So many whole messages, and after them the begin of one.
 fn megabyte(alloc: Global, message: &[u8], begin: &[u8]) -> Result<Vec<u8>, Fail> {
     let mut bytes = Vec::new(alloc);
     for _ in 0..40_330 {

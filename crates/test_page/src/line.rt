@@ -38,7 +38,7 @@ fn places(alloc: Global) -> Result<Vec<Place>, AllocError> {
     Ok(places)
 }
 
-/// What its centres have of it behind five events: train 19 stands in section 0, section 2 is kept for it, and section
+/// What its centres have of it after five events: train 19 stands in section 0, section 2 is kept for it, and section
 /// 3 is not released.
 pub fn now(alloc: Global) -> Result<LineNow, AllocError> {
     let mut now = LineNow {

@@ -107,9 +107,9 @@ fn a_request_names_one_host(rt: HostRuntime) -> Result<(), Fail> {
     let none = status(rt.alloc(), b"GET / HTTP/1.1\r\n\r\n")?;
     let twice = b"GET / HTTP/1.1\r\nHost: localhost\r\nhOsT: localhost\r\n\r\n";
     let twice = status(rt.alloc(), twice)?;
-    let behind = b"GET / HTTP/1.1\r\nHost: localhost\r\nX-Host: example.com\r\n\r\n";
-    let behind = status(rt.alloc(), behind)?;
-    assert!(rt; (none, twice, behind) == (400, 400, 200));
+    let after = b"GET / HTTP/1.1\r\nHost: localhost\r\nX-Host: example.com\r\n\r\n";
+    let after = status(rt.alloc(), after)?;
+    assert!(rt; (none, twice, after) == (400, 400, 200));
     Ok(())
 }
 
@@ -169,7 +169,7 @@ fn a_long_request_is_refused(rt: HostRuntime) -> Result<(), Fail> {
 }
 
 #[test]
-fn what_stands_behind_a_request_is_not_read(rt: HostRuntime) -> Result<(), Fail> {
+fn what_follows_a_request_is_not_read(rt: HostRuntime) -> Result<(), Fail> {
     let two = b"GET /line.json HTTP/1.1\r\nHost: localhost\r\n\r\nDELETE / HTTP/1.1\r\n\r\n";
     assert!(rt; matches!(asked_of(two), Asked::Line));
     Ok(())

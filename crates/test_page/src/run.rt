@@ -6,7 +6,7 @@ use cli_page::{Changes, Layout, LineNow, Part, Phase, RunSheet, SectionNow, Usag
 use std::alloc::{AllocError, Global};
 use std::test::*;
 
-// The page of the last two of seven events, behind which the line is as `now` has it. Section 2 is kept from event 6
+// The page of the last two of seven events, after which the line is as `now` has it. Section 2 is kept from event 6
 // on, train 19 has a mission from event 6 on, and a session with A between events 5 and 7.
 fn page(alloc: Global) -> Result<String, AllocError> {
     let layout = layout(alloc)?;

@@ -1,7 +1,7 @@
 use cli_commands::files::Files;
 use std::{fs, rt};
 
-/// The files of a row: its own, and behind them those of the folder `lines`, which all rows share.
+/// The files of a row: its own, and after them those of the folder `lines`, which all rows share.
 #[derive(Clone, Copy)]
 pub struct Folder<'a, R> {
     pub rt: &'a R,
@@ -15,7 +15,7 @@ impl<R: rt::Files + AllocGlobal> Folder<'_, R> {
         fs::read(self.rt, path.as_str()).ok()
     }
 
-    // The text of the file of this name, and behind it that of the file `NAME-again`, as often as the file `NAME-times`
+    // The text of the file of this name, and after it that of the file `NAME-again`, as often as the file `NAME-times`
     // says.
     fn with_more(&self, name: &str, mut text: String) -> Option<String> {
         let file = format!(in self.rt.alloc(); "{name}-again").ok()?;

@@ -9,7 +9,7 @@ use Rattle.std.proofs.lemmas.Bool.{and_parts}
 use Rattle.std.proofs.lemmas.Option.{slice_get_within}
 use Rattle.rbc_spec.specs.Line.{Line, Section, section, is_home}
 use Rattle.rbc_spec.specs.Sections.{section_count, is_on}
-use Rattle.rbc_spec.specs.SectionRuns.{SectionRun, within, behind, run_of}
+use Rattle.rbc_spec.specs.SectionRuns.{SectionRun, within, next_after, run_of}
 use Rattle.rbc_spec.specs.Place.{Place, covers, covered}
 use Rattle.rbc_spec.specs.LineCentre.{LineState, Mark, Shut, Open, Kept, Given, is_given_to, free, mark_all, release, close_if_empty}
 use Rattle.rbc_spec.specs.OwnSteps.{shortened, is_cut_of, reported, is_cleared_of, stopped, has_reached, is_ahead_of}
@@ -35,24 +35,24 @@ pub on_within : (line : Line) (track s : ℕ) → is_on line track s ≡ true �
 on_within line track s so = passing line s (λ p. p.track == track) so
 
 -- what passes a test among n numbers from a on is a run that ends before a + n
-run_end : (test : ℕ → Bool) (n a : ℕ) → behind (run_of (filter test (range_with_len a n))) ≤ a + n
+run_end : (test : ℕ → Bool) (n a : ℕ) → next_after (run_of (filter test (range_with_len a n))) ≤ a + n
 run_end test zero a = omega arith
 run_end test (suc n) a = by_test (test a) refl (run_end test n (a + 1))
   where
-    by_test : (b : Bool) → test a ≡ b → behind (run_of (filter test (range_with_len (a + 1) n))) ≤ a + 1 + n → behind (run_of (filter test (range_with_len a (suc n)))) ≤ a + suc n
+    by_test : (b : Bool) → test a ≡ b → next_after (run_of (filter test (range_with_len (a + 1) n))) ≤ a + 1 + n → next_after (run_of (filter test (range_with_len a (suc n)))) ≤ a + suc n
     by_test true is others =
         let parts = length-filter_both test (λ s. not (test s)) (λ s. refl) (range_with_len (a + 1) n) in
         let all = length-range_with_len (a + 1) n in
         rw is (omega (arith, parts, all))
     by_test false is others = rw is (omega (arith, others))
 
-run_end_from_0 : (test : ℕ → Bool) (n : ℕ) → behind (run_of (filter test (range_with_len 0 n))) ≤ n
+run_end_from_0 : (test : ℕ → Bool) (n : ℕ) → next_after (run_of (filter test (range_with_len 0 n))) ≤ n
 run_end_from_0 test n = let end = run_end test n 0 in omega (arith, end)
 
-within_before : (r : SectionRun) (n s : ℕ) → behind r ≤ n → within r s ≡ true → s < n
+within_before : (r : SectionRun) (n s : ℕ) → next_after r ≤ n → within r s ≡ true → s < n
 unfolding within
 within_before r n s end so =
-    let before : nat_lt s (behind r) ≡ true = (and_parts (nat_le r.first s) (nat_lt s (behind r)) so).1 in
+    let before : nat_lt s (next_after r) ≡ true = (and_parts (nat_le r.first s) (nat_lt s (next_after r)) so).1 in
     grind (arith, nat_tests, before, end)
 
 pub covered_within : (line : Line) (place : Place) (s : ℕ) → within (covered line place) s ≡ true → s < section_count line

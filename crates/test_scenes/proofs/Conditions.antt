@@ -8,7 +8,7 @@ use Rattle.rbc_spec.specs.Acts.{◌>>◌}
 use Rattle.rbc_spec.specs.Step.{step}
 use Rattle.rbc_spec.specs.World.{new_world, world_step}
 use Rattle.test_scenes.specs.Scene.{line, line_of_a_and_b, line_of_one, seen, seen_from}
-use Rattle.test_scenes.specs.Conditions.{unset_without_a_session, unset_without_a_session_shows, unset_after_the_end, unset_after_the_end_shows, unset_again, unset_again_shows, front_before_the_hand, front_before_the_hand_shows, front_in_the_section, front_in_the_section_shows, section_out_of_reach, section_out_of_reach_shows, yield_with_a_pool, yield_with_a_pool_shows, cut_with_a_pool, cut_with_a_pool_shows, cut_behind_the_border, cut_behind_the_border_shows, proposal_ends_with_the_session, proposal_ends_with_the_session_shows, start_outside_the_hand, start_outside_the_hand_shows, request_again_over_the_border, request_again_over_the_border_shows, request_while_asked, request_while_asked_shows, full_hand_at_the_border, full_hand_at_the_border_shows, pool_out_of_reach, pool_out_of_reach_shows, proposal_ends_with_the_mission, proposal_ends_with_the_mission_shows}
+use Rattle.test_scenes.specs.Conditions.{unset_without_a_session, unset_without_a_session_shows, unset_after_the_end, unset_after_the_end_shows, unset_again, unset_again_shows, front_before_the_hand, front_before_the_hand_shows, front_in_the_section, front_in_the_section_shows, section_out_of_reach, section_out_of_reach_shows, yield_with_a_pool, yield_with_a_pool_shows, cut_with_a_pool, cut_with_a_pool_shows, cut_beyond_the_border, cut_beyond_the_border_shows, proposal_ends_with_the_session, proposal_ends_with_the_session_shows, start_outside_the_hand, start_outside_the_hand_shows, request_again_over_the_border, request_again_over_the_border_shows, request_while_asked, request_while_asked_shows, full_hand_at_the_border, full_hand_at_the_border_shows, pool_out_of_reach, pool_out_of_reach_shows, proposal_ends_with_the_mission, proposal_ends_with_the_mission_shows}
 
 pub unset_without_a_session_comes_out : seen line unset_without_a_session ≡ unset_without_a_session_shows
 unfolding within longest line_start end extent beginning ◌>>◌ step new_world world_step seen seen_from
@@ -42,9 +42,9 @@ pub cut_with_a_pool_comes_out : seen line cut_with_a_pool ≡ cut_with_a_pool_sh
 unfolding within longest line_start end extent beginning ◌>>◌ step new_world world_step seen seen_from
 cut_with_a_pool_comes_out = refl
 
-pub cut_behind_the_border_comes_out : seen line cut_behind_the_border ≡ cut_behind_the_border_shows
+pub cut_beyond_the_border_comes_out : seen line cut_beyond_the_border ≡ cut_beyond_the_border_shows
 unfolding within longest line_start end extent beginning ◌>>◌ step new_world world_step seen seen_from
-cut_behind_the_border_comes_out = refl
+cut_beyond_the_border_comes_out = refl
 
 pub proposal_ends_with_the_session_comes_out : seen line proposal_ends_with_the_session ≡ proposal_ends_with_the_session_shows
 unfolding within longest line_start end extent beginning ◌>>◌ step new_world world_step seen seen_from

@@ -13,9 +13,9 @@ use Rattle.test_scenes.specs.Turns.{quiet_turns}
 use Rattle.test_scenes.specs.Moves.{play}
 use Rattle.test_scenes.specs.Pieces.{centres_show, line_shows, IsMetByRun}
 use Rattle.test_scenes.specs.Scene.{line, line_of_a_and_b, line_of_one}
-use Rattle.test_scenes.specs.Conditions.{unset_without_a_session, unset_after_the_end, unset_again, front_before_the_hand, front_in_the_section, section_out_of_reach, yield_with_a_pool, cut_with_a_pool, cut_behind_the_border, proposal_ends_with_the_session, start_outside_the_hand, request_again_over_the_border, request_while_asked, full_hand_at_the_border, pool_out_of_reach, proposal_ends_with_the_mission}
+use Rattle.test_scenes.specs.Conditions.{unset_without_a_session, unset_after_the_end, unset_again, front_before_the_hand, front_in_the_section, section_out_of_reach, yield_with_a_pool, cut_with_a_pool, cut_beyond_the_border, proposal_ends_with_the_session, start_outside_the_hand, request_again_over_the_border, request_while_asked, full_hand_at_the_border, pool_out_of_reach, proposal_ends_with_the_mission}
 use Rattle.test_scenes.specs.SceneMoves.{plain}
-use Rattle.test_scenes.specs.ConditionMoves.{unset_without_a_session_moves, unset_again_moves, front_before_the_hand_moves, front_in_the_section_moves, section_out_of_reach_moves, yield_with_a_pool_moves, cut_with_a_pool_moves, cut_behind_the_border_moves, proposal_ends_with_the_session_moves, request_again_over_the_border_moves, request_while_asked_moves, full_hand_at_the_border_moves, pool_out_of_reach_moves, proposal_ends_with_the_mission_moves}
+use Rattle.test_scenes.specs.ConditionMoves.{unset_without_a_session_moves, unset_again_moves, front_before_the_hand_moves, front_in_the_section_moves, section_out_of_reach_moves, yield_with_a_pool_moves, cut_with_a_pool_moves, cut_beyond_the_border_moves, proposal_ends_with_the_session_moves, request_again_over_the_border_moves, request_while_asked_moves, full_hand_at_the_border_moves, pool_out_of_reach_moves, proposal_ends_with_the_mission_moves}
 use Rattle.test_scenes.proofs.Pieces.{met_by_run}
 
 pub unset_without_a_session_is_met : IsMetByRun line unset_without_a_session unset_without_a_session_moves
@@ -50,9 +50,9 @@ pub cut_with_a_pool_is_met : IsMetByRun line cut_with_a_pool cut_with_a_pool_mov
 unfolding within longest line_start end extent beginning ◌>>◌ step new_world world_step line_beginning read_off quiet_turns play centres_show line_shows
 cut_with_a_pool_is_met = met_by_run line cut_with_a_pool cut_with_a_pool_moves refl refl refl
 
-pub cut_behind_the_border_is_met : IsMetByRun line cut_behind_the_border cut_behind_the_border_moves
+pub cut_beyond_the_border_is_met : IsMetByRun line cut_beyond_the_border cut_beyond_the_border_moves
 unfolding within longest line_start end extent beginning ◌>>◌ step new_world world_step line_beginning read_off quiet_turns play centres_show line_shows
-cut_behind_the_border_is_met = met_by_run line cut_behind_the_border cut_behind_the_border_moves refl refl refl
+cut_beyond_the_border_is_met = met_by_run line cut_beyond_the_border cut_beyond_the_border_moves refl refl refl
 
 pub proposal_ends_with_the_session_is_met : IsMetByRun line proposal_ends_with_the_session proposal_ends_with_the_session_moves
 unfolding within longest line_start end extent beginning ◌>>◌ step new_world world_step line_beginning read_off quiet_turns play centres_show line_shows

@@ -24,7 +24,7 @@ use Rattle.test_scenes.specs.Forced.{played_on, is_barred, is_unasked, is_forced
 use Rattle.test_scenes.specs.Pieces.{sheet, event_of, IsMetByForcedRun, events_of, shown_by, seen_after, centres_show, seen_of_line, line_shows}
 use Rattle.test_scenes.proofs.Valid.{Valid, valid_allowed, valid_some, valid_when, valid_then}
 use Rattle.test_scenes.proofs.Bounds.{IsWithinLine}
-use Rattle.test_scenes.proofs.Pieces.{at_speaking, piece_with, shown_first, behind_first, is_shown, is_allowed, answers_with, answers_of, state_with, state_after, world_after, met, beginning_within}
+use Rattle.test_scenes.proofs.Pieces.{at_speaking, piece_with, shown_first, after_first, is_shown, is_allowed, answers_with, answers_of, state_with, state_after, world_after, met, beginning_within}
 use Rattle.test_scenes.proofs.OwnTurns.{IsStep, own_step_is}
 use Rattle.test_scenes.proofs.QuietTurns.{AreQuiet, quiets_are}
 
@@ -167,7 +167,7 @@ forced_with : (line : Line) (v : LineState) (move : Move) (moves : List Move) (r
     → seen_after line result (λ after. centres_show line after moves) ≡ seen_of_line line p (λ new. line_shows line new moves)
     → ForcedRun line v (events_of (move ∷ moves)) (answers_with result (λ after. answers_of line after moves)) (state_with v p (λ new. state_after line new moves))
 forced_with line v move moves (Ok (answer, after)) (Some p) piece rest others same =
-    (p.state, piece.meets answer (ap (shown_first p.shown) same), others after p.state piece.bound (ap behind_first same) rest)
+    (p.state, piece.meets answer (ap (shown_first p.shown) same), others after p.state piece.bound (ap after_first same) rest)
 forced_with line v move moves (Ok (answer, after)) None piece rest others same = absurd (true≢false (ap is_shown same))
 forced_with line v move moves (Err why) (Some p) piece rest others same = absurd (true≢false (sym (ap is_shown same)))
 forced_with line v move moves (Err why) None piece rest others same = absurd (true≢false (ap is_allowed same))

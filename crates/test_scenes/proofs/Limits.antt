@@ -9,7 +9,7 @@ use Rattle.rbc_spec.specs.Acts.{◌>>◌}
 use Rattle.rbc_spec.specs.Step.{step, Set, LinkFull}
 use Rattle.test_scenes.specs.Scene.{line, line_of_three}
 use Rattle.rbc_spec.specs.World.{new_world, world_step, world_run}
-use Rattle.test_scenes.specs.Limits.{asks_behind, run_items, set_and_session, set_and_session_shows, stamps, having_sent, last_stamp_is_taken, last_stamp_is_taken_shows, stamp_past_the_last, stamp_past_the_last_shows, frame_without_a_link, frame_without_a_link_shows}
+use Rattle.test_scenes.specs.Limits.{asks_ahead, run_items, set_and_session, set_and_session_shows, stamps, having_sent, last_stamp_is_taken, last_stamp_is_taken_shows, stamp_past_the_last, stamp_past_the_last_shows, frame_without_a_link, frame_without_a_link_shows}
 
 pub last_stamp_is_taken_comes_out : stamps line last_stamp_is_taken (beginning line 0) ≡ last_stamp_is_taken_shows
 unfolding within longest start end extent beginning ◌>>◌ step stamps
@@ -35,10 +35,10 @@ pub set_and_session_comes_out : run_items (world_run line (new_world line) set_a
 unfolding within longest start end extent beginning ◌>>◌ step new_world world_step world_run
 set_and_session_comes_out = refl
 
-pub asks_for_a_full_hand : asks_behind (record { first = 470; count = 5 }) ≡ RouteAsk 1 475 27 ∷ []
+pub asks_for_a_full_hand : asks_ahead (record { first = 470; count = 5 }) ≡ RouteAsk 1 475 27 ∷ []
 unfolding beginning ◌>>◌
 asks_for_a_full_hand = refl
 
-pub asks_for_no_513th_section : asks_behind (record { first = 490; count = 5 }) ≡ RouteAsk 1 495 17 ∷ []
+pub asks_for_no_513th_section : asks_ahead (record { first = 490; count = 5 }) ≡ RouteAsk 1 495 17 ∷ []
 unfolding beginning ◌>>◌
 asks_for_no_513th_section = refl

@@ -18,7 +18,7 @@ use Rattle.test_scenes.specs.Scene.{line}
 use Rattle.test_scenes.specs.Turns.{quiet_turns}
 use Rattle.test_scenes.specs.Moves.{play}
 use Rattle.test_scenes.specs.Pieces.{line_shows}
-use Rattle.test_scenes.specs.NotAllowed.{shown_at, kept_at_home, kept_at_home_shows, kept_elsewhere, kept_elsewhere_shows, silent_alone, silent_alone_shows, kept_behind_silence, kept_behind_silence_shows, told_in_order, told_in_order_shows, told_out_of_order, told_out_of_order_shows, one_yield, two_yields, missions_in}
+use Rattle.test_scenes.specs.NotAllowed.{shown_at, kept_at_home, kept_at_home_shows, kept_elsewhere, kept_elsewhere_shows, silent_alone, silent_alone_shows, kept_after_silence, kept_after_silence_shows, told_in_order, told_in_order_shows, told_out_of_order, told_out_of_order_shows, one_yield, two_yields, missions_in}
 
 -- ## Moves
 
@@ -34,9 +34,9 @@ pub silent : shown_at silent_alone ≡ silent_alone_shows
 unfolding within longest line_start end extent line_beginning quiet_turns play line_shows
 silent = refl
 
-pub behind_silence : shown_at kept_behind_silence ≡ kept_behind_silence_shows
+pub after_silence : shown_at kept_after_silence ≡ kept_after_silence_shows
 unfolding within longest line_start end extent line_beginning quiet_turns play line_shows
-behind_silence = refl
+after_silence = refl
 
 pub in_order : shown_at told_in_order ≡ told_in_order_shows
 unfolding within longest line_start end extent line_beginning quiet_turns play line_shows
@@ -49,9 +49,9 @@ out_of_order = refl
 pub none_elsewhere : (v new : LineState) (outcome : Outcome) (piece : Piece line v (Set 0 0) outcome new) → piece.quiets ≡ Keep 1 4 ∷ [] → ⊥
 none_elsewhere v new outcome piece is = true≢false (sym piece.own_centre ∙ ap (list_all (is_of_centre line 0)) is)
 
-pub none_behind_silence : (v new : LineState) (event : Event) (outcome : Outcome) (why : Reason) (piece : Piece line v event outcome new)
+pub none_after_silence : (v new : LineState) (event : Event) (outcome : Outcome) (why : Reason) (piece : Piece line v event outcome new)
     → outcome.silence ≡ Some why → piece.quiets ≡ []
-none_behind_silence v new event outcome why piece is = elim (piece.none_if_silent) [
+none_after_silence v new event outcome why piece is = elim (piece.none_if_silent) [
   | inl none ↦ absurd (none-some why (sym none ∙ is))
   | inr none ↦ none
 ]

@@ -14,7 +14,7 @@ use Rattle.test_scenes.specs.Requests.{request_asks_over_the_border, asks_again_
 use Rattle.test_scenes.specs.Shortening.{unset_in_a_hand, shortening_and_a_late_route, answer_to_another_proposal, granted_past_the_proposed_end, another_answer_at_the_border, asking_again_tries_again}
 use Rattle.test_scenes.specs.Handover.{handover, return_after_handover, yield_carries_the_last_stamp_heard, cancelled_before_taking_over}
 use Rattle.test_scenes.specs.Races.{withdrawn_from_the_pool, first_of_the_pool_withdrawn, last_of_the_pool_withdrawn, route_for_an_ended_mission, end_of_mission_with_a_pool, awaited, route_after_the_yield, wish_at_the_yield, cleared_elsewhere, cleared_with_a_pool, cleared_over_the_border, whole_hand_is_cut, session_opens_over_a_waiting_start}
-use Rattle.test_scenes.specs.Conditions.{yield_with_a_pool, cut_with_a_pool, cut_behind_the_border, request_again_over_the_border, request_while_asked, proposal_ends_with_the_mission}
+use Rattle.test_scenes.specs.Conditions.{yield_with_a_pool, cut_with_a_pool, cut_beyond_the_border, request_again_over_the_border, request_while_asked, proposal_ends_with_the_mission}
 use Rattle.test_scenes.specs.ThreeCentres.{border_of_the_first, second_takes_over, yield_with_a_third_home, wish_at_a_third_centre, each_home_gets_its_section_back, ended_mission_is_yielded, stands_still_before_the_third}
 use Rattle.test_scenes.specs.NotAllowed.{one_yield, two_yields}
 use Rattle.test_scenes.specs.OnePlaces.{has_one_place, keeps_one_place, keeps_from}
@@ -39,7 +39,7 @@ pub late_frames_keep : list_all (keeps_one_place line) (withdrawn_from_the_pool 
 unfolding within longest line_start end extent beginning ◌>>◌ step new_world world_step keeps_one_place keeps_from
 late_frames_keep = refl
 
-pub conditions_keep : list_all (keeps_one_place line) (yield_with_a_pool ∷ cut_with_a_pool ∷ cut_behind_the_border ∷ request_again_over_the_border ∷ request_while_asked ∷ proposal_ends_with_the_mission ∷ []) ≡ true
+pub conditions_keep : list_all (keeps_one_place line) (yield_with_a_pool ∷ cut_with_a_pool ∷ cut_beyond_the_border ∷ request_again_over_the_border ∷ request_while_asked ∷ proposal_ends_with_the_mission ∷ []) ≡ true
 unfolding within longest line_start end extent beginning ◌>>◌ step new_world world_step keeps_one_place keeps_from
 conditions_keep = refl
 

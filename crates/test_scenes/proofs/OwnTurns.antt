@@ -2,7 +2,7 @@
 use Rattle.std.proofs.Common.{◌≡◌, inl, inr, ℕ, ◌+◌, ◌-◌, ◌==◌, ◌≤◌, ◌<◌, true, false, ◌&&◌, ◌||◌, not, nat_le, nat_lt, Option, Some, None, Ok, Err, refl, sym, ap, ◌∙◌, arith, ⊎_elim, Bool}
 use Rattle.std.proofs.lemmas.Bool.{and_parts, leb-true, ltb-true, cases_Bool, cases_lt, eqb-true, or_cases, not-true}
 use Rattle.std.specs.Option.{option_map_or}
-use Rattle.rbc_spec.specs.SectionRuns.{SectionRun, within, behind, all_of}
+use Rattle.rbc_spec.specs.SectionRuns.{SectionRun, within, next_after, all_of}
 use Rattle.rbc_spec.specs.Line.{Line, is_centre, is_home, end}
 use Rattle.rbc_spec.specs.Sections.{section_count, is_on}
 use Rattle.rbc_spec.specs.Place.{Place, Position, covered, group_start, place_on, fit_place}
@@ -30,11 +30,11 @@ beyond line v t s bound past = ⊎_elim (λ (yes_given : is_given_to t (v.mark s
     (λ (not_given : is_given_to t (v.mark s) ≡ false). not_given) (cases_Bool (is_given_to t (v.mark s)))
 
 -- nor in a run that ends with the line
-outside : (hand : SectionRun) (s : ℕ) → behind hand ≤ s → within hand s ≡ false
+outside : (hand : SectionRun) (s : ℕ) → next_after hand ≤ s → within hand s ≡ false
 unfolding within
 outside hand s past = ⊎_elim
-    (λ (yes_in : (nat_le hand.first s && nat_lt s (behind hand)) ≡ true). absurd (omega (arith, ltb-true s (behind hand) (and_parts _ _ yes_in).1)))
-    (λ (not_in : (nat_le hand.first s && nat_lt s (behind hand)) ≡ false). not_in) (cases_Bool (nat_le hand.first s && nat_lt s (behind hand)))
+    (λ (yes_in : (nat_le hand.first s && nat_lt s (next_after hand)) ≡ true). absurd (omega (arith, ltb-true s (next_after hand) (and_parts _ _ yes_in).1)))
+    (λ (not_in : (nat_le hand.first s && nat_lt s (next_after hand)) ≡ false). not_in) (cases_Bool (nat_le hand.first s && nat_lt s (next_after hand)))
 
 pub hand_is : (line : Line) (v : LineState) (t : ℕ) (hand : SectionRun) → IsWithinLine line v.mark → is_hand line v t hand ≡ true → IsHand v t hand
 hand_is line v t hand bound so = record {
@@ -42,7 +42,7 @@ hand_is line v t hand bound so = record {
       (λ (small : s < section_count line). same (is_given_to t (v.mark s)) (within hand s)
       (each_of _ 0 (section_count line) (and_parts _ _ so).0 s (omega arith) (omega arith)))
       (λ (past : section_count line ≤ s). beyond line v t s bound past
-      ∙ sym (outside hand s (omega (arith, leb-true (behind hand) (section_count line) (and_parts _ _ so).1))))
+      ∙ sym (outside hand s (omega (arith, leb-true (next_after hand) (section_count line) (and_parts _ _ so).1))))
       (cases_lt s (section_count line));
 }
 
@@ -50,13 +50,13 @@ hand_is line v t hand bound so = record {
 
 end_is : (line : Line) (v : LineState) (c : ℕ) (place : Place) (hand : SectionRun) → is_end line v c place hand ≡ true → Ends line v c place hand
 end_is line v c place hand so = ⊎_elim
-    (λ (near : (not (is_on line place.track (behind hand)) || not (is_home line c (behind hand) && is_mark_open (v.mark (behind hand)))) ≡ true). ⊎_elim
-    (λ (off : not (is_on line place.track (behind hand)) ≡ true). Ends.off_track (not-true _ off))
-    (λ (used : not (is_home line c (behind hand) && is_mark_open (v.mark (behind hand))) ≡ true). Ends.not_free (not-true _ used))
+    (λ (near : (not (is_on line place.track (next_after hand)) || not (is_home line c (next_after hand) && is_mark_open (v.mark (next_after hand)))) ≡ true). ⊎_elim
+    (λ (off : not (is_on line place.track (next_after hand)) ≡ true). Ends.off_track (not-true _ off))
+    (λ (used : not (is_home line c (next_after hand) && is_mark_open (v.mark (next_after hand))) ≡ true). Ends.not_free (not-true _ used))
     (or_cases _ _ near))
-    (λ (far : ((hand.count == 32) || not (nat_le (end line (behind hand)) (group_start line place + 32767))) ≡ true). ⊎_elim
+    (λ (far : ((hand.count == 32) || not (nat_le (end line (next_after hand)) (group_start line place + 32767))) ≡ true). ⊎_elim
     (λ (many : (hand.count == 32) ≡ true). Ends.full (eqb-true hand.count 32 many))
-    (λ (beyond_reach : not (nat_le (end line (behind hand)) (group_start line place + 32767)) ≡ true). Ends.too_far (not-true _ beyond_reach))
+    (λ (beyond_reach : not (nat_le (end line (next_after hand)) (group_start line place + 32767)) ≡ true). Ends.too_far (not-true _ beyond_reach))
     (or_cases _ _ far))
     (or_cases _ _ so)
 
@@ -66,7 +66,7 @@ added_within : (line : Line) (v : LineState) (t c : ℕ) (place : Place) (r : Se
 unfolding within
 added_within line v t c place r each s so =
     let ends = and_parts _ _ so in
-    on_within line place.track s (and_parts _ _ (each_of _ r.first r.count each s (leb-true r.first s ends.0) (ltb-true s (behind r) ends.1))).1
+    on_within line place.track s (and_parts _ _ (each_of _ r.first r.count each s (leb-true r.first s ends.0) (ltb-true s (next_after r) ends.1))).1
 
 extend_is : (line : Line) (v : LineState) (t c : ℕ) (place : Place) (hand : SectionRun) (count : ℕ) → IsWithinLine line v.mark
     → Valid (Does line (Extends line v t c place)) (extend line v t c place hand count)
@@ -82,11 +82,11 @@ extend_is line v t c place hand count bound = valid_allowed (Does line (Extends 
         each = hands.1;
         ends = end_is line v c place (record { first = hand.first; count = hand.count + count }) rest.0;
         room = leb-true (hand.count + count) 32 sizes.0;
-        within_reach = leb-true (end line (behind hand + count - 1)) (group_start line place + 32767) sizes.1;
+        within_reach = leb-true (end line (next_after hand + count - 1)) (group_start line place + 32767) sizes.1;
         says_it = record { said_is = refl; new_is = refl };
       },
-      within_given line (within (record { first = behind hand; count = count })) t v
-          (added_within line v t c place (record { first = behind hand; count = count }) hands.1) bound,
+      within_given line (within (record { first = next_after hand; count = count })) t v
+          (added_within line v t c place (record { first = next_after hand; count = count }) hands.1) bound,
     ))
 
 -- the request has this place

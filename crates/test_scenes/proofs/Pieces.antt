@@ -164,11 +164,11 @@ abbrev pub is_allowed : List Seen → Bool
 is_allowed (NotAllowed ∷ xs) = false
 is_allowed xs = true
 
-abbrev pub behind_first : List Seen → List Seen
-behind_first [] = []
-behind_first (x ∷ xs) = xs
+abbrev pub after_first : List Seen → List Seen
+after_first [] = []
+after_first (x ∷ xs) = xs
 
--- the answers to moves, the world that they leave, and the line centre's state behind them
+-- the answers to moves, the world that they leave, and the line centre's state after them
 abbrev pub answers_with : Result (Answer × World) Refusal → (World → List Answer) → List Answer
 answers_with (Ok (answer, after)) others = answer ∷ others after
 answers_with (Err why) others = []
@@ -212,7 +212,7 @@ unfolding world_run
 step_with line w v move moves (Ok (answer, after)) is (Some p) piece others same =
     let here = piece.meets answer (ap (shown_first p.shown) same) in
     let read = ap (line_first (sheet line p.state)) same in
-    let met = others after p.state piece.bound (ap behind_first same) in
+    let met = others after p.state piece.bound (ap after_first same) in
     record {
       goes = (answer, after, p.state, is, here, read, met.goes);
       ran = rw (is, met.ran);

@@ -1,4 +1,4 @@
--- The state of the one line centre that stands for the world behind a start of mission.
+-- The state of the one line centre that stands for the world after a start of mission.
 use Rattle.std.proofs.Common.{◌≡◌, ◌≢◌, ℕ, zero, suc, ◌<◌, ◌≤◌, ◌==◌, nat_le, nat_lt, true, false, true≢false, length, Some, None, option_map, pos, refl, sym, ◌∙◌, subst, ne_eqb, eq-eqb, ⊎_elim, arith}
 use Rattle.std.proofs.lemmas.Bool.{cases_eq, cases_Bool, eqb-true, and_parts, leb-true, ltb-true}
 use Rattle.std.proofs.lemmas.Option.{none-some, same_Some}

@@ -57,8 +57,8 @@ cut_with_a_pool_moves =
     ++ plain (train 1 0 6 (ShorteningGranted 5 in_section_1) ∷ [])
     ++ followed (Happens (Delivery 0 1 2)) (Unkeep 1 4 ∷ Unkeep 1 5 ∷ Unkeep 1 6 ∷ [])
 
-abbrev pub cut_behind_the_border_moves : List Move
-cut_behind_the_border_moves =
+abbrev pub cut_beyond_the_border_moves : List Move
+cut_beyond_the_border_moves =
     announced_moves
     ++ plain (Happens (Unset 1 5) ∷ Happens (Delivery 1 0 2) ∷ [])
     ++ followed (Happens (Delivery 1 0 3)) (Propose 1 0 5 ∷ [])

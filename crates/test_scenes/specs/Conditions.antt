@@ -75,7 +75,7 @@ front_in_the_section_shows =
     request_to_the_border_shows
     ++ nothing ∷ asked 2 ∷ (Says 1 5 82022 (ShorteningRequest 1000) ∷ Tells (Asked 3) ∷ []) ∷ []
 
--- nor for one that starts too far behind the group for message 9 to say
+-- nor for one that starts too far in advance of the group for message 9 to say
 abbrev pub section_out_of_reach : List Scene
 section_out_of_reach =
     sets 0 0 20
@@ -141,7 +141,7 @@ abbrev pub request_while_asked_shows : List (List Item)
 request_while_asked_shows =
     all_done 1 3 ++ start_and_request_shows group_1 3000 asks_for_more ++ (Says 1 5 group_1 (Authority 3000) ∷ []) ∷ []
 
--- behind a hand of 32 no section is asked for
+-- in advance of a hand of 32 no section is asked for
 abbrev pub full_hand_at_the_border : List Scene
 full_hand_at_the_border = sets 0 0 32 ++ start_and_request (at 100 60 (Some 40))
 
@@ -202,15 +202,15 @@ cut_with_a_pool_shows =
     ((0 ∷ []) ∷ [] ∷ []) ∷ []
 
 -- a cut that leaves a section of B leaves the handover
-abbrev pub cut_behind_the_border : List Scene
-cut_behind_the_border =
+abbrev pub cut_beyond_the_border : List Scene
+cut_beyond_the_border =
     announced
     ++ Happens (Unset 1 5) ∷ Happens (Delivery 1 0 2) ∷ Happens (Delivery 1 0 3)
     ∷ train 1 0 7 (ShorteningGranted 7 in_section_1)
     ∷ Happens (Delivery 0 1 4) ∷ Look ∷ []
 
-abbrev pub cut_behind_the_border_shows : List (List Item)
-cut_behind_the_border_shows =
+abbrev pub cut_beyond_the_border_shows : List (List Item)
+cut_beyond_the_border_shows =
     announced_shows
     ++ (Sends 0 3 (RouteWithdraw 1 5) ∷ Tells (Asked 5) ∷ []) ∷ (Link Next ∷ [])
     ∷ (Link Next ∷ Says 1 7 group_1 (ShorteningRequest 4000) ∷ [])

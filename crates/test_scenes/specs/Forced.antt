@@ -21,7 +21,7 @@ abbrev pub is_unasked : Line → LineState → (c s : ℕ) → Mark → Bool
 is_unasked line v c s (Given t) = option_map_or (is_barred line v t c s) (v.mission t) true
 is_unasked line v c s mark = true
 
--- behind an unset message 9 for the section, or nothing where no train can be asked; behind another event no quiet step
+-- after an unset message 9 for the section, or nothing where no train can be asked; after another event no quiet step
 abbrev pub is_forced : Line → LineState → Event → List Quiet → Bool
 is_forced line mid (Unset c s) [] = is_unasked line mid c s (mid.mark s)
 is_forced line mid (Unset c s) (Propose t d e ∷ []) = (d == c) && (e == s)
@@ -35,7 +35,7 @@ is_plain Plainly = true
 is_plain (Extending count) = true
 is_plain other = false
 
--- the state behind the own step of a move
+-- the state after the own step of a move
 abbrev pub own_state : Line → LineState → Move → LineState
 own_state line v move = option_map_or (λ own. own.turn.state) (own_step line v move.event move.choice) v
 

@@ -49,12 +49,12 @@ abbrev pub handover_shows : List (List Item)
 handover_shows = handed_over_shows ++ shows_six_given (1 ∷ []) ∷ []
 
 -- the train clears A's sections: they go home
-abbrev pub cleared_behind_the_border : List Scene
-cleared_behind_the_border = Look ∷ Happens (Delivery 1 0 4) ∷ Look ∷ []
+abbrev pub cleared_in_rear_of_the_border : List Scene
+cleared_in_rear_of_the_border = Look ∷ Happens (Delivery 1 0 4) ∷ Look ∷ []
 
 -- they are open, and A ends its session
-abbrev pub cleared_behind_the_border_shows : List (List Item)
-cleared_behind_the_border_shows =
+abbrev pub cleared_in_rear_of_the_border_shows : List (List Item)
+cleared_in_rear_of_the_border_shows =
     shows (IsShut ∷ times 3 (Kept 1) ++ times 3 (Given 1) ++ IsShut ∷ []) [] ((1 ∷ []) ∷ [] ∷ [])
     ∷ (Link Next ∷ Says 1 7 unknown_group (EndSession 5 1) ∷ [])
     ∷ shows (IsShut ∷ times 3 IsOpen ++ times 3 (Given 1) ++ IsShut ∷ []) [] ((1 ∷ []) ∷ [] ∷ []) ∷ []
@@ -64,21 +64,21 @@ abbrev pub returns_home : List Item
 returns_home = Sends 0 4 (RouteReturn 1 (record { first = 1; count = 3 })) ∷ []
 
 abbrev pub return_after_handover : List Scene
-return_after_handover = handed_over 7 ++ train 1 1 10 (Report (at 104 300 (Some 200))) ∷ cleared_behind_the_border
+return_after_handover = handed_over 7 ++ train 1 1 10 (Report (at 104 300 (Some 200))) ∷ cleared_in_rear_of_the_border
 
 abbrev pub return_after_handover_shows : List (List Item)
-return_after_handover_shows = handed_over_shows ++ returns_home ∷ cleared_behind_the_border_shows
+return_after_handover_shows = handed_over_shows ++ returns_home ∷ cleared_in_rear_of_the_border_shows
 
 -- the train's messages to B begin with T_TRAIN 1: those that A has heard are stale at B
 abbrev pub yield_carries_the_last_stamp_heard : List Scene
 yield_carries_the_last_stamp_heard =
     handed_over 1
     ++ train 1 1 5 (Report (at 104 300 (Some 200))) ∷ train 1 1 7 (Report (at 104 300 (Some 200)))
-    ∷ cleared_behind_the_border
+    ∷ cleared_in_rear_of_the_border
 
 abbrev pub yield_carries_the_last_stamp_heard_shows : List (List Item)
 yield_carries_the_last_stamp_heard_shows =
-    handed_over_shows ++ silent StaleStamp ∷ returns_home ∷ cleared_behind_the_border_shows
+    handed_over_shows ++ silent StaleStamp ∷ returns_home ∷ cleared_in_rear_of_the_border_shows
 
 -- section 4 is wished back, and the hand is cut before it, while B is taking over
 abbrev pub cancelled_before_taking_over : List Scene

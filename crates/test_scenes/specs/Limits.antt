@@ -57,9 +57,9 @@ having_sent count = record (beginning line 0) { sent = λ d. times count (frame 
 
 -- ## The last section
 
--- what is asked for behind a hand at a border
-abbrev pub asks_behind : SectionRun → List Body
-asks_behind hand =
+-- what is asked for in advance of a hand at a border
+abbrev pub asks_ahead : SectionRun → List Body
+asks_ahead hand =
     (ask_route 1 1 (record (begun line
     (record { track = 0; group = group_1; front = 16200; rear = None })) { hand = hand }) (beginning line 0)).frames 1
 

@@ -10,7 +10,7 @@ use Rattle.rbc_spec.specs.Quiet.{Quiet, is_of_centre, both}
 use Rattle.rbc_spec.specs.World.{Event, Bytes, Set, Unset, Delivery, centre_of}
 use Rattle.test_scenes.specs.Turns.{Choice, Unanswered, Turn, allowed, Step, own_step, quiet_turns}
 
--- an event, how it is taken, and the quiet steps behind it
+-- an event, how it is taken, and the quiet steps after it
 pub record Move : Type 0 where
   pub event : Event
   pub choice : Choice
@@ -45,7 +45,7 @@ abbrev pub is_below : ℕ → Word → Bool
 is_below s (Told e) = nat_lt s e
 is_below s word = true
 
--- each section that is told is below those that are told behind it
+-- each section that is told is below those that are told after it
 abbrev pub tells_in_order : List Word → Bool
 tells_in_order [] = true
 tells_in_order (Told s ∷ words) = list_all (is_below s) words && tells_in_order words

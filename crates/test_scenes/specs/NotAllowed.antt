@@ -34,14 +34,14 @@ tells words = Some (Speaks (record { said = record { sayings = []; words = words
 abbrev pub is_silent_for : Reason → Option Shown
 is_silent_for why = Some (Speaks (record { said = record { sayings = []; words = [] }; silence = Some why }))
 
--- section 4, of home B, is kept behind an event at B
+-- section 4, of home B, is kept after an event at B
 abbrev pub kept_at_home : List Move
 kept_at_home = plain (Happens (Set 1 4) ∷ []) ++ followed (Happens (Set 1 5)) (Keep 1 4 ∷ [])
 
 abbrev pub kept_at_home_shows : List (Option Shown)
 kept_at_home_shows = tells (Done 4 ∷ []) ∷ tells (Done 5 ∷ []) ∷ []
 
--- and not behind one at A
+-- and not after one at A
 abbrev pub kept_elsewhere : List Move
 kept_elsewhere = plain (Happens (Set 1 4) ∷ []) ++ followed (Happens (Set 0 0)) (Keep 1 4 ∷ [])
 
@@ -55,12 +55,12 @@ silent_alone = plain (Happens (Set 0 0) ∷ train 1 0 1 TerminationOfSession ∷
 abbrev pub silent_alone_shows : List (Option Shown)
 silent_alone_shows = tells (Done 0 ∷ []) ∷ is_silent_for NoSession ∷ []
 
--- and no section is kept behind it
-abbrev pub kept_behind_silence : List Move
-kept_behind_silence = plain (Happens (Set 0 0) ∷ []) ++ followed (train 1 0 1 TerminationOfSession) (Keep 1 0 ∷ [])
+-- and no section is kept after it
+abbrev pub kept_after_silence : List Move
+kept_after_silence = plain (Happens (Set 0 0) ∷ []) ++ followed (train 1 0 1 TerminationOfSession) (Keep 1 0 ∷ [])
 
-abbrev pub kept_behind_silence_shows : List (Option Shown)
-kept_behind_silence_shows = tells (Done 0 ∷ []) ∷ None ∷ []
+abbrev pub kept_after_silence_shows : List (Option Shown)
+kept_after_silence_shows = tells (Done 0 ∷ []) ∷ None ∷ []
 
 -- sections 4 and 5 are kept for train 1, and 4 is wished back
 abbrev pub two_kept : List Move

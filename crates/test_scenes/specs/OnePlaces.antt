@@ -1,4 +1,4 @@
--- Scenes in which each thing stays in one place: what `HasOnePlace` says of a world is computed behind each event.
+-- Scenes in which each thing stays in one place: what `HasOnePlace` says of a world is computed after each event.
 use Rattle.std.specs.Prelude.{ℕ, ◌+◌, ◌==◌, ◌&&◌, Bool, true, false, List, [], ◌∷◌, length, map, is_some, nat_le, Result, Ok, Err}
 use Rattle.std.specs.List.{list_all, range_with_len, count_by}
 use Rattle.rbc_spec.specs.Line.{Line}
@@ -31,15 +31,15 @@ has_one_place l w =
     list_all (is_placed l w) (range_with_len 0 (section_count l))
     && list_all (is_right_placed l w) (map (λ p. p.nid_engine) l.trains)
 
--- behind a step that is answered
-abbrev pub behind : Result (Answer × World) Refusal → (World → Bool) → Bool
-behind (Ok (answer, w)) others = others w
-behind (Err why) others = false
+-- after a step that is answered
+abbrev pub after : Result (Answer × World) Refusal → (World → Bool) → Bool
+after (Ok (answer, w)) others = others w
+after (Err why) others = false
 
--- in this world and behind each event of the scenes
+-- in this world and after each event of the scenes
 unfoldable pub keeps_from : Line → List Scene → World → Bool
 keeps_from l [] w = has_one_place l w
-keeps_from l (Happens event ∷ scenes) w = has_one_place l w && behind (world_step l w event) (keeps_from l scenes)
+keeps_from l (Happens event ∷ scenes) w = has_one_place l w && after (world_step l w event) (keeps_from l scenes)
 keeps_from l (_ ∷ scenes) w = keeps_from l scenes w
 
 -- on a new line

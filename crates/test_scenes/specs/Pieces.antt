@@ -100,7 +100,7 @@ pub record IsLineRunOf (line : Line) (scene : List Scene) : Type 0 where
 
 -- ## What is computed of both
 
--- what is shown at an event, and the line behind it; or that the step is refused; or that the rules of the line centre
+-- what is shown at an event, and the line after it; or that the step is refused; or that the rules of the line centre
 -- do not allow the move
 pub data Seen : Type 0 where
   Shows : (shown : Shown) (line : Sheet) → Seen

@@ -41,7 +41,7 @@ requests_without_place_show =
     ++ (Says 1 3 unknown_group (DataAcknowledged 4) ∷ []) ∷ silent NoPlace ∷ silent NoPlace
     ∷ (Says 1 4 group_1 (Authority 1000) ∷ []) ∷ []
 
--- nor may the hand end too far behind its group for message 3 to say
+-- nor may the hand end too far in advance of its group for message 3 to say
 abbrev pub hand_out_of_reach : List Scene
 hand_out_of_reach =
     sets 0 0 20 ++ start_and_request (at 102 600 (Some 200)) ++ train 1 0 6 (Request (at 100 4600 (Some 200))) ∷ []
@@ -51,7 +51,7 @@ hand_out_of_reach_shows = all_done 0 20 ++ start_and_request_shows 82022 32000 [
 
 -- ## Starts that are not fit
 
--- not valid, without a rear, with the rear before the track, and with the front behind it
+-- not valid, without a rear, with the rear before the track, and with the front past it
 abbrev pub starts_that_are_not_fit : List Scene
 starts_that_are_not_fit =
     sets 0 0 8

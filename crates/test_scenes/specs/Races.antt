@@ -16,7 +16,7 @@ shows_b of_b wished supervisors = shows (IsShut ∷ times 3 (Given 1) ++ of_b) w
 
 -- ## The route
 
--- a section in the middle of the pool is wished back: it goes home with all behind it, and the rest is given
+-- a section in the middle of the pool is wished back: it goes home with all that follow it, and the rest is given
 abbrev pub withdrawn_from_the_pool : List Scene
 withdrawn_from_the_pool =
     route_on_the_way

@@ -1,4 +1,4 @@
--- Requests and reports: a hand is extended up to the border and over it, and cleared behind the train.
+-- Requests and reports: a hand is extended up to the border and over it, and cleared in rear of the train.
 use Rattle.std.specs.Prelude.{ℕ, ◌+◌, true, List, [], ◌∷◌, ◌++◌, Some, None}
 use Rattle.rbc_spec.specs.Message.{StartOfMission, TrainData, Request, Report, EndOfMission, TrainAccepted, DataAcknowledged, Authority, Transition, unknown_group}
 use Rattle.rbc_spec.specs.Frame.{RouteAsk, RouteInfo, RouteWithdraw, RouteReturn, Announce, Cancel}
@@ -24,7 +24,7 @@ start_and_request_shows group l_endsection frames =
     ++ (Says 1 2 unknown_group TrainAccepted ∷ []) ∷ (Says 1 3 unknown_group (DataAcknowledged 4) ∷ [])
     ∷ (Says 1 4 group (Authority l_endsection) ∷ frames) ∷ []
 
--- B is asked for sections behind A's last
+-- B is asked for sections in advance of A's last
 abbrev pub asks_for_more : List Item
 asks_for_more = Sends 1 1 (RouteAsk 1 4 29) ∷ []
 
@@ -169,7 +169,7 @@ end_within_reach_of_the_message_shows =
     ++ start_and_request_shows 82020 32000 []
     ++ shows (times 16 (Given 1) ++ times 4 IsOpen) [] ((0 ∷ []) ∷ [] ∷ []) ∷ []
 
--- an authority just as long as the message can say, and a section that ends 1 m behind that
+-- an authority just as long as the message can say, and a section that ends 1 m past that
 abbrev pub longest_authority : List Scene
 longest_authority = sets 0 0 17 ++ start_and_request (at 100 600 (Some 200)) ++ Look ∷ []
 
@@ -187,7 +187,8 @@ one_metre_too_far_shows =
 
 -- ## End of mission
 
--- the mission ends under way in section 2: what is behind is cleared, what is ahead stays, and the handover stands
+-- the mission ends under way in section 2: what is in rear is cleared, what is in advance stays, and the handover
+-- stands
 abbrev pub end_of_mission : List Scene
 end_of_mission = over_the_border ++ train 1 0 7 (EndOfMission (moving (at 102 210 (Some 200)))) ∷ Look ∷ []
 
@@ -196,7 +197,7 @@ end_of_mission_shows =
     over_the_border_shows ++ nothing
     ∷ shows (IsShut ∷ IsOpen ∷ times 5 (Given 1) ++ IsShut ∷ []) [] ((0 ∷ []) ∷ [] ∷ []) ∷ []
 
--- behind sections 1 and 3, which are A's, section 2 is left of the hand, and these are the marks of B's sections 4 to 6
+-- sections 1 and 3 of A are open, section 2 is left of the hand, and these are the marks of B's sections 4 to 6
 abbrev pub shows_section_2 : (marks : List Mark) (wished : List ℕ) → List Item
 shows_section_2 marks wished =
     shows (IsShut ∷ IsOpen ∷ Given 1 ∷ IsOpen ∷ marks ++ IsShut ∷ []) wished ((0 ∷ []) ∷ [] ∷ [])

@@ -56,7 +56,7 @@ line_of_one count metres = line_of 2 (main ∷ []) (sections_on 0 0 (times count
 abbrev pub line_of_32_km : (metres : ℕ) → Line
 line_of_32_km metres = line_of 2 (main ∷ []) (sections_on 0 0 (times 16 (2000, 0) ++ (metres, 0) ∷ [])) 0 0
 
--- so many sections of A, and of B behind them
+-- so many sections of A, and of B in advance of them
 abbrev pub line_of_a_and_b : (a b metres : ℕ) → Line
 line_of_a_and_b a b metres = line_of 2 (main ∷ []) (sections_on 0 0 (times a (metres, 0) ++ times b (metres, 1))) 0 1
 
@@ -218,7 +218,7 @@ view l w = record {
 
 -- ## Scenes
 
--- the world behind an answer, or behind none
+-- the world after an answer, or after none
 abbrev pub played : Line → Result (Answer × World) Refusal → (World → List (List Item)) → List (List Item)
 played l (Ok (answer, w)) others = items l answer ∷ others w
 played l (Err why) others = (Refused why ∷ []) ∷ []

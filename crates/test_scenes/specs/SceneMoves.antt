@@ -1,5 +1,5 @@
 -- Scenes of starts, requests, shortenings and handovers as moves of the one line centre: each event, and the quiet
--- steps that the line centre takes behind it.
+-- steps that the line centre takes after it.
 use Rattle.std.specs.Prelude.{ℕ, ◌+◌, true, List, [], ◌∷◌, ◌++◌, Some, None, Err}
 use Rattle.std.specs.List.{flat_map}
 use Rattle.rbc_spec.specs.Message.{InitiationOfSession, SessionEstablished, TerminationOfSession, StartOfMission, TrainData, Request, Report, ShorteningGranted, ShorteningRejected, EndOfMission}

@@ -98,24 +98,24 @@ abbrev pub world_in : World → Result (List Answer × World) Refusal → World
 world_in w (Ok (answers, after)) = after
 world_in w (Err why) = w
 
--- a centre of the line behind a scene
-unfoldable pub centre_behind : List Scene → ℕ → Centre
-centre_behind scene c = (world_in (new_world line) (world_run line (new_world line) (filter_map event_of scene))).at c
+-- a centre of the line after a scene
+unfoldable pub centre_after : List Scene → ℕ → Centre
+centre_after scene c = (world_in (new_world line) (world_run line (new_world line) (filter_map event_of scene))).at c
 
 -- A waits for sections from 4 on, with sections 1 to 3 in train 1's hand
 abbrev pub asking : Centre
-asking = centre_behind route_on_the_way 0
+asking = centre_after route_on_the_way 0
 
 -- A has announced train 1 to B, which expects it
 abbrev pub announcing : Centre
-announcing = centre_behind announced 0
+announcing = centre_after announced 0
 
 abbrev pub expecting : Centre
-expecting = centre_behind announced 1
+expecting = centre_after announced 1
 
 -- B has said that it takes over
 abbrev pub taking_over : Centre
-taking_over = centre_behind
+taking_over = centre_after
     (announced
     ++ session 1 1 7
     ++ train 1 1 9 (Report (at 104 100 (Some 200))) ∷ Happens (Delivery 1 0 2) ∷ Happens (Delivery 1 0 3) ∷ [])
@@ -263,7 +263,7 @@ mission_at front =
 
 -- ## What they come to
 
--- train 1 has asked for sections behind its hand of three
+-- train 1 has asked for sections in advance of its hand of three
 abbrev pub calm_asking : Effect
 calm_asking = calm_at_a (mission_at_a (record { first = 1; count = 3 }) no_run None) 5 4 (Some 4) 0
 

@@ -119,7 +119,7 @@ yield_with_a_third_home_shows =
     ++ shows (IsShut ∷ times 3 (Given 1) ++ IsShut ∷ []) [] ([] ∷ [] ∷ []) ∷ (Link Next ∷ []) ∷ shows_at_the_third []
     ∷ []
 
--- in section 3, with sections 1 and 2 behind the rear
+-- in section 3, with sections 1 and 2 in rear of the train
 abbrev pub in_section_3 : Position
 in_section_3 = at 103 300 (Some 200)
 
@@ -184,7 +184,7 @@ ended_mission_is_yielded_shows =
     ∷ shows (IsShut ∷ Kept 1 ∷ IsOpen ∷ Given 1 ∷ IsShut ∷ []) [] ((2 ∷ []) ∷ [] ∷ []) ∷ []
 
 -- a mission that ends at B at standstill, in B's section, gives C's section back, so its handover is cancelled; A's
--- section is behind the train and stays. C has said that it takes over, and does not get the mission
+-- section is in rear of the train and stays. C has said that it takes over, and does not get the mission
 abbrev pub stands_still_before_the_third : List Scene
 stands_still_before_the_third =
     to_the_third

@@ -4,7 +4,7 @@ use Rattle.std.specs.Prelude.{ℕ, ◌+◌, ◌-◌, ◌*◌, ◌==◌, Bool, tr
 use Rattle.std.specs.List.{find, list_all, range_with_len}
 use Rattle.std.specs.Option.{option_map_or}
 use Rattle.rbc_spec.specs.Maps.{put, put_pair}
-use Rattle.rbc_spec.specs.SectionRuns.{SectionRun, within, behind, all_of}
+use Rattle.rbc_spec.specs.SectionRuns.{SectionRun, within, next_after, all_of}
 use Rattle.rbc_spec.specs.Line.{Line, is_centre, is_home, start, end, next_centre}
 use Rattle.rbc_spec.specs.Sections.{is_on, run_where, section_count, nid_rbc}
 use Rattle.rbc_spec.specs.Place.{Place, covered, group_start, fit_place, place_on}
@@ -61,14 +61,14 @@ is_same false b = not b
 abbrev pub is_hand : Line → LineState → ℕ → SectionRun → Bool
 is_hand line v t hand =
     list_all (λ s. is_same (is_given_to t (v.mark s)) (within hand s)) (range_with_len 0 (section_count line))
-    && nat_le (behind hand) (section_count line)
+    && nat_le (next_after hand) (section_count line)
 
 -- the hand may not be longer
 abbrev pub is_end : Line → LineState → ℕ → Place → SectionRun → Bool
 is_end line v c place hand =
-    (not (is_on line place.track (behind hand))
-    || not (is_home line c (behind hand) && is_mark_open (v.mark (behind hand))))
-    || ((hand.count == 32) || not (nat_le (end line (behind hand)) (group_start line place + 32767)))
+    (not (is_on line place.track (next_after hand))
+    || not (is_home line c (next_after hand) && is_mark_open (v.mark (next_after hand))))
+    || ((hand.count == 32) || not (nat_le (end line (next_after hand)) (group_start line place + 32767)))
 
 -- the hand may be extended by this run, and no further
 abbrev pub may_extend : Line → LineState → (t c : ℕ) → Place → SectionRun → SectionRun → Bool
@@ -76,17 +76,17 @@ may_extend line v t c place hand r =
     (is_hand line v t hand && all_of (λ s. may_be_given line v c t s && is_on line place.track s) r)
     && (is_end line v c place (record { first = hand.first; count = hand.count + r.count })
     && (nat_le (hand.count + r.count) 32
-    && nat_le (end line (behind hand + r.count - 1)) (group_start line place + 32767)))
+    && nat_le (end line (next_after hand + r.count - 1)) (group_start line place + 32767)))
 
 abbrev pub extended : Line → LineState → (t c : ℕ) → Place → SectionRun → SectionRun → Turn
 extended line v t c place hand r =
-    answering t c place.group (Authority (end line (behind hand + r.count - 1) - group_start line place)) [] v
+    answering t c place.group (Authority (end line (next_after hand + r.count - 1) - group_start line place)) [] v
     (change_mission t (λ m. record m { place = place }) (mark_all (within r) (Given t) v))
 
 abbrev pub extend : Line → LineState → (t c : ℕ) → Place → SectionRun → ℕ → Option Turn
 extend line v t c place hand count =
-    allowed (may_extend line v t c place hand (record { first = behind hand; count = count }))
-    (extended line v t c place hand (record { first = behind hand; count = count }))
+    allowed (may_extend line v t c place hand (record { first = next_after hand; count = count }))
+    (extended line v t c place hand (record { first = next_after hand; count = count }))
 
 -- ## Own steps
 

@@ -25,13 +25,13 @@ ghost use Rattle.test_scenes.specs.ThreeCentres.{border_of_the_first, border_of_
 ghost use Rattle.test_scenes.specs.Pieces.{IsMetByRun, IsMetByForcedRun, IsLineRunOf};
 ghost use Rattle.test_scenes.specs.SceneMoves.{another_answer_at_the_border_moves, answer_to_another_proposal_moves, ask_delivered_twice_moves, asking_again_tries_again_moves, asks_again_each_round_moves, cancelled_moves, early_frame_moves, end_of_mission_moves, end_at_standstill_moves, end_at_standstill_with_a_wish_moves, end_before_the_hand_moves, end_at_the_end_of_the_hand_moves, end_of_the_track_moves, end_within_reach_of_the_message_moves, granted_past_the_proposed_end_moves, hand_of_32_sections_moves, handed_over_moves, last_stamp_heard_moves, late_route_moves, longest_authority_moves, no_integrity_moves, one_metre_too_far_moves, over_the_border_moves, plain, report_clears_moves, return_moves, right_comes_moves, right_is_refused_moves, right_serves_a_later_start_moves, shortening_in_one_centre_moves, start_drops_the_proposal_moves, start_moves, to_the_border_moves, trains_are_named_moves, unset_in_a_hand_moves};
 ghost use Rattle.test_scenes.specs.LateMoves.{from_the_first_moves, from_the_second_moves, ended_mission_is_yielded_moves, stands_still_before_the_third_moves, any_two_are_linked_moves, yield_with_a_third_home_moves, wish_at_a_third_centre_moves, each_home_gets_its_section_back_moves};
-ghost use Rattle.test_scenes.specs.Conditions.{unset_without_a_session, unset_without_a_session_shows, unset_after_the_end, unset_after_the_end_shows, unset_again, unset_again_shows, front_before_the_hand, front_before_the_hand_shows, front_in_the_section, front_in_the_section_shows, section_out_of_reach, section_out_of_reach_shows, yield_with_a_pool, yield_with_a_pool_shows, cut_with_a_pool, cut_with_a_pool_shows, cut_behind_the_border, cut_behind_the_border_shows, proposal_ends_with_the_session, proposal_ends_with_the_session_shows, start_outside_the_hand, start_outside_the_hand_shows, request_again_over_the_border, request_again_over_the_border_shows, request_while_asked, request_while_asked_shows, full_hand_at_the_border, full_hand_at_the_border_shows, pool_out_of_reach, pool_out_of_reach_shows, proposal_ends_with_the_mission, proposal_ends_with_the_mission_shows};
-ghost use Rattle.test_scenes.specs.ConditionMoves.{unset_without_a_session_moves, unset_again_moves, front_before_the_hand_moves, front_in_the_section_moves, section_out_of_reach_moves, yield_with_a_pool_moves, cut_with_a_pool_moves, cut_behind_the_border_moves, proposal_ends_with_the_session_moves, request_again_over_the_border_moves, request_while_asked_moves, full_hand_at_the_border_moves, pool_out_of_reach_moves, proposal_ends_with_the_mission_moves};
+ghost use Rattle.test_scenes.specs.Conditions.{unset_without_a_session, unset_without_a_session_shows, unset_after_the_end, unset_after_the_end_shows, unset_again, unset_again_shows, front_before_the_hand, front_before_the_hand_shows, front_in_the_section, front_in_the_section_shows, section_out_of_reach, section_out_of_reach_shows, yield_with_a_pool, yield_with_a_pool_shows, cut_with_a_pool, cut_with_a_pool_shows, cut_beyond_the_border, cut_beyond_the_border_shows, proposal_ends_with_the_session, proposal_ends_with_the_session_shows, start_outside_the_hand, start_outside_the_hand_shows, request_again_over_the_border, request_again_over_the_border_shows, request_while_asked, request_while_asked_shows, full_hand_at_the_border, full_hand_at_the_border_shows, pool_out_of_reach, pool_out_of_reach_shows, proposal_ends_with_the_mission, proposal_ends_with_the_mission_shows};
+ghost use Rattle.test_scenes.specs.ConditionMoves.{unset_without_a_session_moves, unset_again_moves, front_before_the_hand_moves, front_in_the_section_moves, section_out_of_reach_moves, yield_with_a_pool_moves, cut_with_a_pool_moves, cut_beyond_the_border_moves, proposal_ends_with_the_session_moves, request_again_over_the_border_moves, request_while_asked_moves, full_hand_at_the_border_moves, pool_out_of_reach_moves, proposal_ends_with_the_mission_moves};
 ghost use Rattle.test_scenes.specs.StrayFrames.{asking, announcing, expecting, taking_over, effects, deliveries, strays_to_a, strays_from_c, strays_to_the_announcing, strays_to_the_expecting, strays_to_the_taking, fronts_before_the_track, taken_without_effect, calm_asking, calm_announcing, calm_expecting, calm_taking, missions_taken, mission_at};
 ghost use Rattle.test_scenes.specs.Places.{reports_without_place, reports_without_place_shows, requests_without_place, requests_without_place_show, hand_out_of_reach, hand_out_of_reach_shows, starts_that_are_not_fit, starts_that_are_not_fit_show, longest_train, longest_train_shows, other_scale, other_scale_shows, own_stamp_after_a_yield, own_stamp_after_a_yield_shows};
 ghost use Rattle.test_scenes.specs.PlaceMoves.{requests_without_place_moves, hand_out_of_reach_moves, other_scale_moves, own_stamp_after_a_yield_moves};
 ghost use Rattle.rbc_spec.specs.World.{new_world, world_run};
-ghost use Rattle.test_scenes.specs.Limits.{asks_behind, run_items, set_and_session, set_and_session_shows, stamps, having_sent, last_stamp_is_taken, last_stamp_is_taken_shows, stamp_past_the_last, stamp_past_the_last_shows, frame_without_a_link, frame_without_a_link_shows};
+ghost use Rattle.test_scenes.specs.Limits.{asks_ahead, run_items, set_and_session, set_and_session_shows, stamps, having_sent, last_stamp_is_taken, last_stamp_is_taken_shows, stamp_past_the_last, stamp_past_the_last_shows, frame_without_a_link, frame_without_a_link_shows};
 
 pub use late::{late_frames, races_met};
 pub use not_allowed::{moves_not_allowed, two_yields_on_the_way};
@@ -66,7 +66,7 @@ pub fn sessions_and_starts()
     ensures right_is_refused { seen line right_is_refused ≡ right_is_refused_shows }
 {}
 
-/// How a hand is extended up to a border and over it, and cleared behind the train.
+/// How a hand is extended up to a border and over it, and cleared in rear of the train.
 pub fn requests_and_reports()
     ensures request_asks_over_the_border { seen line request_asks_over_the_border ≡ request_asks_over_the_border_shows }
     ensures asks_again_each_round { seen line asks_again_each_round ≡ asks_again_each_round_shows }
@@ -137,8 +137,8 @@ pub fn refused_steps()
         ≡ frame_without_a_link_shows }
     ensures three_numbers_left { stamps line (Set 0 ∷ []) (having_sent 65533) ≡ Err LinkFull ∷ [] }
     ensures whole_run { run_items (world_run line (new_world line) set_and_session) ≡ set_and_session_shows }
-    ensures full_hand { asks_behind (record { first = 470; count = 5 }) ≡ RouteAsk 1 475 27 ∷ [] }
-    ensures last_section { asks_behind (record { first = 490; count = 5 }) ≡ RouteAsk 1 495 17 ∷ [] }
+    ensures full_hand { asks_ahead (record { first = 470; count = 5 }) ≡ RouteAsk 1 475 27 ∷ [] }
+    ensures last_section { asks_ahead (record { first = 490; count = 5 }) ≡ RouteAsk 1 495 17 ∷ [] }
     ensures four_numbers_left { stamps line (Set 0 ∷ []) (having_sent 65532) ≡ Ok (1, None) ∷ [] }
 {}
 
@@ -246,7 +246,7 @@ pub fn single_conditions()
     ensures section_out_of_reach { seen (line_of_one 20 2000) section_out_of_reach ≡ section_out_of_reach_shows }
     ensures yield_with_a_pool { seen line yield_with_a_pool ≡ yield_with_a_pool_shows }
     ensures cut_with_a_pool { seen line cut_with_a_pool ≡ cut_with_a_pool_shows }
-    ensures cut_behind_the_border { seen line cut_behind_the_border ≡ cut_behind_the_border_shows }
+    ensures cut_beyond_the_border { seen line cut_beyond_the_border ≡ cut_beyond_the_border_shows }
     ensures proposal_ends_with_the_session { seen line proposal_ends_with_the_session
         ≡ proposal_ends_with_the_session_shows }
     ensures start_outside_the_hand { seen line start_outside_the_hand ≡ start_outside_the_hand_shows }
@@ -270,7 +270,7 @@ pub fn conditions_met()
     ensures section_out_of_reach { IsMetByRun (line_of_one 20 2000) section_out_of_reach section_out_of_reach_moves }
     ensures yield_with_a_pool { IsMetByRun line yield_with_a_pool yield_with_a_pool_moves }
     ensures cut_with_a_pool { IsMetByRun line cut_with_a_pool cut_with_a_pool_moves }
-    ensures cut_behind_the_border { IsMetByRun line cut_behind_the_border cut_behind_the_border_moves }
+    ensures cut_beyond_the_border { IsMetByRun line cut_beyond_the_border cut_beyond_the_border_moves }
     ensures proposal_ends_with_the_session { IsMetByRun line proposal_ends_with_the_session
         proposal_ends_with_the_session_moves }
     ensures start_outside_the_hand { IsMetByRun line start_outside_the_hand (plain start_outside_the_hand) }

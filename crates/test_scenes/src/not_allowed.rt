@@ -8,7 +8,7 @@ ghost use Rattle.rbc_spec.specs.Run.{Piece};
 ghost use Rattle.rbc_spec.specs.World.{Event, Set};
 ghost use Rattle.rbc_spec.specs.ReadOff.{StandsFor};
 ghost use Rattle.test_scenes.specs.Scene.{line};
-ghost use Rattle.test_scenes.specs.NotAllowed.{shown_at, kept_at_home, kept_at_home_shows, kept_elsewhere, kept_elsewhere_shows, silent_alone, silent_alone_shows, kept_behind_silence, kept_behind_silence_shows, told_in_order, told_in_order_shows, told_out_of_order, told_out_of_order_shows, one_yield, two_yields, missions_in};
+ghost use Rattle.test_scenes.specs.NotAllowed.{shown_at, kept_at_home, kept_at_home_shows, kept_elsewhere, kept_elsewhere_shows, silent_alone, silent_alone_shows, kept_after_silence, kept_after_silence_shows, told_in_order, told_in_order_shows, told_out_of_order, told_out_of_order_shows, one_yield, two_yields, missions_in};
 
 /// No quiet step of another centre is in an event's piece, none follows a silent message, and no section is told before
 /// a lower one.
@@ -16,13 +16,13 @@ pub fn moves_not_allowed()
     ensures at_home { shown_at kept_at_home ≡ kept_at_home_shows }
     ensures elsewhere { shown_at kept_elsewhere ≡ kept_elsewhere_shows }
     ensures silent { shown_at silent_alone ≡ silent_alone_shows }
-    ensures behind_silence { shown_at kept_behind_silence ≡ kept_behind_silence_shows }
+    ensures after_silence { shown_at kept_after_silence ≡ kept_after_silence_shows }
     ensures in_order { shown_at told_in_order ≡ told_in_order_shows }
     ensures out_of_order { shown_at told_out_of_order ≡ told_out_of_order_shows }
     // No piece at all is so, whatever the state.
     ensures none_elsewhere { (v new : LineState) (outcome : Outcome) (piece : Piece line v (Set 0 0) outcome new)
         → piece.quiets ≡ Keep 1 4 ∷ [] → ⊥ }
-    ensures none_behind_silence { (v new : LineState) (event : Event) (outcome : Outcome) (why : Reason)
+    ensures none_after_silence { (v new : LineState) (event : Event) (outcome : Outcome) (why : Reason)
         (piece : Piece line v event outcome new)
         → outcome.silence ≡ Some why → piece.quiets ≡ [] }
     ensures none_out_of_order { (v new : LineState) (event : Event) (outcome : Outcome) → Piece line v event outcome new

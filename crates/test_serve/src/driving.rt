@@ -49,7 +49,7 @@ fn driven(alloc: Global, lines: &str, centre: &mut Centre<'_>) -> Result<Driven,
 #[test]
 fn a_train_sends_its_lines_and_prints_what_is_answered(rt: HostRuntime) -> Result<(), Fail> {
     let sent = bytes_of(rt.alloc(), "9B028000009B02")?;
-    let ((end, printed), seen_off, heard) = seen_off_behind(rt.alloc())?;
+    let ((end, printed), seen_off, heard) = seen_off_after(rt.alloc())?;
     assert!(rt; (end, printed.as_slice()) == (Ok(()), b"2002C00000005FFFFFE800\n".as_slice()));
     assert!(rt; (heard.as_slice(), seen_off) == (sent.as_slice(), Ok(())));
     Ok(())
@@ -60,7 +60,7 @@ type Driven = (Result<(), DriveFault>, Vec<u8>);
 
 // How a train ends that waits for a message between its own and prints it, how it is seen off, and what the centre
 // heard.
-fn seen_off_behind(alloc: Global) -> Result<(Driven, Result<(), DriveFault>, Vec<u8>), Fail> {
+fn seen_off_after(alloc: Global) -> Result<(Driven, Result<(), DriveFault>, Vec<u8>), Fail> {
     let answers = bytes_of(alloc, VERSION)?;
     let mut centre = Centre {
         answers: &answers,
@@ -73,7 +73,7 @@ fn seen_off_behind(alloc: Global) -> Result<(Driven, Result<(), DriveFault>, Vec
 }
 
 // How a train ends that waits for two messages, where these bytes come, and what it prints.
-fn ended_behind(alloc: Global, digits: &str, is_faulty: bool) -> Result<Driven, Fail> {
+fn ended_after(alloc: Global, digits: &str, is_faulty: bool) -> Result<Driven, Fail> {
     let answers = bytes_of(alloc, digits)?;
     let mut centre = Centre {
         answers: &answers,
@@ -84,20 +84,20 @@ fn ended_behind(alloc: Global, digits: &str, is_faulty: bool) -> Result<Driven, 
 }
 
 // The same, by how much it prints.
-fn counted_behind(
+fn counted_after(
     alloc: Global,
     digits: &str,
     is_faulty: bool,
 ) -> Result<(Result<(), DriveFault>, usize), Fail> {
-    let (end, printed) = ended_behind(alloc, digits, is_faulty)?;
+    let (end, printed) = ended_after(alloc, digits, is_faulty)?;
     Ok((end, printed.len()))
 }
 
 #[test]
 fn an_answer_that_does_not_come_whole_ends_the_train(rt: HostRuntime) -> Result<(), Fail> {
-    let (early, one) = counted_behind(rt.alloc(), "2002C00000005FFFFFE8002002", false)?;
-    let (late, none) = counted_behind(rt.alloc(), "", true)?;
-    let (other, nothing) = counted_behind(rt.alloc(), HALF_AN_INITIATION, false)?;
+    let (early, one) = counted_after(rt.alloc(), "2002C00000005FFFFFE8002002", false)?;
+    let (late, none) = counted_after(rt.alloc(), "", true)?;
+    let (other, nothing) = counted_after(rt.alloc(), HALF_AN_INITIATION, false)?;
     assert!(rt; [early, late, other] == [Err(DriveFault::Socket); 3]);
     assert!(rt; (one, none, nothing) == (23, 0, 0));
     Ok(())

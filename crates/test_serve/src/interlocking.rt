@@ -1,7 +1,7 @@
 //! The control door: what its lines are answered, and how it ends.
 
 use crate::line::INITIATION_OF_ONE;
-use crate::play::{Act, Step, begins_so, printed_behind};
+use crate::play::{Act, Step, begins_so, printed_after};
 use serve_line::Manner;
 use std::test::*;
 
@@ -28,14 +28,14 @@ static LINES: [Step<'_>; 11] = [
 
 #[test]
 fn each_line_is_answered_as_a_run_prints_it(rt: HostRuntime) -> Result<(), Fail> {
-    let printed = printed_behind(&rt, rt.alloc(), Manner::default(), &LINES)?;
+    let printed = printed_after(&rt, rt.alloc(), Manner::default(), &LINES)?;
     let wanted =
         "> set A 1\nA 1 Done\n> set A 2\nA 2 NotHome\n> unset A 1\nA 1 Done\nsection 0 A shut\nsection 1 A shut\nsection 2 B shut\n";
     assert!(rt; printed.as_slice() == wanted.as_bytes());
     Ok(())
 }
 
-// Connection 1 says bytes with a fault, and ends; a train on connection 0 is answered behind that.
+// Connection 1 says bytes with a fault, and ends; a train on connection 0 is answered after that.
 static A_FAULT_BESIDE_A_TRAIN: [Step<'_>; 6] = [
     (0, Act::Train),
     (1, Act::Train),

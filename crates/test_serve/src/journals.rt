@@ -1,5 +1,5 @@
 //! Centres that keep journals: what is answered is written before, a full disk, and centres that go on from journals.
-//! Checksums are those that `sha256sum` gives of what stands behind them.
+//! Checksums are those that `sha256sum` gives of what follows them.
 
 use crate::client::{Done, Missed, TURNS, answers, connect, heard, is_ended, say};
 use crate::line::{INITIATION_OF_ONE, VERSION, bytes_of, two_centres};
@@ -55,7 +55,7 @@ fn what_is_answered_is_written_before(rt: HostRuntime) -> Result<(), Fail> {
     Ok(())
 }
 
-// The interlocking releases a section, and train 1 opens its session. Behind each answer its event is written.
+// The interlocking releases a section, and train 1 opens its session. After each answer its event is written.
 fn ask_both_doors<R: Net<Stream = TcpStream>>(
     rt: &R,
     alloc: Global,

@@ -66,7 +66,7 @@ pub const ACCEPTED: &str = "2902800000009FFFFFE0";
 pub const MISSION_OF_ONE: &str =
     "9B0280000000400000409F0280000000800000409D0680000000C00000500040A0280C809614005001440640041881074000000100000040010280A03202585001400510190010616018A0";
 
-// Behind that it asks for its authority, message 132. The answer has 18 bytes.
+// After that it asks for its authority, message 132. The answer has 18 bytes.
 pub const REQUEST_OF_ONE: &str = "8406800000014000004200081405019012C2800A002880C80083";
 
 /// The bytes that these digits spell.

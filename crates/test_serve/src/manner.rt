@@ -2,7 +2,7 @@
 
 use crate::client::{Done, Missed, connect, heard, say};
 use crate::line::{MISSION_OF_ONE, REQUEST_OF_ONE, bytes_of};
-use crate::play::{Act, Step, printed_behind};
+use crate::play::{Act, Step, printed_after};
 use crate::railway::{Addresses, printed_of_two_centres};
 use serve_line::Manner;
 use serve_reading::Rate;
@@ -15,7 +15,7 @@ use std::time::Clock;
 // How often the train opens its session.
 const OPENED: u64 = 6;
 
-// As where each train may say two messages at once, and twenty a second behind them.
+// As where each train may say two messages at once, and twenty a second after them.
 fn slow() -> Manner {
     Manner {
         rate: Rate {
@@ -36,7 +36,7 @@ fn a_train_that_is_too_fast_is_held_back_and_loses_nothing(rt: HostRuntime) -> R
         );
         Ok(())
     })?;
-    // Two pass at once, and one each 50 milliseconds behind them. The clock's milliseconds may be cut off at both ends.
+    // Two pass at once, and one each 50 milliseconds after them. The clock's milliseconds may be cut off at both ends.
     assert!(rt; took.load(Ordering::SeqCst) >= (OPENED - 2) * 50 - 2);
     assert!(rt; openings_in(&printed) == OPENED);
     Ok(())
@@ -124,7 +124,7 @@ fn the_interlocking_is_told_of_a_section_that_is_shut(rt: HostRuntime) -> Result
         shows_life: true,
         ..Manner::default()
     };
-    let printed = printed_behind(&rt, rt.alloc(), manner, &WISHED_BACK)?;
+    let printed = printed_after(&rt, rt.alloc(), manner, &WISHED_BACK)?;
     assert!(rt; printed.starts_with(b"> set A 0\nA 0 Done\n> set A 1\nA 1 Done\n"));
     Ok(())
 }

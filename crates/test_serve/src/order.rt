@@ -59,7 +59,7 @@ static OPENING: [Step<'_>; 4] = [
 ];
 
 // Opens the train's session, and starts missions that are rejected, while another connection does. It gives what came
-// behind the version.
+// after the version.
 fn open_and_start<R: Net<Stream = TcpStream>>(
     rt: &R,
     alloc: Global,

@@ -44,7 +44,7 @@ fn ask_on_its_way<R: Net<Stream = TcpStream> + Clock>(
     ask_until_both_come(rt, alloc, streams.get(1).ok_or(Missed::Door)?)
 }
 
-// Asks for the authority until it reaches over the border: behind message 3 of that step comes message 24, with the
+// Asks for the authority until it reaches over the border: after message 3 of that step comes message 24, with the
 // next T_TRAIN.
 fn ask_until_both_come<R: Clock>(rt: &R, alloc: Global, train: &TcpStream) -> Done<()> {
     let mut before = None;
@@ -82,7 +82,7 @@ fn message(alloc: Global, train: &TcpStream) -> Done<TrackMsg> {
     decode_track(&bytes).ok().ok_or(Missed::Digits)
 }
 
-// L_MESSAGE, which begins behind the first byte.
+// L_MESSAGE, which begins after the first byte.
 fn length_in(bytes: &[u8]) -> Done<usize> {
     match bytes {
         [_, second, third, ..] => Ok(usize::from(*second) * 4 + usize::from(*third) / 64),
@@ -90,7 +90,7 @@ fn length_in(bytes: &[u8]) -> Done<usize> {
     }
 }
 
-// Section 1 is wished back: the train is asked that its authority ends 1 000 m behind the start of section 0, message 9
+// Section 1 is wished back: the train is asked that its authority ends 1 000 m past the start of section 0, message 9
 // with T_TRAIN 5.
 static WISHED_BACK: [Step<'_>; 11] = [
     (0, Act::Control),

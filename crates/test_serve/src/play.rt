@@ -1,4 +1,4 @@
-//! What callers do at the doors of running centres, one step behind another.
+//! What callers do at the doors of running centres, one step after another.
 
 use crate::client::{Done, Missed, answers, connect, heard, is_ended, say};
 use crate::line::bytes_of;
@@ -97,7 +97,7 @@ fn take(alloc: Global, stream: &TcpStream, count: usize) -> Done<()> {
 }
 
 /// Serves the line of two centres while the steps are played, and gives what was printed.
-pub fn printed_behind<
+pub fn printed_after<
     R: Threads + Wait + Sync + Net<Stream = TcpStream, Listener = TcpListener> + Clock,
 >(rt: &R, alloc: Global, manner: Manner, steps: &[Step<'_>]) -> Result<Vec<u8>, Fail> {
     printed_of_two_centres(rt, alloc, manner, |addresses| {
@@ -106,10 +106,10 @@ pub fn printed_behind<
     })
 }
 
-/// Whether the print begins so behind these steps, where nothing else is asked for.
+/// Whether the print begins so after these steps, where nothing else is asked for.
 pub fn begins_so<
     R: Threads + Wait + Sync + Net<Stream = TcpStream, Listener = TcpListener> + Clock,
 >(rt: &R, alloc: Global, steps: &[Step<'_>], wanted: &[u8]) -> Result<bool, Fail> {
-    let printed = printed_behind(rt, alloc, Manner::default(), steps)?;
+    let printed = printed_after(rt, alloc, Manner::default(), steps)?;
     Ok(printed.starts_with(wanted))
 }

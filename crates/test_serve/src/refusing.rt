@@ -43,7 +43,7 @@ fn nodes_at_the_end<R: Wait>(rt: &R, alloc: Global, line: &Line) -> Done<Vec<Nod
     }
 }
 
-// The lines are said over one connection, each behind the answer to the one before.
+// The lines are said over one connection, each after the answer to the one before.
 fn ask_all<R: Net<Stream = TcpStream>>(rt: &R, alloc: Global, door: SocketAddr) -> Done<()> {
     let stream = connect(rt, door)?;
     for (said, wanted) in &LINES {

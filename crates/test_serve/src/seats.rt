@@ -19,7 +19,7 @@ const TRAINS: usize = 10;
 const NOT_HOME: Act<'_> = Act::Asks("set A 2\n", "> set A 2\nA 2 NotHome\n");
 
 // All four connections speak, and the first of them again; where a fifth comes, the second has to leave.
-static SPOKEN_BEHIND_SILENCE: [Step<'_>; 13] = [
+static SPOKEN_AFTER_SILENCE: [Step<'_>; 13] = [
     (0, Act::Control),
     (0, Act::Asks("set A 1\n", "> set A 1\nA 1 Done\n")),
     (1, Act::Control),
@@ -38,13 +38,13 @@ static SPOKEN_BEHIND_SILENCE: [Step<'_>; 13] = [
 #[test]
 fn the_control_connection_that_is_silent_longest_makes_room(rt: HostRuntime) -> Result<(), Fail> {
     let wanted = b"> set A 1\nA 1 Done\n";
-    assert!(rt; begins_so(&rt, rt.alloc(), &SPOKEN_BEHIND_SILENCE, wanted)?);
+    assert!(rt; begins_so(&rt, rt.alloc(), &SPOKEN_AFTER_SILENCE, wanted)?);
     Ok(())
 }
 
 // A train opens its session; with silent connections at all other seats, it opens it over another one, and the first
 // ends.
-static OPENED_BEHIND_SILENCE: [Step<'_>; 17] = [
+static OPENED_AFTER_SILENCE: [Step<'_>; 17] = [
     (0, Act::Train),
     (0, Act::Sends(INITIATION_OF_ONE)),
     (0, Act::Hears(VERSION)),
@@ -67,12 +67,12 @@ static OPENED_BEHIND_SILENCE: [Step<'_>; 17] = [
 #[test]
 fn a_connection_that_serves_no_train_makes_room(rt: HostRuntime) -> Result<(), Fail> {
     let wanted = b"> train A 9B028000000040000040\n";
-    assert!(rt; begins_so(&rt, rt.alloc(), &OPENED_BEHIND_SILENCE, wanted)?);
+    assert!(rt; begins_so(&rt, rt.alloc(), &OPENED_AFTER_SILENCE, wanted)?);
     Ok(())
 }
 
 #[test]
-fn a_seat_is_free_behind_each_connection(rt: HostRuntime) -> Result<(), Fail> {
+fn a_seat_is_free_after_each_connection(rt: HostRuntime) -> Result<(), Fail> {
     let printed = printed_of_two_centres(&rt, rt.alloc(), Manner::default(), |addresses| {
         come_and_go(&rt, rt.alloc(), addresses)
     })?;
@@ -80,7 +80,7 @@ fn a_seat_is_free_behind_each_connection(rt: HostRuntime) -> Result<(), Fail> {
     Ok(())
 }
 
-// More connections than there are seats come one behind another, to the centre and to the control door.
+// More connections than there are seats come one after another, to the centre and to the control door.
 fn come_and_go<R: Net<Stream = TcpStream>>(
     rt: &R,
     alloc: Global,

@@ -15,7 +15,7 @@ pub fn cells(alloc: Global) -> Result<Vec<AtomicU8>, AllocError> {
     Ok(cells)
 }
 
-/// A file of which the bytes can be looked at while it is written. A cell behind its end has 0.
+/// A file of which the bytes can be looked at while it is written. A cell after its end has 0.
 #[derive(Clone, Copy)]
 pub struct Paper<'a> {
     cells: &'a [AtomicU8],

@@ -200,7 +200,7 @@ fn take_frame<R: Wait>(
 }
 
 // The nodes take a start at A of a train that B registers, and the frames in which the right is asked for and given:
-// the frames from A to B before and behind the start, those from A to itself, and those from B to A.
+// the frames from A to B before and after the start, those from A to itself, and those from B to A.
 fn begun<R: Wait>(
     rt: &R,
     alloc: Global,

@@ -68,7 +68,7 @@ fn last_of(share: &Share) -> Result<(usize, usize, u32), Fail> {
     Ok((share.receipts().len(), last.place, last.outcome.stamp))
 }
 
-// A share with a receipt of A comes to A as it begins again: before that has taken anything, and behind another set.
+// A share with a receipt of A comes to A as it begins again: before that has taken anything, and after another set.
 // Why it is refused each time, and how many receipts it has then.
 fn refused_where_a_begins_again<R: Wait>(
     rt: &R,

@@ -97,13 +97,13 @@ fn asked_at(alloc: Global, world: &mut World) -> Result<Option<Frame>, Fail> {
     taken(world, set)?;
     let mut asked = None;
     for text in &START {
-        asked = asked_behind(alloc, world, text)?;
+        asked = asked_after(alloc, world, text)?;
     }
     Ok(asked)
 }
 
-// The train says this at centre 0: the one frame to centre 1 behind it.
-fn asked_behind(alloc: Global, world: &mut World, text: &str) -> Result<Option<Frame>, Fail> {
+// The train says this at centre 0: the one frame to centre 1 after it.
+fn asked_after(alloc: Global, world: &mut World, text: &str) -> Result<Option<Frame>, Fail> {
     let bytes = bytes_of(alloc, text)?;
     let outcome = taken(world, WorldEvent::Train { centre: 0, bytes })?;
     Ok(only_frame(&outcome, 1))

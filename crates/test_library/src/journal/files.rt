@@ -22,7 +22,7 @@ fn name_of(rt: &HostRuntime, test: &str) -> Result<String, Fail> {
 }
 
 // What another program writes at the end of the file.
-fn write_behind(rt: &HostRuntime, name: &str, text: &str) -> Result<(), Fail> {
+fn write_after(rt: &HostRuntime, name: &str, text: &str) -> Result<(), Fail> {
     let mut file = OpenOptions::new().append(true).open(rt, name)?;
     file.write_all(text.as_bytes())?;
     Ok(())
@@ -38,7 +38,7 @@ fn a_line_that_comes_after_the_lock_is_kept(rt: HostRuntime) -> Result<(), Fail>
     };
     fs::write(&rt, name.as_str(), early)?;
     let file = open_journal(&rt, name.as_str())?;
-    write_behind(&rt, name.as_str(), late)?;
+    write_after(&rt, name.as_str(), late)?;
     let bytes = read_whole(&rt, &file)?;
     assert!(rt; bytes.as_slice() == whole.as_bytes());
     let mut journal = JournalFile::new(file, bytes.len() as u64, true);

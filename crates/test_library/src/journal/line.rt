@@ -28,7 +28,7 @@ registrar = \"A\"
 pub const FIRST: &str =
     "journal 1 B ba35c55526b8ee737edcb0f3cc29d5304c156d9964d7e8ca30cc4d3f91642eea";
 
-/// Three lines behind it.
+/// Three lines after it.
 pub const ENTRIES: &str = "
 3a1cc061 1 > set B 1
 44a52c2b 7 > deliver A B 1

@@ -2,7 +2,7 @@
 //! and several journals in one order. Some are of files: locks, and files that are removed or cut while they are
 //! written.
 //!
-//! Digests and checksums are those that `sha256sum` gives of the line file and of what stands behind the checksum.
+//! Digests and checksums are those that `sha256sum` gives of the line file and of what follows the checksum.
 #[cfg(test)]
 mod files;
 pub mod line;

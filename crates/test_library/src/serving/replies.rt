@@ -49,11 +49,11 @@ fn reply_of(alloc: Global, digits: &str) -> Result<Reply, Fail> {
     Ok(Reply::new(alloc, message).ok().ok_or("there is memory")?)
 }
 
-// The bytes of one message behind another.
+// The bytes of one message after another.
 fn row_of(alloc: Global, first: &str, second: &str) -> Result<Vec<u8>, Fail> {
     let mut row = bytes_of(alloc, first)?;
-    let behind = bytes_of(alloc, second)?;
-    row.extend_from_slice(&behind)?;
+    let after = bytes_of(alloc, second)?;
+    row.extend_from_slice(&after)?;
     Ok(row)
 }
 
@@ -111,7 +111,7 @@ fn no_reply_overtakes_one_that_waits(rt: HostRuntime) -> Result<(), Fail> {
     Ok(())
 }
 
-// A version comes while an acceptance waits, and again behind it: what the first is answered, whether nothing is kept
+// A version comes while an acceptance waits, and again after it: what the first is answered, whether nothing is kept
 // then, what the writer of the acceptance is answered, and what the second version is.
 fn overtaken<R: Wait>(
     rt: &R,
@@ -130,7 +130,7 @@ fn overtaken<R: Wait>(
 }
 
 #[test]
-fn nothing_is_written_behind_a_failed_write(rt: HostRuntime) -> Result<(), Fail> {
+fn nothing_is_written_after_a_failed_write(rt: HostRuntime) -> Result<(), Fail> {
     let kept = Mutex::new(Vec::new(rt.alloc()));
     let (now, waiting) = failed(&rt, rt.alloc(), &pipe_over(&kept, true))?;
     assert!(rt; now == [Some(Err(WriteFailed)), Some(Err(WriteFailed))]);

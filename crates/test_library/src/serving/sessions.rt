@@ -12,7 +12,7 @@ use std::sync::Wait;
 use std::test::*;
 use test_codec::bytes::bytes_of;
 
-/// Bytes in memory, and behind them a read that fails.
+/// Bytes in memory, and after them a read that fails.
 #[derive(Drop)]
 struct Broken<'a>(&'a [u8]);
 
@@ -67,16 +67,16 @@ fn first_in(share: &Share) -> Option<(usize, usize)> {
 fn a_rest_that_is_no_whole_message_commits_nothing(rt: HostRuntime) -> Result<(), Fail> {
     let bytes = bytes_of(rt.alloc(), HALF_AN_INITIATION)?;
     let at_the_end = counted(&rt, rt.alloc(), bytes.as_slice())?;
-    let behind_a_fault = counted(&rt, rt.alloc(), Broken(&bytes))?;
+    let after_a_fault = counted(&rt, rt.alloc(), Broken(&bytes))?;
     assert!(rt; at_the_end == (SessionEnd::EndOfStream, 0));
-    assert!(rt; behind_a_fault == (SessionEnd::Device, 0));
+    assert!(rt; after_a_fault == (SessionEnd::Device, 0));
     Ok(())
 }
 
 #[test]
 fn the_messages_in_front_of_a_failed_read_are_committed(rt: HostRuntime) -> Result<(), Fail> {
     let bytes = bytes_of(rt.alloc(), INITIATION)?;
-    let behind_a_fault = counted(&rt, rt.alloc(), Broken(&bytes))?;
-    assert!(rt; behind_a_fault == (SessionEnd::Device, 1));
+    let after_a_fault = counted(&rt, rt.alloc(), Broken(&bytes))?;
+    assert!(rt; after_a_fault == (SessionEnd::Device, 1));
     Ok(())
 }

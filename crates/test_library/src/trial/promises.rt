@@ -1,4 +1,4 @@
-//! What has to hold behind each event of the trial: what is said to trains and to the interlocking is held against the
+//! What has to hold after each event of the trial: what is said to trains and to the interlocking is held against the
 //! view of the line.
 
 use crate::trial::traveller::Words;
@@ -14,7 +14,7 @@ pub struct Step {
     pub speaker: Option<(u32, Words)>,
 }
 
-/// What is wrong behind an event, if anything is.
+/// What is wrong after an event, if anything is.
 pub fn is_kept(
     before: &LineView,
     step: &Step,
@@ -109,7 +109,7 @@ pub fn is_cut(old: &TrainView, new: &TrainView) -> bool {
     }
 }
 
-// The section behind the last of a run.
+// The section after the last of a run.
 fn end_of(run: SectionRun) -> u16 {
     run.first.saturating_add(run.count)
 }

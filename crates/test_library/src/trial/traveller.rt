@@ -39,7 +39,7 @@ const LENGTH_METRES: u16 = 100;
 
 const LONG_METRES: u16 = 1100;
 
-/// A train: its front is so many metres behind the start of a section.
+/// A train: its front is so many metres after the start of a section.
 #[derive(Clone, Copy)]
 pub struct Traveller {
     pub nid_engine: u32,
@@ -94,7 +94,7 @@ impl Traveller {
         self.metres = self.metres.min(SECTION_METRES);
     }
 
-    /// It has run so far that it stands behind its authority.
+    /// It has run so far that it follows its authority.
     pub fn leaves(&mut self, hand: SectionRun) {
         self.section = hand.first.saturating_add(hand.count).saturating_sub(1);
         self.metres = SECTION_METRES.saturating_add(self.length_metres);

@@ -1,5 +1,5 @@
 //! A trial of strength: ten trains run over the borders of three centres by chance, the interlocking sets and unsets
-//! sections, and each frame comes late, out of turn and again. Behind each event the view is held against what was
+//! sections, and each frame comes late, out of turn and again. After each event the view is held against what was
 //! answered.
 
 use crate::trial::choices::{SECTIONS, next_words, some_centre};
@@ -63,7 +63,7 @@ struct Link {
 }
 
 impl Link {
-    // The number of the frame that is offered now: that behind the next, then the next, then that again.
+    // The number of the frame that is offered now: that after the next, then the next, then that again.
     fn offered(&mut self) -> u32 {
         self.offers = self.offers.wrapping_add(1);
         match self.offers % 3 {

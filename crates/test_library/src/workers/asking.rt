@@ -73,7 +73,7 @@ pub fn node_of(alloc: Global, centre: u8) -> Result<Node, Fail>
     Ok(Node::new(alloc, &line, centre)?)
 }
 
-// 300 m behind the balise of a section, in level 2, with its integrity confirmed, and without doubts.
+// 300 m after the balise of a section, in level 2, with its integrity confirmed, and without doubts.
 fn position(section: u16) -> Position {
     let group = NID_C * 16384 + FIRST_BALISE + u32::from(section);
     Position {
@@ -148,7 +148,7 @@ pub fn asking<R: Wait>(rt: &R, alloc: Global) -> Result<(Node, Share), Fail> {
     Ok((a, share))
 }
 
-/// A node of B, which has lent its section to A, and has asked so often that it comes home: frame 1, and as many behind
+/// A node of B, which has lent its section to A, and has asked so often that it comes home: frame 1, and as many after
 /// it.
 pub fn withdrawing<R: Wait>(rt: &R, alloc: Global, count: u32) -> Result<Node, Fail> {
     let b = node_of(alloc, B)?;

@@ -58,9 +58,9 @@ fn filled_log(alloc: Global) -> Result<(Seen, [Refused; 2], Seen), Fail> {
 
 #[test]
 fn a_full_log_refuses_and_stays(rt: HostRuntime) -> Result<(), Fail> {
-    let (full, refused, behind) = filled_log(rt.alloc())?;
+    let (full, refused, after) = filled_log(rt.alloc())?;
     let wanted = (1_000_000, Some(1_000_000), true);
-    assert!(rt; (full, behind) == (wanted, wanted));
+    assert!(rt; (full, after) == (wanted, wanted));
     assert!(rt; refused == [Some((CommitFault::LogFull, 4)); 2]);
     Ok(())
 }

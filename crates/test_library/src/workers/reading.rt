@@ -13,7 +13,7 @@ use std::sync::Wait;
 use std::test::*;
 use test_codec::bytes::bytes_of;
 
-/// Bytes in memory, and behind them the end, or a read that fails.
+/// Bytes in memory, and after them the end, or a read that fails.
 #[derive(Drop)]
 struct Ending<'a> {
     bytes: &'a [u8],
@@ -107,7 +107,7 @@ fn a_whole_message_is_kept_and_its_session_stays_open(rt: HostRuntime) -> Result
 }
 
 // The train opens its session over one connection, whose read then fails, and goes on over another, of which the same
-// is so: what is left behind each.
+// is so: what is left after each.
 fn goes_on<R: Wait>(rt: &R, alloc: Global, node: &Node) -> Result<[(usize, Phase); 2], Fail> {
     let first = over_one(rt, alloc, node, INITIATION)?;
     let second = over_one(rt, alloc, node, ESTABLISHED)?;

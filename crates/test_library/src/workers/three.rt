@@ -110,7 +110,7 @@ fn gathered(alloc: Global, nodes: Vec<Node>, shares: Vec<Share>) -> Result<Vec<E
 }
 
 // The stamp and the centre of each entry, where the three nodes took so many events.
-fn stamps_behind<R: Wait>(rt: &R, alloc: Global, counts: [u32; 3]) -> Result<Vec<(u32, u8)>, Fail> {
+fn stamps_after<R: Wait>(rt: &R, alloc: Global, counts: [u32; 3]) -> Result<Vec<(u32, u8)>, Fail> {
     let nodes = nodes_of_three(alloc)?;
     let shares = all_taken(rt, alloc, &nodes, counts)?;
     stamps_of(alloc, gathered(alloc, nodes, shares)?)
@@ -126,7 +126,7 @@ fn stamps_of(alloc: Global, entries: Vec<Entry>) -> Result<Vec<(u32, u8)>, Fail>
 
 #[test]
 fn what_three_nodes_took_is_gathered_and_merged(rt: HostRuntime) -> Result<(), Fail> {
-    let stamps = stamps_behind(&rt, rt.alloc(), [1, 3, 2])?;
+    let stamps = stamps_after(&rt, rt.alloc(), [1, 3, 2])?;
     assert!(rt; stamps.as_slice() == [(1, 0), (1, 1), (1, 2), (2, 1), (2, 2), (3, 1)].as_slice());
     Ok(())
 }

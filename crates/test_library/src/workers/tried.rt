@@ -6,7 +6,7 @@ use std::sync::atomic::{AtomicBool, Ordering};
 /// How many turns there are.
 pub const TURNS: usize = 3;
 
-/// Asks as `InOrder` does, notes each number that it asked for, and says behind the last turn that nothing new comes.
+/// Asks as `InOrder` does, notes each number that it asked for, and says after the last turn that nothing new comes.
 #[derive(Drop)]
 pub struct Tried<'a> {
     inner: InOrder,

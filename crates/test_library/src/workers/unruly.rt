@@ -6,7 +6,7 @@ use std::sync::atomic::{AtomicBool, Ordering};
 /// How many numbers it asks for.
 pub const ASKED: usize = 8;
 
-/// Asks for the numbers of its list, whatever comes of them, and says behind the last that nothing new comes.
+/// Asks for the numbers of its list, whatever comes of them, and says after the last that nothing new comes.
 #[derive(Drop)]
 pub struct Unruly<'a> {
     numbers: [u32; ASKED],

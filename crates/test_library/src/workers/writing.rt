@@ -88,7 +88,7 @@ fn answered<R: Wait>(rt: &R, node: &Node) -> usize {
         .count()
 }
 
-// The train opens its session, and the writer of the answer fails at the first byte, and behind the fourth.
+// The train opens its session, and the writer of the answer fails at the first byte, and after the fourth.
 fn failed<R: Wait>(rt: &R, alloc: Global, node: &Node) -> Result<Failed, Fail> {
     let mut share = node.share();
     whole_session(rt, alloc, node, &mut share, INITIATION)?;
@@ -108,7 +108,7 @@ fn a_failed_write_ends_the_writer_and_the_log_keeps_the_outcome(
     Ok(())
 }
 
-// The train confirms its session behind the failed writers: what is left at the centre.
+// The train confirms its session after the failed writers: what is left at the centre.
 fn goes_on<R: Wait>(rt: &R, alloc: Global, node: &Node) -> Result<(usize, Phase), Fail> {
     let _ends = failed(rt, alloc, node)?;
     whole_session(rt, alloc, node, &mut node.share(), ESTABLISHED)?;
@@ -116,7 +116,7 @@ fn goes_on<R: Wait>(rt: &R, alloc: Global, node: &Node) -> Result<(usize, Phase)
 }
 
 #[test]
-fn the_session_goes_on_behind_a_failed_write(rt: HostRuntime) -> Result<(), Fail> {
+fn the_session_goes_on_after_a_failed_write(rt: HostRuntime) -> Result<(), Fail> {
     let node = node_of_a(rt.alloc())?;
     let left = goes_on(&rt, rt.alloc(), &node)?;
     assert!(rt; left == (2, Phase::Up));

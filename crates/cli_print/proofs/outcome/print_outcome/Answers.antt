@@ -1,7 +1,7 @@
 use Rattle.std.proofs.Common.{ap, map}
 use Rattle.rbc_centre.specs.Views.{outcome_of}
 use Rattle.rbc_train.specs.Sayings.{saying_of}
-use Rattle.cli_print.proofs.Behind.{whole_outcome}
+use Rattle.cli_print.proofs.After.{whole_outcome}
 use Rattle.cli_print.proofs.outcome.print_outcome.Goals as goal
 
 pub returns : goal.returns

@@ -1,6 +1,6 @@
 use Rattle.std.proofs.Common.{◌++◌, subst, sym}
 use Rattle.cli_print.specs.Answers.{AreSayingRows}
-use Rattle.cli_print.proofs.Behind.{Appends-trans}
+use Rattle.cli_print.proofs.After.{Appends-trans}
 use Rattle.cli_print.proofs.Rows.{one_taken, saying_more}
 use Rattle.cli_print.proofs.outcome.print_sayings.Goals as goal
 

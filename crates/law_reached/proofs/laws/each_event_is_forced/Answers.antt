@@ -11,8 +11,8 @@ returns-clause-one_proof o line w p q = one_proof line w p q
 pub returns-clause-forced : goal.returns-clause-forced
 returns-clause-forced o line c w new event answer ok one known local is = forced line ok c one w known local event answer new is
 
-pub returns-clause-forced_behind : goal.returns-clause-forced_behind
-returns-clause-forced_behind o line c events answers w new event answer ok one before is =
+pub returns-clause-forced_after : goal.returns-clause-forced_after
+returns-clause-forced_after o line c events answers w new event answer ok one before is =
     forced line ok c one w (is_known line ok events answers w before) (stays_local line ok c one events answers w before) event answer new is
 
 pub returns-clause-run : goal.returns-clause-run

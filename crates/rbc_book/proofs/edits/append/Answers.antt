@@ -1,5 +1,5 @@
 use Rattle.std.proofs.Common.{rules, ◌≡◌, ◌-◌, length, arith}
-use Rattle.rbc_book.proofs.Appends.{pushed_order, appended_first, appended_behind}
+use Rattle.rbc_book.proofs.Appends.{pushed_order, appended_first, appended_after}
 use Rattle.rbc_book.proofs.edits.append.Goals as goal
 
 pub join-requires : goal.join-requires
@@ -9,7 +9,7 @@ join-requires c = pushed_order c.args.s (record { page = c.args.page; track = c.
 pub returns-then-count-gt0 : goal.returns-then-count-gt0
 returns-then-count-gt0 c =
     let count : c.len-count.result ≡ length c.args.runs.now.items = search rules in
-    appended_behind c.args.s (record { page = c.args.page; track = c.args.track }) c.args.runs.now.items c.push.new.self.items c.in_ok-push.ensures.items
+    appended_after c.args.s (record { page = c.args.page; track = c.args.track }) c.args.runs.now.items c.push.new.self.items c.in_ok-push.ensures.items
     c.requires.order c.requires.apart c.requires.before c.requires.bound c.join.new.runs.items (c.len-count.result - 1)
     (omega (arith, count, c.if-count-gt0.true)) c.join.ensures.joined
 

@@ -34,11 +34,11 @@ write_last-requires-clause-here c =
     let it = there (Has c.args.s c.args.size) c.args.runs.now.items c.args.i c.index-run.result.now c.requires.order c.requires.here c.index-run.ensures in
     let other : run_page c.index-run.result.now ≢ c.args.page = search rules in
     at_from (IsLast c.args.s c.args.size c.args.page) c.args.runs.now.items c.args.i c.index-run.result.now
-    (omega (arith, c.if-behind-from.true, c.from-else-run-s.ensures, c.from.ensures, c.behind.ensures), omega (arith, it.is.0, it.is.1, c.if-run-size.false), other) it.at
+    (omega (arith, c.if-next_after-from.true, c.from-else-run-s.ensures, c.from.ensures, c.next_after.ensures), omega (arith, it.is.0, it.is.1, c.if-run-size.false), other) it.at
 
 pub write_inside-requires-clause-here : goal.write_inside-requires-clause-here
 write_inside-requires-clause-here c =
     let it = there (Has c.args.s c.args.size) c.args.runs.now.items c.args.i c.index-run.result.now c.requires.order c.requires.here c.index-run.ensures in
     let other : run_page c.index-run.result.now ≢ c.args.page = search rules in
     at_from (IsInner c.args.s c.args.size c.args.page) c.args.runs.now.items c.args.i c.index-run.result.now
-    (omega (arith, it.is.0, c.if-run-s.false), omega (arith, it.is.1, c.if-behind-from.false, c.from-else-run-s.ensures, c.from.ensures, c.behind.ensures), other) it.at
+    (omega (arith, it.is.0, c.if-run-s.false), omega (arith, it.is.1, c.if-next_after-from.false, c.from-else-run-s.ensures, c.from.ensures, c.next_after.ensures), other) it.at

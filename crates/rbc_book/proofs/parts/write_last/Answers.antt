@@ -36,15 +36,15 @@ overflow_add-i-in-Some c =
 
 pub overflow_add-size : goal.overflow_add-size
 overflow_add-size c =
-    let behind : At (λ q. q ≡ c.in-Some.next) (c.args.i + 1) c.args.runs.now.items × GoesOn (last_of c.args.s c.args.size c.args.page c.index-run.result.now) c.in-Some.next = rw (← c.deref.ensures.value) c.in-Some.ensures.some in
-    let ends = order_at 0 c.args.runs.now.items (c.args.i + 1) c.in-Some.next c.requires.order behind.0 in
-    let fits : c.args.size + c.in-Some.next.count ≤ 65535 = omega (arith, ends.bound, most_is, behind.1.0) in
+    let after : At (λ q. q ≡ c.in-Some.next) (c.args.i + 1) c.args.runs.now.items × GoesOn (last_of c.args.s c.args.size c.args.page c.index-run.result.now) c.in-Some.next = rw (← c.deref.ensures.value) c.in-Some.ensures.some in
+    let ends = order_at 0 c.args.runs.now.items (c.args.i + 1) c.in-Some.next c.requires.order after.0 in
+    let fits : c.args.size + c.in-Some.next.count ≤ 65535 = omega (arith, ends.bound, most_is, after.1.0) in
     search (rules, fits)
 
 pub resize-requires-in-Some : goal.resize-requires-in-Some
 resize-requires-in-Some c =
-    let behind : At (λ q. q ≡ c.in-Some.next) (c.args.i + 1) c.args.runs.now.items × GoesOn (last_of c.args.s c.args.size c.args.page c.index-run.result.now) c.in-Some.next = rw (← c.deref.ensures.value) c.in-Some.ensures.some in
-    let next = at_within (λ q. q ≡ c.in-Some.next) c.args.runs.now.items (c.args.i + 1) behind.0 in
+    let after : At (λ q. q ≡ c.in-Some.next) (c.args.i + 1) c.args.runs.now.items × GoesOn (last_of c.args.s c.args.size c.args.page c.index-run.result.now) c.in-Some.next = rw (← c.deref.ensures.value) c.in-Some.ensures.some in
+    let next = at_within (λ q. q ≡ c.in-Some.next) c.args.runs.now.items (c.args.i + 1) after.0 in
     let same : length c.resize.new.runs.items ≡ length c.args.runs.now.items = ap length c.resize.ensures.items ∙ changed_length (resized c.index-run.result.now.first (c.args.s - c.index-run.result.now.first)) c.args.i c.args.runs.now.items in
     omega (arith, same, next)
 
@@ -75,9 +75,9 @@ put-requires-clause-room c =
 pub returns-in-Some-clause-written : goal.returns-in-Some-clause-written
 returns-in-Some-clause-written c =
     let it = there (IsLast c.args.s c.args.size c.args.page) c.args.runs.now.items c.args.i c.index-run.result.now c.requires.order c.requires.here c.index-run.ensures in
-    let behind : At (λ q. q ≡ c.in-Some.next) (c.args.i + 1) c.args.runs.now.items × GoesOn (last_of c.args.s c.args.size c.args.page c.index-run.result.now) c.in-Some.next = rw (← c.deref.ensures.value) c.in-Some.ensures.some in
+    let after : At (λ q. q ≡ c.in-Some.next) (c.args.i + 1) c.args.runs.now.items × GoesOn (last_of c.args.s c.args.size c.args.page c.index-run.result.now) c.in-Some.next = rw (← c.deref.ensures.value) c.in-Some.ensures.some in
     last_joined c.args.i c.args.s c.args.size c.args.page c.args.runs.now.items c.resize.new.runs.items c.resize-in-Some.new.runs.items c.index-run.result.now c.in-Some.next it.at c.requires.some it.is
-    behind.0 behind.1 c.requires.order c.requires.apart c.resize.ensures.items c.resize-in-Some.ensures.items
+    after.0 after.1 c.requires.order c.requires.apart c.resize.ensures.items c.resize-in-Some.ensures.items
 
 pub returns-in_default-clause-written : goal.returns-in_default-clause-written
 returns-in_default-clause-written c =

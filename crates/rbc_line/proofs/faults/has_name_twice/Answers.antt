@@ -5,10 +5,10 @@ use Rattle.rbc_line.proofs.faults.has_name_twice.Goals as goal
 
 pub returns-then-is_among : goal.returns-then-is_among
 returns-then-is_among c =
-    let behind = drop (c.loop-i.i + 1) c.args.names.now in
-    name_seen c.args.names.now _ c.loop-i.i _ _ c.loop-i-test.true c.loop-i.invariant c.if-is_among.ensures (take_all _ behind (omega (arith, length-drop (c.loop-i.i + 1) c.args.names.now)))
+    let after = drop (c.loop-i.i + 1) c.args.names.now in
+    name_seen c.args.names.now _ c.loop-i.i _ _ c.loop-i-test.true c.loop-i.invariant c.if-is_among.ensures (take_all _ after (omega (arith, length-drop (c.loop-i.i + 1) c.args.names.now)))
 
 pub loop-i-preserved : goal.loop-i-preserved
 loop-i-preserved c =
-    let behind = drop (c.loop-i.i + 1) c.args.names.now in
-    name_new c.args.names.now _ c.loop-i.i _ _ c.loop-i-test.true c.loop-i.invariant c.if-is_among.ensures (take_all _ behind (omega (arith, length-drop (c.loop-i.i + 1) c.args.names.now)))
+    let after = drop (c.loop-i.i + 1) c.args.names.now in
+    name_new c.args.names.now _ c.loop-i.i _ _ c.loop-i-test.true c.loop-i.invariant c.if-is_among.ensures (take_all _ after (omega (arith, length-drop (c.loop-i.i + 1) c.args.names.now)))

@@ -3,7 +3,7 @@ use Rattle.std.proofs.lemmas.Result.{err_from_is_err_and}
 use Rattle.rbc_msgs.proofs.Further.{its-packets, their-numbers}
 use Rattle.rbc_msgs.proofs.TrainLaws.{spells}
 use Rattle.rbc_msgs.specs.TrainReading.{read_train}
-use Rattle.rbc_msgs.proofs.Kept.{keeps-behind, keeps-data}
+use Rattle.rbc_msgs.proofs.Kept.{keeps-after, keeps-data}
 use Rattle.rbc_msgs.proofs.decode.train_from.Goals as goal
 
 pub new-requires-clause-packets : goal.new-requires-clause-packets
@@ -33,4 +33,4 @@ unfolding read_train
 returns-in_err-further-clause-memory c =
     let p = err_from_is_err_and c.from_residual-in_err-further.result c.from_residual-in_err-further.ensures.1 in
     rw (p.1, p.2) (λ e. rw (sym c.in_ok-number.ensures.exact, sym c.in_ok-number-2.ensures.exact, sym c.least_length.ensures, sym c.in_ok-reader.ensures.exact, c.in_ok-t_train.ensures.exact, c.in_ok-nid_engine.ensures.exact, c.in_ok-body.ensures.exact)
-    (keeps-behind _ _ _ _ (c.in_err-further.ensures.memory e)))
+    (keeps-after _ _ _ _ (c.in_err-further.ensures.memory e)))

@@ -1,5 +1,5 @@
 use Rattle.std.proofs.Common.{◌≡◌, ℕ, ◌-◌, ◌<◌, ◌≤◌, true, false, length}
-use Rattle.rbc_place.specs.Places.{is_behind}
+use Rattle.rbc_place.specs.Places.{is_in_rear}
 use Rattle.rbc_place.proofs.ahead.first_ahead.Given as goal
 
 abbrev pub invariant-loop-low : goal.invariant-loop-low
@@ -7,8 +7,8 @@ invariant-loop-low l =
     record {
       order : l.low ≤ l.high;
       bound : l.high ≤ length l.line.sections;
-      behind : (s : ℕ) → s < l.low → is_behind l.line l.track l.rear s ≡ true;
-      ahead : (s : ℕ) → l.high ≤ s → is_behind l.line l.track l.rear s ≡ false;
+      in_rear : (s : ℕ) → s < l.low → is_in_rear l.line l.track l.rear s ≡ true;
+      ahead : (s : ℕ) → l.high ≤ s → is_in_rear l.line l.track l.rear s ≡ false;
     }
 
 abbrev pub decreases-loop-low : goal.decreases-loop-low

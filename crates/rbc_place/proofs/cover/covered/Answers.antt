@@ -7,7 +7,7 @@ use Rattle.rbc_place.proofs.Found.{found_more}
 use Rattle.rbc_place.proofs.cover.covered.Goals as goal
 
 pub loop-s-init : goal.loop-s-init
-loop-s-init c = covers_none c.args.line.now (place_of c.args.place.now) c.first_ahead-s.result c.first_ahead-s.ensures.behind
+loop-s-init c = covers_none c.args.line.now (place_of c.args.place.now) c.first_ahead-s.result c.first_ahead-s.ensures.in_rear
 
 pub returns-then-not-covers-clause-value : goal.returns-then-not-covers-clause-value
 returns-then-not-covers-clause-value c =

@@ -1,24 +1,24 @@
 use Rattle.std.proofs.Common.{◌≡◌, sym, ◌∙◌, arith}
 use Rattle.rbc_place.proofs.TrackEnd.{ends_with, ends_nowhere}
-use Rattle.rbc_place.proofs.sections.track_end.Goals.{else-behind-gt0-via-then-behind-gt0+else-is_on, else-behind-gt0-via-else-behind-gt0}
+use Rattle.rbc_place.proofs.sections.track_end.Goals.{else-in_rear-gt0-via-then-in_rear-gt0+else-is_on, else-in_rear-gt0-via-else-in_rear-gt0}
 use Rattle.rbc_place.proofs.sections.track_end.Goals as goal
 
 pub returns-then-is_on-clause-value : goal.returns-then-is_on-clause-value
 returns-then-is_on-clause-value c =
     let line = c.args.line.now in
-    let r = c.from-behind.result in
-    let same : r ≡ c.first_ahead.result = c.from-behind.ensures in
+    let r = c.from-in_rear.result in
+    let same : r ≡ c.first_ahead.result = c.from-in_rear.ensures in
     c.section_end.ensures.value ∙ ends_with line c.args.track r (omega (arith, same, c.first_ahead.ensures.bound))
-    (λ s le. c.first_ahead.ensures.ahead s (omega (arith, same))) c.if-behind-gt0.true (sym c.is_on.ensures ∙ c.if-is_on.true)
+    (λ s le. c.first_ahead.ensures.ahead s (omega (arith, same))) c.if-in_rear-gt0.true (sym c.is_on.ensures ∙ c.if-is_on.true)
 
-pub returns-else-behind-gt0-clause-value : goal.returns-else-behind-gt0-clause-value
-returns-else-behind-gt0-clause-value c =
+pub returns-else-in_rear-gt0-clause-value : goal.returns-else-in_rear-gt0-clause-value
+returns-else-in_rear-gt0-clause-value c =
     let line = c.args.line.now in
-    let r = c.from-behind.result in
-    let same : r ≡ c.first_ahead.result = c.from-behind.ensures in
+    let r = c.from-in_rear.result in
+    let same : r ≡ c.first_ahead.result = c.from-in_rear.ensures in
     ends_nowhere line c.first_ahead.ensures.line c.args.track r (omega (arith, same, c.first_ahead.ensures.bound))
-    (λ s lt. c.first_ahead.ensures.behind s (omega (arith, same))) (λ s le. c.first_ahead.ensures.ahead s (omega (arith, same)))
-    (λ some. elim c.else-behind-gt0.branch [
-      | else-behind-gt0-via-then-behind-gt0+else-is_on w ↦ sym w.is_on.ensures ∙ w.if-is_on.false
-      | else-behind-gt0-via-else-behind-gt0 w ↦ absurd (omega (arith, w.if-behind-gt0.false))
+    (λ s lt. c.first_ahead.ensures.in_rear s (omega (arith, same))) (λ s le. c.first_ahead.ensures.ahead s (omega (arith, same)))
+    (λ some. elim c.else-in_rear-gt0.branch [
+      | else-in_rear-gt0-via-then-in_rear-gt0+else-is_on w ↦ sym w.is_on.ensures ∙ w.if-is_on.false
+      | else-in_rear-gt0-via-else-in_rear-gt0 w ↦ absurd (omega (arith, w.if-in_rear-gt0.false))
     ])

@@ -6,7 +6,7 @@ use Rattle.rbc_train.proofs.starting.has_all.Goals as goal
 
 pub returns-then-hand-run : goal.returns-then-hand-run
 returns-then-hand-run c =
-    rw (c.behind.ensures, c.behind-then-hand-run.ensures)
+    rw (c.next_after.ensures, c.next_after-then-hand-run.ensures)
     (all_within (run_of c.args.hand) (run_of c.args.run) (sym c.is_empty.ensures ∙ c.if-is_empty.false) (grind (arith, nat_tests)))
 
 pub returns-else-hand-run : goal.returns-else-hand-run

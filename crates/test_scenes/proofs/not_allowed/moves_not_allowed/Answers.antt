@@ -1,4 +1,4 @@
-use Rattle.test_scenes.proofs.NotAllowed.{at_home, elsewhere, silent, behind_silence, in_order, out_of_order, none_elsewhere, none_behind_silence, none_out_of_order}
+use Rattle.test_scenes.proofs.NotAllowed.{at_home, elsewhere, silent, after_silence, in_order, out_of_order, none_elsewhere, none_after_silence, none_out_of_order}
 use Rattle.test_scenes.proofs.not_allowed.moves_not_allowed.Goals as goal
 
 pub returns-clause-at_home : goal.returns-clause-at_home
@@ -10,8 +10,8 @@ returns-clause-elsewhere c = elsewhere
 pub returns-clause-silent : goal.returns-clause-silent
 returns-clause-silent c = silent
 
-pub returns-clause-behind_silence : goal.returns-clause-behind_silence
-returns-clause-behind_silence c = behind_silence
+pub returns-clause-after_silence : goal.returns-clause-after_silence
+returns-clause-after_silence c = after_silence
 
 pub returns-clause-in_order : goal.returns-clause-in_order
 returns-clause-in_order c = in_order
@@ -22,8 +22,8 @@ returns-clause-out_of_order c = out_of_order
 pub returns-clause-none_elsewhere : goal.returns-clause-none_elsewhere
 returns-clause-none_elsewhere c = none_elsewhere
 
-pub returns-clause-none_behind_silence : goal.returns-clause-none_behind_silence
-returns-clause-none_behind_silence c = none_behind_silence
+pub returns-clause-none_after_silence : goal.returns-clause-none_after_silence
+returns-clause-none_after_silence c = none_after_silence
 
 pub returns-clause-none_out_of_order : goal.returns-clause-none_out_of_order
 returns-clause-none_out_of_order c = none_out_of_order

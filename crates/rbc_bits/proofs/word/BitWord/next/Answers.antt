@@ -1,6 +1,6 @@
 use Rattle.std.proofs.Common.{◌≡◌, ◌∙◌, length, sym, ap, arith}
 use Rattle.std.proofs.Math.Nat.{pow-le-pow_right}
-use Rattle.rbc_bits.proofs.Words.{length-front, length-behind, taken, high}
+use Rattle.rbc_bits.proofs.Words.{length-front, length-following, taken, high}
 use Rattle.rbc_bits.proofs.word.BitWord.next.Goals as goal
 
 pub returns-clause-fits : goal.returns-clause-fits
@@ -17,4 +17,4 @@ returns-clause-field c =
     sym c.self.view_is ∙ taken c.self.inside.word c.self.inside.left c.args.n (omega (arith, left, c.requires.there)) c.self.invariant
 
 pub returns-clause-length : goal.returns-clause-length
-returns-clause-length c = length-behind _ _ c.args.n _ (returns-clause-field c)
+returns-clause-length c = length-following _ _ c.args.n _ (returns-clause-field c)

@@ -10,6 +10,6 @@ returns-then-not-is_due-clause-exact c k m border is of = not_due c.args.line.no
 
 pub returns-clause-exact : goal.returns-clause-exact
 returns-clause-exact c k m border is of =
-    due c.args.line.now c.args.next c.args.way k c.args.self.now m border is of c.behind-behind.result c.min.result (sym c.is_due.ensures.value ∙ c.if-not-is_due.false) c.behind-behind.ensures
-    (c.min.ensures ∙ ap (λ n. min (32 - c.args.way.hand.count) (512 - n)) c.behind-behind.ensures)
-    ∙ ap (λ (b : BorderState). send c.args.next (RouteAsk c.args.self.now.engine c.behind-behind.result c.min.result) (with_border (record b { asked = Some c.behind-behind.result }) k)) (sym c.self.view_is)
+    due c.args.line.now c.args.next c.args.way k c.args.self.now m border is of c.next_after-next_after.result c.min.result (sym c.is_due.ensures.value ∙ c.if-not-is_due.false) c.next_after-next_after.ensures
+    (c.min.ensures ∙ ap (λ n. min (32 - c.args.way.hand.count) (512 - n)) c.next_after-next_after.ensures)
+    ∙ ap (λ (b : BorderState). send c.args.next (RouteAsk c.args.self.now.engine c.next_after-next_after.result c.min.result) (with_border (record b { asked = Some c.next_after-next_after.result }) k)) (sym c.self.view_is)

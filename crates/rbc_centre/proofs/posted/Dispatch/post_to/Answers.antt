@@ -9,7 +9,7 @@ use Rattle.rbc_centre.specs.Posts.{MayPost, HasSent, only}
 use Rattle.rbc_centre.proofs.Posts.{may_first, may_after, only_here, sent_more, some_of}
 use Rattle.rbc_centre.proofs.posted.Dispatch.post_to.Goals as goal
 
--- ## The four parts of the mail to a centre, one behind another
+-- ## The four parts of the mail to a centre, one after another
 
 abbrev first : Dispatch → ℕ → List Body
 first p to = going_home p.line.now p.centre p.nid_engine p.mail.now.track (run_of p.mail.now.first) to

@@ -1,6 +1,6 @@
 use Rattle.std.proofs.Common.{◌≡◌, ℕ, ◌<◌, ◌==◌, ◌++◌, cond, length, map, replicate, arith, ◌∙◌, ap, sym, subst}
 use Rattle.std.proofs.lemmas.List.{length-map}
-use Rattle.rbc_spec.specs.SectionRuns.{behind}
+use Rattle.rbc_spec.specs.SectionRuns.{next_after}
 use Rattle.rbc_book.specs.Claim.{claimed, claims_train}
 use Rattle.rbc_hand.specs.Tokens.{Own, held_of}
 use Rattle.rbc_hand.specs.Hands.{Holding, run}
@@ -22,7 +22,7 @@ invariant_of-self c =
     c.push_claims.ensures.items c.push_claims.ensures.capacity
     (c.first_with-self-inside.ensures ∙ ap (begins c.args.self.now) c.first.ensures ∙ ap (λ h. begins h (claimed c.args.claims).first) (sym c.self.view_is))
     (omega (arith, held, c.requires.room)) c.requires.numbers
-    (subst (λ (h : Holding). 0 < length h.holds → behind (run h) ≡ (claimed c.args.claims).first) (sym c.self.view_is) c.requires.next) c.self.invariant
+    (subst (λ (h : Holding). 0 < length h.holds → next_after (run h) ≡ (claimed c.args.claims).first) (sym c.self.view_is) c.requires.next) c.self.invariant
 
 pub returns : goal.returns
 returns c = hand_of c.first_with-self-inside.result (begins c.args.self.now (claimed c.args.claims).first) c.push_claims.new.tokens.items _

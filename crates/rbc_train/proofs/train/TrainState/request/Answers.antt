@@ -2,7 +2,7 @@ use Rattle.std.proofs.Common.{◌≡◌, ℕ, ◌+◌, ◌-◌, ◌≤◌, ◌�
 use Rattle.std.proofs.lemmas.Result.{err_from_is_err_and}
 use Rattle.std.specs.Option.{option_map_or}
 use Rattle.std.proofs.lemmas.Option.{same_Some}
-use Rattle.rbc_spec.specs.SectionRuns.{no_run, behind, within}
+use Rattle.rbc_spec.specs.SectionRuns.{no_run, next_after, within}
 use Rattle.rbc_spec.specs.Line.{is_home, start}
 use Rattle.rbc_spec.specs.Sections.{is_on}
 use Rattle.rbc_spec.specs.Place.{group_start}
@@ -69,7 +69,7 @@ at_border-requires-clause-may c =
           let left : Some longer ≡ Some x = sym (ap (λ (p : TrainState). p.supervision.mission) c.answer-saying.ensures.counted ∙ ap (λ (y : SupervisionState). y.mission) c.lengthen.ensures.supervision ∙ ap (option_map (with_next place count)) there) ∙ stands in
           subst (λ (y : spec.Mission). within y.hand s ≡ true → start line s - group_start line y.place ≤ 32767) (same_Some longer x left)
           (near_enough line m place count c.answer_request-grant.result.end (c.requires.kept.form m there).some (c.requires.on m there)
-          (λ j below. ap (λ (n : ℕ). is_on line n (behind m.hand + j)) (sym track) ∙ and_left _ _ (and_left _ _ (grant.each j below))) grant.end
+          (λ j below. ap (λ (n : ℕ). is_on line n (next_after m.hand + j)) (sym track) ∙ and_left _ _ (and_left _ _ (grant.each j below))) grant.end
           (grant.fits (sym c.may_request.ensures ∙ c.if-not-may_request.false)) s) here;
     }
 
@@ -94,7 +94,7 @@ returns-clause-exact c = λ rights k h so_many.
     let at = with_count announced' (with_parts new book' rights k) in
     let said = ap (λ (p : TrainState). p.supervision) answered.counted in
     grants_more line c.args.centre k c.args.t_train old c.args.book.now rights (position_of c.args.position.now) h m place count metres left left.hand book' new told.order told.mail.notice told.mail.letter c.args.count.now announced'
-    (sym (grant.sections ∙ follows_same line c.args.centre k c.args.book.now (record m { place = place }) (behind m.hand) _ h.parts.has_book h.parts.homes))
+    (sym (grant.sections ∙ follows_same line c.args.centre k c.args.book.now (record m { place = place }) (next_after m.hand) _ h.parts.has_book h.parts.homes))
     (end_is line m place count metres (c.requires.kept.form m there).some grant.end)
     (c.lengthen.ensures.supervision ∙ (λ i. record old.supervision { mission = option_map (with_next place count) (there i); hand = left.hand }))
     (subst (λ (o : Option spec.Mission). TakesRun old.supervision.engine (option_map_or (λ x. next_of count x.hand) o no_run) c.args.book.now book') there c.lengthen.ensures.book)

@@ -11,12 +11,12 @@ use Rattle.rbc_train.proofs.Desk.{same_parts}
 use Rattle.rbc_train.proofs.RouteFrames.{has_pages, all_sections, not_all_sections, comes_home}
 use Rattle.rbc_train.proofs.train.TrainState.route_returned.Goals as goal
 
-pub returns-then-behind-from-clause-exact : goal.returns-then-behind-from-clause-exact
-returns-then-behind-from-clause-exact c = λ rights k has.
+pub returns-then-next_after-from-clause-exact : goal.returns-then-next_after-from-clause-exact
+returns-then-next_after-from-clause-exact c = λ rights k has.
     let line = c.args.line.now in
     let p = c.args.self.now in
-    let past = c.if-behind-from.true in
-    let last = c.behind.ensures in
+    let past = c.if-next_after-from.true in
+    let last = c.next_after.ensures in
     let count = c.from.ensures ∙ c.section_count.ensures.value in
     ap (λ b. (if b then route_returned line c.args.centre p.supervision.engine (run_of c.args.sections) else rest) k) (not_all_sections line (run_of c.args.sections) c.requires.range.count.0 (grind (arith, nat_tests)))
     ∙ same_parts line c.args.centre k p c.args.book.now rights has ∙ ap (reply_left line c.args.centre p.supervision.engine (with_parts p c.args.book.now rights k)) (sym c.requires.ready.out)
@@ -29,8 +29,8 @@ returns-clause-exact c = λ rights k has.
     let told = c.bring_back-told.result in
     let book = c.bring_back-told.new.book in
     let q = c.end_order-saying.new.self in
-    let past = c.if-behind-from.false in
-    let last = c.behind.ensures in
+    let past = c.if-next_after-from.false in
+    let last = c.next_after.ensures in
     let count = c.from.ensures ∙ c.section_count.ensures.value in
     ap (λ b. (if b then route_returned line c.args.centre t (run_of c.args.sections) else rest) k) (all_sections line (run_of c.args.sections) (grind (arith, nat_tests)))
     ∙ comes_home line c.args.centre k p c.args.book.now rights has c.nid_engine.result (run_of c.args.sections) book told _ q (sayings_of c.end_order-saying.result) c.nid_engine.ensures

@@ -1,4 +1,4 @@
--- Sections behind a rear end, and those ahead of it.
+-- Sections in rear of a rear end, and those in advance of it.
 use Rattle.std.proofs.Common.{Bool, ◌⊎◌, inl, inr, ◌≡◌, ℕ, ◌*◌, ◌<◌, ◌≤◌, ◌==◌, ◌&&◌, ◌||◌, true, false, nat_lt, length, slice_get, Option, Some, None, ℤ, pos, negsuc, int_lt, get_or, refl, sym, ap, ◌∙◌, arith, ⊎_elim, le_antisymm, ltb-true, lt-ltb, eqb-true, eq-eqb}
 use Rattle.std.specs.Prelude.{int_le}
 use Rattle.std.specs.Option.{option_map_or}
@@ -7,7 +7,7 @@ use Rattle.std.proofs.lemmas.Bool.{and_parts, and_from, or_left, or_right, both_
 use Rattle.rbc_spec.specs.Line.{Line, Section, IsLine, section, end}
 use Rattle.rbc_spec.specs.Sections.{is_on}
 use Rattle.rbc_spec.specs.Place.{Place, covers}
-use Rattle.rbc_place.specs.Places.{is_behind}
+use Rattle.rbc_place.specs.Places.{is_in_rear}
 use Rattle.rbc_spec.proofs.Places.{section_on, on_section, starts_rise, ends_rise, covers_parts, covers_from}
 
 -- ---- rear ends
@@ -51,7 +51,7 @@ and_fails false b is h = absurd (false≢true is)
 
 -- ---- sections
 
--- what makes a section one that is behind
+-- what makes a section one that is in rear
 abbrev tells : Line → ℕ → Option ℤ → ℕ → Section → Bool
 tells line track rear s p = nat_lt p.track track || ((p.track == track) && ends_by rear (10 * end line s))
 
@@ -68,9 +68,9 @@ there line s e q le at =
     (λ (h : (length line.sections ≤ s) × (slice_get line.sections s ≡ None)). absurd (omega arith))
     (slice_get_cases line.sections s).1
 
--- what comes before a section that is behind is behind
-pub behind_before : (line : Line) → IsLine line → (track : ℕ) (rear : Option ℤ) (s e : ℕ) → s ≤ e → is_behind line track rear e ≡ true → is_behind line track rear s ≡ true
-behind_before line ok track rear s e le h =
+-- what comes before a section that is in rear is in rear
+pub in_rear_before : (line : Line) → IsLine line → (track : ℕ) (rear : Option ℤ) (s e : ℕ) → s ≤ e → is_in_rear line track rear e ≡ true → is_in_rear line track rear s ≡ true
+in_rear_before line ok track rear s e le h =
     let q = some_of (tells line track rear e) (section line e) h in
     let p = there line s e q.0 le q.1 in
     let order : p.0.track ≤ q.0.track = ok.tracks.in_order s e p.0 q.0 le p.1 q.1 in
@@ -88,18 +88,18 @@ behind_before line ok track rear s e le h =
     (cases_lt p.0.track track))
     (or_cases (nat_lt q.0.track track) _ q.2)
 
--- and what comes behind one that is ahead is ahead
-pub ahead_after : (line : Line) → IsLine line → (track : ℕ) (rear : Option ℤ) (s e : ℕ) → s ≤ e → is_behind line track rear s ≡ false → is_behind line track rear e ≡ false
-ahead_after line ok track rear s e le ahead = false_from_ne_true (is_behind line track rear e)
-    (λ (is : is_behind line track rear e ≡ true). both_ways (is_behind line track rear s) ahead (behind_before line ok track rear s e le is))
+-- and what follows one that is ahead is ahead
+pub ahead_after : (line : Line) → IsLine line → (track : ℕ) (rear : Option ℤ) (s e : ℕ) → s ≤ e → is_in_rear line track rear s ≡ false → is_in_rear line track rear e ≡ false
+ahead_after line ok track rear s e le ahead = false_from_ne_true (is_in_rear line track rear e)
+    (λ (is : is_in_rear line track rear e ≡ true). both_ways (is_in_rear line track rear s) ahead (in_rear_before line ok track rear s e le is))
 
--- behind the last section all numbers are
-pub ahead_past : (line : Line) (track : ℕ) (rear : Option ℤ) (s : ℕ) → length line.sections ≤ s → is_behind line track rear s ≡ false
+-- after the last section all numbers are
+pub ahead_past : (line : Line) (track : ℕ) (rear : Option ℤ) (s : ℕ) → length line.sections ≤ s → is_in_rear line track rear s ≡ false
 ahead_past line track rear s past = ap (λ o. option_map_or (tells line track rear s) o false) (slice_get_past line.sections s past)
 
--- a section that is behind is not covered
-pub behind_not_covered : (line : Line) (place : Place) (s : ℕ) → is_behind line place.track place.rear s ≡ true → covers line place s ≡ false
-behind_not_covered line place s h = false_from_ne_true (covers line place s) (λ (is : covers line place s ≡ true).
+-- a section that is in rear is not covered
+pub in_rear_not_covered : (line : Line) (place : Place) (s : ℕ) → is_in_rear line place.track place.rear s ≡ true → covers line place s ≡ false
+in_rear_not_covered line place s h = false_from_ne_true (covers line place s) (λ (is : covers line place s ≡ true).
     let c = covers_parts line place s is in
     let p = section_on line place.track s c.on in
     let told : tells line place.track place.rear s p.0 ≡ true = sym (ap (λ o. option_map_or (tells line place.track place.rear s) o false) p.1.at) ∙ h in
@@ -109,8 +109,8 @@ behind_not_covered line place s h = false_from_ne_true (covers line place s) (λ
     not_both place.rear (10 * end line s) (and_parts (p.0.track == place.track) (ends_by place.rear (10 * end line s)) same).1 c.ends)
     (or_cases (nat_lt p.0.track place.track) _ told))
 
--- behind one that is ahead and not covered none is covered
-pub ahead_not_covered : (line : Line) → IsLine line → (place : Place) (s e : ℕ) → s ≤ e → is_behind line place.track place.rear s ≡ false → covers line place s ≡ false → covers line place e ≡ false
+-- after one that is ahead and not covered none is covered
+pub ahead_not_covered : (line : Line) → IsLine line → (place : Place) (s e : ℕ) → s ≤ e → is_in_rear line place.track place.rear s ≡ false → covers line place s ≡ false → covers line place e ≡ false
 ahead_not_covered line ok place s e le ahead off = false_from_ne_true (covers line place e) (λ (is : covers line place e ≡ true).
     let track = place.track in
     let c = covers_parts line place e is in
@@ -128,20 +128,20 @@ ahead_not_covered line ok place s e le ahead off = false_from_ne_true (covers li
       ends = past;
     })))
 
--- ---- the end of a track: without a rear end all of it is behind
+-- ---- the end of a track: without a rear end all of it is in rear
 
 -- what is ahead is not on the track
-pub ahead_off : (line : Line) (track s : ℕ) → is_behind line track None s ≡ false → is_on line track s ≡ false
+pub ahead_off : (line : Line) (track s : ℕ) → is_in_rear line track None s ≡ false → is_on line track s ≡ false
 ahead_off line track s ahead = false_from_ne_true (is_on line track s) (λ (on : is_on line track s ≡ true).
     let p = section_on line track s on in
     let told : tells line track None s p.0 ≡ false = sym (ap (λ o. option_map_or (tells line track None s) o false) p.1.at) ∙ ahead in
     let fails = or_fails (nat_lt p.0.track track) ((p.0.track == track) && true) told in
     false≢true (sym (and_fails (p.0.track == track) true (eq-eqb p.0.track track p.1.on) fails.1)))
 
--- where the last that is behind is not on the track, none before it is
-pub earlier_off : (line : Line) → IsLine line → (track s e : ℕ) → s ≤ e → is_behind line track None e ≡ true → is_on line track e ≡ false → is_on line track s ≡ false
-earlier_off line ok track s e le behind off = false_from_ne_true (is_on line track s) (λ (on : is_on line track s ≡ true).
-    let q = some_of (tells line track None e) (section line e) behind in
+-- where the last that is in rear is not on the track, none before it is
+pub earlier_off : (line : Line) → IsLine line → (track s e : ℕ) → s ≤ e → is_in_rear line track None e ≡ true → is_on line track e ≡ false → is_on line track s ≡ false
+earlier_off line ok track s e le in_rear off = false_from_ne_true (is_on line track s) (λ (on : is_on line track s ≡ true).
+    let q = some_of (tells line track None e) (section line e) in_rear in
     let p = section_on line track s on in
     let order : p.0.track ≤ q.0.track = ok.tracks.in_order s e p.0 q.0 le p.1.at q.1 in
     ⊎_elim

@@ -1,11 +1,11 @@
--- Behind a report, an end of mission and a shortening a handover may still be yielded.
+-- After a report, an end of mission and a shortening a handover may still be yielded.
 use Rattle.std.proofs.Common.{◌≡◌, ℕ, ◌+◌, ◌<◌, ◌==◌, Bool, true, false, if◌then◌else◌, nat_le, nat_lt, Option, Some, None, refl, sym, ap, ◌∙◌, arith, leb-true, ltb-true, ◌-◌}
 use Rattle.std.specs.Option.{option_map_or}
 use Rattle.std.proofs.Common.{subst}
 use Rattle.std.proofs.lemmas.Bool.{and_parts, eqb-true}
 use Rattle.law_base.proofs.Standstill.{rests_or_cuts}
 use Rattle.law_centre.proofs.Reported.{report_leaves}
-use Rattle.rbc_spec.specs.SectionRuns.{no_run, within, behind, is_empty, part_before, part_from, joined}
+use Rattle.rbc_spec.specs.SectionRuns.{no_run, within, next_after, is_empty, part_before, part_from, joined}
 use Rattle.rbc_spec.specs.Line.{Line}
 use Rattle.rbc_spec.specs.Place.{Place, Position, place_on}
 use Rattle.rbc_spec.specs.Centre.{Centre, Mission, Handing}
@@ -13,7 +13,7 @@ use Rattle.rbc_spec.specs.Acts.{rest, ◌>>◌, leave, set_mission, cancel, clos
 use Rattle.rbc_spec.specs.Rules.{cleared, clear, report_here, cut, stand_still}
 use Rattle.law_local.specs.Local.{hand_has}
 use Rattle.law_centre.proofs.Places.{placed_on}
-use Rattle.law_base.proofs.Runs.{none_within, within_true, within_behind, within_part_before, within_part_from}
+use Rattle.law_base.proofs.Runs.{none_within, within_true, within_after, within_part_before, within_part_from}
 use Rattle.law_no_copy.proofs.Tally.{Tally}
 use Rattle.law_no_copy.proofs.Ready.{Ready, Leaves, ready_left, ready_cancel, ready_closed}
 use Rattle.law_no_copy.proofs.Parts.{Follows, out_of_joined, tail_follows}
@@ -22,17 +22,17 @@ module _ (line : Line) (c : ℕ) (y : Tally) where
   ready_clear : (t : ℕ) (m : Mission) (place : Place) (k : Centre) → k.mission t ≡ Some m → place.track ≡ m.place.track → Ready line c y k → Ready line c y (clear line c t m place k).state
   ready_clear t m place k has same ready = by_count ((cleared line place m).count == m.hand.count)
     where
-      left : Leaves line c y k t (cleared line place m) (record m { place = place; hand = part_from (behind (cleared line place m)) m.hand })
+      left : Leaves line c y k t (cleared line place m) (record m { place = place; hand = part_from (next_after (cleared line place m)) m.hand })
       left = record {
-        hand = λ in_rest home. let both = and_parts (within m.hand y.section) (nat_le (behind (cleared line place m)) y.section) (sym (within_part_from m.hand (behind (cleared line place m)) y.section) ∙ in_rest) in
-            (ap (λ o. hand_has o y.section) has ∙ both.0, within_behind (cleared line place m) y.section (leb-true (behind (cleared line place m)) y.section both.1));
+        hand = λ in_rest home. let both = and_parts (within m.hand y.section) (nat_le (next_after (cleared line place m)) y.section) (sym (within_part_from m.hand (next_after (cleared line place m)) y.section) ∙ in_rest) in
+            (ap (λ o. hand_has o y.section) has ∙ both.0, within_after (cleared line place m) y.section (leb-true (next_after (cleared line place m)) y.section both.1));
         way = λ h stands. (m, has, stands);
         less = (
           m,
           has,
           record {
             track = same;
-            hand = λ in_rest. (and_parts (within m.hand y.section) (nat_le (behind (cleared line place m)) y.section) (sym (within_part_from m.hand (behind (cleared line place m)) y.section) ∙ in_rest)).0;
+            hand = λ in_rest. (and_parts (within m.hand y.section) (nat_le (next_after (cleared line place m)) y.section) (sym (within_part_from m.hand (next_after (cleared line place m)) y.section) ∙ in_rest)).0;
             pool = λ is. is;
           },
           (λ h is. (h, is, refl)),
@@ -43,9 +43,9 @@ module _ (line : Line) (c : ℕ) (y : Tally) where
       some_left o n same = cc
 
       by_count : (b : Bool) → Ready line c y ((if b then (leave line c t m.place.track (joined m.hand m.pool) >> close line c t m)
-          else (leave line c t m.place.track (cleared line place m) >> set_mission t (Some (record m { place = place; hand = part_from (behind (cleared line place m)) m.hand })))) k).state
+          else (leave line c t m.place.track (cleared line place m) >> set_mission t (Some (record m { place = place; hand = part_from (next_after (cleared line place m)) m.hand })))) k).state
       by_count true = ready_closed line c y t m.place.track (joined m.hand m.pool) m k ready
-      by_count false = ready_left line c y t m.place.track (cleared line place m) (Some (record m { place = place; hand = part_from (behind (cleared line place m)) m.hand })) k
+      by_count false = ready_left line c y t m.place.track (cleared line place m) (Some (record m { place = place; hand = part_from (next_after (cleared line place m)) m.hand })) k
           (λ n same. subst (Leaves line c y k t (cleared line place m)) (some_left _ n same) left) ready
 
   pub ready_report_here : (t : ℕ) (position : Position) (m : Mission) (k : Centre) → k.mission t ≡ Some m → Ready line c y k → Ready line c y (report_here line c t position m k).state
@@ -82,7 +82,7 @@ module _ (line : Line) (c : ℕ) (y : Tally) where
       not_tail false is low = refl
       not_tail true is low = absurd (let high = leb-true (last_kept + 1) y.section (and_parts (within m.hand y.section) (nat_le (last_kept + 1) y.section) (sym (within_part_from m.hand (last_kept + 1) y.section) ∙ is)).1 in omega (arith, low, high))
 
-      not_pool : (b : Bool) → within m.pool y.section ≡ b → (e : Bool) → is_empty m.pool ≡ e → y.section < behind m.hand → b ≡ false
+      not_pool : (b : Bool) → within m.pool y.section ≡ b → (e : Bool) → is_empty m.pool ≡ e → y.section < next_after m.hand → b ≡ false
       not_pool false is e none low = refl
       not_pool true is false some low = absurd (let ends = within_true m.pool y.section is in omega (arith, ends.0, low, follows some))
       not_pool true is true none low = absurd (let ends = within_true m.pool y.section is in let nothing : m.pool.count ≡ 0 = eqb-true m.pool.count 0 none in omega (arith, ends.0, ends.1, nothing))
@@ -106,8 +106,8 @@ module _ (line : Line) (c : ℕ) (y : Tally) where
       some_left : (o n : Mission) → ◌≡◌ {A = Option Mission} (Some o) (Some n) → o ≡ n
       some_left o n same = cc
 
-      behind_cut : Centre
-      behind_cut = ((leave line c t m.place.track (joined (part_from (last_kept + 1) m.hand) m.pool) >> set_mission t (Some (kept_by last_kept m))) k).state
+      after_cut : Centre
+      after_cut = ((leave line c t m.place.track (joined (part_from (last_kept + 1) m.hand) m.pool) >> set_mission t (Some (kept_by last_kept m))) k).state
 
       cancels : (o : Option Handing) (j : Centre) → Ready line c y j
           → Ready line c y (option_map_or (λ h. if is_empty (part_at line h.to m.place.track (kept_by last_kept m).hand) then cancel t (kept_by last_kept m) else rest) o rest j).state
@@ -121,12 +121,12 @@ module _ (line : Line) (c : ℕ) (y : Tally) where
       by_count : (b : Bool) → Ready line c y ((leave line c t m.place.track (joined (part_from (last_kept + 1) m.hand) m.pool) >> (if b then close line c t m
           else (set_mission t (Some (kept_by last_kept m)) >> option_map_or (λ h. if is_empty (part_at line h.to m.place.track (kept_by last_kept m).hand) then cancel t (kept_by last_kept m) else rest) m.handing rest))) k).state
       by_count true = ready_closed line c y t m.place.track (joined (part_from (last_kept + 1) m.hand) m.pool) m k ready
-      by_count false = cancels m.handing behind_cut (ready_left line c y t m.place.track (joined (part_from (last_kept + 1) m.hand) m.pool) (Some (kept_by last_kept m)) k
+      by_count false = cancels m.handing after_cut (ready_left line c y t m.place.track (joined (part_from (last_kept + 1) m.hand) m.pool) (Some (kept_by last_kept m)) k
           (λ n same. subst (Leaves line c y k t (joined (part_from (last_kept + 1) m.hand) m.pool)) (some_left _ n same) left) ready)
 
   -- ## End of mission
 
-  -- behind a report the pool follows the hand
+  -- after a report the pool follows the hand
   pub follows_reported : (t : ℕ) (position : Position) (k : Centre) → ((m : Mission) → k.mission t ≡ Some m → Follows m) → (n : Mission)
       → (with_mission t (report_here line c t position) k).state.mission t ≡ Some n → Follows n
   follows_reported t position k follow n at some = let was = report_leaves line c t position k n at in

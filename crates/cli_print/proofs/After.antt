@@ -1,4 +1,4 @@
--- What a writer has once one more row stands behind the others.
+-- What a writer has once one more row follows the others.
 use Rattle.std.proofs.Common.{◌≡◌, ℕ, suc, ◌+◌, ◌<◌, ◌==◌, List, [], ◌++◌, Option, Some, None, Result, Ok, Err, OnOk, refl, take, length, get_or, slice_get, option_and_then, sym, ap, subst, ◌∙◌, arith, append_assoc}
 use Rattle.std.proofs.lemmas.List.{flat_map_more, take_more}
 use Rattle.std.proofs.lemmas.Option.{slice_get-get_or}
@@ -22,26 +22,26 @@ Appends-trans (Some p) None c xs ys h k = absurd h
 Appends-trans (Some p) (Some q) None xs ys h k = absurd k
 Appends-trans (Some p) (Some q) (Some r) xs ys h k = k ∙ ap (λ zs. zs ++ ys) h ∙ append_assoc p xs ys
 
--- a text and a row behind it are the longer text
-behind : (a b c : Option (List ℕ)) (text row whole : List ℕ) → text ++ row ≡ whole → Appends a b text → Appends b c row → Appends a c whole
-behind a b c text row whole same h k = subst (Appends a c) same (Appends-trans a b c text row h k)
+-- a text and a row after it are the longer text
+after : (a b c : Option (List ℕ)) (text row whole : List ℕ) → text ++ row ≡ whole → Appends a b text → Appends b c row → Appends a c whole
+after a b c text row whole same h k = subst (Appends a c) same (Appends-trans a b c text row h k)
 
 next : (n : ℕ) → suc n ≡ n + 1
 next n = omega arith
 
-pub frames_behind : (a b c : Option (List ℕ)) (line : Line) (centre : List ℕ) (frames : ℕ → List Frame) (n : ℕ) →
+pub frames_after : (a b c : Option (List ℕ)) (line : Line) (centre : List ℕ) (frames : ℕ → List Frame) (n : ℕ) →
     Appends a b (frame_rows line centre frames n) → Appends b c (flat_map (frame_row centre (name_at line n)) (frames n)) →
     Appends a c (frame_rows line centre frames (n + 1))
-frames_behind a b c line centre frames n h k =
-    behind a b c (frame_rows line centre frames n) (flat_map (frame_row centre (name_at line n)) (frames n)) (frame_rows line centre frames (n + 1))
+frames_after a b c line centre frames n h k =
+    after a b c (frame_rows line centre frames n) (flat_map (frame_row centre (name_at line n)) (frames n)) (frame_rows line centre frames (n + 1))
     (ap (frame_rows line centre frames) (next n)) h k
 
-pub section_behind : (a b c : Option (List ℕ)) (line : Line) (v : LineState) (view : LineView) (sections : List SectionView) (n : ℕ) (d : SectionView) →
+pub section_after : (a b c : Option (List ℕ)) (line : Line) (v : LineState) (view : LineView) (sections : List SectionView) (n : ℕ) (d : SectionView) →
     Shows line v view → sections ≡ view.sections.items → n < length sections →
     Appends a b (section_rows line v n) → Appends b c (section_row line n (mark_shown (get_or sections n d).mark) (get_or sections n d).is_wished) →
     Appends a c (section_rows line v (n + 1))
-section_behind a b c line v view sections n d shows same low h k =
-    behind a b c (section_rows line v n) (section_row line n (mark_shown s.mark) s.is_wished) (section_rows line v (n + 1))
+section_after a b c line v view sections n d shows same low h k =
+    after a b c (section_rows line v n) (section_row line n (mark_shown s.mark) s.is_wished) (section_rows line v (n + 1))
     (ap (λ (row : List ℕ). section_rows line v n ++ row) row ∙ ap (section_rows line v) (next n)) h k
   where
     s : SectionView
@@ -53,12 +53,12 @@ section_behind a b c line v view sections n d shows same low h k =
     row : section_row line n (mark_shown s.mark) s.is_wished ≡ section_row line n (v.mark n) (v.wish n)
     row = let shown = shows.sections.each n s at in λ i. section_row line n (shown.mark i) (shown.wish i)
 
-pub train_behind : (a b c : Option (List ℕ)) (line : Line) (v : LineState) (view : LineView) (trains : List ℕ) (i d : ℕ) (seat : Option ℕ) →
+pub train_after : (a b c : Option (List ℕ)) (line : Line) (v : LineState) (view : LineView) (trains : List ℕ) (i d : ℕ) (seat : Option ℕ) →
     Shows line v view → i < length trains → seat ≡ option_and_then seat_of (find (λ x. x.nid_engine == get_or trains i d) view.trains.items) →
     Appends a b (train_rows line v (take i trains)) → Appends b c (train_row line (get_or trains i d) seat) →
     Appends a c (train_rows line v (take (i + 1) trains))
-train_behind a b c line v view trains i d seat shows low found h k =
-    behind a b c (train_rows line v (take i trains)) (train_row line t seat) (train_rows line v (take (i + 1) trains))
+train_after a b c line v view trains i d seat shows low found h k =
+    after a b c (train_rows line v (take i trains)) (train_row line t seat) (train_rows line v (take (i + 1) trains))
     (ap (λ (row : List ℕ). train_rows line v (take i trains) ++ row) (ap (train_row line t) (found ∙ seat_found line v view t shows))
     ∙ flat_map_more (λ u. train_row line u (seat_at line v u)) [] (take i trains) t
     ∙ ap (train_rows line v) (sym (take_more trains i d low))) h k

@@ -1,14 +1,14 @@
 use std::io;
 use std::io::Write;
 
-/// A writer behind a buffer. Who writes through the buffer knows of any writer that it adds to its bytes, and not which
+/// A writer under a buffer. Who writes through the buffer knows of any writer that it adds to its bytes, and not which
 /// writer it is. So the name of this one stands in front of its bytes, and stays there.
 #[derive(Drop)]
-pub(crate) struct Behind<'a, O> {
+pub(crate) struct Underlying<'a, O> {
     pub out: &'a mut O,
 }
 
-impl<O: Write> Write for Behind<'_, O> {
+impl<O: Write> Write for Underlying<'_, O> {
     ghost use Rattle.cli_run.specs.Named.{named};
 
     ghost contents = { λ b. named b.out.ghost_name (O.contents b.out.now) };

@@ -1,7 +1,7 @@
 use Rattle.std.proofs.Common.{◌<◌, length, refl, arith}
 use Rattle.rbc_book.specs.Runs.{GoesOn}
 use Rattle.rbc_book.proofs.Rows.{at_get, at_is, at_within}
-use Rattle.rbc_book.proofs.parts.behind_of.Goals as goal
+use Rattle.rbc_book.proofs.parts.after_of.Goals as goal
 
 pub returns-in_err-next-clause-none : goal.returns-in_err-next-clause-none
 returns-in_err-next-clause-none c _ on =
