@@ -2,7 +2,7 @@ ghost use Rattle.std.specs.Prelude.{◌≡◌, ◌+◌, ◌-◌, ◌++◌, ◌�
 ghost use Rattle.rbc_spec.specs.SectionRuns.{within, next_after, is_empty};
 ghost use Rattle.rbc_spec.specs.Centre.{is_open, is_taken_for};
 ghost use Rattle.rbc_book.specs.Book.{is_own, entry_at, wish_at};
-ghost use Rattle.rbc_hand.specs.SectionRuns.{run_of};
+ghost use Rattle.rbc_line.specs.SectionRuns.{run_of};
 ghost use Rattle.rbc_hand.specs.Tokens.{Held, Own, token_of};
 ghost use Rattle.rbc_hand.specs.Hands.{run, one};
 ghost use Rattle.rbc_allocation.specs.Marks.{marked};
@@ -10,7 +10,8 @@ ghost use Rattle.rbc_allocation.specs.Sections.{TakesRun, FreesRun, front_of, re
 
 use crate::told::Told;
 use rbc_book::{Back, Book};
-use rbc_hand::{Hand, SectionRun, Token};
+use rbc_hand::{Hand, Token};
+use rbc_line::SectionRun;
 
 // Ends a token: a claim goes back to the book. Whether its section was wished back.
 fn end_token(token: Token, book: &mut Book) -> bool

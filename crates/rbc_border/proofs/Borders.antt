@@ -15,7 +15,7 @@ use Rattle.law_base.proofs.Puts.{put_same}
 use Rattle.law_base.proofs.Runs.{same_run, within_true}
 use Rattle.rbc_hand.specs.Tokens.{Name}
 use Rattle.rbc_hand.specs.Hands.{Holding}
-use Rattle.rbc_hand.specs.SectionRuns.{run_of}
+use Rattle.rbc_line.specs.SectionRuns.{run_of}
 use Rattle.rbc_border.specs.Border.{BorderState, HasBorder, with_border, IsWayOf, GoesOn, is_due, answers, wants, IsBorder}
 use Rattle.rbc_border.specs.declared.way.Way.{Way}
 use Rattle.rbc_border.proofs.Lists.{and_false}

@@ -14,8 +14,8 @@ use Rattle.rbc_spec.specs.Links.{is_of_line}
 use Rattle.rbc_spec.proofs.Places.{homes_run}
 use Rattle.rbc_line.specs.Views.{placed_section}
 use Rattle.rbc_line.specs.declared.parts.Section.{Section as SectionRow}
-use Rattle.rbc_hand.specs.SectionRuns.{run_of}
-use Rattle.rbc_hand.specs.declared.section_run.SectionRun.{SectionRun as SectionRunCode}
+use Rattle.rbc_line.specs.SectionRuns.{run_of}
+use Rattle.rbc_line.specs.declared.section_run.SectionRun.{SectionRun as SectionRunCode}
 use Rattle.law_base.proofs.Lists.{each_of}
 use Rattle.law_base.proofs.Lines.{on_line}
 use Rattle.law_base.proofs.Runs.{within_true, within_from, within_shared, same_tests, run_only, some_count}

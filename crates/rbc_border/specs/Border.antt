@@ -8,7 +8,7 @@ use Rattle.rbc_spec.specs.Centre.{Centre, Mission}
 use Rattle.rbc_spec.specs.Links.{is_of_line}
 use Rattle.rbc_hand.specs.Tokens.{Name}
 use Rattle.rbc_hand.specs.Hands.{Holding}
-use Rattle.rbc_hand.specs.SectionRuns.{run_of}
+use Rattle.rbc_line.specs.SectionRuns.{run_of}
 use Rattle.rbc_border.specs.declared.way.Way.{Way}
 
 -- what a centre has of a train by its NID_ENGINE: the centre that lent its pool, the pool, and the first section that

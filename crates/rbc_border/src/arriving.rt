@@ -4,11 +4,11 @@ ghost use Rattle.rbc_spec.specs.Centre.{Centre};
 ghost use Rattle.rbc_spec.specs.Line.{next_centre};
 ghost use Rattle.rbc_spec.specs.Links as links;
 ghost use Rattle.rbc_spec.specs.SectionRuns.{all_of};
-ghost use Rattle.rbc_hand.specs.SectionRuns.{run_of};
+ghost use Rattle.rbc_line.specs.SectionRuns.{run_of};
 ghost use Rattle.rbc_border.specs.Lending.{HasBook};
 
 use rbc_book::Book;
-use rbc_hand::SectionRun;
+use rbc_line::SectionRun;
 use rbc_line::Line;
 
 /// A train that another centre hands over to this one (3.15.1).

@@ -6,10 +6,10 @@ ghost use Rattle.rbc_spec.specs.Frame.{RouteReturn, HasRunRange};
 ghost use Rattle.rbc_spec.specs.Centre.{Centre};
 ghost use Rattle.rbc_spec.specs.Acts.{returned, part_at};
 ghost use Rattle.rbc_spec.specs.Links.{is_of_line};
-ghost use Rattle.rbc_hand.specs.SectionRuns.{run_of};
+ghost use Rattle.rbc_line.specs.SectionRuns.{run_of};
 ghost use Rattle.rbc_border.specs.Homes.{is_of};
 
-use rbc_hand::SectionRun;
+use rbc_line::SectionRun;
 use rbc_line::Line;
 
 /// Whether the section is of this home and on this track.

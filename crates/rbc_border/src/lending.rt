@@ -3,12 +3,12 @@ ghost use Rattle.rbc_spec.specs.Centre.{Centre};
 ghost use Rattle.rbc_spec.specs.Frame.{RouteInfo, HasRunRange};
 ghost use Rattle.rbc_spec.specs.Links.{route_asked};
 ghost use Rattle.rbc_hand.specs.Hands.{one};
-ghost use Rattle.rbc_hand.specs.SectionRuns.{run_of};
+ghost use Rattle.rbc_line.specs.SectionRuns.{run_of};
 ghost use Rattle.rbc_border.specs.Lending.{HasBook, with_book, LendsRun, sending};
 
 use crate::homes::stretch;
 use rbc_book::Book;
-use rbc_hand::SectionRun;
+use rbc_line::SectionRun;
 use rbc_line::Line;
 
 // Lends a section, where it is open.

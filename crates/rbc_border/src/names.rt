@@ -4,7 +4,8 @@ ghost use Rattle.rbc_hand.specs.Tokens.{Name, held_of};
 ghost use Rattle.rbc_hand.specs.Hands.{run, takes, extended, without_back};
 ghost use Rattle.rbc_border.specs.Names.{IsName, IsAllNames, PassesOn};
 
-use rbc_hand::{Hand, Lent, SectionRun, Token};
+use rbc_hand::{Hand, Lent, Token};
+use rbc_line::SectionRun;
 
 // Ends the name of a section.
 fn spend(token: Token)

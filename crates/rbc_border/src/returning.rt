@@ -4,12 +4,12 @@ ghost use Rattle.rbc_spec.specs.Centre.{Centre, is_out_for};
 ghost use Rattle.rbc_spec.specs.Acts.{freed};
 ghost use Rattle.rbc_book.specs.Book.{entry_at, wish_at};
 ghost use Rattle.rbc_hand.specs.Hands.{one};
-ghost use Rattle.rbc_hand.specs.SectionRuns.{run_of};
+ghost use Rattle.rbc_line.specs.SectionRuns.{run_of};
 ghost use Rattle.rbc_border.specs.Lending.{HasBook, with_book, BringsBack, told_back, telling};
 
 use rbc_allocation::Told;
 use rbc_book::{Back, Book};
-use rbc_hand::SectionRun;
+use rbc_line::SectionRun;
 
 // Brings a section back, where it is out for the train. Whether the interlocking is to be told.
 fn bring_one(book: &mut Book, nid_engine: u32, s: u16) -> bool

@@ -1,4 +1,4 @@
-use rbc_hand::SectionRun;
+use rbc_line::SectionRun;
 
 /// The way of a mission: its track, and the sections of its movement authority.
 #[derive(Clone, Copy, Debug, PartialEq, Eq)]

@@ -22,8 +22,8 @@ use Rattle.rbc_linkmsg.specs.Bodies.{body_of}
 use Rattle.rbc_linkmsg.specs.declared.body.Body.{Body}
 use Rattle.law_ranges.specs.Ranges.{IsSentInRange}
 use Rattle.rbc_centre.specs.declared.desk.Desk.{Desk}
-use Rattle.rbc_hand.specs.SectionRuns.{run_of}
-use Rattle.rbc_hand.specs.declared.section_run.SectionRun.{SectionRun as SectionRunCode}
+use Rattle.rbc_line.specs.SectionRuns.{run_of}
+use Rattle.rbc_line.specs.declared.section_run.SectionRun.{SectionRun as SectionRunCode}
 use Rattle.rbc_spec.specs.Centre.{Expectation}
 use Rattle.std.specs.Option.{option_map_or}
 use Rattle.rbc_handover.specs.Expectations.{is_told}

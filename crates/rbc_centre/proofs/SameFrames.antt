@@ -4,8 +4,8 @@ use Rattle.std.specs.Bool.{Decides}
 use Rattle.std.specs.Cmp.{booleans_Decides}
 use Rattle.std.proofs.lemmas.Bool.{and_parts, and_from, eqb-true}
 use Rattle.rbc_spec.specs.Frame as spec
-use Rattle.rbc_hand.specs.declared.section_run.SectionRun.{SectionRun}
-use Rattle.rbc_hand.specs.contracts.section_run.SectionRunPartialEq.TheImpl as runs
+use Rattle.rbc_line.specs.declared.section_run.SectionRun.{SectionRun}
+use Rattle.rbc_line.specs.contracts.section_run.SectionRunPartialEq.TheImpl as runs
 use Rattle.rbc_linkmsg.specs.Bodies.{body_of, body_back}
 use Rattle.rbc_linkmsg.specs.declared.body.Body.{Body}
 use Rattle.rbc_linkmsg.specs.declared.body.Body.TheVariants.{AskRight, GiveRight, RefuseRight, ReturnRight, RouteAsk, RouteInfo, RouteWithdraw, RouteReturn, Announce, Cancel, TakingOver, Yield}

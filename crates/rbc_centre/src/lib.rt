@@ -28,7 +28,7 @@ pub use fault::StepFault;
 pub use frame_room::FrameRoom;
 pub use frames::Frames;
 pub use outcome::{Outcome, Word};
-pub use rbc_hand::SectionRun;
+pub use rbc_line::SectionRun;
 pub use rbc_link::LinkAnswer;
 pub use rbc_linkmsg::{Body, Frame};
 pub use rbc_mission::{MissionFacts, Told};

@@ -14,7 +14,7 @@ use crate::reach::Reach;
 use crate::returned::{letter_to, stays};
 use crate::sent_frame::SentFrame;
 use rbc_border::part_of;
-use rbc_hand::SectionRun;
+use rbc_line::SectionRun;
 use rbc_handover::Expectations;
 use rbc_line::Line;
 use rbc_link::Links;
@@ -38,7 +38,7 @@ pub(crate) struct Dispatch<'a> {
 }
 
 impl Dispatch<'_> {
-    ghost use Rattle.rbc_hand.specs.SectionRuns.{run_of};
+    ghost use Rattle.rbc_line.specs.SectionRuns.{run_of};
     ghost use Rattle.rbc_train.specs.Letters.{going_home};
     ghost use Rattle.rbc_centre.specs.Dispatches.{bodies_to};
 

@@ -3,13 +3,13 @@
 ghost use Rattle.std.specs.Prelude.{◌≡◌, ◌<◌, ℕ, Option, true, false, []};
 ghost use Rattle.rbc_spec.specs.Line.{is_home};
 ghost use Rattle.rbc_spec.specs.Centre.{Expectation};
-ghost use Rattle.rbc_hand.specs.SectionRuns.{run_of};
+ghost use Rattle.rbc_line.specs.SectionRuns.{run_of};
 ghost use Rattle.rbc_handover.specs.Expectations.{is_told};
 ghost use Rattle.rbc_train.specs.Letters.{going_home, letters, notices};
 
 use crate::frames::MOST_CENTRES;
 use crate::posted::Dispatch;
-use rbc_hand::SectionRun;
+use rbc_line::SectionRun;
 use rbc_handover::Announcers;
 use rbc_line::Line;
 use rbc_train::{Letter, Notice};

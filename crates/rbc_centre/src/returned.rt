@@ -1,10 +1,10 @@
 //! Sections that go to no other centre, and what a letter tells one.
 
 ghost use Rattle.std.specs.Prelude.{◌≡◌, ℕ, [], IsTrue};
-ghost use Rattle.rbc_hand.specs.SectionRuns.{run_of};
+ghost use Rattle.rbc_line.specs.SectionRuns.{run_of};
 ghost use Rattle.rbc_train.specs.Letters.{bodies_in, going_home, letters};
 
-use rbc_hand::SectionRun;
+use rbc_line::SectionRun;
 use rbc_line::Line;
 use rbc_linkmsg::Body;
 use rbc_train::Letter;

@@ -3,12 +3,13 @@ ghost use Rattle.rbc_spec.specs.SectionRuns.{next_after, longest, within};
 ghost use Rattle.rbc_spec.specs.Centre.{is_open};
 ghost use Rattle.rbc_spec.specs.Place.{group_start};
 ghost use Rattle.rbc_book.specs.Book.{entry_at};
-ghost use Rattle.rbc_hand.specs.SectionRuns.{run_of};
+ghost use Rattle.rbc_line.specs.SectionRuns.{run_of};
 ghost use Rattle.rbc_place.specs.Places.{place_of};
 ghost use Rattle.rbc_grant.specs.Grants as grants;
 
 use rbc_book::Book;
-use rbc_hand::{Hand, SectionRun};
+use rbc_hand::Hand;
+use rbc_line::SectionRun;
 use rbc_line::Line;
 use rbc_place::{Place, is_on, section_end};
 

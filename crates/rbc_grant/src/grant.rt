@@ -2,13 +2,13 @@ ghost use Rattle.std.specs.Prelude.{◌≡◌, ℕ, ◌+◌, ◌-◌, ◌<◌, �
 ghost use Rattle.rbc_spec.specs.SectionRuns.{next_after, longest};
 ghost use Rattle.rbc_spec.specs.Line.{end, IsLine};
 ghost use Rattle.rbc_spec.specs.Place as spec;
-ghost use Rattle.rbc_hand.specs.SectionRuns.{run_of};
+ghost use Rattle.rbc_line.specs.SectionRuns.{run_of};
 ghost use Rattle.rbc_place.specs.Places.{place_of};
 ghost use Rattle.rbc_grant.specs.Grants as grants;
 
 use crate::follow::{MOST_METRES, following};
 use rbc_book::Book;
-use rbc_hand::SectionRun;
+use rbc_line::SectionRun;
 use rbc_line::Line;
 use rbc_place::{Place, group_start, section_end};
 

@@ -1,3 +1,2 @@
-pub mod SectionRuns
 pub mod Tokens
 pub mod Hands

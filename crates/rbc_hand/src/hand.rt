@@ -4,7 +4,7 @@ ghost use Rattle.rbc_spec.specs.SectionRuns.{next_after};
 ghost use Rattle.rbc_book.specs.Claim.{claimed, claims_train};
 ghost use Rattle.rbc_hand.specs.Hands.{own_tokens};
 
-use crate::section_run::SectionRun;
+use rbc_line::SectionRun;
 use crate::token::Token;
 use rbc_book::Claims;
 use std::alloc::{AllocError, Global};
@@ -49,7 +49,7 @@ fn push_claims(tokens: &mut VecDeque<Token>, mut claims: Claims)
 
 impl Hand {
     ghost use Rattle.rbc_hand.specs.Tokens.{section_of, held_of, Own, token_of};
-    ghost use Rattle.rbc_hand.specs.SectionRuns.{run_of};
+    ghost use Rattle.rbc_line.specs.SectionRuns.{run_of};
     ghost use Rattle.rbc_hand.specs.Hands.{run, nothing, front, back, without_front, without_back, run_without_front, run_without_back, shorter_in_front, takes, extended, one, longer, IsAllOwn};
     ghost use Rattle.rbc_spec.specs.SectionRuns.{no_run, is_empty, joined};
 

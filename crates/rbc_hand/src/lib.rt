@@ -7,10 +7,8 @@
 
 mod hand;
 mod lent;
-mod section_run;
 mod token;
 
 pub use hand::Hand;
 pub use lent::Lent;
-pub use section_run::SectionRun;
 pub use token::Token;

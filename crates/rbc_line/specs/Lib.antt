@@ -5,3 +5,4 @@ pub mod DraftViews
 pub mod Faults
 pub mod Homes
 pub mod Tested
+pub mod SectionRuns

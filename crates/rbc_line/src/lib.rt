@@ -17,8 +17,10 @@ pub mod limits;
 mod lowest;
 mod parts;
 mod read;
+mod section_run;
 mod tables;
 
 pub use fault::LineFault;
 pub use layout::Line;
 pub use parts::{Section, Train};
+pub use section_run::SectionRun;

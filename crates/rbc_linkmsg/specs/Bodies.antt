@@ -2,8 +2,8 @@
 use Rattle.std.specs.Prelude.{ℕ}
 use Rattle.rbc_spec.specs.Frame as said
 use Rattle.rbc_spec.specs.SectionRuns.{SectionRun}
-use Rattle.rbc_hand.specs.declared.section_run.SectionRun.{SectionRun as SectionRunCode}
-use Rattle.rbc_hand.specs.SectionRuns.{run_of}
+use Rattle.rbc_line.specs.declared.section_run.SectionRun.{SectionRun as SectionRunCode}
+use Rattle.rbc_line.specs.SectionRuns.{run_of}
 use Rattle.rbc_linkmsg.specs.declared.body.YieldedPlace.{YieldedPlace}
 use Rattle.rbc_linkmsg.specs.declared.body.Body.{Body}
 use Rattle.rbc_linkmsg.specs.declared.body.Body.TheVariants as code

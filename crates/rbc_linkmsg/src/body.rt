@@ -1,6 +1,6 @@
 ghost use Rattle.std.specs.Prelude.{◌≡◌};
 
-use rbc_hand::SectionRun;
+use rbc_line::SectionRun;
 
 /// The place that is yielded with a train.
 #[derive(Clone, Copy, Debug, PartialEq, Eq)]

@@ -2,7 +2,7 @@
 
 ghost use Rattle.std.specs.Prelude.{◌≡◌, ◌≢◌, ◌+◌, ◌∷◌, [], length};
 ghost use Rattle.rbc_spec.specs.Frame as spec;
-ghost use Rattle.rbc_hand.specs.SectionRuns.{run_of};
+ghost use Rattle.rbc_line.specs.SectionRuns.{run_of};
 ghost use Rattle.rbc_linkmsg.specs.Bodies.{body_of};
 ghost use Rattle.rbc_linkmsg.specs.Kinds.{kind_length};
 ghost use Rattle.rbc_linkmsg.specs.Spelling as spelling;
@@ -11,7 +11,7 @@ ghost use Rattle.rbc_linkmsg.specs.declared.kind.FrameKind.TheVariants as kinds;
 use crate::body::Body;
 use crate::kind::FrameKind;
 use crate::reading::{read_run, take_u8, take_u16, take_u32};
-use rbc_hand::SectionRun;
+use rbc_line::SectionRun;
 
 /// The body that the bytes after the kind spell. A Yield, whose flags may be refused, has a reader of its own.
 #[inline(always)]

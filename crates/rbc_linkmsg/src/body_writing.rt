@@ -1,7 +1,7 @@
 //! The body of a frame, each kind's fields at their places.
 
 ghost use Rattle.std.specs.Prelude.{◌≡◌, ◌+◌, ◌<◌, ◌≤◌, ◌++◌, ◌∷◌, [], length, drop, OnOk};
-ghost use Rattle.rbc_hand.specs.SectionRuns.{run_of};
+ghost use Rattle.rbc_line.specs.SectionRuns.{run_of};
 ghost use Rattle.rbc_spec.specs.Frame.{HasBodyRange};
 ghost use Rattle.rbc_linkmsg.specs.Bodies.{body_of, place_of};
 ghost use Rattle.rbc_linkmsg.specs.Spelling as spelling;
@@ -9,7 +9,7 @@ ghost use Rattle.rbc_linkmsg.specs.Spelling as spelling;
 use crate::body::{Body, YieldedPlace, Yielding};
 use crate::kind::FrameKind;
 use byteorder::{BigEndian, ByteOrder};
-use rbc_hand::SectionRun;
+use rbc_line::SectionRun;
 use std::alloc::AllocError;
 
 /// The kind of the frame.

@@ -2,13 +2,13 @@
 
 ghost use Rattle.std.specs.Prelude.{◌≢◌, ◌≤◌, ◌↔◌, IsTrue};
 ghost use Rattle.rbc_spec.specs.Frame.{HasBodyRange, HasRunRange, IsEngine, last_stamp};
-ghost use Rattle.rbc_hand.specs.SectionRuns.{run_of};
+ghost use Rattle.rbc_line.specs.SectionRuns.{run_of};
 ghost use Rattle.rbc_linkmsg.specs.Bodies.{body_of};
 ghost use Rattle.rbc_linkmsg.specs.Spelling.{kind_of};
 ghost use Rattle.rbc_linkmsg.specs.declared.kind.FrameKind.TheVariants as kinds;
 
 use crate::body::Body;
-use rbc_hand::SectionRun;
+use rbc_line::SectionRun;
 
 /// Whether a link's frame may have this number, stamp and body.
 pub(crate) fn is_header(number: u32, stamp: u32) -> bool

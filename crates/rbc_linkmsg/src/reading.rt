@@ -1,12 +1,12 @@
 //! The numbers at the front of bytes, the highest byte first, each with the bytes after it.
 
 ghost use Rattle.std.specs.Prelude.{◌≡◌, ◌+◌, ◌≤◌, ◌++◌, length};
-ghost use Rattle.rbc_hand.specs.SectionRuns.{run_of};
+ghost use Rattle.rbc_line.specs.SectionRuns.{run_of};
 ghost use Rattle.rbc_linkmsg.specs.Spelling.{spelled, run_fields, AllFit};
 ghost use Rattle.byteorder.specs.Endian.{big_bytes};
 
 use byteorder::{BigEndian, ByteOrder};
-use rbc_hand::SectionRun;
+use rbc_line::SectionRun;
 
 /// A number of four bytes.
 pub(crate) fn take_u32(bytes: &[u8]) -> (u32, &[u8])

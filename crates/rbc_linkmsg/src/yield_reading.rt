@@ -4,7 +4,7 @@ ghost use Rattle.std.specs.Prelude.{◌≡◌, ◌+◌, ◌≤◌, ◌++◌, ◌
 ghost use Rattle.byteorder.specs.Endian.{big_bytes};
 ghost use Rattle.rbc_spec.specs.Frame as spec;
 ghost use Rattle.rbc_spec.specs.SectionRuns as runs;
-ghost use Rattle.rbc_hand.specs.SectionRuns.{run_of};
+ghost use Rattle.rbc_line.specs.SectionRuns.{run_of};
 ghost use Rattle.rbc_linkmsg.specs.Bodies.{body_of, place_of};
 ghost use Rattle.rbc_linkmsg.specs.Raw as readings;
 ghost use Rattle.rbc_linkmsg.specs.Spelling as spelling;
@@ -14,7 +14,7 @@ use crate::body::{Body, YieldedPlace, Yielding};
 use crate::body_writing::rear_distance;
 use crate::ranges::is_engine;
 use byteorder::{BigEndian, ByteOrder};
-use rbc_hand::SectionRun;
+use rbc_line::SectionRun;
 
 /// The body that the bytes of a Yield spell after the kind. It is none where they spell none.
 #[inline(always)]

@@ -14,7 +14,7 @@ use Rattle.rbc_spec.specs.Acts.{◌>>◌, rest, returned, end_order, yield, part
 use Rattle.law_base.proofs.Puts.{put_same}
 use Rattle.rbc_book.specs.Book.{Pages}
 use Rattle.rbc_hand.specs.Hands.{Holding}
-use Rattle.rbc_hand.specs.SectionRuns.{run_of}
+use Rattle.rbc_line.specs.SectionRuns.{run_of}
 use Rattle.rbc_place.specs.Places.{place_of}
 use Rattle.rbc_border.specs.Lending.{HasBook, with_book}
 use Rattle.rbc_mission.specs.Supervisions.{mission_of, with_supervision}

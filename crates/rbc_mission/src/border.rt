@@ -10,13 +10,13 @@ ghost use Rattle.rbc_spec.specs.Centre.{Centre, Mission};
 ghost use Rattle.rbc_spec.specs.Acts as acts;
 ghost use Rattle.rbc_spec.specs.Rules as rules;
 ghost use Rattle.rbc_spec.specs.Links as links;
-ghost use Rattle.rbc_hand.specs.SectionRuns.{run_of};
+ghost use Rattle.rbc_line.specs.SectionRuns.{run_of};
 ghost use Rattle.rbc_border.specs.Border.{GoesOn};
 ghost use Rattle.rbc_border.specs.Lending.{sending};
 
 use crate::supervision::Supervision;
 use rbc_border::{Question, Way};
-use rbc_hand::SectionRun;
+use rbc_line::SectionRun;
 use rbc_line::Line;
 
 impl Supervision {

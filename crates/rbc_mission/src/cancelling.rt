@@ -4,11 +4,11 @@ ghost use Rattle.std.specs.Prelude.{◌≡◌, not, None, option_map, if◌then�
 ghost use Rattle.rbc_spec.specs.Maps.{has};
 ghost use Rattle.rbc_spec.specs.SectionRuns.{is_empty};
 ghost use Rattle.rbc_spec.specs.Acts as acts;
-ghost use Rattle.rbc_hand.specs.SectionRuns.{run_of};
+ghost use Rattle.rbc_line.specs.SectionRuns.{run_of};
 ghost use Rattle.rbc_handover.specs.Handings.{handing_of, handover_name};
 
 use rbc_border::part_at;
-use rbc_hand::SectionRun;
+use rbc_line::SectionRun;
 use rbc_handover::{Handover, HandoverName};
 use rbc_line::Line;
 

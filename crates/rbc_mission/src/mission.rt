@@ -2,7 +2,7 @@ ghost use Rattle.std.specs.Prelude.{◌≡◌, ◌≤◌, ◌+◌, ℕ, Bool, So
 ghost use Rattle.rbc_spec.specs.Centre as spec;
 ghost use Rattle.rbc_right.specs.Rights.{right_of};
 ghost use Rattle.rbc_pending_start.specs.Waits.{nothing_waits};
-ghost use Rattle.rbc_hand.specs.SectionRuns.{run_of};
+ghost use Rattle.rbc_line.specs.SectionRuns.{run_of};
 ghost use Rattle.rbc_place.specs.Places.{place_of};
 ghost use Rattle.rbc_shorten.specs.Facts.{proposal_of};
 
@@ -12,7 +12,7 @@ use crate::held;
 use crate::released::{Released, leaving};
 use crate::supervision::Supervision;
 use rbc_book::Book;
-use rbc_hand::SectionRun;
+use rbc_line::SectionRun;
 use rbc_line::Line;
 use rbc_pending_start::WaitingStart;
 use rbc_place::Place;

@@ -6,12 +6,13 @@ ghost use Rattle.rbc_spec.specs.SectionRuns.{within, is_empty, joined};
 ghost use Rattle.rbc_book.specs.Book.{is_own, entry_at};
 ghost use Rattle.rbc_hand.specs.Tokens.{Held, section_of, held_of, token_of};
 ghost use Rattle.rbc_hand.specs.Hands.{run, one, takes, extended};
-ghost use Rattle.rbc_hand.specs.SectionRuns.{run_of};
+ghost use Rattle.rbc_line.specs.SectionRuns.{run_of};
 ghost use Rattle.rbc_allocation.specs.Sections.{hand_rest, is_held_as, IsHeldBy};
 ghost use Rattle.rbc_mission.specs.Passing.{IsBooked};
 
 use rbc_book::Book;
-use rbc_hand::{Hand, Lent, SectionRun, Token};
+use rbc_hand::{Hand, Lent, Token};
+use rbc_line::SectionRun;
 use rbc_line::Line;
 
 // A token passes to another centre: a section of the book's home is out from now on, and a name ends.

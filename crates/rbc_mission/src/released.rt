@@ -1,11 +1,11 @@
 ghost use Rattle.std.specs.Prelude.{◌≡◌, ◌≤◌, [], None, if◌then◌else◌};
 ghost use Rattle.rbc_spec.specs.SectionRuns.{no_run, joined};
-ghost use Rattle.rbc_hand.specs.SectionRuns.{run_of};
+ghost use Rattle.rbc_line.specs.SectionRuns.{run_of};
 
 use crate::held::HeldRight;
 use rbc_allocation::Told;
 use rbc_border::Border;
-use rbc_hand::SectionRun;
+use rbc_line::SectionRun;
 use rbc_handover::HandoverName;
 
 /// What leaves a mission: the sections that were wished back and are shut now, of which the interlocking is to be told,

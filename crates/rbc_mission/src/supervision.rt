@@ -1,12 +1,13 @@
 ghost use Rattle.std.specs.Prelude.{◌≡◌, ◌≤◌, ◌+◌, Some, None, option_map, IfOk};
 ghost use Rattle.rbc_spec.specs.Centre as spec;
-ghost use Rattle.rbc_hand.specs.SectionRuns.{run_of};
+ghost use Rattle.rbc_line.specs.SectionRuns.{run_of};
 
 use crate::facts::MissionFacts;
 use crate::held::HeldRight;
 use rbc_book::Book;
 use rbc_border::Border;
-use rbc_hand::{Hand, SectionRun};
+use rbc_hand::Hand;
+use rbc_line::SectionRun;
 use rbc_handover::Handover;
 use std::alloc::{AllocError, Global};
 use std::marker::Model;

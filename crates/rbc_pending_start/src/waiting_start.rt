@@ -8,12 +8,13 @@ ghost use Rattle.rbc_spec.specs.Rules as rules;
 ghost use Rattle.rbc_spec.specs.Links as links;
 ghost use Rattle.rbc_book.specs.Book.{Pages, is_own};
 ghost use Rattle.rbc_hand.specs.Hands.{run, IsAllOwn};
-ghost use Rattle.rbc_hand.specs.SectionRuns.{run_of};
+ghost use Rattle.rbc_line.specs.SectionRuns.{run_of};
 ghost use Rattle.rbc_place.specs.Places.{place_of};
 
 use rbc_allocation::Told;
 use rbc_book::Book;
-use rbc_hand::{Hand, SectionRun};
+use rbc_hand::Hand;
+use rbc_line::SectionRun;
 use rbc_line::Line;
 use rbc_place::{Place, covered};
 use std::alloc::{AllocError, Global};

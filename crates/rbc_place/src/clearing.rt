@@ -1,12 +1,12 @@
 ghost use Rattle.std.specs.Prelude.{◌≡◌, ◌≤◌};
 ghost use Rattle.rbc_spec.specs.SectionRuns.{passing};
 ghost use Rattle.rbc_spec.specs.Place as spec;
-ghost use Rattle.rbc_hand.specs.SectionRuns.{run_of};
+ghost use Rattle.rbc_line.specs.SectionRuns.{run_of};
 ghost use Rattle.rbc_place.specs.Places.{place_of};
 
 use crate::place::Place;
 use crate::sections::section_end;
-use rbc_hand::SectionRun;
+use rbc_line::SectionRun;
 use rbc_line::Line;
 
 /// How many of the first sections of a train's hand it has cleared: those that end at or before its safe rear end

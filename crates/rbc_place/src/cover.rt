@@ -2,13 +2,13 @@ ghost use Rattle.std.specs.Prelude.{◌≡◌, ◌<◌, ◌≤◌, length};
 ghost use Rattle.rbc_spec.specs.Line.{IsLine};
 ghost use Rattle.rbc_spec.specs.SectionRuns.{next_after};
 ghost use Rattle.rbc_spec.specs.Place as spec;
-ghost use Rattle.rbc_hand.specs.SectionRuns.{run_of};
+ghost use Rattle.rbc_line.specs.SectionRuns.{run_of};
 ghost use Rattle.rbc_place.specs.Places.{place_of, with_last};
 
 use crate::ahead::first_ahead;
 use crate::place::Place;
 use crate::sections::{is_on, section_end, section_start};
-use rbc_hand::SectionRun;
+use rbc_line::SectionRun;
 use rbc_line::Line;
 
 /// Whether the train may stand in the section: on its track, the section starts before the safe front end, and ends

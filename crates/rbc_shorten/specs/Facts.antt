@@ -3,7 +3,7 @@ use Rattle.std.specs.Prelude.{◌≡◌, ℕ, Option, option_map}
 use Rattle.rbc_spec.specs.Line.{Line}
 use Rattle.rbc_spec.specs.Place.{group_start}
 use Rattle.rbc_spec.specs.Centre.{Centre, Mission, Proposal, is_up}
-use Rattle.rbc_hand.specs.SectionRuns.{run_of}
+use Rattle.rbc_line.specs.SectionRuns.{run_of}
 use Rattle.rbc_shorten.specs.declared.facts.ShorteningFacts.{ShorteningFacts}
 use Rattle.rbc_shorten.specs.declared.facts.Proposal.{Proposal as ProposalCode}
 

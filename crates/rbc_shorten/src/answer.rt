@@ -4,12 +4,12 @@ ghost use Rattle.rbc_spec.specs.Place as place;
 ghost use Rattle.rbc_spec.specs.Message as message;
 ghost use Rattle.rbc_spec.specs.Centre as spec;
 ghost use Rattle.rbc_spec.specs.Step.{is_unasked};
-ghost use Rattle.rbc_hand.specs.SectionRuns.{run_of};
+ghost use Rattle.rbc_line.specs.SectionRuns.{run_of};
 ghost use Rattle.rbc_shorten.specs.Facts.{standing_of};
 ghost use Rattle.rbc_shorten.specs.Answers.{on_asked, cut_of, freeing, act_of, IsAnswer};
 
 use crate::facts::Proposal;
-use rbc_hand::SectionRun;
+use rbc_line::SectionRun;
 use rbc_line::Line;
 use rbc_place::section_end;
 

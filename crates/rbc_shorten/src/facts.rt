@@ -1,4 +1,4 @@
-use rbc_hand::SectionRun;
+use rbc_line::SectionRun;
 
 /// A request to shorten that stands: the train has not answered it.
 #[derive(Clone, Copy, Debug, PartialEq, Eq)]

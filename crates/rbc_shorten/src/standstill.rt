@@ -1,11 +1,11 @@
 ghost use Rattle.std.specs.Prelude.{◌≡◌, ◌*◌, ◌≤◌};
 ghost use Rattle.rbc_spec.specs.SectionRuns.{passing};
 ghost use Rattle.rbc_spec.specs.Line.{start};
-ghost use Rattle.rbc_hand.specs.SectionRuns.{run_of};
+ghost use Rattle.rbc_line.specs.SectionRuns.{run_of};
 ghost use Rattle.rbc_shorten.specs.Standstill.{ahead_of, begins_before};
 
 use crate::answer::Cut;
-use rbc_hand::SectionRun;
+use rbc_line::SectionRun;
 use rbc_line::Line;
 use rbc_place::section_start;
 

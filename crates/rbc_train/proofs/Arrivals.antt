@@ -20,7 +20,7 @@ use Rattle.rbc_border.specs.Lending.{with_book}
 use Rattle.rbc_book.specs.Book.{Pages, is_own, entry_at}
 use Rattle.rbc_right.specs.Rights.{Rights, is_here}
 use Rattle.rbc_hand.specs.Hands.{Holding}
-use Rattle.rbc_hand.specs.SectionRuns.{run_of}
+use Rattle.rbc_line.specs.SectionRuns.{run_of}
 use Rattle.rbc_linkmsg.specs.declared.body.Yielding.{Yielding}
 use Rattle.rbc_handover.specs.Expectations.{expected_from, is_taking_under}
 use Rattle.rbc_handover.proofs.Expects.{expects_now}

@@ -7,7 +7,7 @@ use Rattle.rbc_spec.specs.Place.{group_start}
 use Rattle.rbc_spec.specs.Message.{ShorteningRequest}
 use Rattle.rbc_spec.specs.Centre.{Centre, Mission, Proposal}
 use Rattle.rbc_spec.specs.Acts.{Reply, ◌>>◌, may_propose, propose, propose_if_so, where_so, rest}
-use Rattle.rbc_hand.specs.SectionRuns.{run_of}
+use Rattle.rbc_line.specs.SectionRuns.{run_of}
 use Rattle.rbc_shorten.specs.Requests.{may_shorten_at, shortening_at, is_free, is_cut_after_first}
 use Rattle.rbc_shorten.specs.declared.facts.ShorteningFacts.{ShorteningFacts}
 use Rattle.rbc_shorten.specs.declared.facts.Shortening.{Shortening}

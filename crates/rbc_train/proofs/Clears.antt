@@ -11,8 +11,8 @@ use Rattle.law_base.proofs.Longest.{longest_few}
 use Rattle.rbc_book.specs.Book.{Pages, is_own}
 use Rattle.rbc_right.specs.Rights.{Rights}
 use Rattle.rbc_hand.specs.Hands.{Holding}
-use Rattle.rbc_hand.specs.SectionRuns.{run_of}
-use Rattle.rbc_hand.specs.declared.section_run.SectionRun.{SectionRun as SectionRunCode}
+use Rattle.rbc_line.specs.SectionRuns.{run_of}
+use Rattle.rbc_line.specs.declared.section_run.SectionRun.{SectionRun as SectionRunCode}
 use Rattle.rbc_allocation.specs.Sections.{FreesRun, front_of, rest_of, wished}
 use Rattle.rbc_mission.specs.Supervisions.{SupervisionState, hand_of, without_front, cleared_run, right_left, handover_left}
 use Rattle.rbc_handover.specs.Handings.{handover_name}

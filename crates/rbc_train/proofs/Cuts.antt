@@ -15,8 +15,8 @@ use Rattle.law_base.proofs.Runs.{same_tests}
 use Rattle.rbc_book.specs.Book.{Pages, is_own, entry_at, wish_at}
 use Rattle.rbc_right.specs.Rights.{Rights}
 use Rattle.rbc_hand.specs.Hands.{Holding}
-use Rattle.rbc_hand.specs.SectionRuns.{run_of}
-use Rattle.rbc_hand.specs.declared.section_run.SectionRun.{SectionRun as SectionRunCode}
+use Rattle.rbc_line.specs.SectionRuns.{run_of}
+use Rattle.rbc_line.specs.declared.section_run.SectionRun.{SectionRun as SectionRunCode}
 use Rattle.rbc_allocation.specs.Sections.{FreesRun, rest_of, wished}
 use Rattle.rbc_mission.specs.Supervisions.{SupervisionState, HasRouteForm, with_front, still_handing, right_left, handover_left}
 use Rattle.rbc_handover.specs.Handings.{handover_name}

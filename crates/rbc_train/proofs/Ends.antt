@@ -16,8 +16,8 @@ use Rattle.rbc_spec.specs.Maps.{put}
 use Rattle.law_base.proofs.Puts.{put_there, put_over}
 use Rattle.rbc_book.specs.Book.{Pages, is_own}
 use Rattle.rbc_right.specs.Rights.{Rights}
-use Rattle.rbc_hand.specs.SectionRuns.{run_of}
-use Rattle.rbc_hand.specs.declared.section_run.SectionRun.{SectionRun as SectionRunCode}
+use Rattle.rbc_line.specs.SectionRuns.{run_of}
+use Rattle.rbc_line.specs.declared.section_run.SectionRun.{SectionRun as SectionRunCode}
 use Rattle.rbc_session.specs.SessionStates.{session_phase}
 use Rattle.rbc_allocation.specs.Sections.{rest_of, wished}
 use Rattle.rbc_shorten.specs.Standstill.{ahead_of, standing_act}

@@ -12,8 +12,8 @@ use Rattle.law_base.proofs.Puts.{put_there, put_over}
 use Rattle.rbc_book.specs.Book.{Pages, entry_at, wish_at}
 use Rattle.rbc_right.specs.Rights.{Rights, is_here, right_of}
 use Rattle.rbc_hand.specs.Hands.{Holding}
-use Rattle.rbc_hand.specs.SectionRuns.{run_of}
-use Rattle.rbc_hand.specs.declared.section_run.SectionRun.{SectionRun as SectionRunCode}
+use Rattle.rbc_line.specs.SectionRuns.{run_of}
+use Rattle.rbc_line.specs.declared.section_run.SectionRun.{SectionRun as SectionRunCode}
 use Rattle.rbc_allocation.specs.Sections.{FreesRun, wished}
 use Rattle.rbc_pending_start.proofs.Waits.{freed_is}
 use Rattle.rbc_mission.specs.Supervisions.{SupervisionState, right_left}

@@ -11,7 +11,7 @@ use Rattle.rbc_right.specs.Rights.{Rights}
 use Rattle.rbc_mission.specs.declared.held.HeldRight.{HeldRight}
 use Rattle.rbc_train.specs.Homes.{GoesHome}
 use Rattle.rbc_train.specs.Letters.{going_home, mail_home}
-use Rattle.rbc_hand.specs.declared.section_run.SectionRun.{SectionRun as SectionRunCode}
+use Rattle.rbc_line.specs.declared.section_run.SectionRun.{SectionRun as SectionRunCode}
 use Rattle.rbc_train.specs.declared.letter.Letter.{Letter}
 use Rattle.rbc_train.specs.declared.mail.Mail.{Mail}
 use Rattle.rbc_train.specs.declared.mail.Notice.{Notice}

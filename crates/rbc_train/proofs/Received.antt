@@ -7,8 +7,8 @@ use Rattle.rbc_spec.specs.Frame.{HasBodyRange, HasRunRange, HasPlaceRange, carri
 use Rattle.rbc_spec.specs.Centre.{Centre}
 use Rattle.rbc_spec.specs.Acts.{Act, Reply, rest}
 use Rattle.rbc_spec.specs.Links.{of_train, right_asked, right_given, right_refused, right_returned, route_asked, route_told, route_withdrawn, route_returned, announced, cancelled, taking_over, yielded, received}
-use Rattle.rbc_hand.specs.SectionRuns.{run_of}
-use Rattle.rbc_hand.specs.declared.section_run.SectionRun.{SectionRun as SectionRunCode}
+use Rattle.rbc_line.specs.SectionRuns.{run_of}
+use Rattle.rbc_line.specs.declared.section_run.SectionRun.{SectionRun as SectionRunCode}
 use Rattle.rbc_linkmsg.specs.Bodies.{body_of, place_of, engine_in}
 use Rattle.rbc_linkmsg.specs.declared.body.Yielding.{Yielding}
 use Rattle.rbc_linkmsg.specs.declared.body.Body.{Body}

@@ -11,8 +11,8 @@ use Rattle.rbc_spec.specs.Acts.{Act, rest, ◌>>◌, send, freed, returned, prop
 use Rattle.rbc_spec.specs.Links.{route_asked, route_withdrawn}
 use Rattle.rbc_book.specs.Book.{Pages, is_own}
 use Rattle.rbc_right.specs.Rights.{Rights}
-use Rattle.rbc_hand.specs.SectionRuns.{run_of}
-use Rattle.rbc_hand.specs.declared.section_run.SectionRun.{SectionRun as SectionRunCode}
+use Rattle.rbc_line.specs.SectionRuns.{run_of}
+use Rattle.rbc_line.specs.declared.section_run.SectionRun.{SectionRun as SectionRunCode}
 use Rattle.rbc_linkmsg.specs.Bodies.{body_of}
 use Rattle.rbc_linkmsg.specs.declared.body.Body.{Body}
 use Rattle.rbc_border.specs.Lending.{HasBook, with_book, sending, telling}

@@ -19,8 +19,8 @@ use Rattle.rbc_shorten.specs.declared.answer.Cut.TheVariants.{Nothing, Keep}
 use Rattle.rbc_shorten.specs.declared.answer.Unasked.{Unasked}
 use Rattle.rbc_shorten.specs.declared.facts.Proposal.{Proposal as ProposalCode}
 use Rattle.rbc_hand.specs.Hands.{Holding}
-use Rattle.rbc_hand.specs.SectionRuns.{run_of}
-use Rattle.rbc_hand.specs.declared.section_run.SectionRun.{SectionRun as SectionRunCode}
+use Rattle.rbc_line.specs.SectionRuns.{run_of}
+use Rattle.rbc_line.specs.declared.section_run.SectionRun.{SectionRun as SectionRunCode}
 use Rattle.rbc_allocation.specs.Sections.{FreesRun, rest_of, wished}
 use Rattle.rbc_mission.specs.Supervisions.{SupervisionState, hand_of, handing_in, with_front, cut_run, right_left, handover_left}
 use Rattle.rbc_mission.specs.declared.held.HeldRight.{HeldRight}

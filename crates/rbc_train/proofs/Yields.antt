@@ -12,7 +12,7 @@ use Rattle.rbc_book.specs.Book.{Pages, entry_at, wish_at}
 use Rattle.rbc_right.specs.Rights.{Rights}
 use Rattle.rbc_border.specs.Lending.{with_book}
 use Rattle.rbc_hand.specs.Hands.{Holding}
-use Rattle.rbc_hand.specs.SectionRuns.{run_of}
+use Rattle.rbc_line.specs.SectionRuns.{run_of}
 use Rattle.rbc_linkmsg.specs.Bodies.{body_of}
 use Rattle.rbc_place.specs.Places.{place_of}
 use Rattle.rbc_mission.specs.Supervisions.{SupervisionState, with_supervision}

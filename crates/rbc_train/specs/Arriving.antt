@@ -9,7 +9,7 @@ use Rattle.rbc_spec.specs.Acts.{Act}
 use Rattle.rbc_spec.specs.Links.{yielded}
 use Rattle.rbc_book.specs.Book.{Pages, is_own, entry_at}
 use Rattle.rbc_hand.specs.Hands.{Holding}
-use Rattle.rbc_hand.specs.SectionRuns.{run_of}
+use Rattle.rbc_line.specs.SectionRuns.{run_of}
 use Rattle.rbc_linkmsg.specs.declared.body.Yielding.{Yielding}
 use Rattle.rbc_mission.specs.Supervisions.{SupervisionState}
 use Rattle.rbc_train.specs.declared.taking_up.Arriving.{Arriving}

@@ -3,8 +3,8 @@ use Rattle.std.specs.Prelude.{◌≡◌, ℕ, Option, option_map}
 use Rattle.rbc_spec.specs.Line.{Line, is_home}
 use Rattle.rbc_spec.specs.Centre.{Centre, Mission, Handing}
 use Rattle.rbc_book.specs.Book.{Pages, is_own, entry_at}
-use Rattle.rbc_hand.specs.SectionRuns.{run_of}
-use Rattle.rbc_hand.specs.declared.section_run.SectionRun.{SectionRun}
+use Rattle.rbc_line.specs.SectionRuns.{run_of}
+use Rattle.rbc_line.specs.declared.section_run.SectionRun.{SectionRun}
 use Rattle.rbc_mission.specs.Supervisions.{mission_of}
 use Rattle.rbc_mission.specs.declared.facts.MissionFacts.{MissionFacts as Facts}
 

@@ -6,8 +6,8 @@ use Rattle.rbc_spec.specs.Message.{TrainBody, StartOfMission, Request, Report, S
 use Rattle.rbc_spec.specs.Frame.{Body, Announce, Cancel}
 use Rattle.rbc_spec.specs.Centre.{Expectation, beginning}
 use Rattle.rbc_spec.specs.Acts.{returned}
-use Rattle.rbc_hand.specs.SectionRuns.{run_of}
-use Rattle.rbc_hand.specs.declared.section_run.SectionRun.{SectionRun as SectionRunCode}
+use Rattle.rbc_line.specs.SectionRuns.{run_of}
+use Rattle.rbc_line.specs.declared.section_run.SectionRun.{SectionRun as SectionRunCode}
 use Rattle.rbc_linkmsg.specs.Bodies.{body_of}
 use Rattle.rbc_linkmsg.specs.declared.body.Body.{Body as BodyCode}
 use Rattle.rbc_handover.specs.Expectations.{claims}

@@ -21,7 +21,7 @@ use crate::reason::Reason;
 use crate::train::TrainState;
 use rbc_allocation::wished_around;
 use rbc_book::Book;
-use rbc_hand::SectionRun;
+use rbc_line::SectionRun;
 use rbc_line::Line;
 use rbc_mission::Told;
 use rbc_packets::Position;

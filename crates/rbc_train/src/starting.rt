@@ -8,12 +8,12 @@ ghost use Rattle.rbc_spec.specs.Place.{fit_place};
 ghost use Rattle.rbc_spec.specs.SectionRuns.{within, all_of};
 ghost use Rattle.rbc_msgs.specs.StepMessage as message;
 ghost use Rattle.rbc_msgs.specs.StepMessage.{position_of};
-ghost use Rattle.rbc_hand.specs.SectionRuns.{run_of};
+ghost use Rattle.rbc_line.specs.SectionRuns.{run_of};
 ghost use Rattle.rbc_place.specs.Places.{place_of};
 ghost use Rattle.rbc_train.specs.Desks.{IsBookOf, HasBook};
 
 use rbc_book::Book;
-use rbc_hand::SectionRun;
+use rbc_line::SectionRun;
 use rbc_line::Line;
 use rbc_packets::Position;
 use rbc_place::{Place, extent, is_fit};

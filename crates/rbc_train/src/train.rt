@@ -1,6 +1,6 @@
 ghost use Rattle.std.specs.Prelude.{◌≡◌, ◌+◌, ◌≤◌, ℕ, length, IfOk, None, false, option_map};
 ghost use Rattle.rbc_spec.specs.Message.{is_stale};
-ghost use Rattle.rbc_hand.specs.SectionRuns.{run_of};
+ghost use Rattle.rbc_line.specs.SectionRuns.{run_of};
 ghost use Rattle.rbc_place.specs.Places.{place_of};
 ghost use Rattle.rbc_session.specs.SessionStates.{phase_of, session_phase};
 ghost use Rattle.rbc_mission.specs.Supervisions.{hand_of, handing_in, pool_of};
@@ -10,7 +10,7 @@ ghost use Rattle.rbc_train.specs.Desks.{mission_by};
 ghost use Rattle.rbc_train.specs.Trains.{unknown_state};
 
 use rbc_book::Book;
-use rbc_hand::SectionRun;
+use rbc_line::SectionRun;
 use rbc_handover::Expectations;
 use rbc_line::Line;
 use rbc_mission::{MissionFacts, Supervision};

@@ -14,7 +14,7 @@ use Rattle.rbc_spec.specs.Centre.{Mission}
 use Rattle.rbc_spec.specs.World.{World, way, frame_sent}
 use Rattle.rbc_spec.specs.ReadOff.{Held, held, held_at, handed_over, centres_of, frames_on_way, read_off, seen}
 use Rattle.law_reached.specs.Seen.{yielded_on_way, AreMissionsSeen}
-use Rattle.rbc_hand.specs.SectionRuns.{run_of}
+use Rattle.rbc_line.specs.SectionRuns.{run_of}
 use Rattle.rbc_centre.specs.States as one
 use Rattle.rbc_centre.specs.Views.{frame_number}
 use Rattle.rbc_centre.specs.declared.centre.Centre.{Centre}

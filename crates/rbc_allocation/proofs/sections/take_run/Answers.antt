@@ -3,7 +3,7 @@ use Rattle.rbc_book.specs.Book.{is_own}
 use Rattle.rbc_book.specs.Claim.{claimed}
 use Rattle.rbc_book.specs.declared.claim.Claims.{Claims}
 use Rattle.rbc_hand.specs.Tokens.{Own}
-use Rattle.rbc_hand.specs.SectionRuns.{run_of}
+use Rattle.rbc_line.specs.SectionRuns.{run_of}
 use Rattle.rbc_allocation.proofs.Runs.{takes_all, HasGrown, grows}
 use Rattle.rbc_allocation.proofs.Held.{held_more}
 use Rattle.rbc_allocation.proofs.sections.take_run.Goals as goal

@@ -2,7 +2,7 @@ use Rattle.std.proofs.Common.{◌+◌, ◌<◌, ◌≤◌, ◌≡◌, sym, ap, �
 use Rattle.std.proofs.lemmas.Bool.{cases_lt}
 use Rattle.rbc_spec.specs.Links.{may_arrive}
 use Rattle.law_base.proofs.Lists.{all_from}
-use Rattle.rbc_hand.specs.SectionRuns.{run_of}
+use Rattle.rbc_line.specs.SectionRuns.{run_of}
 use Rattle.rbc_border.proofs.Arrivals.{one_fails}
 use Rattle.rbc_border.proofs.arriving.may_arrive.Goals as goal
 

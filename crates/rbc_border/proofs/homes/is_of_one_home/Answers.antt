@@ -1,6 +1,6 @@
 use Rattle.std.proofs.Common.{◌==◌, ◌&&◌, ap, sym, ◌∙◌, eq-eqb}
 use Rattle.rbc_spec.specs.SectionRuns.{longest}
-use Rattle.rbc_hand.specs.SectionRuns.{run_of}
+use Rattle.rbc_line.specs.SectionRuns.{run_of}
 use Rattle.rbc_border.specs.Homes.{is_of}
 use Rattle.rbc_border.proofs.HomeParts.{found, one_home_is}
 use Rattle.rbc_border.proofs.homes.is_of_one_home.Goals as goal

@@ -2,7 +2,7 @@ use Rattle.std.proofs.Common.{◌≡◌, ◌+◌, ◌<◌, ◌≤◌, ℕ, true,
 use Rattle.std.proofs.lemmas.Bool.{not-true}
 use Rattle.rbc_spec.specs.SectionRuns.{shared, is_empty}
 use Rattle.rbc_spec.specs.Sections.{home_run}
-use Rattle.rbc_hand.specs.SectionRuns.{run_of}
+use Rattle.rbc_line.specs.SectionRuns.{run_of}
 use Rattle.law_base.proofs.Runs.{some_count}
 use Rattle.rbc_border.specs.Homes.{is_of}
 use Rattle.rbc_border.proofs.HomeParts.{no_part, some, part_is, part_range}

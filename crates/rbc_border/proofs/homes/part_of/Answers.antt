@@ -1,4 +1,4 @@
-use Rattle.rbc_hand.specs.SectionRuns.{run_of}
+use Rattle.rbc_line.specs.SectionRuns.{run_of}
 use Rattle.rbc_border.proofs.HomeParts.{part_goes}
 use Rattle.rbc_border.proofs.homes.part_of.Goals as goal
 

@@ -1,5 +1,5 @@
 use Rattle.std.proofs.Common.{◌+◌, ◌≡◌, true, false, eqb, refl, sym, ap, subst, ◌∙◌, arith}
-use Rattle.rbc_hand.specs.SectionRuns.{run_of}
+use Rattle.rbc_line.specs.SectionRuns.{run_of}
 use Rattle.rbc_allocation.specs.Marks.{marked}
 use Rattle.rbc_allocation.proofs.Marks.{marked-none, mark_fits}
 use Rattle.rbc_border.specs.Lending.{BringsBack, told_back}

@@ -1,7 +1,7 @@
 use Rattle.std.proofs.Common.{◌∙◌, sym, ap, arith, inl, inr}
 use Rattle.std.proofs.lemmas.Bool.Decides.{eqb_tells}
 use Rattle.rbc_spec.specs.Line.{is_home}
-use Rattle.rbc_hand.specs.SectionRuns.{run_of}
+use Rattle.rbc_line.specs.SectionRuns.{run_of}
 use Rattle.law_base.proofs.Runs.{within_true}
 use Rattle.rbc_centre.proofs.Homes.{none_goes}
 use Rattle.rbc_centre.proofs.returned.all_stay.Goals as goal

@@ -2,7 +2,7 @@ use Rattle.std.proofs.Common.{◌≡◌, ◌+◌, sym, ap, ◌∙◌, ltb-true, 
 use Rattle.rbc_spec.specs.Centre.{is_open}
 use Rattle.rbc_book.specs.Book.{entry_at}
 use Rattle.rbc_spec.specs.SectionRuns.{next_after, longest}
-use Rattle.rbc_hand.specs.SectionRuns.{run_of}
+use Rattle.rbc_line.specs.SectionRuns.{run_of}
 use Rattle.rbc_place.specs.Places.{place_of}
 use Rattle.rbc_place.proofs.Longest.{stops, one_more, all_passed}
 use Rattle.rbc_grant.specs.Grants.{may_follow}

@@ -1,5 +1,5 @@
 use Rattle.rbc_spec.specs.SectionRuns.{next_after}
-use Rattle.rbc_hand.specs.SectionRuns.{run_of}
+use Rattle.rbc_line.specs.SectionRuns.{run_of}
 use Rattle.rbc_place.specs.Places.{place_of}
 use Rattle.rbc_place.proofs.Longest.{HasPassed}
 use Rattle.rbc_grant.specs.Grants.{may_follow}

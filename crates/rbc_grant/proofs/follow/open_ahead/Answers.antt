@@ -3,7 +3,7 @@ use Rattle.rbc_spec.specs.Centre.{is_open}
 use Rattle.rbc_spec.specs.SectionRuns.{next_after}
 use Rattle.law_base.proofs.Longest.{longest_each}
 use Rattle.rbc_book.specs.Book.{entry_at}
-use Rattle.rbc_hand.specs.SectionRuns.{run_of}
+use Rattle.rbc_line.specs.SectionRuns.{run_of}
 use Rattle.rbc_grant.proofs.follow.open_ahead.Goals as goal
 
 pub returns : goal.returns

@@ -1,7 +1,7 @@
 use Rattle.std.proofs.Common.{◌≡◌, ◌+◌, ◌-◌, ap, ◌∙◌, arith}
 use Rattle.rbc_spec.specs.Line.{end}
 use Rattle.rbc_spec.specs.SectionRuns.{next_after}
-use Rattle.rbc_hand.specs.SectionRuns.{run_of}
+use Rattle.rbc_line.specs.SectionRuns.{run_of}
 use Rattle.rbc_place.specs.Places.{place_of}
 use Rattle.rbc_grant.specs.Grants.{may_follow}
 use Rattle.rbc_grant.proofs.Runs.{each_passes, has_room}

@@ -1,5 +1,5 @@
 use Rattle.std.proofs.Common.{◌∷◌, [], refl, ◌∙◌}
-use Rattle.rbc_hand.specs.SectionRuns.{run_of}
+use Rattle.rbc_line.specs.SectionRuns.{run_of}
 use Rattle.rbc_linkmsg.specs.Spelling.{run_fields}
 use Rattle.rbc_linkmsg.specs.declared.kind.FrameKind.TheVariants as kinds
 use Rattle.rbc_linkmsg.proofs.Readings.{found_body}

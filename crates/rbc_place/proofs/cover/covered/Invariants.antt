@@ -1,5 +1,5 @@
 use Rattle.rbc_spec.specs.Place as spec
-use Rattle.rbc_hand.specs.SectionRuns.{run_of}
+use Rattle.rbc_line.specs.SectionRuns.{run_of}
 use Rattle.rbc_place.specs.Places.{place_of}
 use Rattle.rbc_place.proofs.Found.{IsFound}
 use Rattle.rbc_place.proofs.cover.covered.Given as goal

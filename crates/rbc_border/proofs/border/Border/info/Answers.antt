@@ -4,8 +4,8 @@ use Rattle.std.proofs.lemmas.List.{length-replicate}
 use Rattle.rbc_spec.specs.Frame.{Body, RouteReturn, HasRunRange}
 use Rattle.rbc_spec.specs.Acts.{rest, send}
 use Rattle.rbc_hand.specs.Tokens.{Name}
-use Rattle.rbc_hand.specs.SectionRuns.{run_of}
-use Rattle.rbc_hand.specs.declared.section_run.SectionRun.{SectionRun as SectionRunCode}
+use Rattle.rbc_line.specs.SectionRuns.{run_of}
+use Rattle.rbc_line.specs.declared.section_run.SectionRun.{SectionRun as SectionRunCode}
 use Rattle.rbc_border.specs.Border.{BorderState, with_border, border_state, IsBorder, answers, wants}
 use Rattle.rbc_border.specs.Lending.{sending}
 use Rattle.rbc_border.specs.declared.border.Border.TheInside.{Inside}

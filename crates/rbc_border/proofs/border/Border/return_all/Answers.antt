@@ -3,7 +3,7 @@ use Rattle.std.proofs.lemmas.List.{length-take-le}
 use Rattle.rbc_spec.specs.SectionRuns.{SectionRun}
 use Rattle.rbc_spec.specs.Acts.{returned}
 use Rattle.rbc_hand.specs.Hands.{Holding}
-use Rattle.rbc_hand.specs.SectionRuns.{run_of}
+use Rattle.rbc_line.specs.SectionRuns.{run_of}
 use Rattle.rbc_border.specs.Border.{BorderState, with_border}
 use Rattle.rbc_border.proofs.Borders.{returns_pool}
 use Rattle.rbc_border.proofs.border.Border.return_all.Goals as goal

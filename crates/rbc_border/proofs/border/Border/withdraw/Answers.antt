@@ -4,7 +4,7 @@ use Rattle.std.proofs.lemmas.List.{length-take-le}
 use Rattle.rbc_spec.specs.SectionRuns.{SectionRun, within, part_before, part_from}
 use Rattle.rbc_spec.specs.Acts.{returned}
 use Rattle.rbc_hand.specs.Hands.{Holding}
-use Rattle.rbc_hand.specs.SectionRuns.{run_of}
+use Rattle.rbc_line.specs.SectionRuns.{run_of}
 use Rattle.law_base.proofs.Runs.{within_true}
 use Rattle.rbc_border.specs.Border.{BorderState, with_border}
 use Rattle.rbc_border.proofs.Borders.{withdrawn, not_withdrawn, parts_at, cut_border}

@@ -1,6 +1,6 @@
 use Rattle.std.proofs.Common.{◌∙◌, ◌++◌, ℕ, List, length, Option, ap, sym, subst, arith}
 use Rattle.rbc_spec.specs.Frame.{Body}
-use Rattle.rbc_hand.specs.SectionRuns.{run_of}
+use Rattle.rbc_line.specs.SectionRuns.{run_of}
 use Rattle.rbc_linkmsg.specs.declared.body.Body.{Body as BodyCode}
 use Rattle.rbc_handover.specs.Expectations.{expected_from}
 use Rattle.rbc_train.specs.Letters.{bodies_in, going_home, notices, letters}

@@ -5,7 +5,7 @@ use Rattle.rbc_spec.specs.Sections.{home_run}
 use Rattle.rbc_spec.specs.Centre.{Mission}
 use Rattle.rbc_spec.specs.Acts.{part_at}
 use Rattle.rbc_hand.specs.Hands.{run}
-use Rattle.rbc_hand.specs.SectionRuns.{run_of}
+use Rattle.rbc_line.specs.SectionRuns.{run_of}
 use Rattle.rbc_handover.specs.Handings.{handing_of}
 use Rattle.rbc_mission.specs.Supervisions.{mission_of}
 use Rattle.rbc_mission.proofs.Missions.{stands}

@@ -1,8 +1,8 @@
 use Rattle.std.proofs.Common.{◌≡◌, option_map, sym, ap, subst, ◌∙◌}
 use Rattle.rbc_spec.specs.Frame.{RouteReturn}
 use Rattle.rbc_spec.specs.Links as links
-use Rattle.rbc_hand.specs.SectionRuns.{run_of}
-use Rattle.rbc_hand.specs.declared.section_run.SectionRun.{SectionRun}
+use Rattle.rbc_line.specs.SectionRuns.{run_of}
+use Rattle.rbc_line.specs.declared.section_run.SectionRun.{SectionRun}
 use Rattle.rbc_border.specs.Border.{GoesOn}
 use Rattle.rbc_border.specs.Lending.{sending}
 use Rattle.rbc_handover.specs.Handings.{handing_of}

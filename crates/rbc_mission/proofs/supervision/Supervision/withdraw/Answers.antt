@@ -2,8 +2,8 @@ use Rattle.std.proofs.Common.{◌≡◌, ap, subst, ◌∙◌}
 use Rattle.std.specs.Option.{option_map_or}
 use Rattle.rbc_spec.specs.Acts as acts
 use Rattle.rbc_spec.specs.Links as links
-use Rattle.rbc_hand.specs.SectionRuns.{run_of}
-use Rattle.rbc_hand.specs.declared.section_run.SectionRun.{SectionRun}
+use Rattle.rbc_line.specs.SectionRuns.{run_of}
+use Rattle.rbc_line.specs.declared.section_run.SectionRun.{SectionRun}
 use Rattle.rbc_handover.specs.Handings.{handing_of}
 use Rattle.rbc_mission.specs.Supervisions.{supervision_state, with_supervision}
 use Rattle.rbc_mission.proofs.Borders.{withdraws, train_is, has_border, border_after}

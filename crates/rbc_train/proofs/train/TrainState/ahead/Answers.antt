@@ -1,5 +1,5 @@
 use Rattle.std.proofs.Common.{◌+◌, ◌-◌, ◌∙◌, sym, arith}
-use Rattle.rbc_hand.specs.SectionRuns.{run_of}
+use Rattle.rbc_line.specs.SectionRuns.{run_of}
 use Rattle.rbc_train.proofs.Standstill.{keeps_some}
 use Rattle.rbc_train.proofs.train.TrainState.ahead.Goals as goal
 

@@ -9,7 +9,7 @@ use Rattle.rbc_spec.specs.Links.{may_arrive}
 use Rattle.rbc_border.specs.Lending.{with_book}
 use Rattle.rbc_right.specs.Rights.{is_here}
 use Rattle.rbc_handover.specs.Expectations.{expected_from, is_taking_under}
-use Rattle.rbc_hand.specs.SectionRuns.{run_of}
+use Rattle.rbc_line.specs.SectionRuns.{run_of}
 use Rattle.rbc_place.specs.Places.{place_of}
 use Rattle.rbc_train.proofs.Arrivals.{may_be_taken, no_mission_here, run_of_line, own_out}
 use Rattle.rbc_train.proofs.RouteFrames.{has_pages}

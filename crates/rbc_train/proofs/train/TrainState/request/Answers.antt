@@ -10,7 +10,7 @@ use Rattle.rbc_spec.specs.Message.{TrainMessage, Request, Authority}
 use Rattle.rbc_spec.specs.Centre as spec
 use Rattle.rbc_msgs.specs.StepMessage.{position_of}
 use Rattle.rbc_book.specs.Book.{is_own}
-use Rattle.rbc_hand.specs.SectionRuns.{run_of}
+use Rattle.rbc_line.specs.SectionRuns.{run_of}
 use Rattle.rbc_place.specs.Places.{place_of}
 use Rattle.rbc_shorten.specs.Facts.{proposal_of}
 use Rattle.rbc_allocation.specs.Sections.{TakesRun, next_of}

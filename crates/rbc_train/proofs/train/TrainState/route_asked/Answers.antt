@@ -1,6 +1,6 @@
 use Rattle.std.proofs.Common.{◌∙◌, ℕ, Some, option_map, ap, sym}
 use Rattle.rbc_spec.specs.Frame.{RouteInfo}
-use Rattle.rbc_hand.specs.SectionRuns.{run_of}
+use Rattle.rbc_line.specs.SectionRuns.{run_of}
 use Rattle.rbc_linkmsg.specs.declared.body.Body.TheVariants as code
 use Rattle.rbc_border.specs.Lending.{sending}
 use Rattle.rbc_train.specs.Desk.{with_parts, reply_left}

@@ -2,7 +2,7 @@ use Rattle.std.proofs.Common.{◌∙◌, if◌then◌else◌, ap, sym, arith}
 use Rattle.std.proofs.lemmas.Bool.Decides.{nat_tests}
 use Rattle.rbc_spec.specs.Acts.{rest}
 use Rattle.rbc_spec.specs.Links.{route_returned}
-use Rattle.rbc_hand.specs.SectionRuns.{run_of}
+use Rattle.rbc_line.specs.SectionRuns.{run_of}
 use Rattle.rbc_train.specs.Sayings.{sayings_of}
 use Rattle.rbc_train.specs.Desk.{with_parts, reply_left}
 use Rattle.rbc_train.specs.declared.heard.Heard.{Heard}

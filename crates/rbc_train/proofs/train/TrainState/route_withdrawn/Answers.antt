@@ -4,7 +4,7 @@ use Rattle.std.proofs.lemmas.Bool.Decides.{nat_tests}
 use Rattle.rbc_spec.specs.Line.{section}
 use Rattle.rbc_spec.specs.Acts.{rest, returned, propose_if_so}
 use Rattle.rbc_spec.specs.Links.{route_withdrawn}
-use Rattle.rbc_hand.specs.SectionRuns.{run_of}
+use Rattle.rbc_line.specs.SectionRuns.{run_of}
 use Rattle.rbc_mission.specs.Supervisions.{mission_of, hand_of, pool_of, handing_in, with_supervision}
 use Rattle.rbc_train.specs.Sayings.{sayings_of}
 use Rattle.rbc_train.specs.Desk.{with_parts, reply_left}

@@ -5,7 +5,7 @@ use Rattle.rbc_spec.specs.Line.{is_home}
 use Rattle.rbc_spec.specs.Step.{is_unasked}
 use Rattle.rbc_book.specs.Book.{is_own}
 use Rattle.rbc_msgs.specs.StepMessage.{position_of}
-use Rattle.rbc_hand.specs.SectionRuns.{run_of}
+use Rattle.rbc_line.specs.SectionRuns.{run_of}
 use Rattle.rbc_shorten.specs.Facts.{proposal_of}
 use Rattle.rbc_shorten.specs.Answers.{cut_of, act_of}
 use Rattle.rbc_allocation.specs.Sections.{hand_front}

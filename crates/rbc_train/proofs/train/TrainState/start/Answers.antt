@@ -6,7 +6,7 @@ use Rattle.rbc_spec.specs.Centre.{Mission, is_free, is_registrar_of}
 use Rattle.rbc_spec.specs.Acts.{say}
 use Rattle.rbc_spec.specs.Message.{TrainAccepted, unknown_group}
 use Rattle.rbc_msgs.specs.StepMessage.{position_of, is_valid}
-use Rattle.rbc_hand.specs.SectionRuns.{run_of}
+use Rattle.rbc_line.specs.SectionRuns.{run_of}
 use Rattle.rbc_place.specs.Places.{place_of}
 use Rattle.rbc_allocation.specs.Sections.{IsAllOpen}
 use Rattle.rbc_mission.specs.Supervisions.{SupervisionState, mission_of, hand_of, pool_of, handing_in}

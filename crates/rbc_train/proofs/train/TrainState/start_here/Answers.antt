@@ -2,7 +2,7 @@ use Rattle.std.proofs.Common.{◌∙◌, ap, sym, false}
 use Rattle.rbc_spec.specs.Maps.{put}
 use Rattle.rbc_right.specs.Rights.{is_here}
 use Rattle.rbc_right.specs.Answers.{answer}
-use Rattle.rbc_hand.specs.SectionRuns.{run_of}
+use Rattle.rbc_line.specs.SectionRuns.{run_of}
 use Rattle.rbc_place.specs.Places.{place_of}
 use Rattle.rbc_mission.specs.Supervisions.{claims_on}
 use Rattle.rbc_train.proofs.Starts.{given, begins}

@@ -1,7 +1,7 @@
 use Rattle.std.proofs.Common.{◌∙◌, None, Some, ap, arith}
 use Rattle.rbc_spec.specs.SectionRuns.{no_run}
 use Rattle.rbc_right.specs.Rights.{right_of}
-use Rattle.rbc_hand.specs.SectionRuns.{run_of}
+use Rattle.rbc_line.specs.SectionRuns.{run_of}
 use Rattle.rbc_mission.specs.Supervisions.{mission_of}
 use Rattle.rbc_train.proofs.train.TrainState.take_mission.Goals as goal
 

@@ -6,7 +6,7 @@ use Rattle.rbc_spec.specs.Centre.{Centre}
 use Rattle.rbc_spec.specs.Acts.{rest, end_order}
 use Rattle.rbc_book.specs.Book.{is_own}
 use Rattle.rbc_hand.specs.Hands.{Holding}
-use Rattle.rbc_hand.specs.SectionRuns.{run_of}
+use Rattle.rbc_line.specs.SectionRuns.{run_of}
 use Rattle.rbc_allocation.specs.Sections.{IsHeldBy}
 use Rattle.rbc_border.specs.Lending.{with_book}
 use Rattle.rbc_place.specs.Places.{place_of}

@@ -9,7 +9,7 @@ pub struct SectionRun {
 }
 
 impl SectionRun {
-    ghost use Rattle.rbc_hand.specs.SectionRuns.{run_of};
+    ghost use Rattle.rbc_line.specs.SectionRuns.{run_of};
 
     /// Whether it has no section.
     pub fn is_empty(self) -> bool
