@@ -35,8 +35,8 @@ when_ok (Err why) P h e = absurd cc
 
 -- ## A print through a buffer
 
--- A buffer that held nothing was put in front of a writer. What was written through it stands in the writer once the buffer is empty
--- again: it is this writer, where its bytes are known.
+-- A buffer that held nothing was put in front of a writer. What was written through it stands in the writer once the
+-- buffer is empty again: it is this writer, where its bytes are known.
 abbrev pub Stands : ℕ → ℕ → Option (List ℕ) → Option (List ℕ) → List ℕ → Type 0
 Stands old new None after text = Unit {0}
 Stands old new (Some xs) None text = ⊥

@@ -1,8 +1,8 @@
--- What trains go by if any message to them may be lost, also an acceptance (41). A message that is still under way counts
--- as lost, and one that has come counts from the event that it follows. Two things are required of trains, and none of
--- the centres. A train grants only a request that has come to it. And no authority comes to a train whose last acceptance
--- was lost: within a session over GSM-R nothing is lost, and in a later session a train requests no authority before it
--- is accepted.
+-- What trains go by if any message to them may be lost, also an acceptance (41). A message that is still under way
+-- counts as lost, and one that has come counts from the event that it follows. Two things are required of trains, and
+-- none of the centres. A train grants only a request that has come to it. And no authority comes to a train whose last
+-- acceptance was lost: within a session over GSM-R nothing is lost, and in a later session a train requests no
+-- authority before it is accepted.
 use Rattle.std.specs.Prelude.{◌≡◌, ℕ, ◌==◌, Bool, true, false, ◌&&◌, ◌||◌, not, List, [], ◌∷◌, map, Option, Some, None, Ok}
 use Rattle.rbc_spec.specs.Maps.{put}
 use Rattle.rbc_spec.specs.Line.{Line, IsLine}

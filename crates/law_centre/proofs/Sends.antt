@@ -50,7 +50,8 @@ goes_before bound mid a (RouteReturn u q) less least far = let below = side_belo
 goes_before bound mid a b less least far = inl (omega (arith, less, least))
 
 module _ (bound d : ℕ) where
-  -- each has a key from low on and before high, and runs that go home begin at the bound or past it where others may stand before them
+  -- each has a key from low on and before high, and runs that go home begin at the bound or past it where others may
+  -- stand before them
   abbrev pub AreBetween : ℕ → ℕ → List Body → Type 0
   AreBetween low high [] = ⊤
   AreBetween low high (b ∷ bs) = (low ≤ key bound b) × (key bound b < high) × IsBeyond bound low b × AreBetween low high bs

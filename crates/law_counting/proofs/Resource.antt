@@ -251,7 +251,8 @@ placed_exact_took r n w a b f x frames counted small below takes exact full =
       );
     }
 
--- whatever frame comes, by its number: an act that is fair at the next one, and at any other, keeps a resource within its cap
+-- whatever frame comes, by its number: an act that is fair at the next one, and at any other, keeps a resource within
+-- its cap
 pub placed_sound_came : {X F : Type 0} (r : Resource X F) (n : ℕ) (w : Net X F) (a b number : ℕ) (f : F) (x : X)
     (frames : ℕ → List F) → IsCounted w → a < n → b < n → numbered (w.sent a b) number ≡ Some f
     → (number ≡ w.taken a b + 1 → IsFair r n b (w.at b) (r.inside a b f) x frames)

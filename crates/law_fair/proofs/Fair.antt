@@ -1,4 +1,5 @@
--- A fair schedule comes to rest: each delivery that is heard leaves less work on the way, and one comes while there is any.
+-- A fair schedule comes to rest: each delivery that is heard leaves less work on the way, and one comes while there is
+-- any.
 use Rattle.std.proofs.Common.{◌≡◌, ◌≢◌, ◌⊎◌, inl, inr, ℕ, zero, suc, ◌+◌, ◌-◌, ◌<◌, ◌≤◌, [], ◌∷◌, map, Result, Ok, Err, refl, sym, ap, ◌∙◌, subst, arith, ltb-true}
 use Rattle.law_counting.specs.Network.{TakesHead}
 use Rattle.rbc_spec.specs.Line.{Line, IsLine, is_linked}

@@ -1,4 +1,5 @@
--- Each small move but one that changes what is expected is orderly, and so are a train's message, a word of the interlocking, and their parts.
+-- Each small move but one that changes what is expected is orderly, and so are a train's message, a word of the
+-- interlocking, and their parts.
 use Rattle.std.proofs.Common.{◌≡◌, ◌≢◌, ℕ, ◌+◌, ◌-◌, ◌==◌, ◌&&◌, Bool, true, false, if◌then◌else◌, min, [], ◌∷◌, ◌++◌, All, Option, Some, None, option_map, refl, sym, ap, ◌∙◌, subst}
 use Rattle.std.specs.Option.{option_map_or}
 use Rattle.std.proofs.lemmas.Bool.{and_from, and_parts, eqb-true}

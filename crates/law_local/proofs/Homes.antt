@@ -1,5 +1,5 @@
--- The one centre of a line is the home of each section and the registrar of each train: where a centre has some section to
--- itself, it is the registrar of every train of the line.
+-- The one centre of a line is the home of each section and the registrar of each train: where a centre has some section
+-- to itself, it is the registrar of every train of the line.
 use Rattle.std.proofs.Common.{◌≡◌, ℕ, zero, suc, ◌==◌, ◌<◌, ◌&&◌, Bool, true, false, cond, Option, Some, None, option_map, is_none, nat_lt, refl, sym, ap, ◌∙◌, List, [], ◌∷◌, length, drop, not, slice_get, subst, arith, ltb-true, if◌then◌else◌}
 use Rattle.std.specs.Option.{option_map_or}
 use Rattle.std.specs.List.{All, find, zip, position_or_len}

@@ -1,4 +1,5 @@
--- A list that has each entry of each log once merges the logs as soon as it is in order: lists of one log that have the same entries are the same.
+-- A list that has each entry of each log once merges the logs as soon as it is in order: lists of one log that have the
+-- same entries are the same.
 use Rattle.std.proofs.Common.{◌≡◌, ◌⊎◌, ℕ, zero, suc, ◌<◌, ◌≤◌, ◌==◌, List, [], ◌∷◌, length, All, AllPairs, Contains, Bool, true, false, cond, filter, refl, sym, ap, subst, ◌∙◌, arith, inl, inr, ⊎_elim, IsPermutation}
 use Rattle.std.proofs.lemmas.Bool.{cases_Bool, cond-true, cond_both}
 use Rattle.std.proofs.lemmas.List.Elements.{All-nil, All-cons, All-contains, All-contains_itself, All-filter, filter_passes}

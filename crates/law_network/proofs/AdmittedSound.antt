@@ -1,4 +1,5 @@
--- A right that was asked for comes to a centre where a start of mission waits for it: the start becomes a mission, and all stays sound.
+-- A right that was asked for comes to a centre where a start of mission waits for it: the start becomes a mission, and
+-- all stays sound.
 use Rattle.std.proofs.Common.{◌≡◌, ◌≢◌, ◌⊎◌, ℕ, ◌+◌, ◌<◌, ◌≤◌, ◌==◌, Bool, true, false, [], Option, Some, None, refl, sym, ap, ◌∙◌, subst, inl, inr, arith, ⊎_elim, is_some, eq-eqb}
 use Rattle.std.proofs.lemmas.Bool.{cases_eq, cond-true, ne_eqb, ltb-true}
 use Rattle.std.proofs.lemmas.List.Elements.{All-nil}

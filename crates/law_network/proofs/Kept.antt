@@ -1,4 +1,5 @@
--- What an act of a centre keeps: all of it, where it is fair, leaves what is sound, and keeps what pairs of centres know of handovers.
+-- What an act of a centre keeps: all of it, where it is fair, leaves what is sound, and keeps what pairs of centres
+-- know of handovers.
 use Rattle.std.proofs.Common.{◌≡◌, ◌≢◌, ◌⊎◌, ℕ, ◌+◌, ◌<◌, ◌==◌, ◌&&◌, not, Bool, true, false, List, [], ◌∷◌, ◌++◌, Option, Some, None, option_map, is_some, refl, sym, ap, ◌∙◌, subst, subst₂, inl, inr, arith, ⊎_elim, All}
 use Rattle.std.proofs.lemmas.Bool.{cases_eq, ltb-true}
 use Rattle.std.proofs.lemmas.List.Elements.{All-nil, All-head, All-tail, All-weaker}

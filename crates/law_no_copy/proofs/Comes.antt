@@ -39,7 +39,8 @@ module _ (line : Line) (c : ℕ) (y : Tally) (is : IsTally line c y) where
   pub plain : (d : ℕ) (body : Body) (k : Centre) (q : Reply) → is_plain body ≡ true → Makes line c y is k q → Comes d body k q
   plain d body k q so = lost d body k q (λ exact here. is.plain d c body so)
 
-  -- where what is lost is counted: the frame is from another centre of the line, and what it has inside of the train has its place here
+  -- where what is lost is counted: the frame is from another centre of the line, and what it has inside of the train
+  -- has its place here
   abbrev pub IsFrom : ℕ → Type 0
   IsFrom d = y.exact ≡ true → (d < centre_count line) × (c ≢ d)
 

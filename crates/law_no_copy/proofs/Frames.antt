@@ -46,7 +46,8 @@ module _ (line : Line) (c : ℕ) (y : Tally) (is : IsTally line c y) where
       by_tests other true false out = omega arith
       by_tests other true true out = is.other t (k.book y.section) (Taken t) other (used_out t (k.book y.section) out)
 
-  -- where what is lost line c y is is counted, no mission is here, and each own section of the hand is out for the train at the sender
+  -- where what is lost line c y is is counted, no mission is here, and each own section of the hand is out for the
+  -- train at the sender
   abbrev CanTake : ℕ → ℕ → SectionRun → Centre → Type 0
   CanTake d t hand k = y.exact ≡ true → (k.mission t ≡ None) × (within hand y.section ≡ true → is_home line c y.section ≡ true → is_out_for t (k.book y.section) ≡ true)
 

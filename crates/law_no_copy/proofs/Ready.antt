@@ -1,4 +1,5 @@
--- What a yield wants of its centre, so that sections are counted outside their home: and which acts before it keep that.
+-- What a yield wants of its centre, so that sections are counted outside their home: and which acts before it keep
+-- that.
 use Rattle.std.proofs.Common.{◌≡◌, ◌≢◌, ◌⊎◌, inl, inr, ℕ, ◌<◌, ◌&&◌, Bool, true, false, if◌then◌else◌, Option, Some, None, option_map, refl, sym, ap, ◌∙◌, subst, ⊎_elim}
 use Rattle.std.proofs.lemmas.Bool.{cases_eq, eqb-true}
 use Rattle.law_counting.proofs.Sums.{put_same, put_other}
@@ -25,8 +26,8 @@ taken_once u t (Taken v) one two = sym (eqb-true v u one) ∙ eqb-true v t two
 taken_once u t (Out v) one two = cc
 
 module _ (line : Line) (c : ℕ) (y : Tally) where
-  -- where what is lost is counted: each section of the train's mission is on its track, its right is with it, and has a registrar to go back
-  -- to, and its handover is to a centre of the line
+  -- where what is lost is counted: each section of the train's mission is on its track, its right is with it, and has a
+  -- registrar to go back to, and its handover is to a centre of the line
   pub record Stands (k : Centre) (m : Mission) : Type 0 where
     pub hand_on : within m.hand y.section ≡ true → is_on line m.place.track y.section ≡ true
     pub pool_on : within m.pool y.section ≡ true → is_on line m.place.track y.section ≡ true

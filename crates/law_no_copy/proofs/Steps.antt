@@ -48,7 +48,8 @@ module _ (line : Line) (c : ℕ) (y : Tally) (is : IsTally line c y) where
   message_fair m k follows ready None = fair_both line c y (hear m) (answered line c m m.body) k (fair_plain line c y k (hear m k) refl refl refl)
       (fair_answered line c y is m m.body (hear m k).state follows (ready_again line c y k (hear m k).state refl refl refl ready))
 
-  -- where what is lost is counted, a frame that is the next of its link is from another centre of the line, and is looked for
+  -- where what is lost is counted, a frame that is the next of its link is from another centre of the line, and is
+  -- looked for
   abbrev pub IsDueBy : ℕ → Frame → Centre → outcome.Taken → Type 0
   IsDueBy d f k answer = y.exact ≡ true → answer ≡ Next → ((d < centre_count line) × (c ≢ d)) × (is_looked_for line c d k f.body ≡ true)
 

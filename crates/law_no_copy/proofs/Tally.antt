@@ -1,4 +1,5 @@
--- How a centre's share of what is counted comes from one train's right, start and mission, and from the entry of one section.
+-- How a centre's share of what is counted comes from one train's right, start and mission, and from the entry of one
+-- section.
 use Rattle.std.proofs.Common.{◌≡◌, ◌≢◌, ℕ, ◌+◌, ◌<◌, ◌≤◌, ◌==◌, ◌&&◌, Bool, true, false, if◌then◌else◌, List, [], ◌∷◌, Option, Some, None, option_map, refl, sym, ap, ◌∙◌, arith, ⊎_elim}
 use Rattle.std.specs.Option.{option_map_or}
 use Rattle.std.proofs.lemmas.Bool.{cases_eq, cases_lt}
@@ -136,7 +137,8 @@ module _ (line : Line) (c : ℕ) (y : Tally) where
   abbrev pub out : (ℕ → List Body) → ℕ
   out frames = sent_by y.res (centre_count line) c frames
 
-  -- what the act leaves and sends is no more than there was and this gain, and by this loss less; nor is it less, where what is lost is counted
+  -- what the act leaves and sends is no more than there was and this gain, and by this loss less; nor is it less, where
+  -- what is lost is counted
   pub record Fair (k : Centre) (gain lost : ℕ) (q : Reply) : Type 0 where
     pub law : (held q.state + out q.frames) + (y.entry (k.book y.section) + lost) ≤ (held k + gain) + y.entry (q.state.book y.section)
     pub back : y.exact ≡ true → (held k + gain) + y.entry (q.state.book y.section) ≤ (held q.state + out q.frames) + (y.entry (k.book y.section) + lost)

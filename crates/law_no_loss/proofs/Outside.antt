@@ -1,4 +1,5 @@
--- Tokens of a section are counted where they are not at home: in a hand, a pool or a frame; the section's home has it out for the train.
+-- Tokens of a section are counted where they are not at home: in a hand, a pool or a frame; the section's home has it
+-- out for the train.
 use Rattle.std.proofs.Common.{◌≡◌, ℕ, ◌+◌, ◌≤◌, ◌==◌, ◌&&◌, ◌||◌, not, if◌then◌else◌, Bool, true, false, [], ◌∷◌, Option, Some, None, refl, sym, ap, ◌∙◌, subst, arith, eqb-true, ltb-true}
 use Rattle.std.proofs.lemmas.Bool.{and_from}
 use Rattle.law_counting.specs.Sums.{one_if}

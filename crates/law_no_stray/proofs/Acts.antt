@@ -28,7 +28,8 @@ abbrev pub LendsNoMore : Centre → Centre → Type 0
 LendsNoMore k y = (s t : ℕ) → is_out_for t (y.book s) ≡ true → is_out_for t (k.book s) ≡ true
 
 module _ (line : Line) (c : ℕ) where
-  -- an act of centre c, which was k, leaves it as y and sends these frames: what comes and what then stands anew is asked or answered by them
+  -- an act of centre c, which was k, leaves it as y and sends these frames: what comes and what then stands anew is
+  -- asked or answered by them
   pub record IsAnswering (came : Question → ℕ → ℕ) (k y : Centre) (frames : ℕ → List Body) : Type 0 where
     pub law : (x : Question) (d : ℕ) → came x d + (questions x d).cap c y ≤ sent_by (questions x d) (centre_count line) c frames + (questions x d).cap c k
     pub bodies : (d : ℕ) → All (IsBodyKnown line c d) (frames d)

@@ -1,4 +1,5 @@
--- Each small move loses no question, and each answer takes up the question or the answer that came, where the frame is due.
+-- Each small move loses no question, and each answer takes up the question or the answer that came, where the frame is
+-- due.
 use Rattle.std.proofs.Common.{◌≡◌, ◌≢◌, ℕ, ◌+◌, ◌-◌, ◌<◌, ◌≤◌, ◌==◌, ◌&&◌, not, Bool, true, false, if◌then◌else◌, min, [], ◌∷◌, ◌++◌, All, Option, Some, None, is_some, is_none, refl, sym, ap, ◌∙◌, subst, arith, ⊎_elim, ltb-true}
 use Rattle.std.specs.Option.{option_map_or}
 use Rattle.std.proofs.lemmas.Bool.{cases_eq, and_from, and_parts, eqb-true}

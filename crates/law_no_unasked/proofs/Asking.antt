@@ -83,7 +83,8 @@ pub of_line : (line : Line) (may : May) (t : ℕ) → may.train ≡ Some t → i
 of_line line may t its known u is = subst (λ v. is_train line v ≡ true) (same_Some t u (sym its ∙ is)) known
 
 module _ (line : Line) (c : ℕ) where
-  -- an act of centre c, which was k, leaves it as y and sends these frames: no more questions and answers are sent than then stand anew, or came
+  -- an act of centre c, which was k, leaves it as y and sends these frames: no more questions and answers are sent than
+  -- then stand anew, or came
   pub record IsAsking (came : Question → ℕ → ℕ) (k y : Centre) (frames : ℕ → List Body) : Type 0 where
     pub fair : (x : Question) (d : ℕ) → IsFair (questions x d) (centre_count line) c k (came x d) y frames
     pub bodies : (d : ℕ) → All (IsBodyAsked line c d) (frames d)

@@ -50,7 +50,8 @@ put_apart f t x u other = put_other f t x u (λ is. let wrong : true ≡ false =
 abbrev pub named : ℕ → Option ℕ → Bool
 named n o = has (λ q. q == n) o
 
--- a question for sections that is put in place of another, or taken away: any other stands as before, where the other did not stand or is this
+-- a question for sections that is put in place of another, or taken away: any other stands as before, where the other
+-- did not stand or is this
 pub other_named : (first : ℕ) (asked : ℕ → Option ℕ) (t : ℕ) (new : Option ℕ) (u n : ℕ) → ((first == n) ≡ false → named n new ≡ named n (asked t)) → ((t == u) && (first == n)) ≡ false
     → named n (put asked t new u) ≡ named n (asked u)
 other_named first asked t new u n same other = ⊎_elim

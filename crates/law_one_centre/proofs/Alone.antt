@@ -1,5 +1,5 @@
--- On a one-centre line nothing follows the own part of a message, since no centre follows on the track. So each message is answered by the own step alone,
--- and a start of mission is accepted wherever it may be.
+-- On a one-centre line nothing follows the own part of a message, since no centre follows on the track. So each message
+-- is answered by the own step alone, and a start of mission is accepted wherever it may be.
 use Rattle.std.proofs.Common.{◌≡◌, ◌&&◌, ℕ, List, [], ◌∷◌, Bool, true, false, Option, Some, None, is_none, refl, sym, ap, ◌∙◌, subst, inl, inr}
 use Rattle.std.specs.Option.{option_map_or}
 use Rattle.std.specs.Bool.{MatchBool}

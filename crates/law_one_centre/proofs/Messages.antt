@@ -1,4 +1,5 @@
--- A message at a centre of a one-centre line leaves no choice: it is silent for its reason, or the own step alone answers it.
+-- A message at a centre of a one-centre line leaves no choice: it is silent for its reason, or the own step alone
+-- answers it.
 use Rattle.std.proofs.Common.{◌≡◌, ℕ, true, List, [], Option, Some, None, Ok, refl, sym, ◌∙◌, inl, append-nil, ⊎_elim}
 use Rattle.std.specs.Option.{option_map_or}
 use Rattle.rbc_spec.specs.Line.{Line, IsLine, is_centre}

@@ -1,4 +1,5 @@
--- Where no centre expects a train, none is listened to elsewhere: a message is heard by the one line centre exactly where it is heard at its centre.
+-- Where no centre expects a train, none is listened to elsewhere: a message is heard by the one line centre exactly
+-- where it is heard at its centre.
 use Rattle.std.proofs.Common.{◌≡◌, ℕ, ◌&&◌, not, Bool, true, false, Option, Some, None, is_none, is_some, length, refl, sym, ap, ◌∙◌, ⊎_elim}
 use Rattle.law_base.proofs.Lists.{any-range_none}
 use Rattle.rbc_spec.specs.Line.{Line}

@@ -1,4 +1,5 @@
--- What the three messages come to that end a handover: the session is begun, and the train reports that it has cleared its hand.
+-- What the three messages come to that end a handover: the session is begun, and the train reports that it has cleared
+-- its hand.
 use Rattle.std.proofs.Common.{◌≡◌, ℕ, ◌+◌, ◌&&◌, not, Bool, true, false, if◌then◌else◌, is_none, is_some, nat_le, ◌++◌, option_map, Option, Some, None, Ok, Err, List, refl, sym, ap, ◌∙◌, subst, arith, ⊎_elim, leb-true, eq-eqb}
 use Rattle.std.specs.Option.{option_map_or}
 use Rattle.std.proofs.lemmas.Bool.{cases_Bool}

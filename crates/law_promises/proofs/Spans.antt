@@ -18,7 +18,8 @@ pub record Ends (line : Line) (x : Stretch) : Type 0 where
   pub on : is_on line x.track last ≡ true
   pub is : x.end ≡ end line last
 
--- the train may run over sections of its hand alone, which is a run on the track, and no section between its rear and its hand is of another
+-- the train may run over sections of its hand alone, which is a run on the track, and no section between its rear and
+-- its hand is of another
 pub record Spans (line : Line) (g : ℕ → Bool) (x : Stretch) : Type 0 where
   pub ends : Ends line x
   pub over : (s : ℕ) → is_in line s x ≡ true → g s ≡ true

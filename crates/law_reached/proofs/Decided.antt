@@ -1,4 +1,5 @@
--- What is sound by one of two reasons is so by the test that tells, and the other way round; of the test there is one proof at most.
+-- What is sound by one of two reasons is so by the test that tells, and the other way round; of the test there is one
+-- proof at most.
 use Rattle.std.proofs.Common.{◌≡◌, ◌⊎◌, inl, inr, ℕ, zero, suc, true, false, Some, is_some, refl, sym, ap, ◌∙◌, subst, arith, ⊎_elim, ℤ, pos, negsuc}
 use Rattle.std.proofs.Props.{props}
 use Rattle.std.proofs.lemmas.Option.{same_Some}

@@ -1,4 +1,5 @@
--- What follows an extension at the border: the train is told where it is, by a quiet step, and more sections are asked for, which is not seen.
+-- What follows an extension at the border: the train is told where it is, by a quiet step, and more sections are asked
+-- for, which is not seen.
 use Rattle.std.proofs.Common.{◌≡◌, ◌≢◌, ℕ, ◌+◌, ◌-◌, ◌<◌, ◌==◌, ◌&&◌, not, nat_lt, min, Bool, true, false, if◌then◌else◌, [], ◌∷◌, ◌++◌, Option, Some, None, is_none, refl, sym, ap, ◌∙◌, subst, arith}
 use Rattle.std.specs.Option.{option_map_or}
 use Rattle.std.proofs.lemmas.Bool.{and_parts, and_from, eqb-false}

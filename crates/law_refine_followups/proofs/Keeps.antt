@@ -1,4 +1,5 @@
--- What an act of a centre keeps: all of it, where it makes nothing of what is counted, leaves what is sound, and is orderly.
+-- What an act of a centre keeps: all of it, where it makes nothing of what is counted, leaves what is sound, and is
+-- orderly.
 use Rattle.law_network.specs.Pairs.{before}
 use Rattle.std.proofs.Common.{◌≡◌, ℕ, true, arith, ◌≤◌}
 use Rattle.law_counting.specs.Network.{took, TakesHead}

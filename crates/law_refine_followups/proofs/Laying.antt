@@ -1,4 +1,5 @@
--- The quiet steps that a yield comes to: the supervision is laid down, and the train is told to end its session where no own section is left.
+-- The quiet steps that a yield comes to: the supervision is laid down, and the train is told to end its session where
+-- no own section is left.
 use Rattle.law_network.specs.Pairs.{before}
 use Rattle.law_handover.specs.Orderly.{allowed_by}
 use Rattle.rbc_spec.specs.Links.{taking_over}

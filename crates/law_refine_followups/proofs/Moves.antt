@@ -123,7 +123,8 @@ module _ (line : Line) (w : Flow) (sound : IsFlowSound line w) (v : LineState) (
 
   -- ## A mission that is seen otherwise
 
-  -- an act changes the train's mission m to n, which has the same hand, and what is said; no hand and no mission is sent
+  -- an act changes the train's mission m to n, which has the same hand, and what is said; no hand and no mission is
+  -- sent
   module _ (t : ℕ) (m n : Mission) (y : Centre) (frames : ℕ → List Body) (no_mission : (u : ℕ) → SendsNone (missions u) c frames) (no_hand : (u s : ℕ) → SendsNone (hands u s) c frames)
       (at : (w.at c).mission t ≡ Some m) (hand : n.hand ≡ m.hand) (phase : y.phase ≡ (w.at c).phase) (heard : y.heard ≡ (w.at c).heard)
       (count : ℕ → ℕ → ℕ) (said : PartAfter c v.said y.said count) (wait : y.wait ≡ (w.at c).wait) (wish : y.wish ≡ (w.at c).wish) (book : y.book ≡ (w.at c).book)

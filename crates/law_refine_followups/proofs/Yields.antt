@@ -1,4 +1,5 @@
--- A handover that is claimed is yielded: the supervision is laid down by a quiet step, and the train may be told to end its session.
+-- A handover that is claimed is yielded: the supervision is laid down by a quiet step, and the train may be told to end
+-- its session.
 use Rattle.std.proofs.Common.{◌≡◌, ◌≢◌, ℕ, ◌<◌, ◌==◌, ◌&&◌, Bool, true, false, if◌then◌else◌, List, [], ◌∷◌, ◌++◌, Option, Some, None, option_map, refl, sym, ap, ◌∙◌, subst, arith, ltb-true, eq-eqb, ⊎_elim}
 use Rattle.std.specs.Option.{option_map_or}
 use Rattle.std.proofs.lemmas.Bool.{cases_eq, and_parts, ne_eqb}
@@ -37,7 +38,8 @@ use Rattle.law_abstraction.proofs.Shows.{part_stays, shows_after}
 
 -- ## What is shown of it
 
--- centre c, which had mission m of the train, sends it to centre d in a Yield with this number, beside the sections of its pool that go home
+-- centre c, which had mission m of the train, sends it to centre d in a Yield with this number, beside the sections of
+-- its pool that go home
 module _ (line : Line) (w : Flow) (sound : IsFlowSound line w) (v : LineState) (sees : Shows line w v) (c : ℕ) (to : is_centre line c ≡ true) (t d number : ℕ) (there : is_centre line d ≡ true)
     (m : Mission) (at : (w.at c).mission t ≡ Some m) where
   -- the last stamp heard

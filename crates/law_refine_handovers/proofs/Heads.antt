@@ -31,7 +31,8 @@ use Rattle.law_handover.proofs.Frames.{Fits, goes_received}
 use Rattle.law_refine_followups.proofs.Keeps.{head_keeps}
 use Rattle.law_refine_followups.proofs.Unseen.{unseen_still}
 
--- the centre as the frame from a finds it: the frame is counted, and the clock shows the stamp of the step; and with these sessions
+-- the centre as the frame from a finds it: the frame is counted, and the clock shows the stamp of the step; and with
+-- these sessions
 abbrev pub met : Flow → ℕ → ℕ → (ℕ → Phase) → ℕ → ℕ → Centre
 met w a c phase number stamp = record (w.at c) { phase = phase; clock = stamp; taken = put (w.at c).taken a number }
 

@@ -1,4 +1,5 @@
--- A mission is taken up: its hand and its place come to the centre, own sections become claims, and the later stamp is kept.
+-- A mission is taken up: its hand and its place come to the centre, own sections become claims, and the later stamp is
+-- kept.
 use Rattle.std.proofs.Common.{◌≡◌, ◌≢◌, ℕ, ◌+◌, ◌==◌, ◌&&◌, Bool, true, false, if◌then◌else◌, [], Option, Some, None, option_map, max, refl, sym, ap, ◌∙◌, subst, arith, ⊎_elim, ◌⊎◌}
 use Rattle.std.specs.Prelude.{Contains}
 use Rattle.std.specs.Option.{option_map_or}

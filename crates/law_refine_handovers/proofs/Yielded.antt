@@ -1,4 +1,5 @@
--- A Yield that comes is taken: the one line centre takes the mission up, and may then ask the train to shorten its authority.
+-- A Yield that comes is taken: the one line centre takes the mission up, and may then ask the train to shorten its
+-- authority.
 use Rattle.std.proofs.Common.{◌≡◌, ℕ, ◌*◌, ◌≤◌, ◌==◌, ◌&&◌, not, nat_le, max, Bool, true, if◌then◌else◌, [], ◌∷◌, Option, Some, None, is_some, is_none, refl, sym, ap, ◌∙◌, subst, arith}
 use Rattle.std.specs.Option.{option_map_or}
 use Rattle.std.specs.List.{find, range_with_len}

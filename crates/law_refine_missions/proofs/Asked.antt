@@ -1,5 +1,5 @@
--- Each message that changes a mission is heard, and then its own part is the own step of the one line centre; and what it comes to is that
--- part and what follows.
+-- Each message that changes a mission is heard, and then its own part is the own step of the one line centre; and what
+-- it comes to is that part and what follows.
 use Rattle.std.proofs.Common.{subst, ◌≡◌, ℕ, ◌-◌, ◌*◌, ◌==◌, ◌&&◌, not, nat_le, true, false, Option, Some, None, refl, sym, ap, ◌∙◌, append_assoc, slice_get}
 use Rattle.std.specs.Option.{option_map_or}
 use Rattle.std.proofs.lemmas.Bool.{and_parts, not-false}

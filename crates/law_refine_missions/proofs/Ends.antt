@@ -1,5 +1,5 @@
--- An end of mission: a report, then what lies ahead of a train at standstill is cut off its hand, and then the pool goes home and the mission is
--- ended.
+-- An end of mission: a report, then what lies ahead of a train at standstill is cut off its hand, and then the pool
+-- goes home and the mission is ended.
 use Rattle.std.proofs.Common.{◌≡◌, ℕ, true, ◌++◌, Option, Some, None, option_map, refl, sym, ap, ◌∙◌, subst, Bool, false, [], ◌==◌, if◌then◌else◌}
 use Rattle.std.specs.Option.{option_map_or}
 use Rattle.std.proofs.lemmas.List.{append-nil}

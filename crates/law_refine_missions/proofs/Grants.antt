@@ -1,4 +1,5 @@
--- A request that is granted: the hand is extended as far as it may go, by open sections of this centre and by those of the pool.
+-- A request that is granted: the hand is extended as far as it may go, by open sections of this centre and by those of
+-- the pool.
 use Rattle.std.proofs.Common.{◌≡◌, ◌≢◌, ◌⊎◌, ℕ, zero, suc, ◌+◌, ◌-◌, ◌<◌, ◌≤◌, ◌==◌, ◌&&◌, ◌||◌, not, if◌then◌else◌, Bool, true, false, [], ◌∷◌, Option, Some, refl, sym, ap, ◌∙◌, subst, inl, inr, arith, ⊎_elim, leb-true, ltb-true, length}
 use Rattle.std.specs.Option.{option_map_or}
 use Rattle.std.proofs.lemmas.Bool.{and_from, or_cases, cases_eq, cases_lt}

@@ -1,4 +1,5 @@
--- A position report, of a train that is supervised here or not: what the centre does is the own step of the one line centre.
+-- A position report, of a train that is supervised here or not: what the centre does is the own step of the one line
+-- centre.
 use Rattle.std.proofs.Common.{◌≡◌, ℕ, zero, suc, ◌<◌, ◌==◌, ◌&&◌, not, if◌then◌else◌, Bool, true, false, [], ◌∷◌, Option, Some, None, option_map, is_some, refl, sym, ap, ◌∙◌, subst, arith, eqb-true}
 use Rattle.std.specs.Prelude.{MatchBool, Contains}
 use Rattle.std.specs.Option.{option_map_or}

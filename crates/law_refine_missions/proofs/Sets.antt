@@ -16,7 +16,8 @@ use Rattle.law_network.specs.Counts.{hands, missions}
 use Rattle.law_abstraction.specs.Acts.{SendsNone}
 use Rattle.law_abstraction.proofs.Frames.{sends_both, sends_home}
 
--- from j the reply leaves the train with this mission; all else that is shown is as it was, nothing is said, and no frame carries a hand or a mission
+-- from j the reply leaves the train with this mission; all else that is shown is as it was, nothing is said, and no
+-- frame carries a hand or a mission
 pub record Sets (c t : ℕ) (o : Option Mission) (j : Centre) (q : Reply) : Type 0 where
   pub phase : q.state.phase ≡ j.phase
   pub heard : q.state.heard ≡ j.heard

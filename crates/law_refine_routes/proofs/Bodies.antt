@@ -1,4 +1,5 @@
--- The next frame of a link is taken: what it comes to keeps all sound, and a body that changes nothing of what is shown leads to no quiet step.
+-- The next frame of a link is taken: what it comes to keeps all sound, and a body that changes nothing of what is shown
+-- leads to no quiet step.
 use Rattle.std.proofs.Common.{◌≡◌, ℕ, Bool, true, false, if◌then◌else◌, List, [], Option, Some, None, option_map, refl, sym, ap, ◌∙◌, subst, arith}
 use Rattle.std.specs.Option.{option_map_or}
 use Rattle.law_counting.specs.Network.{took, TakesHead}

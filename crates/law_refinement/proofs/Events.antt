@@ -26,7 +26,8 @@ use Rattle.law_refinement.proofs.Pieces.{message_met, set_met, unset_met, frame_
 use Rattle.law_base.proofs.Worlds.{same_ok}
 
 module _ (line : Line) (w : World) (v : LineState) (meets : Meets line w v) (G : Event → Answer → LineState → Type 0) where
-  -- what holds of an answer holds where nothing is done: of bytes that spell no message, at a centre that is not of the line, of a frame never sent
+  -- what holds of an answer holds where nothing is done: of bytes that spell no message, at a centre that is not of the
+  -- line, of a frame never sent
   pub record StandsStill : Type 0 where
     pub fault : (c number : ℕ) → is_centre line c ≡ true → G (Bytes c (Err number)) (Fault number) v
     pub bytes_nowhere : (c : ℕ) (read : Result TrainMessage ℕ) → is_centre line c ≡ false → G (Bytes c read) NoCentre v

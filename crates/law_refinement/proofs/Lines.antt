@@ -27,7 +27,8 @@ pub stands_read : (line : Line) (w : World) (v : LineState) → Meets line w v �
 stands_read line w v meets = subst (StandsFor line w) (is_read line w v meets) (stands line w meets.sound.flow v meets.shows)
 
 module _ (line : Line) (ok : IsLine line) where
-  -- from what shows a world the one line centre meets events with the same answers, and then shows the world that they leave
+  -- from what shows a world the one line centre meets events with the same answers, and then shows the world that they
+  -- leave
   pub run_goes : (events : List Event) (w : World) (v : LineState) → Meets line w v → IsAnnounced line w → (answers : List Answer) (last : World) → world_run line w events ≡ Ok (answers, last)
       → (u : LineState) × Run line v events answers u × Meets line last u × IsAnnounced line last
   unfolding world_run

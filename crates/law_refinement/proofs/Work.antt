@@ -1,4 +1,5 @@
--- What a message, a set or an unset, and a frame lead to for the one line centre, where a centre of the line acts in a sound flow.
+-- What a message, a set or an unset, and a frame lead to for the one line centre, where a centre of the line acts in a
+-- sound flow.
 use Rattle.std.proofs.Common.{◌≡◌, ℕ, true, None}
 use Rattle.law_counting.specs.Network.{took, TakesHead}
 use Rattle.rbc_spec.specs.Line.{Line, is_centre, is_linked}

@@ -1,5 +1,5 @@
--- What an own step of the one line centre frees: only what a report clears, a granted shortening cuts off, or lies ahead of a train that ends
--- its mission at standstill.
+-- What an own step of the one line centre frees: only what a report clears, a granted shortening cuts off, or lies
+-- ahead of a train that ends its mission at standstill.
 use Rattle.std.proofs.Common.{◌≡◌, ◌⊎◌, ℕ, ◌*◌, ◌<◌, ◌==◌, arith, ◌&&◌, not, nat_le, nat_lt, Bool, true, false, Option, Some, None, refl, sym, ap, ◌∙◌, inl, inr, if◌then◌else◌, eqb-true, subst}
 use Rattle.std.specs.Bool.{MatchBool}
 use Rattle.std.proofs.lemmas.Bool.{and_parts, or_cases, not-true}
@@ -16,8 +16,8 @@ use Rattle.law_base.proofs.Lists.{any-range_some}
 use Rattle.law_base.proofs.Runs.{each_within}
 use Rattle.law_runs.proofs.Waits.{IsWaited, WaitsKeep, Leaves, IsLoose, opened, kept_for, if_not, PutAt, there, elsewhere, put_at, wait_on, waiting_at, loose_leaves, plain_leaves, end_leaves, not_waiting_kept}
 
--- why a section stops being given to train u by a message of train t: its report or end clears it, or its granted shortening cuts it off, or
--- it ends at standstill, where it has reached its hand, and the section lies ahead
+-- why a section stops being given to train u by a message of train t: its report or end clears it, or its granted
+-- shortening cuts it off, or it ends at standstill, where it has reached its hand, and the section lies ahead
 pub data Frees (line : Line) (v : LineState) (t u s : ℕ) : TrainBody → Type 0 where
   by_report : (position : Position) (place : Place) → t ≡ u → place_on line (track_of v t) position ≡ Some place → is_cleared line place s ≡ true → Frees line v t u s (Report position)
   by_end : (position : Position) (place : Place) → t ≡ u → place_on line (track_of v t) position ≡ Some place → is_cleared line place s ≡ true → Frees line v t u s (EndOfMission position)

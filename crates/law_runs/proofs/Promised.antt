@@ -286,7 +286,8 @@ shut_at line new v ends s c home is = by_mark (holder line new s) ((new.at c).bo
     by_mark None (centre.Taken t) shut = cc
     by_mark None (centre.Out t) shut = cc
 
--- each event of worlds that states stand for keeps its promises, where starts that wait keep their sections and the reasons of silence agree
+-- each event of worlds that states stand for keeps its promises, where starts that wait keep their sections and the
+-- reasons of silence agree
 pub keeps_promises : (line : Line) (w new : World) (event : Event) (answer : Answer) → WaitsKeep line (read_off line w)
     → ((c : ℕ) (m : TrainMessage) → run.silence line (read_off line w) c m ≡ None → step.silence line c (w.at c) m ≡ None)
     → StandsFor line w (read_off line w) → StandsFor line new (read_off line new) → Goes line (read_off line w) event answer (read_off line new) → KeepsPromises line w event answer new

@@ -98,7 +98,8 @@ pub data Idle (line : Line) (c d : ℕ) (was : Centre) : Body → Type 0 where
   no_section : (t first most : ℕ) → is_some (section line first) ≡ false → Idle line c d was (RouteAsk t first most)
   no_place : (t : ℕ) (r : SectionRun) → has_place_for_route line d r (was.route_ask t) ≡ false → Idle line c d was (RouteInfo t r)
 
--- what a frame comes to: of no train of the line, or an answer that comes of none, nothing; else an answer and a walk, or a walk alone
+-- what a frame comes to: of no train of the line, or an answer that comes of none, nothing; else an answer and a walk,
+-- or a walk alone
 pub data Taking (line : Line) (c d : ℕ) (was : Centre) (body : Body) : Reply → Type 0 where
   foreign : is_train line (train_of body) ≡ false → Taking line c d was body (rest was)
   idle : Idle line c d was body → Taking line c d was body (rest was)

@@ -14,15 +14,16 @@ use Rattle.rbc_spec.specs.Rules.{tell, set_phase, take_over, extension, extended
 use Rattle.rbc_spec.specs.Links.{expect, may_take, answered_ask, is_of_line, is_wanted, lendable}
 use Rattle.rbc_spec.specs.Step.{withdraw, make}
 
--- what a walk is of: a word of the interlocking, a train's message, a frame of centre d, or no event, where a part of a rule is walked by itself
+-- what a walk is of: a word of the interlocking, a train's message, a frame of centre d, or no event, where a part of a
+-- rule is walked by itself
 pub data Cause : Type 0 where
   Alone : Cause
   Wish : Cause
   Message : (m : TrainMessage) → Cause
   Came : (d : ℕ) (body : Body) → Cause
 
--- what an event may do: announce a handover, tell the interlocking something, and change what is expected from another centre; the train that it is
--- of, where it is of one, the handover that it may yield, and what it brings
+-- what an event may do: announce a handover, tell the interlocking something, and change what is expected from another
+-- centre; the train that it is of, where it is of one, the handover that it may yield, and what it brings
 pub record May : Type 0 where
   pub announces : Bool
   pub speaks : Bool
@@ -111,9 +112,9 @@ pub data Change (line : Line) (may : May) (was : Centre) (t : ℕ) (k : Centre) 
   restarts : (m : Mission) (place : Place) (is_valid : Bool) (position : Position) → k.mission t ≡ Some m → was.mission t ≡ Some m → Reports may.cause position → fit_place line is_valid position ≡ Some place
       → all_of (within m.hand) (covered line place) ≡ true → Change line may was t k (λ n. record n { place = place; has_data = false; is_ended = false; proposal = None })
 
--- why a body may go to centre d by itself. Questions and what is said of a handover go with what is kept of them (`asks_right`, `asks_route`, `announces`,
--- `recalls`, `closes_handed`, `yields`), answers are acts of their own (`Answer`), and three bodies go to many centres at once (`returns`, `withdraws`,
--- `takes_over`)
+-- why a body may go to centre d by itself. Questions and what is said of a handover go with what is kept of them
+-- (`asks_right`, `asks_route`, `announces`, `recalls`, `closes_handed`, `yields`), answers are acts of their own
+-- (`Answer`), and three bodies go to many centres at once (`returns`, `withdraws`, `takes_over`)
 pub data MaySend (line : Line) (c : ℕ) (may : May) (d : ℕ) : Body → Type 0 where
   goes_back : (t : ℕ) → may.train ≡ Some t → is_registrar_of line c t ≡ false → registrar line t ≡ Some d → MaySend line c may d (ReturnRight t)
   goes_home : (t : ℕ) (r : SectionRun) → may.train ≡ Some t → is_empty r ≡ false → all_of (is_home line d) r ≡ true → may.cause ≡ Came d (RouteInfo t r) → MaySend line c may d (RouteReturn t r)

@@ -27,8 +27,8 @@ split_at i s [] = []
 split_at zero s (r ∷ rs) = if is_inside s r then before s r ∷ from s r ∷ rs else r ∷ rs
 split_at (suc i) s (r ∷ rs) = r ∷ split_at i s rs
 
--- so many sections from one on are a run of their own, at this place; nothing else is said of the sections, and only that run could go on with the one before
--- or the next with it
+-- so many sections from one on are a run of their own, at this place; nothing else is said of the sections, and only
+-- that run could go on with the one before or the next with it
 pub record IsSingledOut (s size : ℕ) (old new : List Run) (place : ℕ) : Type 0 where
   pub spots : (k : ℕ) → spot_at new k ≡ spot_at old k
   pub alone : At (IsWhole s size) place new

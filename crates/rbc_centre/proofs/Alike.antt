@@ -19,7 +19,8 @@ map_apart f apart (x ∷ xs) (y ∷ ys) e =
     let first = apart x y head in
     let rest = map_apart f apart xs ys tail in cc
 
--- the elements' `==` decides whether they are one, and a view keeps them apart: then `==` of the lists decides whether they look alike
+-- the elements' `==` decides whether they are one, and a view keeps them apart: then `==` of the lists decides whether
+-- they look alike
 pub alike : {A B : Type 0} (f : A → B) (E : A → A → Bool) → ((a b : A) → Decides (E a b) (a ≡ b)) → ((a b : A) → f a ≡ f b → a ≡ b)
     → (xs ys : List A) (r : Bool) → r ≡ pointwise E xs ys → Decides r (map f xs ≡ map f ys)
 alike f E decides apart xs ys r h =

@@ -105,7 +105,8 @@ module _ (k : CentreCode) (t i : ℕ) (old : TrainState) (number : train_number 
           ≡ mail_to k.line k.number old.supervision.engine (expected_from new.expectations) mail e
       mail_left mail e = λ j. mail_to k.line k.number old.supervision.engine (λ d. expects_left d j) mail e
 
--- what a step sends to each centre, on links that are no different, may be posted: there is room for it, or there is none
+-- what a step sends to each centre, on links that are no different, may be posted: there is room for it, or there is
+-- none
 pub may_be_sent : (k : CentreCode) (event : Event) (clock : ℕ) (mid : List (Link Body)) (x : centre.Centre) (bodies : ℕ → List BodySent) (sayings : List Saying) (words : List Word) (link : Option Taken) (silence : Option Reason)
     → step.stamp_of (state_of k) event ≡ clock → ((d : ℕ) → sent_to mid d ≡ sent_to k.links d)
     → step.effect k.line k.number (step.ticked clock (state_of k)) event ≡ effect_of (replied x bodies sayings words) link silence

@@ -5,7 +5,7 @@ use cli_commands::disk::Disk;
 use cli_commands::line_file::{LineFile, line_file_in};
 use cli_commands::words::ServeWords;
 use cli_status::report;
-use serve_line::{Doors, Loud, Manner, Notes, Quiet, Record, ServeFault, serve};
+use serve_line::{Endpoints, StderrNotes, ServeOptions, Notes, NoNotes, Record, ServeFault, serve};
 use std::fs::File;
 use std::io::{Eprint, Write};
 use std::net::{Net, TcpListener, TcpStream};
@@ -32,9 +32,9 @@ pub fn run_centres<
         Err(fault) => return report(&fault, out, err),
     };
     let done = if words.is_quiet {
-        run_noted(rt, &given, port, words, &Quiet, out)
+        run_noted(rt, &given, port, words, &NoNotes, out)
     } else {
-        run_noted(rt, &given, port, words, &Loud(rt), out)
+        run_noted(rt, &given, port, words, &StderrNotes(rt), out)
     };
     match done {
         Ok(()) => 0,
@@ -70,9 +70,9 @@ fn run_noted<
         Some(journal) => Some(lock_journals(rt, given, journal, notes)?),
         None => None,
     };
-    let mut doors = Doors::open(rt, rt.alloc(), &given.line, port, notes)?;
+    let mut endpoints = Endpoints::open(rt, rt.alloc(), &given.line, port, notes)?;
     if let Some(page) = words.page {
-        doors = doors.and_page(rt, page, notes)?;
+        endpoints = endpoints.and_page(rt, page, notes)?;
     }
     let record = match journals {
         Some(journals) => journals.begun(rt, given, notes)?,
@@ -82,7 +82,7 @@ fn run_noted<
         rt,
         rt.alloc(),
         &given.line,
-        doors,
+        endpoints,
         record,
         manner_of(words),
         notes,
@@ -91,17 +91,17 @@ fn run_noted<
 }
 
 // What the words ask for.
-fn manner_of(words: &ServeWords<'_>) -> Manner {
-    let mut manner = Manner {
+fn manner_of(words: &ServeWords<'_>) -> ServeOptions {
+    let mut options = ServeOptions {
         is_telling: words.is_telling,
         shows_life: words.shows_life,
-        ..Manner::default()
+        ..ServeOptions::default()
     };
     if let Some(per_second) = words.per_second {
-        manner.rate.per_second = per_second;
+        options.rate.per_second = per_second;
     }
     if let Some(burst) = words.burst {
-        manner.rate.burst = burst;
+        options.rate.burst = burst;
     }
-    manner
+    options
 }

@@ -68,7 +68,8 @@ halts-after old new a b fault h =
 pub rest-none : IsRest []
 rest-none = record { needed = 3; at = needed-few [] (omega arith); fewer = omega arith }
 
--- ---- a rest that is completed: r1 is the rest with its first bytes, r2 with all that are needed, or as far as the piece goes
+-- ---- a rest that is completed: r1 is the rest with its first bytes, r2 with all that are needed, or as far as the
+-- piece goes
 
 glue : (rest piece r1 : List ℕ) (first : ℕ) → r1 ≡ rest ++ take first piece → r1 ++ drop first piece ≡ rest ++ piece
 glue rest piece r1 first e =

@@ -3,8 +3,8 @@ use rbc_centre::Event;
 use rbc_node::Share;
 use rbc_world::WorldEvent;
 use serve_control::{Command, print_commit};
-use serve_hall::{Hall, Seat};
-use serve_show::{Roster, show, write_life};
+use serve_hall::{Server, Slot};
+use serve_show::{MentionOrder, show, write_life};
 use std::sync::Wait;
 
 /// What a line of another form is answered.
@@ -14,26 +14,26 @@ pub(crate) const SCRIPT_FAULT: &str = "script fault\n";
 /// event was written.
 const JOURNAL_FAULT: &str = "journal fault\n";
 
-/// A connection at the control door, and what it reaches.
+/// A connection at the control endpoint, and what it reaches.
 #[derive(Clone, Copy)]
 pub(crate) struct Served<'a, 'h> {
-    pub hall: &'a Hall<'h>,
-    pub seat: &'a Seat,
+    pub server: &'a Server<'h>,
+    pub slot: &'a Slot,
 }
 
-/// Does what a line at the control door asks for, and writes what a run prints of it. A commit that is refused is told
-/// with its number.
+/// Does what a line at the control endpoint asks for, and writes what a run prints of it. A commit that is refused is
+/// told with its number.
 pub(crate) fn answer<R: Wait>(
     rt: &R,
     served: Served<'_, '_>,
     shares: &mut [Share],
-    roster: &mut Roster,
+    mention_order: &mut MentionOrder,
     command: Command,
     text: &mut Vec<u8>,
 ) -> Result<(), Fault<'static>> {
     match command {
         Command::Nothing | Command::Stop => Ok(()),
-        Command::Show => show_written(rt, served.hall, served.seat, roster, text),
+        Command::Show => show_written(rt, served.server, served.slot, mention_order, text),
         Command::Set { centre, section } => {
             let event = WorldEvent::Set { centre, section };
             commit(
@@ -64,17 +64,17 @@ pub(crate) fn answer<R: Wait>(
 // Shows the line, after the journals have each event that it shows. Without them nothing is shown.
 fn show_written<R: Wait>(
     rt: &R,
-    hall: &Hall<'_>,
-    seat: &Seat,
-    roster: &mut Roster,
+    server: &Server<'_>,
+    slot: &Slot,
+    mention_order: &mut MentionOrder,
     text: &mut Vec<u8>,
 ) -> Result<(), Fault<'static>> {
-    show(rt, hall.alloc, hall.line, hall.nodes, roster, text)?;
-    if hall.manner.shows_life {
-        write_life(rt, hall.line, hall.nodes, text)?;
+    show(rt, server.alloc, server.line, server.nodes, mention_order, text)?;
+    if server.options.shows_life {
+        write_life(rt, server.line, server.nodes, text)?;
     }
-    let is_waiting = seat.is_reserve && hall.tellers.iter().any(|teller| teller.queue.is_long());
-    if is_waiting || !hall.await_journals(rt) {
+    let is_waiting = slot.is_reserve && server.sinks.iter().any(|sink| sink.queue.is_long());
+    if is_waiting || !server.await_journals(rt) {
         text.clear();
         text.extend_from_slice(JOURNAL_FAULT.as_bytes())?;
     }
@@ -91,21 +91,21 @@ fn commit<R: Wait>(
     printed: &WorldEvent,
     text: &mut Vec<u8>,
 ) -> Result<(), Fault<'static>> {
-    let Served { hall, seat } = served;
-    let (Some(desk), Some(share)) = (hall.desk(centre), shares.get_mut(centre as usize)) else {
+    let Served { server, slot } = served;
+    let (Some(committer), Some(share)) = (server.committer(centre), shares.get_mut(centre as usize)) else {
         return Ok(());
     };
-    let is_waiting = seat.is_reserve && desk.outlet.queue.is_long();
-    if is_waiting || hall.is_stuck(rt, centre) {
+    let is_waiting = slot.is_reserve && committer.sink.queue.is_long();
+    if is_waiting || server.is_stuck(rt, centre) {
         text.extend_from_slice(JOURNAL_FAULT.as_bytes())?;
         return Ok(());
     }
-    let answer = desk.commit(rt, share, event);
+    let answer = committer.commit(rt, share, event);
     if let Ok(outcome) = &answer {
-        if !desk.outlet.reaches(rt, outcome.stamp) {
+        if !committer.sink.reaches(rt, outcome.stamp) {
             text.extend_from_slice(JOURNAL_FAULT.as_bytes())?;
             return Ok(());
         }
     }
-    print_commit(hall.alloc, text, hall.line, centre, printed, &answer)
+    print_commit(server.alloc, text, server.line, centre, printed, &answer)
 }

@@ -4,8 +4,8 @@ use crate::rows::{Came, RowReader};
 use crate::sending::{Sent, send};
 use rbc_node::Share;
 use serve_control::{Command, CommandFault, command_of};
-use serve_hall::{Hall, Seat};
-use serve_show::{Kind, Notes, Roster};
+use serve_hall::{Server, Slot};
+use serve_show::{Kind, Notes, MentionOrder};
 use std::net::TcpStream;
 use std::sync::Wait;
 use std::sync::atomic::Ordering;
@@ -25,22 +25,22 @@ enum Next {
 /// Serves a connection of the interlocking to its end.
 pub(crate) fn serve_control<R: Wait + Clock, N: Notes>(
     rt: &R,
-    hall: &Hall<'_>,
+    server: &Server<'_>,
     notes: &N,
-    seat: &Seat,
+    slot: &Slot,
     stream: &TcpStream,
 ) {
-    let number = seat.number;
+    let number = slot.number;
     notes.often(
         Kind::Begin,
         format_args!("control: connection {number} begins"),
     );
     let rest = Duration::from_millis(CONTROL_REST_MS);
     set_waits(stream, rest, rest);
-    let mut shares = seat.shares.lock(rt);
-    if answer_rows(rt, hall, notes, seat, shares.as_mut_slice(), stream) == Next::Stop {
+    let mut shares = slot.shares.lock(rt);
+    if answer_rows(rt, server, notes, slot, shares.as_mut_slice(), stream) == Next::Stop {
         notes.note(format_args!("control: connection {number} says stop"));
-        hall.stop();
+        server.stop();
     }
     notes.often(Kind::End, format_args!("control: connection {number} ends"));
 }
@@ -48,46 +48,46 @@ pub(crate) fn serve_control<R: Wait + Clock, N: Notes>(
 // Answers the lines of a connection, until none comes any more, or all sessions have ended.
 fn answer_rows<R: Wait + Clock, N: Notes>(
     rt: &R,
-    hall: &Hall<'_>,
+    server: &Server<'_>,
     notes: &N,
-    seat: &Seat,
+    slot: &Slot,
     shares: &mut [Share],
     stream: &TcpStream,
 ) -> Next {
-    let Ok(mut roster) = Roster::new(hall.alloc, hall.line) else {
+    let Ok(mut mention_order) = MentionOrder::new(server.alloc, server.line) else {
         return Next::End;
     };
-    let mut rows = RowReader::new(hall.alloc, stream);
-    let served = Served { hall, seat };
+    let mut rows = RowReader::new(server.alloc, stream);
+    let served = Served { server, slot };
     let mut rests = 0u32;
     for _ in rt.forever() {
         let next = match rows.next() {
             Came::Row(row) => {
                 rests = 0;
-                seat.heard.store(hall.state.hear(), Ordering::SeqCst);
-                answer_row(rt, served, notes, shares, &mut roster, &row, stream)
+                slot.heard.store(server.state.hear(), Ordering::SeqCst);
+                answer_row(rt, served, notes, shares, &mut mention_order, &row, stream)
             }
-            Came::Nothing if hall.state.is_empty() => Next::End,
+            Came::Nothing if server.state.is_empty() => Next::End,
             Came::Nothing => {
                 rests = rests.saturating_add(1);
                 Next::Listen
             }
             Came::End => Next::End,
         };
-        let told = send(rt, stream, seat.take_told(rt, hall.alloc).as_slice());
+        let told = send(rt, stream, slot.take_told(rt, server.alloc).as_slice());
         if next != Next::Listen {
             return next;
         }
-        if told == Sent::Short || seat.is_reserve && is_over(hall, rests) {
+        if told == Sent::Short || slot.is_reserve && is_over(server, rests) {
             return Next::End;
         }
     }
     unreachable!()
 }
 
-// Whether the reserve connection ends: the thread of the door serves it, and others wait.
-fn is_over(hall: &Hall<'_>, rests: u32) -> bool {
-    rests >= RESERVE_RESTS || hall.state.is_stopped()
+// Whether the reserve connection ends: the thread of the endpoint serves it, and others wait.
+fn is_over(server: &Server<'_>, rests: u32) -> bool {
+    rests >= RESERVE_RESTS || server.state.is_stopped()
 }
 
 // Answers one line.
@@ -96,7 +96,7 @@ fn answer_row<R: Wait + Clock, N: Notes>(
     served: Served<'_, '_>,
     notes: &N,
     shares: &mut [Share],
-    roster: &mut Roster,
+    mention_order: &mut MentionOrder,
     row: &[u8],
     stream: &TcpStream,
 ) -> Next {
@@ -110,8 +110,8 @@ fn answer_row<R: Wait + Clock, N: Notes>(
     let Ok(row) = std::str::from_utf8(row) else {
         return answered(send(rt, stream, SCRIPT_FAULT.as_bytes()));
     };
-    let Served { hall, .. } = served;
-    let command = match command_of(hall.alloc, hall.line, row) {
+    let Served { server, .. } = served;
+    let command = match command_of(server.alloc, server.line, row) {
         Ok(Command::Stop) => return Next::Stop,
         Ok(command) => command,
         Err(CommandFault::Form) => {
@@ -120,8 +120,8 @@ fn answer_row<R: Wait + Clock, N: Notes>(
         }
         Err(CommandFault::Memory) => return Next::End,
     };
-    let mut text = Vec::new(hall.alloc);
-    match answer(rt, served, shares, roster, command, &mut text) {
+    let mut text = Vec::new(server.alloc);
+    match answer(rt, served, shares, mention_order, command, &mut text) {
         Ok(()) => answered(send(rt, stream, text.as_slice())),
         Err(_) => Next::End,
     }

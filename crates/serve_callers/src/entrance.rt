@@ -2,7 +2,7 @@ use std::io;
 use std::io::ErrorKind;
 use std::net::{TcpListener, TcpStream};
 
-/// Where the connections of a door come from.
+/// Where the connections of an endpoint come from.
 #[derive(Drop)]
 pub(crate) struct Entrance {
     listener: TcpListener,

@@ -1,4 +1,4 @@
-//! Who comes through the doors of a running line: trains, whose messages are committed and answered, and the
+//! Who comes through the endpoints of a running line: trains, whose messages are committed and answered, and the
 //! interlocking, whose lines are answered as a run prints them.
 //!
 //! Bodies are free. What goes over a connection is fixed by docs/FORMATS.md.
@@ -7,14 +7,14 @@
 mod answer;
 mod control;
 mod cutter;
-mod doorway;
+mod endpoint_loop;
 mod entrance;
 mod limits;
 mod noted;
-mod pace;
+mod rate_limit;
 mod paced;
 mod rows;
 mod sending;
 mod sessions;
 
-pub use doorway::run_door;
+pub use endpoint_loop::run_endpoint;

@@ -1,36 +1,36 @@
 use crate::limits::UNWRITTEN;
 use rbc_centre::Outcome;
-use serve_connections::Wire;
-use serve_hall::Teller;
+use serve_connections::ConnectionSink;
+use serve_hall::CentreSink;
 use serve_show::{Kind, Notes};
-use serve_workers::Outlet;
+use serve_workers::AnswerSink;
 use std::sync::Wait;
 use std::sync::atomic::{AtomicU32, Ordering};
 
 /// A train's connection as the session over it sees it, which notes each train that opens its session.
 #[derive(Drop)]
-pub(crate) struct NotedWire<'a, N> {
-    pub wire: Wire<'a>,
-    pub teller: &'a Teller<'a>,
+pub(crate) struct LoggedSink<'a, N> {
+    pub connection_sink: ConnectionSink<'a>,
+    pub sink: &'a CentreSink<'a>,
     pub notes: &'a N,
     /// How many events of the connection were answered.
     pub events: AtomicU32,
 }
 
-impl<N> NotedWire<'_, N> {
+impl<N> LoggedSink<'_, N> {
     // Waits for the journal after each `UNWRITTEN`th event: so answers that wait for the disk have room.
     fn keep_near<R: Wait>(&self, rt: &R, stamp: u32) {
         if self.events.fetch_add(1, Ordering::SeqCst) % UNWRITTEN == UNWRITTEN - 1 {
-            let _ = self.teller.reaches(rt, stamp);
+            let _ = self.sink.reaches(rt, stamp);
         }
     }
 }
 
-impl<N: Notes> Outlet for NotedWire<'_, N> {
+impl<N: Notes> AnswerSink for LoggedSink<'_, N> {
     fn opened<R: Wait>(&self, rt: &R, nid_engine: u32) {
-        self.wire.opened(rt, nid_engine);
-        let name = self.teller.name;
-        let number = self.wire.number;
+        self.connection_sink.opened(rt, nid_engine);
+        let name = self.sink.name;
+        let number = self.connection_sink.number;
         self.notes.often(
             Kind::Session,
             format_args!(
@@ -40,9 +40,9 @@ impl<N: Notes> Outlet for NotedWire<'_, N> {
     }
 
     fn answered<R: Wait>(&self, rt: &R, outcome: &Outcome) {
-        if self.teller.may_tell(rt, outcome) {
-            self.wire.answered(rt, outcome);
-            self.teller.tell(rt, outcome);
+        if self.sink.may_send(rt, outcome) {
+            self.connection_sink.answered(rt, outcome);
+            self.sink.tell(rt, outcome);
         }
         self.keep_near(rt, outcome.stamp);
     }

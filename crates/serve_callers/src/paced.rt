@@ -1,7 +1,7 @@
 ghost use Rattle.std.specs.Prelude.{◌≡◌};
 
 use crate::cutter::Cutter;
-use crate::pace::Pace;
+use crate::rate_limit::RateLimit;
 use serve_reading::{ReadFailed, Source};
 use std::io::{ErrorKind, Read};
 use std::net::TcpStream;
@@ -23,7 +23,7 @@ pub(crate) struct Paced<'a, R> {
 #[derive(Drop)]
 struct Pieces<'a, R> {
     stream: &'a TcpStream,
-    pace: Pace<'a, R>,
+    rate_limit: RateLimit<'a, R>,
     cutter: Cutter,
     // What was read last, and how much of it was given.
     piece: [u8; PIECE],
@@ -33,12 +33,12 @@ struct Pieces<'a, R> {
 
 impl<'a, R: Wait + Clock> Paced<'a, R> {
     /// Of a connection over which nothing has come yet.
-    pub fn new(stream: &'a TcpStream, pace: Pace<'a, R>) -> Paced<'a, R>
+    pub fn new(stream: &'a TcpStream, rate_limit: RateLimit<'a, R>) -> Paced<'a, R>
         ensures failures { result.failed ≡ 0 }
     {
         let pieces = Pieces {
             stream,
-            pace,
+            rate_limit,
             cutter: Cutter::new(),
             piece: [0; PIECE],
             end: 0,
@@ -76,7 +76,7 @@ impl<R: Wait + Clock> Pieces<'_, R> {
     }
 
     // Gives bytes that were read, up to the last byte of a message. That one is given first, after a wait. The result
-    // is their number; `None` if the connection has to leave its seat.
+    // is their number; `None` if the connection has to leave its slot.
     fn give(&mut self, buffer: &mut [u8]) -> Option<usize> {
         let mut count = 0usize;
         for place in buffer.iter_mut() {
@@ -88,7 +88,7 @@ impl<R: Wait + Clock> Pieces<'_, R> {
                 if count > 0 {
                     break;
                 }
-                if !self.pace.admits(nid_engine) {
+                if !self.rate_limit.admits(nid_engine) {
                     return None;
                 }
             }

@@ -1,15 +1,15 @@
 use crate::limits::{PATIENCE_S, REPLIES, SILENCE_S, set_waits};
-use crate::noted::NotedWire;
-use crate::pace::Pace;
+use crate::noted::LoggedSink;
+use crate::rate_limit::RateLimit;
 use crate::paced::Paced;
 use cli_print::name_of;
 use crossbeam_channel::{Receiver, bounded};
 use rbc_node::{Node, Open};
-use serve_connections::{Connection, Shared, Wire};
-use serve_hall::{Hall, Seat, Teller};
+use serve_connections::{Connection, Shared, ConnectionSink};
+use serve_hall::{Server, Slot, CentreSink};
 use serve_show::{Kind, Notes};
 use serve_workers::{SessionEnd, run_session};
-use serve_writing::{Pipe, Reply, run_held_writer, run_writer};
+use serve_writing::{SharedWriter, Reply, run_held_writer, run_writer};
 use std::alloc::{AllocError, Global};
 use std::net::{Shutdown, TcpStream};
 use std::sync::atomic::AtomicU32;
@@ -21,20 +21,20 @@ use std::time::{Clock, Duration};
 /// Serves a train's connection at a centre to its end.
 pub(crate) fn serve_train<R: Threads + Wait + Sync + Clock, N: Notes + Sync>(
     rt: &R,
-    hall: &Hall<'_>,
+    server: &Server<'_>,
     notes: &N,
     centre: u8,
-    seat: &Seat,
+    slot: &Slot,
     stream: Arc<TcpStream, Global>,
 ) {
-    let name = name_of(hall.line, centre);
-    let number = seat.number;
+    let name = name_of(server.line, centre);
+    let number = slot.number;
     let at = centre as usize;
-    let (Some(node), Some(teller)) = (hall.nodes.get(at), hall.tellers.get(at)) else {
+    let (Some(node), Some(sink)) = (server.nodes.get(at), server.sinks.get(at)) else {
         return;
     };
-    let exchange = teller.exchange;
-    let Ok(ends) = entered(rt, hall.alloc, teller, number, stream) else {
+    let connections = sink.connections;
+    let Ok(ends) = entered(rt, server.alloc, sink, number, stream) else {
         notes.often(
             Kind::Refusal,
             format_args!("{name}: a train is refused, memory ran out"),
@@ -45,13 +45,13 @@ pub(crate) fn serve_train<R: Threads + Wait + Sync + Clock, N: Notes + Sync>(
         Kind::Begin,
         format_args!("{name}: train connection {number} begins"),
     );
-    let noted = NotedWire {
-        wire: Wire { exchange, number },
-        teller,
+    let noted = LoggedSink {
+        connection_sink: ConnectionSink { connections, number },
+        sink,
         events: AtomicU32::new(0),
         notes,
     };
-    match read_and_write(rt, hall, node, seat, &ends, &noted) {
+    match read_and_write(rt, server, node, slot, &ends, &noted) {
         Some(end) => tell_end(notes, name, number, end),
         None => notes.often(
             Kind::Thread,
@@ -72,15 +72,15 @@ enum End {
 #[derive(Drop)]
 struct Ends {
     stream: Arc<TcpStream, Global>,
-    pipe: Arc<Pipe<Shared>, Global>,
+    shared_writer: Arc<SharedWriter<Shared>, Global>,
     replies: Receiver<Reply>,
 }
 
-// Takes the connection into the exchange.
+// Takes the connection into the connections.
 fn entered<R: Wait>(
     rt: &R,
     alloc: Global,
-    teller: &Teller<'_>,
+    sink: &CentreSink<'_>,
     number: usize,
     stream: Arc<TcpStream, Global>,
 ) -> Result<Ends, AllocError> {
@@ -90,24 +90,24 @@ fn entered<R: Wait>(
         Duration::from_secs(PATIENCE_S),
     );
     let (ends, mut connection) = ends_of(alloc, stream)?;
-    if teller.journal.is_some() {
+    if sink.journal.is_some() {
         connection = connection.held();
     }
-    teller.exchange.enter(rt, number, connection)?;
+    sink.connections.enter(rt, number, connection)?;
     Ok(ends)
 }
 
-// What the threads of a connection have of it, and what the exchange has.
+// What the threads of a connection have of it, and what the connections has.
 fn ends_of(
     alloc: Global,
     stream: Arc<TcpStream, Global>,
 ) -> Result<(Ends, Connection), AllocError> {
-    let pipe = Arc::new(alloc, Pipe::new(Shared(Arc::try_clone(&stream)?)))?;
+    let shared_writer = Arc::new(alloc, SharedWriter::new(Shared(Arc::try_clone(&stream)?)))?;
     let (sender, replies) = bounded(alloc, REPLIES)?;
-    let connection = Connection::new(sender, Arc::try_clone(&pipe)?, Arc::try_clone(&stream)?);
+    let connection = Connection::new(sender, Arc::try_clone(&shared_writer)?, Arc::try_clone(&stream)?);
     let ends = Ends {
         stream,
-        pipe,
+        shared_writer,
         replies,
     };
     Ok((ends, connection))
@@ -117,47 +117,47 @@ fn ends_of(
 // read, and there is no end to tell.
 fn read_and_write<R: Threads + Wait + Sync + Clock, N: Notes + Sync>(
     rt: &R,
-    hall: &Hall<'_>,
+    server: &Server<'_>,
     node: &Node,
-    seat: &Seat,
+    slot: &Slot,
     ends: &Ends,
-    noted: &NotedWire<'_, N>,
+    noted: &LoggedSink<'_, N>,
 ) -> Option<End> {
     thread::scope(thread::scope_env(), rt, |scope| {
-        let teller = noted.teller;
+        let sink = noted.sink;
         if scope
-            .spawn(move || write_replies(rt, ends, teller))
+            .spawn(move || write_replies(rt, ends, sink))
             .is_err()
         {
-            noted.wire.exchange.leave(rt, seat.number);
+            noted.connection_sink.connections.leave(rt, slot.number);
             return None;
         }
-        Some(read_messages(rt, hall, node, seat, &ends.stream, noted))
+        Some(read_messages(rt, server, node, slot, &ends.stream, noted))
     })
 }
 
 // Commits what the train says, and says how the session ended.
 fn read_messages<R: Wait + Clock, N: Notes>(
     rt: &R,
-    hall: &Hall<'_>,
+    server: &Server<'_>,
     node: &Node,
-    seat: &Seat,
+    slot: &Slot,
     stream: &TcpStream,
-    noted: &NotedWire<'_, N>,
+    noted: &LoggedSink<'_, N>,
 ) -> End {
-    let mut shares = seat.shares.lock(rt);
+    let mut shares = slot.shares.lock(rt);
     let Some(share) = shares.first_mut() else {
         return End::Cut;
     };
-    let pace = Pace {
+    let rate_limit = RateLimit {
         rt,
-        line: hall.line,
-        paces: &noted.teller.paces,
-        seat,
+        line: server.line,
+        paces: &noted.sink.paces,
+        slot,
     };
-    let mut source = Paced::new(stream, pace);
-    let end = run_session(rt, hall.alloc, node, &Open, share, &mut source, noted);
-    if noted.wire.exchange.leave(rt, seat.number) {
+    let mut source = Paced::new(stream, rate_limit);
+    let end = run_session(rt, server.alloc, node, &Open, share, &mut source, noted);
+    if noted.connection_sink.connections.leave(rt, slot.number) {
         End::Session(end)
     } else {
         End::Cut
@@ -166,10 +166,10 @@ fn read_messages<R: Wait + Clock, N: Notes>(
 
 // Writes the replies of a connection that wait, each once its event is in the journal, if there is one. After the last
 // one the connection is ended for the reader too.
-fn write_replies<R: Wait>(rt: &R, ends: &Ends, teller: &Teller<'_>) {
-    let mut out = ends.pipe.end(rt);
-    let _ = match teller.journal {
-        Some(_) => run_held_writer(rt, &ends.replies, teller, &mut out),
+fn write_replies<R: Wait>(rt: &R, ends: &Ends, sink: &CentreSink<'_>) {
+    let mut out = ends.shared_writer.end(rt);
+    let _ = match sink.journal {
+        Some(_) => run_held_writer(rt, &ends.replies, sink, &mut out),
         None => run_writer(rt, &ends.replies, &mut out),
     };
     let _ = ends.stream.shutdown(Shutdown::Both);

@@ -6,7 +6,7 @@ use Rattle.rbc_spec.specs.Line.{Line, train_number}
 use Rattle.rbc_spec.specs.Message.{TrackBody, SystemVersion}
 use Rattle.serve_connections.specs.Serving.{released}
 use Rattle.serve_connections.specs.declared.route.Route.{Route}
-use Rattle.serve_connections.specs.declared.switchboard.Directed.{Directed}
+use Rattle.serve_connections.specs.declared.routing_table.Directed.{Directed}
 
 -- message 32, by which a session begins
 abbrev pub is_version : TrackBody → Bool

@@ -1,5 +1,5 @@
 use crossbeam_channel::{Sender, TrySendError};
-use serve_writing::{Pipe, Reply, Turn};
+use serve_writing::{SharedWriter, Reply, Turn};
 use std::alloc::Global;
 use std::io::Write;
 use std::net::{Shutdown, TcpStream};
@@ -30,7 +30,7 @@ impl Write for Shared {
 pub struct Connection {
     /// Where the replies go that its writer writes.
     replies: Sender<Reply>,
-    pipe: Arc<Pipe<Shared>, Global>,
+    shared_writer: Arc<SharedWriter<Shared>, Global>,
     stream: Arc<TcpStream, Global>,
     /// Whether its train was too slow.
     is_cut: AtomicBool,
@@ -41,15 +41,15 @@ pub struct Connection {
 }
 
 impl Connection {
-    /// A connection over this stream, whose writer has the other ends of the channel and of the pipe.
+    /// A connection over this stream, whose writer has the other ends of the channel and of the shared_writer.
     pub fn new(
         replies: Sender<Reply>,
-        pipe: Arc<Pipe<Shared>, Global>,
+        shared_writer: Arc<SharedWriter<Shared>, Global>,
         stream: Arc<TcpStream, Global>,
     ) -> Connection {
         Connection {
             replies,
-            pipe,
+            shared_writer,
             stream,
             is_cut: AtomicBool::new(false),
             is_ended: AtomicBool::new(false),
@@ -69,7 +69,7 @@ impl Connection {
         if self.is_held {
             return None;
         }
-        self.pipe.turn()
+        self.shared_writer.turn()
     }
 
     /// Writes a reply in the calling thread. A write that fails ends the connection.
@@ -81,7 +81,7 @@ impl Connection {
 
     /// Hands a reply to the writer. A connection whose train is too slow to take it is cut.
     pub(crate) fn say<R: Wait>(&self, rt: &R, reply: Reply) {
-        self.pipe.expect(&reply);
+        self.shared_writer.expect(&reply);
         if !self.offer(rt, reply) {
             self.cut();
         }

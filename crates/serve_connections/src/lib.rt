@@ -5,9 +5,9 @@
 #![tactic(auto)]
 
 mod connection;
-mod exchange;
+mod connections;
 mod route;
-mod switchboard;
+mod routing_table;
 
 pub use connection::{Connection, Shared};
-pub use exchange::{Exchange, Wire};
+pub use connections::{TrainConnections, ConnectionSink};

@@ -1,4 +1,4 @@
--- What a line at the control door asks for is what the entries of its script ask for.
+-- What a line at the control endpoint asks for is what the entries of its script ask for.
 use Rattle.std.proofs.Common.{◌≡◌, ◌≢◌, Bool, true, false, ℕ, List, [], ◌∷◌, map, codes, Option, Some, None, IfOk, IfErr, ok_or, refl, ap, sym, ◌∙◌, inr}
 use Rattle.rbc_spec.specs.Line.{Line}
 use Rattle.cli_script.specs.Script as script

@@ -1,4 +1,4 @@
--- What the interlocking is answered at the control door.
+-- What the interlocking is answered at the control endpoint.
 use Rattle.std.specs.Prelude.{◌≡◌, ℕ, List, ◌++◌, Result, Ok, Err, codes}
 use Rattle.std.specs.Fmt.{decimal}
 use Rattle.rbc_spec.specs.Line.{Line}

@@ -1,4 +1,4 @@
--- What a line at the control door asks for.
+-- What a line at the control endpoint asks for.
 use Rattle.std.specs.Prelude.{◌≡◌, ◌≢◌, ℕ, List, [], ◌∷◌, map, filter, codes, Option, Some, None, ◌⊎◌}
 use Rattle.rbc_spec.specs.Line.{Line}
 use Rattle.cli_script.specs.Script as script

@@ -7,7 +7,7 @@ use rbc_line::Line;
 use rbc_world::WorldEvent;
 use std::alloc::Global;
 
-/// What a line at the control door asks for.
+/// What a line at the control endpoint asks for.
 #[derive(Clone, Copy, Debug, PartialEq, Eq)]
 pub enum Command {
     /// The line is skipped.
@@ -22,11 +22,11 @@ pub enum Command {
     Stop,
 }
 
-/// Why a line at the control door is refused.
+/// Why a line at the control endpoint is refused.
 #[derive(Clone, Copy, Debug, PartialEq, Eq)]
 pub enum CommandFault {
     Memory,
-    /// The line has no form that a line at the control door may have.
+    /// The line has no form that a line at the control endpoint may have.
     Form,
 }
 
@@ -57,7 +57,7 @@ fn command_in(entries: &[Entry]) -> Option<Command>
     }
 }
 
-// What comes from a train or over a link does not come through the control door.
+// What comes from a train or over a link does not come through the control endpoint.
 fn command_by(event: &WorldEvent) -> Option<Command>
     ensures { result ≡ bidden_once (event_of event.now) }
 {

@@ -1,5 +1,5 @@
-//! What running centres are told at their control door, and how they end: what a line from the interlocking asks for,
-//! the print of all that happened, and the exit status where there is none.
+//! What running centres are told at their control endpoint, and how they end: what a line from the interlocking asks
+//! for, the print of all that happened, and the exit status where there is none.
 //!
 //! Bodies are free. What goes over a connection is fixed by docs/FORMATS.md.
 #![tactic(auto)]

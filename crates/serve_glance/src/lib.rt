@@ -5,9 +5,9 @@
 //! Bodies are free. What is shown is fixed by docs/FORMATS.md.
 #![tactic(auto)]
 
-mod glance;
+mod page_snapshot;
 mod news;
 mod seen;
 mod sent;
 
-pub use glance::Glance;
+pub use page_snapshot::PageSnapshot;

@@ -1,15 +1,15 @@
-use crate::doors::Listening;
-use crate::hall::{Caller, DirectedLink};
+use crate::endpoints::Listening;
+use crate::server::{Peer, DirectedLink};
 use crate::limits::{CONTROLS, SPARE};
-use crate::manner::Manner;
+use crate::options::ServeOptions;
 use crate::paces::Paces;
 use crate::queue::Queue;
-use crate::seats::{Door, Seat};
-use crate::teller::Teller;
+use crate::slots::{Endpoint, Slot};
+use crate::sink::CentreSink;
 use cli_print::name_of;
 use rbc_line::Line;
 use rbc_node::{Node, Share};
-use serve_connections::Exchange;
+use serve_connections::TrainConnections;
 use serve_journal::Journal;
 use serve_workers::LinkEnds;
 use std::alloc::{AllocError, Global};
@@ -31,73 +31,73 @@ pub fn nodes_of(alloc: Global, line: &Line) -> Result<Vec<Node>, AllocError> {
     Ok(nodes)
 }
 
-/// The doors of the centres, and after them the control door, each with its seats.
-pub fn doors_of(
+/// The endpoints of the centres, and after them the control endpoint, each with its slots.
+pub fn endpoints_of(
     alloc: Global,
     line: &Line,
     nodes: &[Node],
     listening: Vec<Listening>,
-) -> Result<Vec<Door>, AllocError> {
-    let mut doors = Vec::new(alloc);
+) -> Result<Vec<Endpoint>, AllocError> {
+    let mut endpoints = Vec::new(alloc);
     for (number, listening) in listening.into_iter().enumerate() {
-        doors.push(door_of(alloc, line, nodes, number, listening)?)?;
+        endpoints.push(door_of(alloc, line, nodes, number, listening)?)?;
     }
-    Ok(doors)
+    Ok(endpoints)
 }
 
-// The door of this number: that of a centre, or after those the control door.
+// The endpoint of this number: that of a centre, or after those the control endpoint.
 fn door_of(
     alloc: Global,
     line: &Line,
     nodes: &[Node],
     number: usize,
     listening: Listening,
-) -> Result<Door, AllocError> {
-    let (caller, seats) = match nodes.get(number) {
+) -> Result<Endpoint, AllocError> {
+    let (peer, slots) = match nodes.get(number) {
         Some(node) => {
             let reached = &nodes[number..=number];
-            let caller = Caller::Trains(node.share().centre());
-            (caller, seats_of(alloc, most_trains(line), reached)?)
+            let peer = Peer::Trains(node.share().centre());
+            (peer, seats_of(alloc, most_trains(line), reached)?)
         }
-        None => (Caller::Interlocking, control_seats(alloc, nodes)?),
+        None => (Peer::Interlocking, control_seats(alloc, nodes)?),
     };
-    Ok(Door {
+    Ok(Endpoint {
         listener: Mutex::new(Some(listening.listener)),
         address: listening.address,
-        caller,
-        seats,
-        bell: Parker::new(),
+        peer,
+        slots,
+        waker: Parker::new(),
     })
 }
 
-// The seats of the control door, and the reserve seat.
-fn control_seats(alloc: Global, nodes: &[Node]) -> Result<Vec<Seat>, AllocError> {
-    let mut seats = seats_of(alloc, CONTROLS, nodes)?;
-    seats.push(seat_of(alloc, CONTROLS, true, nodes)?)?;
-    Ok(seats)
+// The slots of the control endpoint, and the reserve slot.
+fn control_seats(alloc: Global, nodes: &[Node]) -> Result<Vec<Slot>, AllocError> {
+    let mut slots = seats_of(alloc, CONTROLS, nodes)?;
+    slots.push(seat_of(alloc, CONTROLS, true, nodes)?)?;
+    Ok(slots)
 }
 
-// So many seats, from which these nodes are reached.
-fn seats_of(alloc: Global, count: usize, nodes: &[Node]) -> Result<Vec<Seat>, AllocError> {
-    let mut seats = Vec::with_capacity(alloc, count)?;
+// So many slots, from which these nodes are reached.
+fn seats_of(alloc: Global, count: usize, nodes: &[Node]) -> Result<Vec<Slot>, AllocError> {
+    let mut slots = Vec::with_capacity(alloc, count)?;
     for number in 0..count {
-        seats.push(seat_of(alloc, number, false, nodes)?)?;
+        slots.push(seat_of(alloc, number, false, nodes)?)?;
     }
-    Ok(seats)
+    Ok(slots)
 }
 
-// The seat of this number, which is free.
+// The slot of this number, which is free.
 fn seat_of(
     alloc: Global,
     number: usize,
     is_reserve: bool,
     nodes: &[Node],
-) -> Result<Seat, AllocError> {
+) -> Result<Slot, AllocError> {
     let mut shares = Vec::with_capacity(alloc, nodes.len())?;
     for node in nodes {
         shares.push(node.share())?;
     }
-    Ok(Seat {
+    Ok(Slot {
         number,
         is_reserve,
         is_taken: AtomicBool::new(false),
@@ -137,35 +137,35 @@ fn link_of(from: u8, share: Share) -> DirectedLink {
     }
 }
 
-/// For each centre the bells of its links, by the numbers of the centres that they lead to.
-pub fn bells_of(alloc: Global, line: &Line) -> Result<Vec<Vec<Parker>>, AllocError> {
-    let mut bells = Vec::new(alloc);
+/// For each centre the wakers of its links, by the numbers of the centres that they lead to.
+pub fn wakers_of(alloc: Global, line: &Line) -> Result<Vec<Vec<Parker>>, AllocError> {
+    let mut wakers = Vec::new(alloc);
     for _ in 0..line.centre_count() {
-        bells.push(bells_from(alloc, line)?)?;
+        wakers.push(bells_from(alloc, line)?)?;
     }
-    Ok(bells)
+    Ok(wakers)
 }
 
-// The bells of the links from one centre.
+// The wakers of the links from one centre.
 fn bells_from(alloc: Global, line: &Line) -> Result<Vec<Parker>, AllocError> {
-    let mut bells = Vec::new(alloc);
+    let mut wakers = Vec::new(alloc);
     for _ in 0..line.centre_count() {
-        bells.push(Parker::new())?;
+        wakers.push(Parker::new())?;
     }
-    Ok(bells)
+    Ok(wakers)
 }
 
 /// For each centre the connections of its trains.
-pub fn exchanges_of<'a>(
+pub fn connections_of<'a>(
     alloc: Global,
     line: &'a Line,
-    bells: &'a [Vec<Parker>],
-) -> Result<Vec<Exchange<'a>>, AllocError> {
-    let mut exchanges = Vec::new(alloc);
-    for row in bells {
-        exchanges.push(Exchange::new(alloc, line, most_trains(line), row.as_slice())?)?;
+    wakers: &'a [Vec<Parker>],
+) -> Result<Vec<TrainConnections<'a>>, AllocError> {
+    let mut connections = Vec::new(alloc);
+    for row in wakers {
+        connections.push(TrainConnections::new(alloc, line, most_trains(line), row.as_slice())?)?;
     }
-    Ok(exchanges)
+    Ok(connections)
 }
 
 /// For each centre the journal that it goes on with, after what its node has.
@@ -188,30 +188,30 @@ pub fn journals_of<R: Wait>(
 }
 
 /// For each centre where its answers go on to.
-pub fn tellers_of<'a>(
+pub fn sinks_of<'a>(
     alloc: Global,
     line: &'a Line,
-    exchanges: &'a [Exchange<'a>],
-    doors: &'a [Door],
+    connections: &'a [TrainConnections<'a>],
+    endpoints: &'a [Endpoint],
     journals: &'a [Journal],
-    manner: Manner,
-) -> Result<Vec<Teller<'a>>, AllocError> {
-    let control = if manner.is_telling {
-        doors.last()
+    options: ServeOptions,
+) -> Result<Vec<CentreSink<'a>>, AllocError> {
+    let control = if options.is_telling {
+        endpoints.last()
     } else {
         None
     };
-    let mut tellers = Vec::new(alloc);
-    for (exchange, centre) in exchanges.iter().zip(0..line.centre_count()) {
+    let mut sinks = Vec::new(alloc);
+    for (connections, centre) in connections.iter().zip(0..line.centre_count()) {
         let name = name_of(line, centre);
-        tellers.push(Teller {
-            exchange,
+        sinks.push(CentreSink {
+            connections,
             control,
             journal: journals.get(centre as usize),
             queue: Queue::new(),
-            paces: Paces::new(alloc, line, manner.rate)?,
+            paces: Paces::new(alloc, line, options.rate)?,
             name,
         })?;
     }
-    Ok(tellers)
+    Ok(sinks)
 }

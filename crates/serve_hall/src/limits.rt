@@ -1,10 +1,10 @@
-//! How much of each thing there is at most, and how long a door rests. What one caller may have, and how long each wait
-//! for it takes, stands in `serve_callers`.
+//! How much of each thing there is at most, and how long an endpoint rests. What one peer may have, and how long each
+//! wait for it takes, stands in `serve_callers`.
 
 /// How many connections a centre serves at once, beside one for each train of the line.
 pub(crate) const SPARE: usize = 8;
 
-/// How many connections the control door serves at once.
+/// How many connections the control endpoint serves at once.
 pub(crate) const CONTROLS: usize = 4;
 
 /// How many messages of a train a centre takes in a second, and as many of all other engines together.
@@ -17,5 +17,5 @@ pub(crate) const BURST: u32 = 100;
 /// connection ends.
 pub(crate) const MOST_TOLD: usize = 65_536;
 
-/// How long a door rests at most before it looks for a connection again, in milliseconds.
+/// How long an endpoint rests at most before it looks for a connection again, in milliseconds.
 pub const DOOR_REST_MS: u64 = 20;

@@ -5,7 +5,7 @@ use std::sync::Wait;
 
 /// A carrier that takes a frame once the event that sent it is written in the sender's journal, where it keeps one.
 #[derive(Drop)]
-pub struct Held<'a, R, C> {
+pub struct JournaledCarrier<'a, R, C> {
     /// The handle by which it may wait.
     pub rt: &'a R,
     pub carrier: C,
@@ -13,7 +13,7 @@ pub struct Held<'a, R, C> {
     pub journal: Option<&'a Journal>,
 }
 
-impl<R: Wait, C: Carrier + Drop> Carrier for Held<'_, R, C> {
+impl<R: Wait, C: Carrier + Drop> Carrier for JournaledCarrier<'_, R, C> {
     type Seen = C::Seen;
 
     ghost is_of = { λ h s. C.is_of h.carrier s };

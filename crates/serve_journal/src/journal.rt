@@ -2,7 +2,7 @@ use std::sync::{Condvar, Mutex, MutexGuard, Wait};
 use std::thread::Parker;
 use std::time::Duration;
 
-/// How many events may wait to be written before the centre's callers wait for them, whatever they are answered.
+/// How many events may wait to be written before the centre's peers wait for them, whatever they are answered.
 const MOST_UNWRITTEN: u32 = 4_096;
 
 /// How long the thread that writes rests before it looks for events again, in milliseconds.
@@ -14,7 +14,7 @@ pub struct Journal {
     /// How many events of its centre it had at first.
     begins: usize,
     /// Rung where there may be something to write.
-    bell: Parker,
+    waker: Parker,
     reach: Mutex<Reach>,
     /// Told where the reach changes.
     moved: Condvar,
@@ -36,7 +36,7 @@ impl Journal {
     pub fn new(begins: usize, stamp: u32) -> Journal {
         Journal {
             begins,
-            bell: Parker::new(),
+            waker: Parker::new(),
             reach: Mutex::new(Reach {
                 stamp,
                 is_stuck: false,
@@ -54,14 +54,14 @@ impl Journal {
     /// Waits until the event with this stamp is written, and says whether it is: not where the journal was closed
     /// before.
     pub fn reaches<R: Wait>(&self, rt: &R, stamp: u32) -> bool {
-        self.bell.unpark();
+        self.waker.unpark();
         self.wait_for(rt, stamp)
     }
 
     /// An event with this stamp was committed, after which nothing leaves the centre. It waits only where the journal
     /// is far from it, or can't be written.
     pub fn keeps_up<R: Wait>(&self, rt: &R, stamp: u32) -> bool {
-        self.bell.unpark();
+        self.waker.unpark();
         if self.reach.lock(rt).is_stuck {
             self.wait_for(rt, stamp)
         } else {
@@ -72,7 +72,7 @@ impl Journal {
     /// Waits until the event with this stamp is written, and says whether it is. It is not if the journal can't be
     /// written now, or was closed before.
     pub fn comes_to<R: Wait>(&self, rt: &R, stamp: u32) -> bool {
-        self.bell.unpark();
+        self.waker.unpark();
         let mut reach = self.reach.lock(rt);
         for _ in rt.forever() {
             if reach.stamp >= stamp {
@@ -108,12 +108,12 @@ impl Journal {
 
     /// Rings the thread that writes.
     pub fn ring(&self) {
-        self.bell.unpark();
+        self.waker.unpark();
     }
 
     /// Rests until the journal is rung, or for a while.
     pub(crate) fn rest<R: Wait>(&self, rt: &R) {
-        self.bell.park_timeout(rt, Duration::from_millis(REST_MS));
+        self.waker.park_timeout(rt, Duration::from_millis(REST_MS));
     }
 
     /// All events up to this stamp are written.

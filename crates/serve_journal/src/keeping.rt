@@ -17,7 +17,7 @@ const STUCK_REST_MS: u64 = 500;
 
 /// Who writes the journal of a centre.
 #[derive(Drop)]
-pub struct Keeper<'a, N> {
+pub struct JournalWriter<'a, N> {
     pub alloc: Global,
     pub line: &'a Line,
     /// The name of the centre.
@@ -36,25 +36,25 @@ pub struct Keeper<'a, N> {
 /// written.
 pub fn keep_journal<R: Wait + Clock, N: Notes, F: Write + Seek + OpenFile>(
     rt: &R,
-    keeper: &Keeper<'_, N>,
+    writer: &JournalWriter<'_, N>,
     file: &mut JournalFile<F>,
 ) -> bool {
-    let mut written = keeper.journal.begins();
+    let mut written = writer.journal.begins();
     let mut is_stuck = false;
     for _ in rt.forever() {
-        let is_over = keeper.is_over.load(Ordering::SeqCst);
-        match keeper.write_next(rt, file, written) {
+        let is_over = writer.is_over.load(Ordering::SeqCst);
+        match writer.write_next(rt, file, written) {
             Ok(0) if is_over => return true,
-            Ok(0) => keeper.journal.rest(rt),
+            Ok(0) => writer.journal.rest(rt),
             Ok(count) => {
                 written = written.saturating_add(count);
-                keeper.note_written(is_stuck);
+                writer.note_written(is_stuck);
                 is_stuck = false;
             }
             Err(error) => {
-                keeper.note_stuck(rt, is_stuck, &error);
+                writer.note_stuck(rt, is_stuck, &error);
                 is_stuck = true;
-                if keeper.is_stopped.load(Ordering::SeqCst) {
+                if writer.is_stopped.load(Ordering::SeqCst) {
                     return false;
                 }
                 thread::sleep(rt, Duration::from_millis(STUCK_REST_MS));
@@ -64,7 +64,7 @@ pub fn keep_journal<R: Wait + Clock, N: Notes, F: Write + Seek + OpenFile>(
     unreachable!()
 }
 
-impl<N: Notes> Keeper<'_, N> {
+impl<N: Notes> JournalWriter<'_, N> {
     // Writes the next events, and gives their count. An error leaves them unwritten.
     fn write_next<R: Wait, F: Write + Seek + OpenFile>(
         &self,

@@ -13,8 +13,8 @@ mod opening;
 mod resuming;
 
 pub use file::JournalFile;
-pub use held::Held;
+pub use held::JournaledCarrier;
 pub use journal::Journal;
-pub use keeping::{Keeper, keep_journal};
+pub use keeping::{JournalWriter, keep_journal};
 pub use opening::{OpenFault, make_journal, open_journal, read_whole};
 pub use resuming::{ResumeFault, resume};

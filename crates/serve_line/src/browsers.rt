@@ -1,8 +1,8 @@
 use cli_status::Fault;
 use rbc_line::Line;
 use rbc_node::Node;
-use serve_glance::Glance;
-use serve_hall::{DOOR_REST_MS, Door, Listening};
+use serve_glance::PageSnapshot;
+use serve_hall::{DOOR_REST_MS, Endpoint, Listening};
 use std::alloc::Global;
 use std::net::{Shutdown, SocketAddr, TcpListener, TcpStream};
 use std::sync::atomic::{AtomicBool, AtomicU64, Ordering};
@@ -13,18 +13,18 @@ use std::time::{Clock, Duration, Instant, SystemTime, UNIX_EPOCH};
 /// How many browsers are answered at once.
 const BROWSERS: usize = 8;
 
-/// How long a connection has to leave its place for another, in rests of the door.
+/// How long a connection has to leave its place for another, in rests of the endpoint.
 const LEAVING_RESTS: u32 = 10;
 
 /// The port at which browsers ask for the page of the line.
 #[derive(Drop)]
-pub(crate) struct PageDoor {
+pub(crate) struct PageEndpoint {
     pub listener: TcpListener,
     pub address: SocketAddr,
     places: Vec<Place>,
     // How many connections came.
     came: AtomicU64,
-    bell: Parker,
+    waker: Parker,
     pub seen: Mutex<Seen>,
 }
 
@@ -43,51 +43,51 @@ pub(crate) struct Seen {
     pub at: Option<Instant>,
     /// Another one each time that anything changes which is shown.
     pub version: u64,
-    pub glance: Glance,
+    pub page_snapshot: PageSnapshot,
 }
 
-impl PageDoor {
+impl PageEndpoint {
     /// The centres have taken no event yet that their journals lack.
     pub fn new<R: Wait + Clock>(
         rt: &R,
         alloc: Global,
         (line, nodes): (&Line, &[Node]),
-        doors: &[Door],
+        endpoints: &[Endpoint],
         listening: Listening,
-    ) -> Result<PageDoor, Fault<'static>> {
+    ) -> Result<PageEndpoint, Fault<'static>> {
         let mut places = Vec::new(alloc);
         for _ in 0..BROWSERS {
             places.push(Place::new())?;
         }
         let mut ports = Vec::new(alloc);
-        for door in doors {
-            ports.push(door.address.port())?;
+        for endpoint in endpoints {
+            ports.push(endpoint.address.port())?;
         }
-        let mut glance = Glance::new(alloc, line, ports)?;
-        glance.now = glance.look(rt, alloc, line, nodes)?;
+        let mut page_snapshot = PageSnapshot::new(alloc, line, ports)?;
+        page_snapshot.now = page_snapshot.look(rt, alloc, line, nodes)?;
         let version = first_version(rt);
-        Ok(PageDoor {
+        Ok(PageEndpoint {
             listener: listening.listener,
             address: listening.address,
             places,
             came: AtomicU64::new(0),
-            bell: Parker::new(),
+            waker: Parker::new(),
             seen: Mutex::new(Seen {
                 at: None,
                 version,
-                glance,
+                page_snapshot,
             }),
         })
     }
 
     /// Rests a while.
     pub fn rest<R: Wait>(&self, rt: &R) {
-        self.bell
+        self.waker
             .park_timeout(rt, Duration::from_millis(DOOR_REST_MS));
     }
 
-    /// A place for a new connection. If all are taken, the connection that came first ends. Only the thread at the door
-    /// calls it.
+    /// A place for a new connection. If all are taken, the connection that came first ends. Only the thread at the
+    /// endpoint calls it.
     pub fn place_for<R: Wait>(&self, rt: &R, stream: &Arc<TcpStream, Global>) -> Option<&Place> {
         let shared = Arc::try_clone(stream).ok()?;
         let place = self.free_place(rt)?;

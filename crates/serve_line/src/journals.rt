@@ -3,8 +3,8 @@ use cli_print::name_of;
 use rbc_line::Line;
 use rbc_node::{Node, Share};
 use serve_control::ServeFault;
-use serve_hall::Hall;
-use serve_journal::{JournalFile, Keeper, ResumeFault, keep_journal, resume};
+use serve_hall::Server;
+use serve_journal::{JournalFile, JournalWriter, ResumeFault, keep_journal, resume};
 use serve_show::Notes;
 use std::alloc::{AllocError, Global};
 use std::fs::OpenFile;
@@ -63,26 +63,26 @@ pub(crate) fn resume_noted<R: Wait, N: Notes>(
 /// Writes the journal of a centre, until nothing more is committed.
 pub(crate) fn keep<R: Wait + Clock, N: Notes, F: Write + Seek + OpenFile + Drop>(
     rt: &R,
-    hall: &Hall<'_>,
+    server: &Server<'_>,
     notes: &N,
     centre: u8,
     mut file: JournalFile<F>,
 ) {
     let at = centre as usize;
-    let (Some(node), Some(journal)) = (hall.nodes.get(at), hall.journals.get(at)) else {
+    let (Some(node), Some(journal)) = (server.nodes.get(at), server.journals.get(at)) else {
         return;
     };
-    let keeper = Keeper {
-        alloc: hall.alloc,
-        line: hall.line,
-        name: name_of(hall.line, centre),
+    let writer = JournalWriter {
+        alloc: server.alloc,
+        line: server.line,
+        name: name_of(server.line, centre),
         node,
         journal,
         notes,
-        is_stopped: &hall.state.is_stopped,
-        is_over: &hall.state.is_done,
+        is_stopped: &server.state.is_stopped,
+        is_over: &server.state.is_done,
     };
-    if !keep_journal(rt, &keeper, &mut file) {
-        hall.lose(rt, centre);
+    if !keep_journal(rt, &writer, &mut file) {
+        server.lose(rt, centre);
     }
 }

@@ -1,6 +1,6 @@
 use rbc_board::{Carrier, QueueCarrier};
-use serve_hall::{DirectedLink, Hall};
-use serve_journal::Held;
+use serve_hall::{DirectedLink, Server};
+use serve_journal::JournaledCarrier;
 use serve_workers::{InOrder, pass_over, receive_frames, send_frames};
 use std::alloc::AllocError;
 use std::sync::Wait;
@@ -9,25 +9,25 @@ use std::thread::Threads;
 
 /// Carries the frames of a link in a bounded queue, until nothing new comes: a worker sends them, and another receives
 /// them.
-pub(crate) fn carry<R: Threads + Wait + Sync>(rt: &R, hall: &Hall<'_>, link: &DirectedLink) {
-    if try_carry(rt, hall, link).is_err() {
-        hall.fail();
+pub(crate) fn carry<R: Threads + Wait + Sync>(rt: &R, server: &Server<'_>, link: &DirectedLink) {
+    if try_carry(rt, server, link).is_err() {
+        server.fail();
     }
 }
 
 fn try_carry<R: Threads + Wait + Sync>(
     rt: &R,
-    hall: &Hall<'_>,
+    server: &Server<'_>,
     link: &DirectedLink,
 ) -> Result<(), AllocError> {
-    let (carrier, writer, reader) = QueueCarrier::new(rt, hall.alloc)?;
-    let journal = hall.journal(link.from);
-    let carrier = Held {
+    let (carrier, writer, reader) = QueueCarrier::new(rt, server.alloc)?;
+    let journal = server.journal(link.from);
+    let carrier = JournaledCarrier {
         rt,
         carrier,
         journal,
     };
-    carry_by(rt, hall, link, &carrier, writer, reader);
+    carry_by(rt, server, link, &carrier, writer, reader);
     Ok(())
 }
 
@@ -35,7 +35,7 @@ fn try_carry<R: Threads + Wait + Sync>(
 // be made, the line ends.
 fn carry_by<R: Threads + Wait + Sync, C: Carrier + Sync>(
     rt: &R,
-    hall: &Hall<'_>,
+    server: &Server<'_>,
     link: &DirectedLink,
     carrier: &C,
     writer: C::Seen,
@@ -52,13 +52,13 @@ fn carry_by<R: Threads + Wait + Sync, C: Carrier + Sync>(
             let sender = scope.spawn(
                 move ||
                     requires { C.is_of carrier.now writer }
-                { send(rt, hall, link, carrier, writer) },
+                { send(rt, server, link, carrier, writer) },
             );
             if sender.is_err() {
-                hall.fail();
+                server.fail();
                 return;
             }
-            receive(rt, hall, link, carrier, reader);
+            receive(rt, server, link, carrier, reader);
         },
     );
 }
@@ -66,23 +66,23 @@ fn carry_by<R: Threads + Wait + Sync, C: Carrier + Sync>(
 // Sends the frames of a link, until nothing new comes.
 fn send<R: Wait, C: Carrier>(
     rt: &R,
-    hall: &Hall<'_>,
+    server: &Server<'_>,
     link: &DirectedLink,
     carrier: &C,
     seen: C::Seen,
 )
     requires { C.is_of carrier.now seen }
 {
-    let (Some(node), Some(bells)) = (
-        hall.nodes.get(link.from as usize),
-        hall.bells.get(link.from as usize),
+    let (Some(node), Some(wakers)) = (
+        server.nodes.get(link.from as usize),
+        server.wakers.get(link.from as usize),
     ) else {
         return;
     };
-    let Some(bell) = bells.get(link.to as usize) else {
+    let Some(waker) = wakers.get(link.to as usize) else {
         return;
     };
-    let signals = link.ends.of_sender(bell, &hall.state.is_over);
+    let signals = link.ends.of_sender(waker, &server.state.is_over);
     send_frames(rt, node, link.to, carrier, seen, signals);
 }
 
@@ -90,25 +90,25 @@ fn send<R: Wait, C: Carrier>(
 // already.
 fn receive<R: Wait, C: Carrier>(
     rt: &R,
-    hall: &Hall<'_>,
+    server: &Server<'_>,
     link: &DirectedLink,
     carrier: &C,
     seen: C::Seen,
 )
     requires { C.is_of carrier.now seen }
 {
-    let (Some(desk), Some(bells)) = (hall.desk(link.to), hall.bells.get(link.from as usize)) else {
+    let (Some(committer), Some(wakers)) = (server.committer(link.to), server.wakers.get(link.from as usize)) else {
         return;
     };
-    let Some(bell) = bells.get(link.to as usize) else {
+    let Some(waker) = wakers.get(link.to as usize) else {
         return;
     };
-    let signals = link.ends.of_receiver(bell, &hall.state.is_over);
-    let taken = desk.node.look(rt).log().core().taken(link.from);
+    let signals = link.ends.of_receiver(waker, &server.state.is_over);
+    let taken = committer.node.look(rt).log().core().taken(link.from);
     let seen = pass_over(rt, carrier, seen, taken, signals);
     let mut order = InOrder::after(taken);
     let mut share = link.share.lock(rt);
     receive_frames(
-        rt, &desk, &mut share, link.from, carrier, seen, &mut order, signals,
+        rt, &committer, &mut share, link.from, carrier, seen, &mut order, signals,
     );
 }

@@ -1,6 +1,6 @@
-use crate::browsers::{PageDoor, Seen};
+use crate::browsers::{PageEndpoint, Seen};
 use cli_status::Fault;
-use serve_hall::{Caller, Door, Hall};
+use serve_hall::{Peer, Endpoint, Server};
 use serve_page::{Asked, LineNow, Refusal, answer, asked_of, refusal};
 use serve_show::Notes;
 use std::alloc::Global;
@@ -25,26 +25,26 @@ const FRESH_MS: u64 = 250;
 /// Answers browsers until all sessions have ended.
 pub(crate) fn run_pages<R: Threads + Wait + Sync + Clock, N: Notes + Sync>(
     rt: &R,
-    hall: &Hall<'_>,
+    server: &Server<'_>,
     notes: &N,
-    door: &PageDoor,
+    endpoint: &PageEndpoint,
 ) {
-    notes.note(format_args!("page: http://{}/", door.address));
+    notes.note(format_args!("page: http://{}/", endpoint.address));
     thread::scope(thread::scope_env(), rt, |scope| {
         for _ in rt.forever() {
-            if hall.state.is_empty() {
+            if server.state.is_empty() {
                 break;
             }
-            let Some(stream) = next_browser(rt, hall, door) else {
+            let Some(stream) = next_browser(rt, server, endpoint) else {
                 continue;
             };
-            let Some(place) = door.place_for(rt, &stream) else {
+            let Some(place) = endpoint.place_for(rt, &stream) else {
                 refuse(&stream);
                 continue;
             };
             if scope
                 .spawn(move || {
-                    serve_browser(rt, hall, door, &stream);
+                    serve_browser(rt, server, endpoint, &stream);
                     place.leave(rt);
                 })
                 .is_err()
@@ -58,13 +58,13 @@ pub(crate) fn run_pages<R: Threads + Wait + Sync + Clock, N: Notes + Sync>(
 // A connection that waits to be taken. It rests a while if there is none.
 fn next_browser<R: Wait>(
     rt: &R,
-    hall: &Hall<'_>,
-    door: &PageDoor,
+    server: &Server<'_>,
+    endpoint: &PageEndpoint,
 ) -> Option<Arc<TcpStream, Global>> {
-    match door.listener.accept() {
-        Ok((stream, _)) => Arc::new(hall.alloc, stream).ok(),
+    match endpoint.listener.accept() {
+        Ok((stream, _)) => Arc::new(server.alloc, stream).ok(),
         Err(_) => {
-            door.rest(rt);
+            endpoint.rest(rt);
             None
         }
     }
@@ -78,14 +78,14 @@ fn refuse(stream: &TcpStream) {
 }
 
 // Answers one request, and ends the connection.
-fn serve_browser<R: Wait + Clock>(rt: &R, hall: &Hall<'_>, door: &PageDoor, stream: &TcpStream) {
+fn serve_browser<R: Wait + Clock>(rt: &R, server: &Server<'_>, endpoint: &PageEndpoint, stream: &TcpStream) {
     let _ = stream.set_nodelay(true);
     let _ = stream.set_read_timeout(Some(Duration::from_millis(PAGE_REST_MS)));
     let _ = stream.set_write_timeout(Some(Duration::from_millis(PAGE_REST_MS)));
-    let Some((asked, has_body)) = read_request(hall, stream) else {
+    let Some((asked, has_body)) = read_request(server, stream) else {
         return;
     };
-    let Ok(text) = answer_to(rt, hall, door, asked) else {
+    let Ok(text) = answer_to(rt, server, endpoint, asked) else {
         return;
     };
     write_bounded(stream, part_of(text.as_str(), has_body).as_bytes());
@@ -106,8 +106,8 @@ fn part_of(text: &str, has_body: bool) -> &str {
 
 // What is asked for, as soon as it has come whole, and whether the answer has a body: to HEAD it has none. `None` if
 // the connection ends before.
-fn read_request(hall: &Hall<'_>, stream: &TcpStream) -> Option<(Asked, bool)> {
-    let mut bytes: Vec<u8> = Vec::new(hall.alloc);
+fn read_request(server: &Server<'_>, stream: &TcpStream) -> Option<(Asked, bool)> {
+    let mut bytes: Vec<u8> = Vec::new(server.alloc);
     let mut source = stream;
     for _ in 0..TURNS {
         let mut piece = [0u8; 2_048];
@@ -120,7 +120,7 @@ fn read_request(hall: &Hall<'_>, stream: &TcpStream) -> Option<(Asked, bool)> {
                     asked => return Some((asked, !bytes.starts_with(b"HEAD "))),
                 }
             }
-            Err(error) if is_rest(error.kind()) && !hall.state.is_empty() => {}
+            Err(error) if is_rest(error.kind()) && !server.state.is_empty() => {}
             Err(_) => return None,
         }
     }
@@ -139,24 +139,24 @@ fn is_rest(kind: ErrorKind) -> bool {
 // The bytes of the answer. The centres are looked at only where it needs them, and by one thread at a time.
 fn answer_to<R: Wait + Clock>(
     rt: &R,
-    hall: &Hall<'_>,
-    door: &PageDoor,
+    server: &Server<'_>,
+    endpoint: &PageEndpoint,
     asked: Asked,
 ) -> Result<String, Fault<'static>> {
-    let mut seen = door.seen.lock(rt);
+    let mut seen = endpoint.seen.lock(rt);
     if let Asked::Page | Asked::Now { .. } = asked {
-        refresh(rt, hall, &mut seen)?;
+        refresh(rt, server, &mut seen)?;
     }
-    let glance = &seen.glance;
+    let page_snapshot = &seen.page_snapshot;
     let version = seen.version;
-    Ok(answer(hall.alloc, &glance.layout, &glance.now, version, asked)?)
+    Ok(answer(server.alloc, &page_snapshot.layout, &page_snapshot.now, version, asked)?)
 }
 
 // Looks at the centres again if the last look is old. The page goes on showing that one while a journal can't be
 // written: nobody is shown an event that no journal has.
 fn refresh<R: Wait + Clock>(
     rt: &R,
-    hall: &Hall<'_>,
+    server: &Server<'_>,
     seen: &mut Seen,
 ) -> Result<(), Fault<'static>> {
     let Ok(time) = Instant::now(rt) else {
@@ -168,21 +168,21 @@ fn refresh<R: Wait + Clock>(
         }
     }
     seen.at = Some(time);
-    let now = seen.glance.look(rt, hall.alloc, hall.line, hall.nodes)?;
-    let shown = &mut seen.glance.now;
+    let now = seen.page_snapshot.look(rt, server.alloc, server.line, server.nodes)?;
+    let shown = &mut seen.page_snapshot.now;
     let mut has_changed = false;
-    if hall.await_journals(rt) {
+    if server.await_journals(rt) {
         has_changed = now.events != shown.events;
         let before = std::mem::replace(shown, now);
         copy_marks(&before, shown);
     }
-    if mark_doors(rt, hall, shown) || has_changed {
+    if mark_doors(rt, server, shown) || has_changed {
         seen.version = seen.version.saturating_add(1);
     }
     Ok(())
 }
 
-// Copies what the doors showed before.
+// Copies what the endpoints showed before.
 fn copy_marks(before: &LineNow, now: &mut LineNow) {
     now.is_stopped = before.is_stopped;
     for (place, old) in now.centres.iter_mut().zip(before.centres.iter()) {
@@ -194,30 +194,30 @@ fn copy_marks(before: &LineNow, now: &mut LineNow) {
 
 // Marks whether connections are taken, how many there are, and which journals can't be written. The result is whether
 // anything of that has changed.
-fn mark_doors<R: Wait>(rt: &R, hall: &Hall<'_>, now: &mut LineNow) -> bool {
-    let is_stopped = hall.state.is_stopped();
+fn mark_doors<R: Wait>(rt: &R, server: &Server<'_>, now: &mut LineNow) -> bool {
+    let is_stopped = server.state.is_stopped();
     let mut has_changed = is_stopped != now.is_stopped;
     now.is_stopped = is_stopped;
-    for door in hall.doors {
-        let Caller::Trains(centre) = door.caller else {
+    for endpoint in server.endpoints {
+        let Peer::Trains(centre) = endpoint.peer else {
             continue;
         };
         let Some(place) = now.centres.get_mut(centre as usize) else {
             continue;
         };
-        let marks = (taken_in(door), hall.is_stuck(rt, centre));
+        let marks = (taken_in(endpoint), server.is_stuck(rt, centre));
         has_changed = has_changed || marks != (place.taken, place.is_stuck);
         (place.taken, place.is_stuck) = marks;
-        place.seats = door.seats.len() as u64;
+        place.seats = endpoint.slots.len() as u64;
     }
     has_changed
 }
 
-// How many of a door's seats are taken.
-fn taken_in(door: &Door) -> u64 {
+// How many of an endpoint's slots are taken.
+fn taken_in(endpoint: &Endpoint) -> u64 {
     let mut taken = 0u64;
-    for seat in &door.seats {
-        if seat.is_taken.load(Ordering::SeqCst) {
+    for slot in &endpoint.slots {
+        if slot.is_taken.load(Ordering::SeqCst) {
             taken = taken.saturating_add(1);
         }
     }

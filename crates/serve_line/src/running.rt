@@ -1,4 +1,4 @@
-use crate::browsers::PageDoor;
+use crate::browsers::PageEndpoint;
 use crate::journals::{Record, keep, resume_noted};
 use crate::links::carry;
 use crate::pages::run_pages;
@@ -6,14 +6,14 @@ use crate::tally::Tally;
 use crossbeam_channel::bounded;
 use rbc_line::Line;
 use rbc_node::{Family, Node, Share, gather};
-use serve_callers::run_door;
+use serve_callers::run_endpoint;
 use serve_control::{ServeFault, print_family};
 use serve_hall::{
-    DirectedLink, Door, Doors, Hall, Manner, Seat, State, bells_of, doors_of, exchanges_of,
-    journals_of, links_of, nodes_of, tellers_of,
+    DirectedLink, Endpoint, Endpoints, Server, ServeOptions, Slot, State, wakers_of, endpoints_of, connections_of,
+    journals_of, links_of, nodes_of, sinks_of,
 };
 use serve_journal::JournalFile;
-use serve_show::{Backlog, Notes, Queued, write_notes};
+use serve_show::{Backlog, Notes, QueuedNotes, write_notes};
 use std::alloc::{AllocError, Global};
 use std::fs::OpenFile;
 use std::io::{Seek, Write};
@@ -37,9 +37,9 @@ pub fn serve<
     rt: &R,
     alloc: Global,
     line: &Line,
-    doors: Doors,
+    endpoints: Endpoints,
     record: Record<F>,
-    manner: Manner,
+    options: ServeOptions,
     notes: &N,
     out: &mut O,
 ) -> Result<(), ServeFault> {
@@ -53,13 +53,13 @@ pub fn serve<
         {
             return Err(ServeFault::from(AllocError));
         }
-        let queued = Queued {
+        let queued = QueuedNotes {
             rt,
             alloc,
             queue,
             backlog,
         };
-        serve_noted(rt, alloc, line, doors, record, manner, &queued, out)
+        serve_noted(rt, alloc, line, endpoints, record, options, &queued, out)
     })
 }
 
@@ -73,19 +73,19 @@ fn serve_noted<
     rt: &R,
     alloc: Global,
     line: &Line,
-    doors: Doors,
+    endpoints: Endpoints,
     record: Record<F>,
-    manner: Manner,
+    options: ServeOptions,
     notes: &N,
     out: &mut O,
 ) -> Result<(), ServeFault> {
     let nodes = nodes_of(alloc, line)?;
     let Record { files, entries } = record;
     let resumed = resume_noted(rt, alloc, line, &nodes, entries, notes)?;
-    let (listening, page) = doors.all();
-    let doors = doors_of(alloc, line, &nodes, listening)?;
+    let (listening, page) = endpoints.all();
+    let endpoints = endpoints_of(alloc, line, &nodes, listening)?;
     let page = match page {
-        Some(listening) => Some(PageDoor::new(rt, alloc, (line, &nodes), &doors, listening)?),
+        Some(listening) => Some(PageEndpoint::new(rt, alloc, (line, &nodes), &endpoints, listening)?),
         None => None,
     };
     let links = links_of(alloc, line, &nodes)?;
@@ -94,14 +94,14 @@ fn serve_noted<
         alloc,
         line,
         &nodes,
-        &doors,
+        &endpoints,
         &links,
         page.as_ref(),
         files,
-        manner,
+        options,
         notes,
     )?;
-    let shares = shares_of(resumed, doors, links)?;
+    let shares = shares_of(resumed, endpoints, links)?;
     notes.note("all sessions have ended");
     let family = gather(alloc, nodes, shares)?;
     print_noted(alloc, line, &family, notes, out)?;
@@ -145,51 +145,51 @@ fn run_centres<
     alloc: Global,
     line: &Line,
     nodes: &[Node],
-    doors: &[Door],
+    endpoints: &[Endpoint],
     links: &[DirectedLink],
-    page: Option<&PageDoor>,
+    page: Option<&PageEndpoint>,
     files: Vec<JournalFile<F>>,
-    manner: Manner,
+    options: ServeOptions,
     notes: &N,
 ) -> Result<bool, AllocError> {
-    let bells = bells_of(alloc, line)?;
-    let exchanges = exchanges_of(alloc, line, &bells)?;
+    let wakers = wakers_of(alloc, line)?;
+    let connections = connections_of(alloc, line, &wakers)?;
     let journals = if files.is_empty() {
         Vec::new(alloc)
     } else {
         journals_of(rt, alloc, nodes)?
     };
-    let tellers = tellers_of(alloc, line, &exchanges, doors, &journals, manner)?;
+    let sinks = sinks_of(alloc, line, &connections, endpoints, &journals, options)?;
     let state = State::new(line.centre_count());
-    let hall = Hall {
+    let server = Server {
         alloc,
         line,
         nodes,
-        tellers: &tellers,
-        doors,
+        sinks: &sinks,
+        endpoints,
         links,
-        bells: &bells,
+        wakers: &wakers,
         journals: &journals,
         state: &state,
-        manner,
+        options,
     };
-    run_beside(rt, &hall, page, files, notes);
+    run_beside(rt, &server, page, files, notes);
     if state.has_failed() {
         return Err(AllocError);
     }
     Ok(!state.has_lost())
 }
 
-// Runs the links and the doors, and beside them the page and the journals.
+// Runs the links and the endpoints, and beside them the page and the journals.
 fn run_beside<
     R: Threads + Wait + Sync + Clock,
     N: Notes + Sync,
     F: Write + Seek + OpenFile + Drop + Send,
->(rt: &R, hall: &Hall<'_>, page: Option<&PageDoor>, files: Vec<JournalFile<F>>, notes: &N) {
+>(rt: &R, server: &Server<'_>, page: Option<&PageEndpoint>, files: Vec<JournalFile<F>>, notes: &N) {
     thread::scope(thread::scope_env(), rt, |scope| {
         if let Some(page) = page {
             if scope
-                .spawn(move || run_pages(rt, hall, notes, page))
+                .spawn(move || run_pages(rt, server, notes, page))
                 .is_err()
             {
                 notes.note("page: no thread could be made");
@@ -197,56 +197,56 @@ fn run_beside<
         }
         let mut left = files;
         left.reverse();
-        for centre in 0..hall.line.centre_count() {
+        for centre in 0..server.line.centre_count() {
             let Some(file) = left.pop() else {
                 break;
             };
             if scope
-                .spawn(move || keep(rt, hall, notes, centre, file))
+                .spawn(move || keep(rt, server, notes, centre, file))
                 .is_err()
             {
-                hall.lose(rt, centre);
-                hall.fail();
+                server.lose(rt, centre);
+                server.fail();
             }
         }
-        run_links(rt, hall, notes);
-        hall.finish();
+        run_links(rt, server, notes);
+        server.finish();
     });
 }
 
-// Carries frames for as long as the doors are open: a thread a link, and in it two workers.
+// Carries frames for as long as the endpoints are open: a thread a link, and in it two workers.
 fn run_links<R: Threads + Wait + Sync + Clock, N: Notes + Sync>(
     rt: &R,
-    hall: &Hall<'_>,
+    server: &Server<'_>,
     notes: &N,
 ) {
     thread::scope(thread::scope_env(), rt, |scope| {
-        for link in hall.links {
-            if scope.spawn(move || carry(rt, hall, link)).is_err() {
-                hall.fail();
+        for link in server.links {
+            if scope.spawn(move || carry(rt, server, link)).is_err() {
+                server.fail();
             }
         }
-        run_doors(rt, hall, notes);
-        hall.state.end();
+        run_endpoints(rt, server, notes);
+        server.state.end();
     });
 }
 
-// Lets callers in at each door, until the interlocking says `stop` and the last of them is gone.
-fn run_doors<R: Threads + Wait + Sync + Clock, N: Notes + Sync>(
+// Lets peers in at each endpoint, until the interlocking says `stop` and the last of them is gone.
+fn run_endpoints<R: Threads + Wait + Sync + Clock, N: Notes + Sync>(
     rt: &R,
-    hall: &Hall<'_>,
+    server: &Server<'_>,
     notes: &N,
 ) {
     thread::scope(thread::scope_env(), rt, |scope| {
-        for door in hall.doors {
-            let name = hall.name(door.caller);
-            notes.note(format_args!("{name}: listens on {}", door.address));
+        for endpoint in server.endpoints {
+            let name = server.name(endpoint.peer);
+            notes.note(format_args!("{name}: listens on {}", endpoint.address));
             if scope
-                .spawn(move || run_door(rt, hall, notes, door))
+                .spawn(move || run_endpoint(rt, server, notes, endpoint))
                 .is_err()
             {
-                hall.state.close_door();
-                hall.fail();
+                server.state.close_endpoint();
+                server.fail();
             }
         }
     });
@@ -255,12 +255,12 @@ fn run_doors<R: Threads + Wait + Sync + Clock, N: Notes + Sync>(
 // The receipts of all that was committed: those with which the centres began, and those of the workers.
 fn shares_of(
     begun: Vec<Share>,
-    doors: Vec<Door>,
+    endpoints: Vec<Endpoint>,
     links: Vec<DirectedLink>,
 ) -> Result<Vec<Share>, AllocError> {
     let mut all = begun;
-    for door in doors {
-        add_shares(&mut all, door.seats)?;
+    for endpoint in endpoints {
+        add_shares(&mut all, endpoint.slots)?;
     }
     for link in links {
         all.push(link.share.into_inner())?;
@@ -268,10 +268,10 @@ fn shares_of(
     Ok(all)
 }
 
-// Adds the receipts of what was committed from these seats.
-fn add_shares(all: &mut Vec<Share>, seats: Vec<Seat>) -> Result<(), AllocError> {
-    for seat in seats {
-        let mut shares = seat.shares.into_inner();
+// Adds the receipts of what was committed from these slots.
+fn add_shares(all: &mut Vec<Share>, slots: Vec<Slot>) -> Result<(), AllocError> {
+    for slot in slots {
+        let mut shares = slot.shares.into_inner();
         all.append(&mut shares)?;
     }
     Ok(())

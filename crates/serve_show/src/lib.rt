@@ -7,11 +7,11 @@
 mod kinds;
 mod life;
 mod notes;
-mod roster;
-mod sight;
+mod mention_order;
+mod snapshot;
 
 pub use kinds::Kind;
 pub use life::{Life, write_life};
-pub use notes::{Backlog, Loud, Notes, Queued, Quiet, write_notes};
-pub use roster::Roster;
-pub use sight::show;
+pub use notes::{Backlog, StderrNotes, Notes, QueuedNotes, NoNotes, write_notes};
+pub use mention_order::MentionOrder;
+pub use snapshot::show;

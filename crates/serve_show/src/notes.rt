@@ -26,9 +26,9 @@ pub trait Notes {
 
 /// Writes each note as a line on standard error. A note that is not taken is lost.
 #[derive(Clone, Copy)]
-pub struct Loud<'a, R>(pub &'a R);
+pub struct StderrNotes<'a, R>(pub &'a R);
 
-impl<R: Eprint> Notes for Loud<'_, R> {
+impl<R: Eprint> Notes for StderrNotes<'_, R> {
     fn note<D: Display + Drop>(&self, text: D) {
         let _ = self.0.eprintln(text);
     }
@@ -59,7 +59,7 @@ impl Backlog {
 /// Hands each note to a thread that writes it, so that nobody waits for who reads the notes. A note is lost if too many
 /// wait. Each begins with the time, in UTC.
 #[derive(Drop)]
-pub struct Queued<'a, R> {
+pub struct QueuedNotes<'a, R> {
     /// The handle by which it may wait.
     pub rt: &'a R,
     /// Where memory for a note comes from.
@@ -70,7 +70,7 @@ pub struct Queued<'a, R> {
     pub backlog: &'a Backlog,
 }
 
-impl<R: Wait> Queued<'_, R> {
+impl<R: Wait> QueuedNotes<'_, R> {
     // Offers a note to the thread that writes it, and says whether it was taken.
     fn offer(&self, note: Vec<u8>) -> bool {
         let mut left = note;
@@ -86,7 +86,7 @@ impl<R: Wait> Queued<'_, R> {
     }
 }
 
-impl<R: Wait + Clock> Notes for Queued<'_, R> {
+impl<R: Wait + Clock> Notes for QueuedNotes<'_, R> {
     fn note<D: Display + Drop>(&self, text: D) {
         let mut note = Vec::new(self.alloc);
         if write_timed(self.rt, &mut note, text).is_none() || !self.offer(note) {
@@ -176,9 +176,9 @@ fn tell_left_out<R: Wait, N: Notes>(rt: &R, notes: &N, backlog: &Backlog, second
 
 /// Takes no notes.
 #[derive(Clone, Copy, Debug)]
-pub struct Quiet;
+pub struct NoNotes;
 
-impl Notes for Quiet {
+impl Notes for NoNotes {
     fn note<D: Display + Drop>(&self, _text: D) {}
 
     fn often<D: Display + Drop>(&self, _kind: Kind, _text: D) {}

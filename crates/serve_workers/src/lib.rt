@@ -4,22 +4,22 @@
 //! Bodies are free. What goes over a connection is fixed by docs/FORMATS.md.
 #![tactic(auto)]
 
-mod desk;
+mod committer;
 mod end;
 mod laws;
 mod links;
 mod order;
-mod outlet;
+mod sink;
 mod passing;
 mod session;
 mod signals;
 
-pub use desk::Desk;
+pub use committer::Committer;
 pub use end::SessionEnd;
 pub use laws::frames_are_committed_in_their_order;
 pub use links::{Sent, receive_frames, send_frames};
 pub use order::{InOrder, Order};
-pub use outlet::{Closed, Outlet};
+pub use sink::{NoSink, AnswerSink};
 pub use passing::pass_over;
 pub use session::run_session;
 pub use signals::{LinkEnds, Signals};

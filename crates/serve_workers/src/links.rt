@@ -3,9 +3,9 @@ ghost use Rattle.rbc_spec.specs.Frame.{Frame};
 ghost use Rattle.rbc_node.specs.Node.{centre_of};
 ghost use Rattle.serve_workers.specs.Carried.{PutsInOrder, TakesTurn, TakesTurns};
 
-use crate::desk::Desk;
+use crate::committer::Committer;
 use crate::order::Order;
-use crate::outlet::Outlet;
+use crate::sink::AnswerSink;
 use crate::signals::{Patience, Signals, Stage};
 use rbc_board::Carrier;
 use rbc_centre::Event;
@@ -64,9 +64,9 @@ pub fn send_frames<R: Wait, C: Carrier>(
 /// centre: after what it had the share has the receipts of these deliveries, in their order, and no others. Once no
 /// session is left it ends where a commit is refused, and where no frame is there and the sending worker has ended, or
 /// puts nothing for five seconds.
-pub fn receive_frames<R: Wait, C: Carrier, G: Gate, O: Outlet, N: Order>(
+pub fn receive_frames<R: Wait, C: Carrier, G: Gate, O: AnswerSink, N: Order>(
     rt: &R,
-    desk: &Desk<'_, G, O>,
+    committer: &Committer<'_, G, O>,
     share: &mut Share,
     from: u8,
     carrier: &C,
@@ -77,12 +77,12 @@ pub fn receive_frames<R: Wait, C: Carrier, G: Gate, O: Outlet, N: Order>(
     requires { C.is_of carrier.now seen }
     ensures link { C.is_of carrier.now result }
     ensures takes { (turns : List (Option Bool)) × TakesTurns N.asks N.follows (C.known result)
-        (centre_of desk.now.node.now) from order.old order.new share.old share.new turns }
+        (centre_of committer.now.node.now) from order.old order.new share.old share.new turns }
 {
     let mut patience = Patience::new();
     for _ in rt.forever() {
         let stage = signals.stage();
-        match take_turn(rt, desk, share, from, carrier, &mut seen, order) {
+        match take_turn(rt, committer, share, from, carrier, &mut seen, order) {
             Some(true) => {
                 patience = Patience::new();
                 signals.pass_on();
@@ -101,9 +101,9 @@ pub fn receive_frames<R: Wait, C: Carrier, G: Gate, O: Outlet, N: Order>(
 
 // Gets the frame under the number that the order asks for, commits it, and lets the order go on: whether the commit was
 // taken. None where no frame came.
-fn take_turn<R: Wait, C: Carrier, G: Gate, O: Outlet, N: Order>(
+fn take_turn<R: Wait, C: Carrier, G: Gate, O: AnswerSink, N: Order>(
     rt: &R,
-    desk: &Desk<'_, G, O>,
+    committer: &Committer<'_, G, O>,
     share: &mut Share,
     from: u8,
     carrier: &C,
@@ -114,13 +114,13 @@ fn take_turn<R: Wait, C: Carrier, G: Gate, O: Outlet, N: Order>(
     ensures link { C.is_of carrier.now seen.new }
     ensures keeps { (n : ℕ) (f : Frame) → C.known seen.old n ≡ Some f → C.known seen.new n ≡ Some f }
     ensures takes { TakesTurn N.asks N.follows (C.known seen.new)
-        (centre_of desk.now.node.now) from order.old order.new share.old share.new result }
+        (centre_of committer.now.node.now) from order.old order.new share.old share.new result }
 {
     let Some(frame) = carrier.get(seen, order.number()) else {
         order.go_on(false);
         return None;
     };
-    match desk.commit(rt, share, Event::Deliver { from, frame }) {
+    match committer.commit(rt, share, Event::Deliver { from, frame }) {
         Ok(_) => {
             order.go_on(true);
             Some(true)

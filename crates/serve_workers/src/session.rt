@@ -6,7 +6,7 @@ ghost use Rattle.serve_workers.specs.Ends.{EndsSo};
 ghost use Rattle.serve_workers.specs.Session.{Joins, CommitsAll, Serves};
 
 use crate::end::SessionEnd;
-use crate::outlet::Outlet;
+use crate::sink::AnswerSink;
 use rbc_centre::Event;
 use rbc_msgs::{Stream, TrainBody, TrainMsg};
 use rbc_node::{Gate, Node, Share, ShareFault};
@@ -17,14 +17,14 @@ use std::sync::Wait;
 /// Reads the messages of a train from a source, and commits each to the centre's log, in order. It ends with the
 /// source, at a fault of the bytes, at a read that fails and at a commit that is refused; the messages in front of a
 /// fault are committed first. A rest that is no whole message commits nothing.
-pub fn run_session<R: Wait, S: Source, G: Gate, O: Outlet>(
+pub fn run_session<R: Wait, S: Source, G: Gate, O: AnswerSink>(
     rt: &R,
     alloc: Global,
     node: &Node,
     gate: &G,
     share: &mut Share,
     source: &mut S,
-    outlet: &O,
+    sink: &O,
 ) -> SessionEnd
     requires { S.failures source.old < 2 ^ 64 - 1 }
     ensures serves { (read : List ℕ) × Consumes (S.left source.old) (S.left source.new) read
@@ -35,7 +35,7 @@ pub fn run_session<R: Wait, S: Source, G: Gate, O: Outlet>(
     let mut messages = Vec::new(alloc);
     for _ in rt.forever() {
         let came = read_messages(source, &mut stream, &mut messages);
-        if let Err(fault) = commit_all(rt, node, gate, share, &mut messages, outlet) {
+        if let Err(fault) = commit_all(rt, node, gate, share, &mut messages, sink) {
             return SessionEnd::Refused(fault);
         }
         if let Err(end) = came {
@@ -46,32 +46,32 @@ pub fn run_session<R: Wait, S: Source, G: Gate, O: Outlet>(
 }
 
 // Commits the messages in their order, and leaves none, or stops at the first whose commit is refused.
-fn commit_all<R: Wait, G: Gate, O: Outlet>(
+fn commit_all<R: Wait, G: Gate, O: AnswerSink>(
     rt: &R,
     node: &Node,
     gate: &G,
     share: &mut Share,
     messages: &mut Vec<TrainMsg>,
-    outlet: &O,
+    sink: &O,
 ) -> Result<(), ShareFault>
     ensures commits { CommitsAll (centre_of node.now) share.old share.new messages.old.items result }
     ensures none { OnOk result (messages.new.items ≡ []) }
 {
     messages.reverse();
     while let Some(message) = messages.pop() {
-        commit_one(rt, node, gate, share, message, outlet)?;
+        commit_one(rt, node, gate, share, message, sink)?;
     }
     Ok(())
 }
 
 // Commits one message. Where it opened a session, the connection serves its engine from then on.
-fn commit_one<R: Wait, G: Gate, O: Outlet>(
+fn commit_one<R: Wait, G: Gate, O: AnswerSink>(
     rt: &R,
     node: &Node,
     gate: &G,
     share: &mut Share,
     message: TrainMsg,
-    outlet: &O,
+    sink: &O,
 ) -> Result<(), ShareFault>
     ensures joins { OnOk result (Joins (centre_of node.now) share.old share.new (message ∷ [])) }
     ensures refused { IfErr result (RefusesAt (centre_of node.now) share.old (Train message)) }
@@ -81,8 +81,8 @@ fn commit_one<R: Wait, G: Gate, O: Outlet>(
     let opens = matches!(message.body(), TrainBody::InitiationOfSession);
     let outcome = node.commit(rt, gate, share, Event::Train(message))?;
     if opens && outcome.silence.is_none() {
-        outlet.opened(rt, nid_engine);
+        sink.opened(rt, nid_engine);
     }
-    outlet.answered(rt, &outcome);
+    sink.answered(rt, &outcome);
     Ok(())
 }

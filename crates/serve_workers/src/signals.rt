@@ -29,11 +29,11 @@ impl LinkEnds {
         }
     }
 
-    /// What the sending worker is told: its bell is rung where its centre has a frame for the link, and where there is
+    /// What the sending worker is told: its waker is rung where its centre has a frame for the link, and where there is
     /// room again.
-    pub fn of_sender<'a>(&'a self, bell: &'a Parker, is_over: &'a AtomicBool) -> Signals<'a> {
+    pub fn of_sender<'a>(&'a self, waker: &'a Parker, is_over: &'a AtomicBool) -> Signals<'a> {
         Signals {
-            own: bell,
+            own: waker,
             next: &self.put,
             is_over,
             has_ended: &self.has_sender_ended,
@@ -41,11 +41,11 @@ impl LinkEnds {
         }
     }
 
-    /// What the receiving worker is told. It rings the bell of the sending worker.
-    pub fn of_receiver<'a>(&'a self, bell: &'a Parker, is_over: &'a AtomicBool) -> Signals<'a> {
+    /// What the receiving worker is told. It rings the waker of the sending worker.
+    pub fn of_receiver<'a>(&'a self, waker: &'a Parker, is_over: &'a AtomicBool) -> Signals<'a> {
         Signals {
             own: &self.put,
-            next: bell,
+            next: waker,
             is_over,
             has_ended: &self.has_receiver_ended,
             has_other_ended: &self.has_sender_ended,

@@ -3,7 +3,7 @@ use Rattle.std.proofs.Common.{◌≡◌, ◌⊎◌, ℕ, zero, suc, ◌+◌, ◌
 use Rattle.std.proofs.lemmas.Bool.{cond_both}
 use Rattle.std.proofs.lemmas.List.Elements.{All-push, All-append, All-nil, All-head, All-tail, All-cons, All-weaker}
 use Rattle.rbc_spec.specs.Message.{TrackMessage}
-use Rattle.serve_writing.specs.Turns.{Act, HandedIn, LetOut, Goes, IsCounted, IsSaidBy, IsTurn, handed_in, let_out, kept}
+use Rattle.serve_writing.specs.Turns.{Act, HandedIn, LetOut, Goes, IsCounted, IsSaidBy, IsTurn, handed_in, release, kept}
 
 -- a member of a list that is not its head follows it
 member : (x : TrackMessage) (xs : List TrackMessage) (z : TrackMessage) → Contains (x ∷ xs) z → (x ≡ z) ⊎ Contains xs z
@@ -73,7 +73,7 @@ all_left P next m early left is all =
 
 pub beginning : (said : List TrackMessage) (first : ℕ) (early : List TrackMessage) (acts : List Act) →
     IsCounted first said → All (IsSaidBy first said) early → All (IsSaidBy first said) (handed_in acts) →
-    Goes acts first early → (rest : List TrackMessage) × (said ≡ let_out acts ++ rest)
+    Goes acts first early → (rest : List TrackMessage) × (said ≡ release acts ++ rest)
 beginning said first early [] counted waits come goes = (said, refl)
 beginning said first early (HandedIn m ∷ acts) counted waits come goes =
     beginning said first (kept first m early) acts counted

@@ -43,10 +43,10 @@ handed_in (HandedIn m ∷ acts) = m ∷ handed_in acts
 handed_in (LetOut m ∷ acts) = handed_in acts
 
 -- the messages that were let out
-abbrev pub let_out : List Act → List TrackMessage
-let_out [] = []
-let_out (HandedIn m ∷ acts) = let_out acts
-let_out (LetOut m ∷ acts) = m ∷ let_out acts
+abbrev pub release : List Act → List TrackMessage
+release [] = []
+release (HandedIn m ∷ acts) = release acts
+release (LetOut m ∷ acts) = m ∷ release acts
 
 -- an order whose turn is this one, and at which these wait, can go on so
 abbrev pub Goes : List Act → ℕ → List TrackMessage → Type 0

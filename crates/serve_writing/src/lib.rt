@@ -6,14 +6,14 @@
 
 mod laws;
 mod order;
-mod pipe;
+mod shared_writer;
 mod release;
 mod reply;
 mod writer;
 
 pub use laws::{an_order_lets_out_a_beginning, an_order_never_turns_back};
 pub use order::{NoRoom, Order};
-pub use pipe::{Pipe, PipeEnd, Turn};
+pub use shared_writer::{SharedWriter, QueueWriter, Turn};
 pub use release::{AtOnce, Release};
 pub use reply::Reply;
 pub use writer::{WriteFailed, run_held_writer, run_writer};

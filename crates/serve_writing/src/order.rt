@@ -57,7 +57,7 @@ impl Order {
     }
 
     /// A reply is handed in, and waits for its turn. One whose turn is over is let go.
-    pub fn hand_in(&mut self, reply: Reply) -> Result<(), NoRoom>
+    pub fn submit(&mut self, reply: Reply) -> Result<(), NoRoom>
         ensures next { self.new.next ≡ self.old.next }
         ensures ok { OnOk result
             (map message_of self.new.early.items
@@ -81,7 +81,7 @@ impl Order {
     }
 
     /// The reply whose turn it is, if it was handed in. The turn goes on to the next.
-    pub fn let_out(&mut self) -> Option<Reply>
+    pub fn release(&mut self) -> Option<Reply>
         ensures next { self.new.next ≡ (if is_some result then self.old.next + 1 else self.old.next) }
         ensures some { IfSome result
             (λ reply. IsTurn self.old.next reply.message (map message_of self.old.early.items)

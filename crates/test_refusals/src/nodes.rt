@@ -5,19 +5,19 @@ use crate::playing::Stopped;
 use rbc_centre::{Event, Frame};
 use rbc_node::{Node, Open, Share, ShareFault};
 use serve_reading::Reads;
-use serve_workers::{Closed, SessionEnd, run_session};
+use serve_workers::{NoSink, SessionEnd, run_session};
 use std::alloc::Global;
 use std::sync::Wait;
 
 /// A node, and what one thread committed there.
 #[derive(Drop)]
-pub struct Seat {
+pub struct Slot {
     pub node: Node,
     pub share: Share,
 }
 
 // How many entries the log has, how many receipts the share, and how many frames the centre has for another.
-fn counts<R: Wait>(rt: &R, seat: &Seat, to: u8) -> (usize, usize, u32) {
+fn counts<R: Wait>(rt: &R, seat: &Slot, to: u8) -> (usize, usize, u32) {
     let look = seat.node.look(rt);
     let log = look.log();
     (
@@ -30,7 +30,7 @@ fn counts<R: Wait>(rt: &R, seat: &Seat, to: u8) -> (usize, usize, u32) {
 // Commits the first event, or the second where memory ran out and nothing has changed.
 fn commit<R: Wait>(
     rt: &R,
-    seat: &mut Seat,
+    seat: &mut Slot,
     to: u8,
     first: Event,
     second: Event,
@@ -48,12 +48,12 @@ fn commit<R: Wait>(
 }
 
 /// The node takes the set of a section.
-pub fn set<R: Wait>(rt: &R, seat: &mut Seat, to: u8, section: u16) -> Result<(), Stopped> {
+pub fn set<R: Wait>(rt: &R, seat: &mut Slot, to: u8, section: u16) -> Result<(), Stopped> {
     commit(rt, seat, to, Event::Set(section), Event::Set(section))
 }
 
 /// The node takes a frame of another centre, and then once more, as an old one.
-pub fn take<R: Wait>(rt: &R, seat: &mut Seat, from: u8, frame: Frame) -> Result<(), Stopped> {
+pub fn take<R: Wait>(rt: &R, seat: &mut Slot, from: u8, frame: Frame) -> Result<(), Stopped> {
     commit(
         rt,
         seat,
@@ -64,7 +64,7 @@ pub fn take<R: Wait>(rt: &R, seat: &mut Seat, from: u8, frame: Frame) -> Result<
 }
 
 /// The frame of this number that the centre has for another.
-pub fn frame<R: Wait>(rt: &R, seat: &Seat, to: u8, number: u32) -> Result<Frame, Stopped> {
+pub fn frame<R: Wait>(rt: &R, seat: &Slot, to: u8, number: u32) -> Result<Frame, Stopped> {
     match seat.node.frame(rt, to, number) {
         Some(frame) => Ok(frame),
         None => Err(Stopped::Otherwise),
@@ -72,7 +72,7 @@ pub fn frame<R: Wait>(rt: &R, seat: &Seat, to: u8, number: u32) -> Result<Frame,
 }
 
 /// A session over the bytes of the train's start. Where it ends for want of memory, another takes what is left.
-pub fn start<R: Wait>(rt: &R, alloc: Global, seat: &mut Seat) -> Result<(), Stopped> {
+pub fn start<R: Wait>(rt: &R, alloc: Global, seat: &mut Slot) -> Result<(), Stopped> {
     let before = seat.share.receipts().len();
     for _ in 0..2 {
         let taken = seat.share.receipts().len().saturating_sub(before);
@@ -87,7 +87,7 @@ pub fn start<R: Wait>(rt: &R, alloc: Global, seat: &mut Seat) -> Result<(), Stop
             &Open,
             &mut seat.share,
             &mut source,
-            &Closed,
+            &NoSink,
         );
         if end == SessionEnd::EndOfStream {
             return Ok(());

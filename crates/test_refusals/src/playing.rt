@@ -4,7 +4,7 @@ ghost use Rattle.std.specs.Prelude.{◌<◌};
 
 use crate::carrying::over_a_queue;
 use crate::line::{A, B, two_centres};
-use crate::nodes::{Seat, frame, set, start, take};
+use crate::nodes::{Slot, frame, set, start, take};
 use crate::telling::told;
 use rbc_log::{Entry, merge};
 use rbc_node::{Family, GatherFault, Node, Share, gather};
@@ -41,8 +41,8 @@ pub fn play<R: Wait>(rt: &R, alloc: Global) -> Result<Played, Stopped> {
 fn start_over_the_border<R: Wait>(
     rt: &R,
     alloc: Global,
-    a: &mut Seat,
-    b: &mut Seat,
+    a: &mut Slot,
+    b: &mut Slot,
 ) -> Result<(), Stopped> {
     set(rt, a, B, 1)?;
     start(rt, alloc, a)?;
@@ -54,8 +54,8 @@ fn start_over_the_border<R: Wait>(
 fn carry_twice<R: Wait>(
     rt: &R,
     alloc: Global,
-    from: (&Seat, u8),
-    to: (&mut Seat, u8),
+    from: (&Slot, u8),
+    to: (&mut Slot, u8),
 ) -> Result<(), Stopped> {
     let (sender, a) = from;
     let (receiver, b) = to;
@@ -67,7 +67,7 @@ fn carry_twice<R: Wait>(
 }
 
 // A node of one of the two centres.
-fn seat(alloc: Global, centre: u8) -> Result<Seat, Stopped>
+fn seat(alloc: Global, centre: u8) -> Result<Slot, Stopped>
     requires { centre < 2 }
 {
     let Ok(line) = two_centres(alloc) else {
@@ -81,7 +81,7 @@ fn seat(alloc: Global, centre: u8) -> Result<Seat, Stopped>
         },
     };
     let share = node.share();
-    Ok(Seat { node, share })
+    Ok(Slot { node, share })
 }
 
 // Room for two.
@@ -96,7 +96,7 @@ fn room<T>(alloc: Global) -> Result<Vec<T>, Stopped> {
 }
 
 // The logs of the two nodes.
-fn gathered(alloc: Global, a: Seat, b: Seat) -> Result<Family, Stopped> {
+fn gathered(alloc: Global, a: Slot, b: Slot) -> Result<Family, Stopped> {
     let nodes: Vec<Node> = room(alloc)?;
     let shares: Vec<Share> = room(alloc)?;
     let Ok((nodes, shares)) = listed(nodes, shares, a, b) else {
@@ -112,11 +112,11 @@ fn gathered(alloc: Global, a: Seat, b: Seat) -> Result<Family, Stopped> {
 fn listed(
     mut nodes: Vec<Node>,
     mut shares: Vec<Share>,
-    a: Seat,
-    b: Seat,
+    a: Slot,
+    b: Slot,
 ) -> Result<(Vec<Node>, Vec<Share>), AllocError> {
     for seat in [a, b] {
-        let Seat { node, share } = seat;
+        let Slot { node, share } = seat;
         nodes.push(node)?;
         shares.push(share)?;
     }

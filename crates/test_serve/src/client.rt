@@ -8,8 +8,8 @@ use std::thread;
 /// What a play missed.
 #[derive(Clone, Copy, Debug)]
 pub enum Missed {
-    /// A door that is open.
-    Door,
+    /// An endpoint that is open.
+    Endpoint,
     /// A connection whose reads need not wait.
     Waiting,
     /// A connection that takes what is said.
@@ -44,9 +44,9 @@ pub type Done<T> = Result<T, Missed>;
 /// How often an answer is looked for at most.
 pub const TURNS: u32 = 10_000_000;
 
-/// A connection to a door, which no read holds up.
-pub fn connect<R: Net<Stream = TcpStream>>(rt: &R, door: SocketAddr) -> Done<TcpStream> {
-    let stream = TcpStream::connect(rt, door).ok().ok_or(Missed::Door)?;
+/// A connection to an endpoint, which no read holds up.
+pub fn connect<R: Net<Stream = TcpStream>>(rt: &R, endpoint: SocketAddr) -> Done<TcpStream> {
+    let stream = TcpStream::connect(rt, endpoint).ok().ok_or(Missed::Endpoint)?;
     stream.set_nonblocking(true).ok().ok_or(Missed::Waiting)?;
     Ok(stream)
 }

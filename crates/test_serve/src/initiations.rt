@@ -8,9 +8,9 @@ use crossbeam_channel::{Receiver, bounded};
 use rbc_centre::{Event, Outcome};
 use rbc_msgs::decode_train;
 use rbc_node::{Node, Open, Share};
-use serve_connections::{Connection, Exchange, Shared, Wire};
-use serve_workers::Outlet;
-use serve_writing::{Pipe, Reply, run_writer};
+use serve_connections::{Connection, TrainConnections, Shared, ConnectionSink};
+use serve_workers::AnswerSink;
+use serve_writing::{SharedWriter, Reply, run_writer};
 use std::alloc::Global;
 use std::io::Write;
 use std::net::{IpAddr, Ipv4Addr, Net, Shutdown, SocketAddr, TcpListener, TcpStream};
@@ -52,7 +52,7 @@ type Turn = (Option<usize>, usize);
 #[derive(Drop)]
 struct Ends {
     stream: Arc<TcpStream, Global>,
-    pipe: Arc<Pipe<Shared>, Global>,
+    shared_writer: Arc<SharedWriter<Shared>, Global>,
     replies: Receiver<Reply>,
     train: TcpStream,
 }
@@ -81,11 +81,11 @@ fn answer<R: Wait>(
     Ok(taken.ok().ok_or("the message is taken")?)
 }
 
-// A connection of this number at the exchange.
+// A connection of this number at the connections.
 fn entered<R: Net<Stream = TcpStream, Listener = TcpListener> + Wait>(
     rt: &R,
     alloc: Global,
-    exchange: &Exchange<'_>,
+    connections: &TrainConnections<'_>,
     number: usize,
 ) -> Result<Ends, Fail> {
     let loopback = SocketAddr::new(IpAddr::V4(Ipv4Addr::LOCALHOST), 0);
@@ -93,13 +93,13 @@ fn entered<R: Net<Stream = TcpStream, Listener = TcpListener> + Wait>(
     let train = connect(rt, listener.local_addr()?)?;
     let (stream, _) = listener.accept()?;
     let stream = Arc::new(alloc, stream)?;
-    let pipe = Arc::new(alloc, Pipe::new(Shared(Arc::try_clone(&stream)?)))?;
+    let shared_writer = Arc::new(alloc, SharedWriter::new(Shared(Arc::try_clone(&stream)?)))?;
     let (sender, replies) = bounded(alloc, 8)?;
-    let connection = Connection::new(sender, Arc::try_clone(&pipe)?, Arc::try_clone(&stream)?);
-    exchange.enter(rt, number, connection)?;
+    let connection = Connection::new(sender, Arc::try_clone(&shared_writer)?, Arc::try_clone(&stream)?);
+    connections.enter(rt, number, connection)?;
     Ok(Ends {
         stream,
-        pipe,
+        shared_writer,
         replies,
         train,
     })
@@ -114,35 +114,35 @@ fn played<R: Net<Stream = TcpStream, Listener = TcpListener> + Wait>(
 ) -> Result<(Vec<u8>, Vec<u8>), Fail> {
     let line = two_centres(alloc)?;
     let outcomes = answered(rt, alloc, said)?;
-    let exchange = Exchange::new(alloc, &line, 2, &[])?;
-    let first = entered(rt, alloc, &exchange, 0)?;
-    let second = entered(rt, alloc, &exchange, 1)?;
+    let connections = TrainConnections::new(alloc, &line, 2, &[])?;
+    let first = entered(rt, alloc, &connections, 0)?;
+    let second = entered(rt, alloc, &connections, 1)?;
     for (own, number) in turns {
         let outcome = outcomes.get(*number).ok_or("it is answered")?;
-        hand_in(rt, &exchange, *own, outcome);
+        submit(rt, &connections, *own, outcome);
     }
-    let first = brought(rt, alloc, &exchange, 0, first)?;
-    let second = brought(rt, alloc, &exchange, 1, second)?;
+    let first = brought(rt, alloc, &connections, 0, first)?;
+    let second = brought(rt, alloc, &connections, 1, second)?;
     Ok((first, second))
 }
 
-fn hand_in<R: Wait>(rt: &R, exchange: &Exchange<'_>, own: Option<usize>, outcome: &Outcome) {
+fn submit<R: Wait>(rt: &R, connections: &TrainConnections<'_>, own: Option<usize>, outcome: &Outcome) {
     match own {
-        Some(number) => Wire { exchange, number }.answered(rt, outcome),
-        None => exchange.answered(rt, outcome),
+        Some(number) => ConnectionSink { connections, number }.answered(rt, outcome),
+        None => connections.answered(rt, outcome),
     }
 }
 
-// The connection leaves the exchange, and its writer writes the answers that wait, and the last bytes.
+// The connection leaves the connections, and its writer writes the answers that wait, and the last bytes.
 fn brought<R: Wait>(
     rt: &R,
     alloc: Global,
-    exchange: &Exchange<'_>,
+    connections: &TrainConnections<'_>,
     number: usize,
     ends: Ends,
 ) -> Done<Vec<u8>> {
-    exchange.leave(rt, number);
-    let _ = run_writer(rt, &ends.replies, &mut ends.pipe.end(rt));
+    connections.leave(rt, number);
+    let _ = run_writer(rt, &ends.replies, &mut ends.shared_writer.end(rt));
     let last = bytes_of(alloc, LAST)?;
     let mut out: &TcpStream = &ends.stream;
     let _ = out.write(&last);

@@ -1,11 +1,11 @@
-//! The control door: what its lines are answered, and how it ends.
+//! The control endpoint: what its lines are answered, and how it ends.
 
 use crate::line::INITIATION_OF_ONE;
 use crate::play::{Act, Step, begins_so, printed_after};
-use serve_line::Manner;
+use serve_line::ServeOptions;
 use std::test::*;
 
-// Lines of the control door, and what each is answered; and how it ends.
+// Lines of the control endpoint, and what each is answered; and how it ends.
 static LINES: [Step<'_>; 11] = [
     (0, Act::Control),
     (0, Act::Asks("set A 1\n", "> set A 1\nA 1 Done\n")),
@@ -28,7 +28,7 @@ static LINES: [Step<'_>; 11] = [
 
 #[test]
 fn each_line_is_answered_as_a_run_prints_it(rt: HostRuntime) -> Result<(), Fail> {
-    let printed = printed_after(&rt, rt.alloc(), Manner::default(), &LINES)?;
+    let printed = printed_after(&rt, rt.alloc(), ServeOptions::default(), &LINES)?;
     let wanted =
         "> set A 1\nA 1 Done\n> set A 2\nA 2 NotHome\n> unset A 1\nA 1 Done\nsection 0 A shut\nsection 1 A shut\nsection 2 B shut\n";
     assert!(rt; printed.as_slice() == wanted.as_bytes());

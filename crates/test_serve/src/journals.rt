@@ -8,7 +8,7 @@ use crate::sheet::{Paper, Sheet, cells};
 use cli_audit::Verdict;
 use cli_journal::Entry;
 use rbc_world::WorldEvent;
-use serve_line::{JournalFile, Manner, Record};
+use serve_line::{JournalFile, ServeOptions, Record};
 use std::alloc::Global;
 use std::net::{Net, TcpStream};
 use std::sync::atomic::{AtomicUsize, Ordering};
@@ -44,7 +44,7 @@ fn what_is_answered_is_written_before(rt: HostRuntime) -> Result<(), Fail> {
         &rt,
         rt.alloc(),
         &line,
-        Manner::default(),
+        ServeOptions::default(),
         record,
         |addresses| { ask_both_doors(&rt, rt.alloc(), addresses, a) },
     )?;
@@ -92,7 +92,7 @@ fn nothing_is_answered_while_the_disk_is_full(rt: HostRuntime) -> Result<(), Fai
         &rt,
         rt.alloc(),
         &line,
-        Manner::default(),
+        ServeOptions::default(),
         record,
         |addresses| { wait_for_room(&rt, rt.alloc(), addresses, (a, &little)) },
     )?;
@@ -149,7 +149,7 @@ fn a_journal_that_stays_full_is_given_up(rt: HostRuntime) -> Result<(), Fail> {
         &rt,
         rt.alloc(),
         &line,
-        Manner::default(),
+        ServeOptions::default(),
         record,
         |addresses| {
             let control = connect(&rt, addresses.control)?;
@@ -220,7 +220,7 @@ fn centres_go_on_where_they_were(rt: HostRuntime) -> Result<(), Fail> {
         &rt,
         rt.alloc(),
         &line,
-        Manner::default(),
+        ServeOptions::default(),
         record,
         |addresses| {
             let control = connect(&rt, addresses.control)?;
@@ -263,7 +263,7 @@ fn journals_of_another_run_are_refused(rt: HostRuntime) -> Result<(), Fail> {
             &rt,
             rt.alloc(),
             &line,
-            Manner::default(),
+            ServeOptions::default(),
             record,
             |_| Ok(()),
         )?;

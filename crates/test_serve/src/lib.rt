@@ -15,11 +15,11 @@ mod journals;
 #[cfg(test)]
 mod line;
 #[cfg(test)]
-mod manner;
+mod options;
 #[cfg(test)]
 mod order;
 #[cfg(test)]
-mod outlets;
+mod sinks;
 #[cfg(test)]
 mod play;
 #[cfg(test)]
@@ -27,7 +27,7 @@ mod railway;
 #[cfg(test)]
 mod refusing;
 #[cfg(test)]
-mod seats;
+mod slots;
 #[cfg(test)]
 mod sheet;
 #[cfg(test)]

@@ -5,7 +5,7 @@ use crate::line::{INITIATION_OF_ONE, VERSION, bytes_of};
 use crate::play::{Act, Step, play};
 use crate::railway::{Addresses, printed_of_two_centres};
 use rbc_msgs::decode_track;
-use serve_line::Manner;
+use serve_line::ServeOptions;
 use std::alloc::Global;
 use std::io::{ErrorKind, Read};
 use std::net::{Net, Shutdown, TcpStream};
@@ -34,7 +34,7 @@ fn a_train_hears_all_in_order_though_two_threads_commit(rt: HostRuntime) -> Resu
         is_said: AtomicBool::new(false),
     };
     let numbers = AtomicBool::new(false);
-    let printed = printed_of_two_centres(&rt, rt.alloc(), Manner::default(), |addresses| {
+    let printed = printed_of_two_centres(&rt, rt.alloc(), ServeOptions::default(), |addresses| {
         let (opened, other) = thread::join(
             &rt,
             || open_and_start(&rt, rt.alloc(), addresses, &told),
@@ -67,7 +67,7 @@ fn open_and_start<R: Net<Stream = TcpStream>>(
     told: &Told,
 ) -> Done<Vec<u8>> {
     let streams = play(rt, alloc, addresses, &OPENING)?;
-    let stream = streams.first().ok_or(Missed::Door)?;
+    let stream = streams.first().ok_or(Missed::Endpoint)?;
     told.is_open.store(true, Ordering::SeqCst);
     say_starts(alloc, stream, "00")?;
     wait_for(&told.is_said)?;

@@ -1,9 +1,9 @@
-//! What callers do at the doors of running centres, one step after another.
+//! What peers do at the endpoints of running centres, one step after another.
 
 use crate::client::{Done, Missed, answers, connect, heard, is_ended, say};
 use crate::line::bytes_of;
 use crate::railway::{Addresses, printed_of_two_centres};
-use serve_line::Manner;
+use serve_line::ServeOptions;
 use std::alloc::Global;
 use std::net::{Net, SocketAddr, TcpListener, TcpStream};
 use std::sync::Wait;
@@ -16,7 +16,7 @@ use std::time::Clock;
 pub enum Act<'a> {
     /// It comes to centre A.
     Train,
-    /// It comes to the control door.
+    /// It comes to the control endpoint.
     Control,
     /// It says this text, and is answered so.
     Asks(&'a str, &'a str),
@@ -43,14 +43,14 @@ pub fn play<R: Net<Stream = TcpStream>>(
     let mut streams = Vec::new(alloc);
     for (number, act) in steps {
         match door_of(addresses, *act) {
-            Some(door) => come(rt, &mut streams, door)?,
+            Some(endpoint) => come(rt, &mut streams, endpoint)?,
             None => done(alloc, &streams, *number, *act)?,
         }
     }
     Ok(streams)
 }
 
-// The door to which a connection comes, if it does.
+// The endpoint to which a connection comes, if it does.
 fn door_of(addresses: Addresses, act: Act<'_>) -> Option<SocketAddr> {
     match act {
         Act::Train => Some(addresses.centre),
@@ -62,13 +62,13 @@ fn door_of(addresses: Addresses, act: Act<'_>) -> Option<SocketAddr> {
 fn come<R: Net<Stream = TcpStream>>(
     rt: &R,
     streams: &mut Vec<TcpStream>,
-    door: SocketAddr,
+    endpoint: SocketAddr,
 ) -> Done<()> {
-    streams.push(connect(rt, door)?).ok().ok_or(Missed::Memory)
+    streams.push(connect(rt, endpoint)?).ok().ok_or(Missed::Memory)
 }
 
 fn done(alloc: Global, streams: &[TcpStream], number: usize, act: Act<'_>) -> Done<()> {
-    let stream = streams.get(number).ok_or(Missed::Door)?;
+    let stream = streams.get(number).ok_or(Missed::Endpoint)?;
     match act {
         Act::Asks(said, wanted) => answers(alloc, stream, said, wanted),
         Act::Sends(digits) => send(alloc, stream, digits),
@@ -99,8 +99,8 @@ fn take(alloc: Global, stream: &TcpStream, count: usize) -> Done<()> {
 /// Serves the line of two centres while the steps are played, and gives what was printed.
 pub fn printed_after<
     R: Threads + Wait + Sync + Net<Stream = TcpStream, Listener = TcpListener> + Clock,
->(rt: &R, alloc: Global, manner: Manner, steps: &[Step<'_>]) -> Result<Vec<u8>, Fail> {
-    printed_of_two_centres(rt, alloc, manner, |addresses| {
+>(rt: &R, alloc: Global, options: ServeOptions, steps: &[Step<'_>]) -> Result<Vec<u8>, Fail> {
+    printed_of_two_centres(rt, alloc, options, |addresses| {
         play(rt, alloc, addresses, steps)?;
         Ok(())
     })
@@ -110,6 +110,6 @@ pub fn printed_after<
 pub fn begins_so<
     R: Threads + Wait + Sync + Net<Stream = TcpStream, Listener = TcpListener> + Clock,
 >(rt: &R, alloc: Global, steps: &[Step<'_>], wanted: &[u8]) -> Result<bool, Fail> {
-    let printed = printed_after(rt, alloc, Manner::default(), steps)?;
+    let printed = printed_after(rt, alloc, ServeOptions::default(), steps)?;
     Ok(printed.starts_with(wanted))
 }

@@ -4,7 +4,7 @@ use crate::client::{Done, Missed, connect, say};
 use crate::line::{CONTROL, two_centres};
 use cli_audit::{Audit, Verdict};
 use rbc_line::Line;
-use serve_line::{Doors, Manner, Quiet, Record, serve};
+use serve_line::{Endpoints, ServeOptions, NoNotes, Record, serve};
 use std::alloc::Global;
 use std::fs::{File, OpenFile};
 use std::io::{Seek, Write};
@@ -15,7 +15,7 @@ use std::thread;
 use std::thread::Threads;
 use std::time::Clock;
 
-/// The addresses of centre A and of the control door.
+/// The addresses of centre A and of the control endpoint.
 #[derive(Clone, Copy)]
 pub struct Addresses {
     pub centre: SocketAddr,
@@ -26,11 +26,11 @@ pub struct Addresses {
 pub fn printed_with<
     R: Threads + Wait + Sync + Net<Stream = TcpStream, Listener = TcpListener> + Clock,
     P: FnOnce(Addresses) -> Done<()>,
->(rt: &R, alloc: Global, line: &Line, manner: Manner, play: P) -> Done<Vec<u8>>
+>(rt: &R, alloc: Global, line: &Line, options: ServeOptions, play: P) -> Done<Vec<u8>>
     requires { P.IsAlwaysCallable play }
 {
     let none: Record<File> = Record::none(alloc);
-    printed_of(rt, alloc, line, manner, none, play)
+    printed_of(rt, alloc, line, options, none, play)
 }
 
 /// The same of centres that keep journals, or go on from them.
@@ -38,10 +38,10 @@ pub fn printed_of<
     R: Threads + Wait + Sync + Net<Stream = TcpStream, Listener = TcpListener> + Clock,
     F: Write + Seek + OpenFile + Drop + Send,
     P: FnOnce(Addresses) -> Done<()>,
->(rt: &R, alloc: Global, line: &Line, manner: Manner, record: Record<F>, play: P) -> Done<Vec<u8>>
+>(rt: &R, alloc: Global, line: &Line, options: ServeOptions, record: Record<F>, play: P) -> Done<Vec<u8>>
     requires { P.IsAlwaysCallable play }
 {
-    match served_with(rt, alloc, line, manner, record, play)? {
+    match served_with(rt, alloc, line, options, record, play)? {
         (0, printed) => Ok(printed),
         _ => Err(Missed::Print),
     }
@@ -56,22 +56,22 @@ pub fn served_with<
     rt: &R,
     alloc: Global,
     line: &Line,
-    manner: Manner,
+    options: ServeOptions,
     record: Record<F>,
     play: P,
 ) -> Done<(u8, Vec<u8>)>
     requires { P.IsAlwaysCallable play }
 {
-    let doors = Doors::open(rt, alloc, line, 0, &Quiet)
+    let endpoints = Endpoints::open(rt, alloc, line, 0, &NoNotes)
         .ok()
-        .ok_or(Missed::Door)?;
+        .ok_or(Missed::Endpoint)?;
     let addresses = Addresses {
-        centre: doors.address(0).ok_or(Missed::Door)?,
-        control: doors.address(CONTROL).ok_or(Missed::Door)?,
+        centre: endpoints.address(0).ok_or(Missed::Endpoint)?,
+        control: endpoints.address(CONTROL).ok_or(Missed::Endpoint)?,
     };
     let (served, played) = thread::join(
         rt,
-        || served(rt, alloc, line, doors, record, manner),
+        || served(rt, alloc, line, endpoints, record, options),
         || {
             let played = play(addresses);
             stop(rt, addresses);
@@ -86,29 +86,29 @@ pub fn served_with<
 pub fn printed_of_two_centres<
     R: Threads + Wait + Sync + Net<Stream = TcpStream, Listener = TcpListener> + Clock,
     P: FnOnce(Addresses) -> Done<()>,
->(rt: &R, alloc: Global, manner: Manner, play: P) -> Result<Vec<u8>, Fail>
+>(rt: &R, alloc: Global, options: ServeOptions, play: P) -> Result<Vec<u8>, Fail>
     requires { P.IsAlwaysCallable play }
 {
     let line = two_centres(alloc)?;
-    Ok(printed_with(rt, alloc, &line, manner, play)?)
+    Ok(printed_with(rt, alloc, &line, options, play)?)
 }
 
 fn served<R: Threads + Wait + Sync + Clock, F: Write + Seek + OpenFile + Drop + Send>(
     rt: &R,
     alloc: Global,
     line: &Line,
-    doors: Doors,
+    endpoints: Endpoints,
     record: Record<F>,
-    manner: Manner,
+    options: ServeOptions,
 ) -> (u8, Vec<u8>) {
     let mut out = Vec::new(alloc);
-    match serve(rt, alloc, line, doors, record, manner, &Quiet, &mut out) {
+    match serve(rt, alloc, line, endpoints, record, options, &NoNotes, &mut out) {
         Ok(()) => (0, out),
         Err(fault) => (fault.status(), out),
     }
 }
 
-// Says `stop`. If the centres have ended already, the door is closed, or closes before it takes the line.
+// Says `stop`. If the centres have ended already, the endpoint is closed, or closes before it takes the line.
 fn stop<R: Net<Stream = TcpStream>>(rt: &R, addresses: Addresses) {
     if let Ok(control) = connect(rt, addresses.control) {
         let _ = say(&control, b"stop\n");

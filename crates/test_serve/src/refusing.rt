@@ -5,9 +5,9 @@ use crate::line::two_centres;
 use rbc_centre::{Body, Event, Frame};
 use rbc_line::Line;
 use rbc_node::{Node, Open};
-use serve_callers::run_door;
-use serve_hall::{Hall, State, bells_of, doors_of, exchanges_of, nodes_of, tellers_of};
-use serve_line::{Doors, Manner, Quiet};
+use serve_callers::run_endpoint;
+use serve_hall::{Server, State, bells_of, doors_of, exchanges_of, nodes_of, tellers_of};
+use serve_line::{Endpoints, ServeOptions, NoNotes};
 use std::alloc::Global;
 use std::net::{Net, SocketAddr, TcpListener, TcpStream};
 use std::sync::Wait;
@@ -33,7 +33,7 @@ static LINES: [(&str, &str); 4] = [
 // The centres. To A came a frame of so late a step that its own has the last stamp.
 fn nodes_at_the_end<R: Wait>(rt: &R, alloc: Global, line: &Line) -> Done<Vec<Node>> {
     let nodes = nodes_of(alloc, line).ok().ok_or(Missed::Memory)?;
-    let first = nodes.first().ok_or(Missed::Door)?;
+    let first = nodes.first().ok_or(Missed::Endpoint)?;
     let frame = Frame::new(1, LAST_STAMP - 1, Body::AskRight { engine: 1 });
     let event = Event::Deliver { from: 1, frame };
     let mut share = first.share();
@@ -44,26 +44,26 @@ fn nodes_at_the_end<R: Wait>(rt: &R, alloc: Global, line: &Line) -> Done<Vec<Nod
 }
 
 // The lines are said over one connection, each after the answer to the one before.
-fn ask_all<R: Net<Stream = TcpStream>>(rt: &R, alloc: Global, door: SocketAddr) -> Done<()> {
-    let stream = connect(rt, door)?;
+fn ask_all<R: Net<Stream = TcpStream>>(rt: &R, alloc: Global, endpoint: SocketAddr) -> Done<()> {
+    let stream = connect(rt, endpoint)?;
     for (said, wanted) in &LINES {
         answers(alloc, &stream, said, wanted)?;
     }
     Ok(())
 }
 
-// The same, while the control door is open, which is the last.
+// The same, while the control endpoint is open, which is the last.
 fn ask_at_the_door<R: Threads + Wait + Sync + Net<Stream = TcpStream> + Clock>(
     rt: &R,
-    hall: &Hall<'_>,
+    server: &Server<'_>,
 ) -> Done<()> {
-    let door = hall.doors.last().ok_or(Missed::Door)?;
+    let endpoint = server.endpoints.last().ok_or(Missed::Endpoint)?;
     let ((), asked) = thread::join(
         rt,
-        || run_door(rt, hall, &Quiet, door),
+        || run_endpoint(rt, server, &NoNotes, endpoint),
         || {
-            let asked = ask_all(rt, hall.alloc, door.address);
-            hall.stop();
+            let asked = ask_all(rt, server.alloc, endpoint.address);
+            server.stop();
             asked
         },
     );
@@ -76,28 +76,28 @@ fn asked<R: Threads + Wait + Sync + Net<Stream = TcpStream, Listener = TcpListen
     line: &Line,
     nodes: &[Node],
 ) -> Result<(), Fail> {
-    let doors = Doors::open(rt, alloc, line, 0, &Quiet)
+    let endpoints = Endpoints::open(rt, alloc, line, 0, &NoNotes)
         .ok()
-        .ok_or(Missed::Door)?;
-    let (listening, _) = doors.all();
-    let doors = doors_of(alloc, line, nodes, listening)?;
-    let bells = bells_of(alloc, line)?;
-    let exchanges = exchanges_of(alloc, line, &bells)?;
-    let tellers = tellers_of(alloc, line, &exchanges, &doors, &[], Manner::default())?;
+        .ok_or(Missed::Endpoint)?;
+    let (listening, _) = endpoints.all();
+    let endpoints = doors_of(alloc, line, nodes, listening)?;
+    let wakers = bells_of(alloc, line)?;
+    let connections = exchanges_of(alloc, line, &wakers)?;
+    let sinks = tellers_of(alloc, line, &connections, &endpoints, &[], ServeOptions::default())?;
     let state = State::new(line.centre_count());
-    let hall = Hall {
+    let server = Server {
         alloc,
         line,
         nodes,
-        tellers: &tellers,
-        doors: &doors,
+        sinks: &sinks,
+        endpoints: &endpoints,
         links: &[],
-        bells: &bells,
+        wakers: &wakers,
         journals: &[],
         state: &state,
-        manner: Manner::default(),
+        options: ServeOptions::default(),
     };
-    Ok(ask_at_the_door(rt, &hall)?)
+    Ok(ask_at_the_door(rt, &server)?)
 }
 
 #[test]

@@ -4,7 +4,7 @@ use crate::play::{Act, Step, play};
 use crate::railway::{Addresses, audited, printed_with};
 use cli_audit::Verdict;
 use rbc_line::Line;
-use serve_line::Manner;
+use serve_line::ServeOptions;
 use std::alloc::Global;
 use std::net::{Net, TcpListener, TcpStream};
 use std::sync::Wait;
@@ -79,7 +79,7 @@ fn printed_of_two<
     R: Threads + Wait + Sync + Net<Stream = TcpStream, Listener = TcpListener> + Clock,
 >(rt: &R, alloc: Global, line: &Line) -> Done<Vec<u8>> {
     let answered = Answered(AtomicBool::new(false));
-    printed_with(rt, alloc, line, Manner::default(), |addresses| {
+    printed_with(rt, alloc, line, ServeOptions::default(), |addresses| {
         play(rt, alloc, addresses, &RELEASED)?;
         let (two, one) = thread::join(
             rt,

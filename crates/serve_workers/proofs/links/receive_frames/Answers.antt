@@ -11,7 +11,7 @@ loop-preserved-in-Some-true g c =
       e.link,
       (
         i.0 ++ c.take_turn.result ∷ [],
-        turns-one g.N.Order.asks g.N.Order.follows (centre_of c.args.desk.now.node.now) c.args.from (g.C.Carrier.known c.loop.seen) (g.C.Carrier.known c.take_turn.new.seen)
+        turns-one g.N.Order.asks g.N.Order.follows (centre_of c.args.committer.now.node.now) c.args.from (g.C.Carrier.known c.loop.seen) (g.C.Carrier.known c.take_turn.new.seen)
             c.args.order.now c.loop.order c.take_turn.new.order c.args.share.now c.loop.share c.take_turn.new.share i.0 c.take_turn.result e.keeps i.1 e.takes,
       ),
     )
@@ -23,7 +23,7 @@ loop-preserved g c =
       e.link,
       (
         i.0 ++ c.take_turn.result ∷ [],
-        turns-one g.N.Order.asks g.N.Order.follows (centre_of c.args.desk.now.node.now) c.args.from (g.C.Carrier.known c.loop.seen) (g.C.Carrier.known c.take_turn.new.seen)
+        turns-one g.N.Order.asks g.N.Order.follows (centre_of c.args.committer.now.node.now) c.args.from (g.C.Carrier.known c.loop.seen) (g.C.Carrier.known c.take_turn.new.seen)
             c.args.order.now c.loop.order c.take_turn.new.order c.args.share.now c.loop.share c.take_turn.new.share i.0 c.take_turn.result e.keeps i.1 e.takes,
       ),
     )
@@ -37,14 +37,14 @@ returns-clause-takes g c =
           let e = w.take_turn.ensures in
           rw (w.share-is, w.order-is, w.seen-is) (
             i.0 ++ w.take_turn.result ∷ [],
-            turns-one g.N.Order.asks g.N.Order.follows (centre_of c.args.desk.now.node.now) c.args.from (g.C.Carrier.known c.loop.seen) (g.C.Carrier.known w.take_turn.new.seen)
+            turns-one g.N.Order.asks g.N.Order.follows (centre_of c.args.committer.now.node.now) c.args.from (g.C.Carrier.known c.loop.seen) (g.C.Carrier.known w.take_turn.new.seen)
                 c.args.order.now c.loop.order w.take_turn.new.order c.args.share.now c.loop.share w.take_turn.new.share i.0 w.take_turn.result e.keeps i.1 e.takes,
           )
       | in-Some+then-not-rests w ↦
           let e = w.take_turn.ensures in
           rw (w.share-is, w.order-is, w.seen-is) (
             i.0 ++ w.take_turn.result ∷ [],
-            turns-one g.N.Order.asks g.N.Order.follows (centre_of c.args.desk.now.node.now) c.args.from (g.C.Carrier.known c.loop.seen) (g.C.Carrier.known w.take_turn.new.seen)
+            turns-one g.N.Order.asks g.N.Order.follows (centre_of c.args.committer.now.node.now) c.args.from (g.C.Carrier.known c.loop.seen) (g.C.Carrier.known w.take_turn.new.seen)
                 c.args.order.now c.loop.order w.take_turn.new.order c.args.share.now c.loop.share w.take_turn.new.share i.0 w.take_turn.result e.keeps i.1 e.takes,
           )
     ]

@@ -3,7 +3,7 @@ use serve_reading::Rate;
 
 /// How the centres of a line are served, beside its ports.
 #[derive(Clone, Copy, Debug)]
-pub struct Manner {
+pub struct ServeOptions {
     /// How many messages of each train a centre takes, and how many of all other engines together.
     pub rate: Rate,
     /// Whether each control connection is told of a section that was wished back and is shut, once it is.
@@ -12,10 +12,10 @@ pub struct Manner {
     pub shows_life: bool,
 }
 
-impl Default for Manner {
+impl Default for ServeOptions {
     /// As where nothing else is asked for.
-    fn default() -> Manner {
-        Manner {
+    fn default() -> ServeOptions {
+        ServeOptions {
             rate: Rate {
                 per_second: PER_SECOND,
                 burst: BURST,

@@ -1,6 +1,6 @@
 use Rattle.std.proofs.Common.{◌≡◌, ◌<◌, length, HoldsAt, subst}
 use Rattle.serve_writing.proofs.LetOut.{turn_of}
-use Rattle.serve_writing.proofs.order.Order.let_out.Goals as goal
+use Rattle.serve_writing.proofs.order.Order.release.Goals as goal
 
 pub returns-clause-some : goal.returns-clause-some
 returns-clause-some c =

@@ -5,7 +5,7 @@ use crate::line::{INITIATION_OF_ONE, MISSION_OF_ONE, REQUEST_OF_ONE, bytes_of};
 use crate::play::{Act, Step, begins_so, play};
 use crate::railway::{Addresses, printed_of_two_centres};
 use rbc_msgs::{TrackBody, TrackMsg, decode_track};
-use serve_line::Manner;
+use serve_line::ServeOptions;
 use std::alloc::Global;
 use std::net::{Net, TcpStream};
 use std::test::*;
@@ -28,7 +28,7 @@ static ON_ITS_WAY: [Step<'_>; 7] = [
 
 #[test]
 fn a_train_hears_both_messages_of_one_step(rt: HostRuntime) -> Result<(), Fail> {
-    let printed = printed_of_two_centres(&rt, rt.alloc(), Manner::default(), |addresses| {
+    let printed = printed_of_two_centres(&rt, rt.alloc(), ServeOptions::default(), |addresses| {
         ask_on_its_way(&rt, rt.alloc(), addresses)
     })?;
     assert!(rt; printed.starts_with(b"> set A 0\nA 0 Done\n"));
@@ -41,7 +41,7 @@ fn ask_on_its_way<R: Net<Stream = TcpStream> + Clock>(
     addresses: Addresses,
 ) -> Done<()> {
     let streams = play(rt, alloc, addresses, &ON_ITS_WAY)?;
-    ask_until_both_come(rt, alloc, streams.get(1).ok_or(Missed::Door)?)
+    ask_until_both_come(rt, alloc, streams.get(1).ok_or(Missed::Endpoint)?)
 }
 
 // Asks for the authority until it reaches over the border: after message 3 of that step comes message 24, with the

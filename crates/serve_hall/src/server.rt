@@ -1,19 +1,19 @@
-use crate::manner::Manner;
-use crate::seats::Door;
-use crate::teller::Teller;
+use crate::options::ServeOptions;
+use crate::slots::Endpoint;
+use crate::sink::CentreSink;
 use cli_print::name_of;
 use rbc_line::Line;
 use rbc_node::{Node, Open, Share};
 use serve_journal::Journal;
-use serve_workers::{Desk, LinkEnds};
+use serve_workers::{Committer, LinkEnds};
 use std::alloc::Global;
 use std::sync::atomic::{AtomicBool, AtomicU64, Ordering};
 use std::sync::{Mutex, Wait};
 use std::thread::Parker;
 
-/// Who comes through a door.
+/// Who comes through an endpoint.
 #[derive(Clone, Copy)]
-pub enum Caller {
+pub enum Peer {
     /// Trains, to the centre of this number.
     Trains(u8),
     /// The interlocking, to all centres.
@@ -38,9 +38,9 @@ pub struct DirectedLink {
 pub struct State {
     /// No connection is taken any more.
     pub is_stopped: AtomicBool,
-    /// How many doors of centres are open or have connections still.
-    doors: AtomicU64,
-    /// How often a caller came or was heard.
+    /// How many endpoints of centres are open or have connections still.
+    endpoints: AtomicU64,
+    /// How often a peer came or was heard.
     heard: AtomicU64,
     /// No connection is left: nothing new comes to the links.
     pub is_over: AtomicBool,
@@ -53,11 +53,11 @@ pub struct State {
 }
 
 impl State {
-    /// Of a line with so many centres, whose doors are all open.
+    /// Of a line with so many centres, whose endpoints are all open.
     pub fn new(centres: u8) -> State {
         State {
             is_stopped: AtomicBool::new(false),
-            doors: AtomicU64::new(u64::from(centres)),
+            endpoints: AtomicU64::new(u64::from(centres)),
             heard: AtomicU64::new(0),
             is_over: AtomicBool::new(false),
             is_done: AtomicBool::new(false),
@@ -71,19 +71,19 @@ impl State {
         self.is_stopped.load(Ordering::SeqCst)
     }
 
-    /// A caller came or was heard: which of all such times this is.
+    /// A peer came or was heard: which of all such times this is.
     pub fn hear(&self) -> u64 {
         self.heard.fetch_add(1, Ordering::SeqCst)
     }
 
-    /// A centre's door has closed, and its last session has ended.
-    pub fn close_door(&self) {
-        self.doors.fetch_sub(1, Ordering::SeqCst);
+    /// A centre's endpoint has closed, and its last session has ended.
+    pub fn close_endpoint(&self) {
+        self.endpoints.fetch_sub(1, Ordering::SeqCst);
     }
 
     /// Whether all sessions have ended.
     pub fn is_empty(&self) -> bool {
-        self.doors.load(Ordering::SeqCst) == 0
+        self.endpoints.load(Ordering::SeqCst) == 0
     }
 
     /// Nothing new comes from here on.
@@ -113,7 +113,7 @@ fn last_stamp<R: Wait>(rt: &R, node: &Node) -> u32 {
 
 /// All that the workers share.
 #[derive(Drop)]
-pub struct Hall<'a> {
+pub struct Server<'a> {
     /// Where memory comes from.
     pub alloc: Global,
     /// The line that is served.
@@ -121,30 +121,30 @@ pub struct Hall<'a> {
     /// The centres, by their numbers.
     pub nodes: &'a [Node],
     /// Where the answers of each go on to.
-    pub tellers: &'a [Teller<'a>],
-    /// Their doors, and after those the control door.
-    pub doors: &'a [Door],
+    pub sinks: &'a [CentreSink<'a>],
+    /// Their endpoints, and after those the control endpoint.
+    pub endpoints: &'a [Endpoint],
     /// The links of the line, each in one direction.
     pub links: &'a [DirectedLink],
-    /// The bells of the links from each centre: all of a centre are rung together.
-    pub bells: &'a [Vec<Parker>],
+    /// The wakers of the links from each centre: all of a centre are rung together.
+    pub wakers: &'a [Vec<Parker>],
     /// The journals of the centres, by their numbers; none where they keep none.
     pub journals: &'a [Journal],
     /// Whether they still run.
     pub state: &'a State,
     /// How they are served.
-    pub manner: Manner,
+    pub options: ServeOptions,
 }
 
-impl Hall<'_> {
+impl Server<'_> {
     /// A centre as its workers see it.
-    pub fn desk(&self, centre: u8) -> Option<Desk<'_, Open, Teller<'_>>> {
+    pub fn committer(&self, centre: u8) -> Option<Committer<'_, Open, CentreSink<'_>>> {
         let node = self.nodes.get(centre as usize)?;
-        let outlet = self.tellers.get(centre as usize)?;
-        Some(Desk {
+        let sink = self.sinks.get(centre as usize)?;
+        Some(Committer {
             node,
             gate: &Open,
-            outlet,
+            sink,
         })
     }
 
@@ -164,8 +164,8 @@ impl Hall<'_> {
     /// Waits until the journals have each event that the centres have taken so far. It returns false if one of them
     /// can't be written now.
     pub fn await_journals<R: Wait>(&self, rt: &R) -> bool {
-        for (node, teller) in self.nodes.iter().zip(self.tellers.iter()) {
-            if !teller.comes_to(rt, last_stamp(rt, node)) {
+        for (node, sink) in self.nodes.iter().zip(self.sinks.iter()) {
+            if !sink.comes_to(rt, last_stamp(rt, node)) {
                 return false;
             }
         }
@@ -188,43 +188,43 @@ impl Hall<'_> {
         }
     }
 
-    /// The node of the centre that a caller comes to, if it comes to one.
-    pub fn node(&self, caller: Caller) -> Option<&Node> {
-        match caller {
-            Caller::Trains(centre) => self.nodes.get(centre as usize),
-            Caller::Interlocking => None,
+    /// The node of the centre that a peer comes to, if it comes to one.
+    pub fn node(&self, peer: Peer) -> Option<&Node> {
+        match peer {
+            Peer::Trains(centre) => self.nodes.get(centre as usize),
+            Peer::Interlocking => None,
         }
     }
 
-    /// Where the answers of the centre go on to that a caller comes to, if it comes to one.
-    pub fn teller(&self, caller: Caller) -> Option<&Teller<'_>> {
-        match caller {
-            Caller::Trains(centre) => self.tellers.get(centre as usize),
-            Caller::Interlocking => None,
+    /// Where the answers of the centre go on to that a peer comes to, if it comes to one.
+    pub fn sink(&self, peer: Peer) -> Option<&CentreSink<'_>> {
+        match peer {
+            Peer::Trains(centre) => self.sinks.get(centre as usize),
+            Peer::Interlocking => None,
         }
     }
 
     /// Whether the connection with this number serves a train.
-    pub fn is_serving<R: Wait>(&self, rt: &R, caller: Caller, number: usize) -> bool {
-        match self.teller(caller) {
-            Some(teller) => teller.exchange.is_serving(rt, number),
+    pub fn is_serving<R: Wait>(&self, rt: &R, peer: Peer, number: usize) -> bool {
+        match self.sink(peer) {
+            Some(sink) => sink.connections.is_serving(rt, number),
             None => false,
         }
     }
 
-    /// What a caller's notes begin with.
-    pub fn name(&self, caller: Caller) -> &str {
-        match caller {
-            Caller::Trains(centre) => name_of(self.line, centre),
-            Caller::Interlocking => "control",
+    /// What a peer's notes begin with.
+    pub fn name(&self, peer: Peer) -> &str {
+        match peer {
+            Peer::Trains(centre) => name_of(self.line, centre),
+            Peer::Interlocking => "control",
         }
     }
 
     /// No connection is taken from now on.
     pub fn stop(&self) {
         self.state.is_stopped.store(true, Ordering::SeqCst);
-        for door in self.doors {
-            door.bell.unpark();
+        for endpoint in self.endpoints {
+            endpoint.waker.unpark();
         }
         for journal in self.journals {
             journal.ring();

@@ -3,7 +3,7 @@ use std::sync::Wait;
 
 /// Where what a centre answers goes on to: its messages to trains and its frames to links. What becomes of them there
 /// is not claimed.
-pub trait Outlet {
+pub trait AnswerSink {
     /// The connection that a message came over serves this engine from now on, by its NID_ENGINE.
     fn opened<R: Wait>(&self, rt: &R, nid_engine: u32);
 
@@ -11,11 +11,11 @@ pub trait Outlet {
     fn answered<R: Wait>(&self, rt: &R, outcome: &Outcome);
 }
 
-/// The outlet that lets all go.
+/// The sink that lets all go.
 #[derive(Clone, Copy, Debug)]
-pub struct Closed;
+pub struct NoSink;
 
-impl Outlet for Closed {
+impl AnswerSink for NoSink {
     fn opened<R: Wait>(&self, _rt: &R, _nid_engine: u32) {}
 
     fn answered<R: Wait>(&self, _rt: &R, _outcome: &Outcome) {}

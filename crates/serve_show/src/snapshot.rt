@@ -1,4 +1,4 @@
-use crate::roster::Roster;
+use crate::mention_order::MentionOrder;
 use cli_print::{print_section, print_train};
 use cli_status::Fault;
 use rbc_book::{Entry, Page};
@@ -13,7 +13,7 @@ use std::sync::Wait;
 
 /// The line as the centres showed it, each at its own moment.
 #[derive(Drop)]
-struct Sight {
+struct Snapshot {
     /// By section number, what its home has of it.
     pages: Vec<Page>,
     /// By the trains' places in the line file: the mission of each, where a centre had it.
@@ -32,35 +32,35 @@ pub fn show<R: Wait>(
     alloc: Global,
     line: &Line,
     nodes: &[Node],
-    roster: &mut Roster,
+    mention_order: &mut MentionOrder,
     text: &mut Vec<u8>,
 ) -> Result<(), Fault<'static>> {
-    let mut sight = Sight::new(alloc, line)?;
+    let mut snapshot = Snapshot::new(alloc, line)?;
     for node in nodes {
-        catch_up(rt, line, node, roster);
+        catch_up(rt, line, node, mention_order);
     }
     for node in nodes {
         let look = node.look(rt);
-        sight.add(line, look.log());
-        roster.read_on(line, look.log());
+        snapshot.add(line, look.log());
+        mention_order.read_on(line, look.log());
     }
     writeln!(text, "> show")?;
-    sight.print(alloc, line, roster, text)
+    snapshot.print(alloc, line, mention_order, text)
 }
 
 // Reads what was not seen yet of a log, in pieces, between which its centre goes on.
-fn catch_up<R: Wait>(rt: &R, line: &Line, node: &Node, roster: &mut Roster) {
+fn catch_up<R: Wait>(rt: &R, line: &Line, node: &Node, mention_order: &mut MentionOrder) {
     for _ in 0..MOST_ENTRIES {
         let look = node.look(rt);
-        if !roster.read_on(line, look.log()) {
+        if !mention_order.read_on(line, look.log()) {
             return;
         }
     }
 }
 
-impl Sight {
-    fn new(alloc: Global, line: &Line) -> Result<Sight, AllocError> {
-        Ok(Sight {
+impl Snapshot {
+    fn new(alloc: Global, line: &Line) -> Result<Snapshot, AllocError> {
+        Ok(Snapshot {
             pages: vec![in alloc; Page::SHUT; line.section_count() as usize]?,
             missions: vec![in alloc; None; line.train_count() as usize]?,
         })
@@ -106,11 +106,11 @@ impl Sight {
         &self,
         alloc: Global,
         line: &Line,
-        roster: &Roster,
+        mention_order: &MentionOrder,
         text: &mut Vec<u8>,
     ) -> Result<(), Fault<'static>> {
         self.print_sections(line, text)?;
-        for i in roster.order(alloc)?.iter() {
+        for i in mention_order.order(alloc)?.iter() {
             self.print_mission(line, *i, text)?;
         }
         Ok(())

@@ -2,7 +2,7 @@ use Rattle.std.proofs.Common.{subst, sym, ◌≡◌, ℕ, ◌+◌, ◌<◌, ◌+
 use Rattle.std.proofs.lemmas.List.{get_or_default}
 use Rattle.std.proofs.lemmas.List.Edits.{map_over_more}
 use Rattle.serve_connections.specs.Serving.{freed}
-use Rattle.serve_connections.proofs.switchboard.Switchboard.release.Goals as goal
+use Rattle.serve_connections.proofs.routing_table.RoutingTable.release.Goals as goal
 
 pub loop-place-preserved : goal.loop-place-preserved
 loop-place-preserved g c =

@@ -1,9 +1,9 @@
 use crate::connection::Connection;
 use crate::route::{Route, route_of};
-use crate::switchboard::Switchboard;
+use crate::routing_table::RoutingTable;
 use rbc_centre::{Outcome, Saying};
 use rbc_line::Line;
-use serve_workers::Outlet;
+use serve_workers::AnswerSink;
 use serve_writing::{Order, Reply};
 use std::alloc::{AllocError, Global};
 use std::sync::{Arc, Mutex, MutexGuard, Wait};
@@ -16,28 +16,28 @@ const FEW: usize = 64;
 /// How often that thread rests at most.
 const RESTS: u32 = 10_000;
 
-/// The connections of trains at a centre, and the bells of the links that its frames go to.
+/// The connections of trains at a centre, and the wakers of the links that its frames go to.
 #[derive(Drop)]
-pub struct Exchange<'a> {
+pub struct TrainConnections<'a> {
     alloc: Global,
     line: &'a Line,
-    board: Mutex<Switchboard<Arc<Connection, Global>>>,
+    board: Mutex<RoutingTable<Arc<Connection, Global>>>,
     // By the trains' places in the line file: the order of what the centre says to each.
     orders: Vec<Mutex<Order>>,
     links: &'a [Parker],
 }
 
-impl<'a> Exchange<'a> {
-    /// An exchange for so many connections, of which there is none yet.
+impl<'a> TrainConnections<'a> {
+    /// An connections for so many connections, of which there is none yet.
     pub fn new(
         alloc: Global,
         line: &'a Line,
         connections: usize,
         links: &'a [Parker],
-    ) -> Result<Exchange<'a>, AllocError> {
+    ) -> Result<TrainConnections<'a>, AllocError> {
         let trains = line.train_count();
-        let board = Switchboard::new(alloc, connections, trains as usize)?;
-        Ok(Exchange {
+        let board = RoutingTable::new(alloc, connections, trains as usize)?;
+        Ok(TrainConnections {
             alloc,
             line,
             board: Mutex::new(board),
@@ -100,8 +100,8 @@ impl<'a> Exchange<'a> {
             return;
         };
         let to = self.direct(rt, &route);
-        let is_taken = self.hand_in(&mut order, saying, stamp);
-        let is_long = let_out(rt, own, to, order, is_taken);
+        let is_taken = self.submit(&mut order, saying, stamp);
+        let is_long = release(rt, own, to, order, is_taken);
         if is_long && own.is_some() {
             rest(rt, place);
         }
@@ -137,14 +137,14 @@ impl<'a> Exchange<'a> {
     }
 
     // Hands a message in, and says whether there was room for it.
-    fn hand_in(&self, order: &mut Order, saying: &Saying, stamp: u32) -> bool {
+    fn submit(&self, order: &mut Order, saying: &Saying, stamp: u32) -> bool {
         match Reply::new(self.alloc, saying.message) {
-            Ok(reply) => order.hand_in(reply.answering(stamp)).is_ok(),
+            Ok(reply) => order.submit(reply.answering(stamp)).is_ok(),
             Err(_) => false,
         }
     }
 
-    // Says all messages of an outcome, and rings the bells where it has frames.
+    // Says all messages of an outcome, and rings the wakers where it has frames.
     fn tell<R: Wait>(&self, rt: &R, own: Option<usize>, outcome: &Outcome) {
         for saying in outcome.sayings.as_slice() {
             self.say(rt, own, saying, outcome.stamp);
@@ -152,8 +152,8 @@ impl<'a> Exchange<'a> {
         if outcome.frames.is_empty() {
             return;
         }
-        for bell in self.links {
-            bell.unpark();
+        for waker in self.links {
+            waker.unpark();
         }
     }
 }
@@ -170,7 +170,7 @@ fn orders_of(alloc: Global, trains: u8) -> Result<Vec<Mutex<Order>>, AllocError>
 // Says what has its turn, over the connection that serves the train, and says whether many replies wait on. Where a
 // reply was not taken, none of them comes any more: the connection is cut. The first reply is written here if the
 // calling thread reads the connection, and no other waits.
-fn let_out<R: Wait>(
+fn release<R: Wait>(
     rt: &R,
     own: Option<usize>,
     to: Option<(usize, Arc<Connection, Global>)>,
@@ -193,7 +193,7 @@ fn let_out<R: Wait>(
         say_due(rt, Some(&connection), &mut order);
         return order.waiting() > FEW;
     };
-    let first = order.let_out();
+    let first = order.release();
     say_due(rt, Some(&connection), &mut order);
     let is_long = order.waiting() > FEW;
     drop(order);
@@ -206,7 +206,7 @@ fn let_out<R: Wait>(
 // Hands what has its turn to the writer of the connection. Where there is none, it is let go.
 fn say_due<R: Wait>(rt: &R, connection: Option<&Connection>, order: &mut Order) {
     for _ in 0..order.waiting() {
-        let Some(reply) = order.let_out() else {
+        let Some(reply) = order.release() else {
             break;
         };
         if let Some(connection) = connection {
@@ -225,7 +225,7 @@ fn rest<R: Wait>(rt: &R, order: &Mutex<Order>) {
     }
 }
 
-impl Outlet for Exchange<'_> {
+impl AnswerSink for TrainConnections<'_> {
     fn opened<R: Wait>(&self, _rt: &R, _nid_engine: u32) {}
 
     fn answered<R: Wait>(&self, rt: &R, outcome: &Outcome) {
@@ -233,19 +233,19 @@ impl Outlet for Exchange<'_> {
     }
 }
 
-/// One connection of an exchange, as the session over it sees it.
+/// One connection of an connections, as the session over it sees it.
 #[derive(Clone, Copy)]
-pub struct Wire<'a> {
-    pub exchange: &'a Exchange<'a>,
+pub struct ConnectionSink<'a> {
+    pub connections: &'a TrainConnections<'a>,
     /// The number of the connection.
     pub number: usize,
 }
 
-impl Outlet for Wire<'_> {
+impl AnswerSink for ConnectionSink<'_> {
     // The connection serves the train from the answer on, message 32.
     fn opened<R: Wait>(&self, _rt: &R, _nid_engine: u32) {}
 
     fn answered<R: Wait>(&self, rt: &R, outcome: &Outcome) {
-        self.exchange.tell(rt, Some(self.number), outcome);
+        self.connections.tell(rt, Some(self.number), outcome);
     }
 }

@@ -16,14 +16,14 @@ pub(crate) struct Directed {
 /// Which connections there are at a centre, and which of them serves which train. A connection serves one train at
 /// most, and a train is served over one connection at most.
 #[derive(Drop)]
-pub(crate) struct Switchboard<C: Drop> {
+pub(crate) struct RoutingTable<C: Drop> {
     // By the connections' numbers.
     connections: Vec<Option<C>>,
     // By the trains' places in the line file: the number of the connection.
     serving: Vec<Option<usize>>,
 }
 
-impl<C: Drop> Switchboard<C> {
+impl<C: Drop> RoutingTable<C> {
     /// Places for so many connections and so many trains.
     pub fn new(alloc: Global, connections: usize, trains: usize) -> Result<Self, AllocError>
         ensures connections { IfOk result (λ b. b.connections.items ≡ replicate connections None) }
@@ -31,7 +31,7 @@ impl<C: Drop> Switchboard<C> {
     {
         let connections = no_places(alloc, connections)?;
         let serving = vec![in alloc; None; trains]?;
-        Ok(Switchboard {
+        Ok(RoutingTable {
             connections,
             serving,
         })

@@ -2,20 +2,20 @@ ghost use Rattle.std.specs.Prelude.{◌≡◌, IfOk, IfErr, OnErr};
 ghost use Rattle.rbc_centre.specs.Views.{outcome_of};
 ghost use Rattle.rbc_node.specs.Node.{centre_of, CommitsAt, RefusesAt};
 
-use crate::outlet::Outlet;
+use crate::sink::AnswerSink;
 use rbc_centre::{Event, Outcome};
 use rbc_node::{Gate, Node, Share, ShareFault};
 use std::sync::Wait;
 
 /// A centre as its workers see it: its node, who is told of each commit, and where answers go on to.
 #[derive(Drop)]
-pub struct Desk<'a, G, O> {
+pub struct Committer<'a, G, O> {
     pub node: &'a Node,
     pub gate: &'a G,
-    pub outlet: &'a O,
+    pub sink: &'a O,
 }
 
-impl<G: Gate, O: Outlet> Desk<'_, G, O> {
+impl<G: Gate, O: AnswerSink> Committer<'_, G, O> {
     /// Commits an event with the share as the node does, and lets the answer go on.
     pub fn commit<R: Wait>(
         &self,
@@ -29,7 +29,7 @@ impl<G: Gate, O: Outlet> Desk<'_, G, O> {
         ensures err { OnErr result (share.new ≡ share.old) }
     {
         let outcome = self.node.commit(rt, self.gate, share, event)?;
-        self.outlet.answered(rt, &outcome);
+        self.sink.answered(rt, &outcome);
         Ok(outcome)
     }
 }

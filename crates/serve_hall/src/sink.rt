@@ -1,10 +1,10 @@
 use crate::paces::Paces;
 use crate::queue::Queue;
-use crate::seats::Door;
+use crate::slots::Endpoint;
 use rbc_centre::{Outcome, Word};
-use serve_connections::Exchange;
+use serve_connections::TrainConnections;
 use serve_journal::Journal;
-use serve_workers::Outlet;
+use serve_workers::AnswerSink;
 use serve_writing::Release;
 use std::sync::Wait;
 
@@ -12,11 +12,11 @@ use std::sync::Wait;
 /// its connections. If the centre keeps a journal, nothing leaves it before its event is written there: words to the
 /// interlocking wait here, and messages to trains and frames wait with the thread that sends them.
 #[derive(Drop)]
-pub struct Teller<'a> {
-    /// The connections of the centre's trains, and the bells of its links.
-    pub exchange: &'a Exchange<'a>,
-    /// The control door, if its connections are told.
-    pub control: Option<&'a Door>,
+pub struct CentreSink<'a> {
+    /// The connections of the centre's trains, and the wakers of its links.
+    pub connections: &'a TrainConnections<'a>,
+    /// The control endpoint, if its connections are told.
+    pub control: Option<&'a Endpoint>,
     /// The centre's journal, if it keeps one.
     pub journal: Option<&'a Journal>,
     /// Who waits for that journal.
@@ -27,10 +27,10 @@ pub struct Teller<'a> {
     pub name: &'a str,
 }
 
-impl Teller<'_> {
+impl CentreSink<'_> {
     /// Waits until this answer may go on, and returns whether it may: not if the journal was given up before its event
     /// was written. Without a word to the interlocking it waits only if the journal is late or can't be written.
-    pub fn may_tell<R: Wait>(&self, rt: &R, outcome: &Outcome) -> bool {
+    pub fn may_send<R: Wait>(&self, rt: &R, outcome: &Outcome) -> bool {
         if !outcome.words().is_empty() {
             return self.reaches(rt, outcome.stamp);
         }
@@ -38,9 +38,9 @@ impl Teller<'_> {
             return true;
         };
         self.queue.enter();
-        let may_tell = journal.keeps_up(rt, outcome.stamp);
-        self.queue.leave(may_tell);
-        may_tell
+        let may_send = journal.keeps_up(rt, outcome.stamp);
+        self.queue.leave(may_send);
+        may_send
     }
 
     /// Waits until the journal has the event with this stamp, if the centre keeps one. It returns false if the journal
@@ -68,31 +68,31 @@ impl Teller<'_> {
 
     /// Tells the interlocking of each section that was wished back, and is shut now.
     pub fn tell<R: Wait>(&self, rt: &R, outcome: &Outcome) {
-        let Some(door) = self.control else {
+        let Some(endpoint) = self.control else {
             return;
         };
         for word in outcome.words().as_slice() {
             if let Word::Told(section) = word {
-                for seat in &door.seats {
-                    seat.tell(rt, self.name, *section);
+                for slot in &endpoint.slots {
+                    slot.tell(rt, self.name, *section);
                 }
             }
         }
     }
 }
 
-impl Outlet for Teller<'_> {
+impl AnswerSink for CentreSink<'_> {
     fn opened<R: Wait>(&self, _rt: &R, _nid_engine: u32) {}
 
     fn answered<R: Wait>(&self, rt: &R, outcome: &Outcome) {
-        if self.may_tell(rt, outcome) {
-            self.exchange.answered(rt, outcome);
+        if self.may_send(rt, outcome) {
+            self.connections.answered(rt, outcome);
             self.tell(rt, outcome);
         }
     }
 }
 
-impl Release for Teller<'_> {
+impl Release for CentreSink<'_> {
     // A message to a train may be written once its event is in the journal.
     fn is_released<R: Wait>(&self, rt: &R, stamp: u32) -> bool {
         self.reaches(rt, stamp)

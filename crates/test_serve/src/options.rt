@@ -4,7 +4,7 @@ use crate::client::{Done, Missed, connect, heard, say};
 use crate::line::{MISSION_OF_ONE, REQUEST_OF_ONE, bytes_of};
 use crate::play::{Act, Step, printed_after};
 use crate::railway::{Addresses, printed_of_two_centres};
-use serve_line::Manner;
+use serve_line::ServeOptions;
 use serve_reading::Rate;
 use std::alloc::Global;
 use std::net::{Net, TcpStream};
@@ -16,13 +16,13 @@ use std::time::Clock;
 const OPENED: u64 = 6;
 
 // As where each train may say two messages at once, and twenty a second after them.
-fn slow() -> Manner {
-    Manner {
+fn slow() -> ServeOptions {
+    ServeOptions {
         rate: Rate {
             per_second: 20,
             burst: 2,
         },
-        ..Manner::default()
+        ..ServeOptions::default()
     }
 }
 
@@ -119,12 +119,12 @@ static WISHED_BACK: [Step<'_>; 14] = [
 
 #[test]
 fn the_interlocking_is_told_of_a_section_that_is_shut(rt: HostRuntime) -> Result<(), Fail> {
-    let manner = Manner {
+    let options = ServeOptions {
         is_telling: true,
         shows_life: true,
-        ..Manner::default()
+        ..ServeOptions::default()
     };
-    let printed = printed_after(&rt, rt.alloc(), manner, &WISHED_BACK)?;
+    let printed = printed_after(&rt, rt.alloc(), options, &WISHED_BACK)?;
     assert!(rt; printed.starts_with(b"> set A 0\nA 0 Done\n> set A 1\nA 1 Done\n"));
     Ok(())
 }

@@ -9,7 +9,7 @@ use std::net::{IpAddr, Ipv4Addr, Net, SocketAddr, TcpListener, TcpStream};
 
 /// The ports of the centres and that of the interlocking, on which only this host is listened to.
 #[derive(Drop)]
-pub struct Doors(Vec<Listening>, Option<Listening>);
+pub struct Endpoints(Vec<Listening>, Option<Listening>);
 
 /// A port that is listened on.
 #[derive(Drop)]
@@ -20,21 +20,21 @@ pub struct Listening {
     pub address: SocketAddr,
 }
 
-impl Doors {
-    /// Listens on 127.0.0.1: centre i at the port `first` + i, the control door at the port after those. For the port
-    /// 0 the system picks each port. Where one can't be listened on, a note names it.
+impl Endpoints {
+    /// Listens on 127.0.0.1: centre i at the port `first` + i, the control endpoint at the port after those. For the
+    /// port 0 the system picks each port. Where one can't be listened on, a note names it.
     pub fn open<R: Net<Stream = TcpStream, Listener = TcpListener>, N: Notes>(
         rt: &R,
         alloc: Global,
         line: &Line,
         first: u16,
         notes: &N,
-    ) -> Result<Doors, ServeFault> {
-        let mut doors = Vec::new(alloc);
+    ) -> Result<Endpoints, ServeFault> {
+        let mut endpoints = Vec::new(alloc);
         for number in 0..=line.centre_count() {
             let port = port_of(first, number);
             match listen_at(rt, port) {
-                Ok(listening) => doors.push(listening)?,
+                Ok(listening) => endpoints.push(listening)?,
                 Err(error) => {
                     let name = who_is_at(line, number);
                     notes.note(format_args!("{name}: port {port} can't be listened on: {error}"));
@@ -42,7 +42,7 @@ impl Doors {
                 }
             }
         }
-        Ok(Doors(doors, None))
+        Ok(Endpoints(endpoints, None))
     }
 
     /// Listens at this port of this host for browsers too, which are shown the line. Where that can't be, a note says
@@ -52,9 +52,9 @@ impl Doors {
         rt: &R,
         port: u16,
         notes: &N,
-    ) -> Result<Doors, ServeFault> {
+    ) -> Result<Endpoints, ServeFault> {
         match listen_at(rt, u32::from(port)) {
-            Ok(listening) => Ok(Doors(self.0, Some(listening))),
+            Ok(listening) => Ok(Endpoints(self.0, Some(listening))),
             Err(error) => {
                 notes.note(format_args!("page: port {port} can't be listened on: {error}"));
                 Err(ServeFault::Socket)
@@ -62,10 +62,10 @@ impl Doors {
         }
     }
 
-    /// The addresses, by the centres' numbers, and at last that of the control door.
+    /// The addresses, by the centres' numbers, and at last that of the control endpoint.
     pub fn address(&self, number: usize) -> Option<SocketAddr> {
         match self.0.get(number) {
-            Some(door) => Some(door.address),
+            Some(endpoint) => Some(endpoint.address),
             None => None,
         }
     }
@@ -78,13 +78,14 @@ impl Doors {
         }
     }
 
-    /// The ports, by the centres' numbers, and at last that of the control door; and that of the page, if there is one.
+    /// The ports, by the centres' numbers, and at last that of the control endpoint; and that of the page, if there is
+    /// one.
     pub fn all(self) -> (Vec<Listening>, Option<Listening>) {
         (self.0, self.1)
     }
 }
 
-// The port of a door: so far past the first, or 0 where the system picks each.
+// The port of an endpoint: so far past the first, or 0 where the system picks each.
 fn port_of(first: u16, number: u8) -> u32 {
     match first {
         0 => 0,
@@ -92,7 +93,7 @@ fn port_of(first: u16, number: u8) -> u32 {
     }
 }
 
-// Who comes through the door of this number to whom.
+// Who comes through the endpoint of this number to whom.
 fn who_is_at(line: &Line, number: u8) -> &str {
     if number < line.centre_count() {
         name_of(line, number)

@@ -1,5 +1,5 @@
 use rbc_line::Line;
-use serve_hall::{Paces, Seat};
+use serve_hall::{Paces, Slot};
 use std::sync::Wait;
 use std::thread;
 use std::time::{Clock, Duration};
@@ -9,15 +9,15 @@ const MOST_SLEEP_MS: u64 = 100;
 
 /// Holds the thread that reads a train's connection back if messages come too fast.
 #[derive(Drop)]
-pub(crate) struct Pace<'a, R> {
+pub(crate) struct RateLimit<'a, R> {
     pub rt: &'a R,
     pub line: &'a Line,
     pub paces: &'a Paces,
-    pub seat: &'a Seat,
+    pub slot: &'a Slot,
 }
 
-impl<R: Wait + Clock> Pace<'_, R> {
-    /// Waits until a message of this engine may pass. It returns false if the connection has to leave its seat before.
+impl<R: Wait + Clock> RateLimit<'_, R> {
+    /// Waits until a message of this engine may pass. It returns false if the connection has to leave its slot before.
     pub fn admits(&self, nid_engine: u32) -> bool {
         let bucket = self.paces.bucket(self.line, nid_engine);
         for _ in self.rt.forever() {
@@ -28,7 +28,7 @@ impl<R: Wait + Clock> Pace<'_, R> {
             let Err(wait) = asked else {
                 return true;
             };
-            if self.seat.is_leaving() {
+            if self.slot.is_leaving() {
                 return false;
             }
             thread::sleep(self.rt, Duration::from_millis(wait.min(MOST_SLEEP_MS)));

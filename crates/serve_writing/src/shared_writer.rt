@@ -9,7 +9,7 @@ use std::sync::{Mutex, MutexGuard, Wait};
 /// that reads the connection writes its own. So a reply is never written among the bytes of another, and never in front
 /// of one that waits.
 #[derive(Drop)]
-pub struct Pipe<W: Drop> {
+pub struct SharedWriter<W: Drop> {
     // How many bytes wait for the writer.
     waiting: AtomicU64,
     // None after a reply that was not written whole.
@@ -36,10 +36,10 @@ impl<W: Write + Drop> Turn<'_, W> {
     }
 }
 
-impl<W: Write + Drop> Pipe<W> {
-    /// The pipe to this writer. No reply waits.
-    pub fn new(out: W) -> Pipe<W> {
-        Pipe {
+impl<W: Write + Drop> SharedWriter<W> {
+    /// The shared_writer to this writer. No reply waits.
+    pub fn new(out: W) -> SharedWriter<W> {
+        SharedWriter {
             waiting: AtomicU64::new(0),
             out: Mutex::new(Some(out)),
         }
@@ -60,27 +60,27 @@ impl<W: Write + Drop> Pipe<W> {
         Some(Turn { out })
     }
 
-    /// The pipe's end at which its writer writes the replies that wait.
-    pub fn end<'a, R: Wait>(&'a self, rt: &'a R) -> PipeEnd<'a, R, W> {
-        PipeEnd { rt, pipe: self }
+    /// The shared_writer's end at which its writer writes the replies that wait.
+    pub fn end<'a, R: Wait>(&'a self, rt: &'a R) -> QueueWriter<'a, R, W> {
+        QueueWriter { rt, shared_writer: self }
     }
 }
 
-/// The end of a pipe at which its writer writes the replies that wait.
+/// The end of a shared_writer at which its writer writes the replies that wait.
 #[derive(Drop)]
-pub struct PipeEnd<'a, R, W: Drop> {
+pub struct QueueWriter<'a, R, W: Drop> {
     rt: &'a R,
-    pipe: &'a Pipe<W>,
+    shared_writer: &'a SharedWriter<W>,
 }
 
-impl<R: Wait, W: Write + Drop> Write for PipeEnd<'_, R, W> {
+impl<R: Wait, W: Write + Drop> Write for QueueWriter<'_, R, W> {
     fn write(&mut self, bytes: &[u8]) -> io::Result<usize> {
-        let mut place = self.pipe.out.lock(self.rt);
+        let mut place = self.shared_writer.out.lock(self.rt);
         let Some(out) = &mut *place else {
             return Err(io::Error::from(ErrorKind::BrokenPipe));
         };
         let count = out.write(bytes)?;
-        self.pipe.waiting.fetch_sub(count as u64, Ordering::SeqCst);
+        self.shared_writer.waiting.fetch_sub(count as u64, Ordering::SeqCst);
         Ok(count)
     }
 

@@ -1,15 +1,15 @@
-//! Doors at which all seats are taken: who makes room for a new connection.
+//! Endpoints at which all slots are taken: who makes room for a new connection.
 
 use crate::client::{Done, Missed};
 use crate::line::{INITIATION_OF_ONE, VERSION};
 use crate::play::{Act, Step, begins_so, play};
 use crate::railway::{Addresses, printed_of_two_centres};
-use serve_line::Manner;
+use serve_line::ServeOptions;
 use std::alloc::Global;
 use std::net::{Net, TcpStream};
 use std::test::*;
 
-// How many connections the control door serves at once.
+// How many connections the control endpoint serves at once.
 const CONTROLS: usize = 4;
 
 // How many connections a centre serves at once: one for each of the two trains, and eight.
@@ -42,7 +42,7 @@ fn the_control_connection_that_is_silent_longest_makes_room(rt: HostRuntime) -> 
     Ok(())
 }
 
-// A train opens its session; with silent connections at all other seats, it opens it over another one, and the first
+// A train opens its session; with silent connections at all other slots, it opens it over another one, and the first
 // ends.
 static OPENED_AFTER_SILENCE: [Step<'_>; 17] = [
     (0, Act::Train),
@@ -73,14 +73,14 @@ fn a_connection_that_serves_no_train_makes_room(rt: HostRuntime) -> Result<(), F
 
 #[test]
 fn a_seat_is_free_after_each_connection(rt: HostRuntime) -> Result<(), Fail> {
-    let printed = printed_of_two_centres(&rt, rt.alloc(), Manner::default(), |addresses| {
+    let printed = printed_of_two_centres(&rt, rt.alloc(), ServeOptions::default(), |addresses| {
         come_and_go(&rt, rt.alloc(), addresses)
     })?;
     assert!(rt; printed.starts_with(b"> train A 9B028000000040000040\n"));
     Ok(())
 }
 
-// More connections than there are seats come one after another, to the centre and to the control door.
+// More connections than there are slots come one after another, to the centre and to the control endpoint.
 fn come_and_go<R: Net<Stream = TcpStream>>(
     rt: &R,
     alloc: Global,

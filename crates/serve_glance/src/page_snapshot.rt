@@ -11,17 +11,17 @@ use std::sync::Wait;
 
 /// The line as the page shows it.
 #[derive(Drop)]
-pub struct Glance {
+pub struct PageSnapshot {
     pub layout: Layout,
     pub now: LineNow,
     sent: Sent,
     news: News,
 }
 
-impl Glance {
+impl PageSnapshot {
     /// Nothing was seen yet. The centres listen at these ports.
-    pub fn new(alloc: Global, line: &Line, ports: Vec<u16>) -> Result<Glance, AllocError> {
-        Ok(Glance {
+    pub fn new(alloc: Global, line: &Line, ports: Vec<u16>) -> Result<PageSnapshot, AllocError> {
+        Ok(PageSnapshot {
             layout: layout_of(alloc, line, ports)?,
             now: nothing_of(alloc, line)?,
             sent: Sent::new(alloc, line)?,
@@ -29,7 +29,7 @@ impl Glance {
         })
     }
 
-    /// Looks at the centres, one after another. In the result nobody has a seat, and each journal is written. The page
+    /// Looks at the centres, one after another. In the result nobody has a slot, and each journal is written. The page
     /// shows it once it is `now`.
     pub fn look<R: Wait>(
         &mut self,

@@ -8,7 +8,7 @@ const PIECE: usize = 4_096;
 
 /// Which trains the centres have heard of, and when first.
 #[derive(Drop)]
-pub struct Roster {
+pub struct MentionOrder {
     // By the trains' places in the line file.
     first: Vec<Option<Mention>>,
     // By the centres' numbers: how many entries of the log were looked at.
@@ -22,10 +22,10 @@ struct Mention {
     centre: u8,
 }
 
-impl Roster {
+impl MentionOrder {
     /// No train was heard of.
-    pub fn new(alloc: Global, line: &Line) -> Result<Roster, AllocError> {
-        Ok(Roster {
+    pub fn new(alloc: Global, line: &Line) -> Result<MentionOrder, AllocError> {
+        Ok(MentionOrder {
             first: vec![in alloc; None; line.train_count() as usize]?,
             looked: vec![in alloc; 0usize; line.centre_count() as usize]?,
         })
