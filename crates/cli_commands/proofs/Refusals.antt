@@ -3,11 +3,11 @@ use Rattle.std.proofs.Common.{◌≡◌, ℕ, List, Option, Err, subst}
 use Rattle.rbc_spec.specs.Line.{Line}
 use Rattle.rbc_centre.specs.declared.fault.StepFault.{StepFault}
 use Rattle.rbc_centre.specs.declared.fault.StepFault.TheVariants.{Memory, LinkFull, ClockEnd}
-use Rattle.cli_status.specs.declared.fault.Fault.TheVariants.{Step}
-use Rattle.cli_script.specs.declared.script.Entry.{Entry}
-use Rattle.cli_script.specs.declared.play.PlayFault.{PlayFault}
-use Rattle.cli_script.specs.declared.play.PlayFault.TheVariants.{Refused}
-use Rattle.cli_run.specs.Printed.{LeavesPrint}
+use Rattle.text_script.specs.declared.status.fault.Fault.TheVariants.{Step}
+use Rattle.text_script.specs.declared.script.Entry.{Entry}
+use Rattle.text_script.specs.declared.play.PlayFault.{PlayFault}
+use Rattle.text_script.specs.declared.play.PlayFault.TheVariants.{Refused}
+use Rattle.cli_commands.specs.Running.Printed.{LeavesPrint}
 use Rattle.cli_commands.specs.Runs.{GivesLine, GivesEntries, LeavesRun}
 
 module _ (F : Type 0) (gives : List ℕ → Option (List ℕ) → Type 0) (file script : List ℕ) (line : Line) (entries : List Entry) (before after : Option (List ℕ)) where

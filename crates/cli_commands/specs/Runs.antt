@@ -4,14 +4,14 @@ use Rattle.rbc_spec.specs.Line.{Line}
 use Rattle.rbc_line.specs.Faults.{Names, Applies, IsLowest}
 use Rattle.rbc_line.specs.declared.fault.LineFault.TheVariants as bad
 use Rattle.rbc_centre.specs.declared.fault.StepFault.TheVariants as refused
-use Rattle.cli_status.specs.declared.fault.Fault.{Fault}
-use Rattle.cli_status.specs.declared.fault.Fault.TheVariants as fault
-use Rattle.cli_script.specs.Script.{rows}
-use Rattle.cli_script.specs.Entries.{AreAsked, IsFirstFault}
-use Rattle.cli_script.specs.declared.script.Entry.{Entry}
-use Rattle.cli_script.specs.declared.script.ScriptFault.TheVariants.{Form}
-use Rattle.cli_script.specs.declared.play.PlayFault.TheVariants.{Refused}
-use Rattle.cli_run.specs.Printed.{LeavesPrint}
+use Rattle.text_script.specs.declared.status.fault.Fault.{Fault}
+use Rattle.text_script.specs.declared.status.fault.Fault.TheVariants as fault
+use Rattle.text_script.specs.Script.{rows}
+use Rattle.text_script.specs.Entries.{AreAsked, IsFirstFault}
+use Rattle.text_script.specs.declared.script.Entry.{Entry}
+use Rattle.text_script.specs.declared.script.ScriptFault.TheVariants.{Form}
+use Rattle.text_script.specs.declared.play.PlayFault.TheVariants.{Refused}
+use Rattle.cli_commands.specs.Running.Printed.{LeavesPrint}
 
 -- Of files `gives name text` says that for this name they may give this text, or none.
 

@@ -3,10 +3,10 @@
 use crate::files::{Files, Rows};
 use crate::journal::{Part, journals_in, unfit};
 use crate::line_file::{LineFile, line_file_in};
-use cli_audit::Audit;
-use cli_compare::Verdict;
-use cli_rerun::first_unfit;
-use cli_status::Fault;
+use crate::auditing::Audit;
+use crate::comparing::Verdict;
+use crate::rerunning::first_unfit;
+use text_script::status::Fault;
 use rbc_line::Line;
 use std::alloc::Global;
 use std::io::Write;

@@ -1,4 +1,4 @@
-ghost use Rattle.cli_status.specs.Statuses.{IsStatus};
+ghost use Rattle.text_script.specs.Status.Statuses.{IsStatus};
 
 use crate::audit::audit_printed;
 use crate::diagram::draw_printed;
@@ -11,7 +11,7 @@ use crate::printed::print_journals;
 use crate::run::{check, run};
 use crate::storm::run_storm;
 use crate::words::{Request, requested};
-use cli_status::{Fault, ended};
+use text_script::status::{Fault, ended};
 use std::alloc::Global;
 use std::convert::AsStr;
 use std::io::Write;

@@ -4,8 +4,8 @@ use crate::files::Files;
 use crate::line_file::line_file_in;
 use crate::printed::printed_in;
 use cli_picture::picture;
-use cli_replay::{Cut, page_of};
-use cli_status::Fault;
+use text_replay::{Cut, page_of};
+use text_script::status::Fault;
 use std::alloc::Global;
 use std::io::Write;
 

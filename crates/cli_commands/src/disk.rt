@@ -1,5 +1,5 @@
 use crate::files::{Files, Rows};
-use cli_status::Fault;
+use text_script::status::Fault;
 use std::alloc::{AllocError, Global};
 use std::fs::{File, TryLockError};
 use std::io::{BufRead, BufReader, ErrorKind};

@@ -1,8 +1,8 @@
 use crate::files::Files;
 use crate::picture::print_picture;
-use cli_explain::LineText;
-use cli_findings::Finding;
-use cli_status::Fault;
+use crate::explaining::LineText;
+use crate::inspecting::Finding;
+use text_script::status::Fault;
 use rbc_line::{Line, LineFault};
 use std::alloc::{AllocError, Global};
 use std::io;

@@ -3,8 +3,8 @@
 use crate::files::Files;
 use crate::line_file::line_file_in;
 use crate::printed::printed_in;
-use cli_status::Fault;
-use cli_words::{Field, fields_of, line_in_words, name_of, words_of_fault};
+use text_script::status::Fault;
+use text_words::{Field, fields_of, line_in_words, name_of, words_of_fault};
 use hex::FromHexError;
 use rbc_line::Line;
 use std::alloc::{AllocError, Global};

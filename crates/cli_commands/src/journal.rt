@@ -4,11 +4,11 @@ ghost use Rattle.std.specs.Prelude.{◌<◌, length};
 
 use crate::files::Files;
 use crate::line_file::LineFile;
-use cli_journal::{
+use text_journal::{
     Entry, JournalFault, file_name, first_fallen, in_order, read_journal, whole_length,
 };
-use cli_rerun::{Caused, Place, with_causes};
-use cli_status::Fault;
+use crate::rerunning::{Caused, Place, with_causes};
+use text_script::status::Fault;
 use rbc_line::Line;
 use std::alloc::{AllocError, Global};
 use std::fmt;

@@ -1,5 +1,5 @@
 use crate::files::Files;
-use cli_status::Fault;
+use text_script::status::Fault;
 use rbc_line::Line;
 use std::alloc::Global;
 

@@ -1,6 +1,6 @@
 //! A line as a reader wants to see it: its centres, its tracks with their sections and borders, and its trains.
 
-use cli_print::name_of;
+use text_script::print::name_of;
 use rbc_line::{Line, Section};
 use std::io;
 use std::io::Write;

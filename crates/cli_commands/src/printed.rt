@@ -3,8 +3,8 @@
 use crate::files::Files;
 use crate::journal::{Part, journals_in, unfit_at};
 use crate::line_file::{LineFile, line_file_in};
-use cli_rerun::{RerunFault, print_rerun};
-use cli_status::Fault;
+use crate::rerunning::{RerunFault, print_rerun};
+use text_script::status::Fault;
 use std::alloc::{AllocError, Global};
 use std::io::{BufWriter, Write};
 

@@ -2,11 +2,11 @@ ghost use Rattle.std.specs.Prelude.{IfErr, IfOk};
 ghost use Rattle.cli_commands.specs.Runs.{GivesEntries, GivesLine, GivesNoEntries, GivesNoLine, LeavesCheck, LeavesRun};
 
 use crate::files::Files;
-use cli_print::print_counts;
-use cli_run::print_buffered;
-use cli_script::play::PlayFault;
-use cli_script::script::{Entry, ScriptFault, script_of};
-use cli_status::Fault;
+use text_script::print::print_counts;
+use crate::running::print_buffered;
+use text_script::play::PlayFault;
+use text_script::script::{Entry, ScriptFault, script_of};
+use text_script::status::Fault;
 use rbc_centre::StepFault;
 use rbc_line::Line;
 use std::alloc::Global;

@@ -2,10 +2,10 @@
 
 use crate::files::Files;
 use crate::run::{entries_in, line_in};
-use cli_run::Printer;
-use cli_script::play::PlayFault;
-use cli_script::script::Entry;
-use cli_status::Fault;
+use crate::running::Printer;
+use text_script::play::PlayFault;
+use text_script::script::Entry;
+use text_script::status::Fault;
 use cli_storm::Storm;
 use rbc_line::Line;
 use std::alloc::{AllocError, Global};

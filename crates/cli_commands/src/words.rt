@@ -1,8 +1,8 @@
 use crate::forms::rbcline;
 use clap::error::ErrorKind;
 use clap::{ArgMatches, Error};
-use cli_replay::Cut;
-use cli_status::Fault;
+use text_replay::Cut;
+use text_script::status::Fault;
 use std::alloc::{AllocError, Global};
 use std::convert::AsStr;
 

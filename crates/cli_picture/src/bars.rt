@@ -3,7 +3,7 @@
 use crate::run::{Run, nid_engine_of, track_of};
 use crate::scale::Scale;
 use crate::style::{colour_of, dashes_of};
-use cli_replay::{Stretch, stretches_of};
+use text_replay::{Stretch, stretches_of};
 use rbc_place::{section_end, section_start};
 use rbc_world::Mark;
 use std::alloc::{AllocError, Global};

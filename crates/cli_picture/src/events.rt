@@ -2,7 +2,7 @@
 
 use crate::run::{Event, Kind, Run};
 use crate::scale::{LEFT, RIGHT, Scale};
-use cli_words::name_of_number;
+use text_words::name_of_number;
 use std::alloc::AllocError;
 
 pub fn draw_events(svg: &mut String, scale: &Scale<'_>, run: &Run<'_>) -> Result<(), AllocError> {

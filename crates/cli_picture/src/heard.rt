@@ -1,7 +1,7 @@
 //! What an event is, and what is heard of trains and told to them in it.
 
 use crate::run::{Border, Event, Kind, Report, track_of};
-use cli_words::number_of_train;
+use text_words::number_of_train;
 use rbc_centre::{Outcome, Saying};
 use rbc_line::Line;
 use rbc_msgs::{MsgFault, TrackBody, TrainBody, TrainMsg, decode_train};

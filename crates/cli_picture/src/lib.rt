@@ -21,8 +21,8 @@ mod style;
 
 use crate::draw::draw;
 use crate::played::played;
-use cli_replay::Cut;
-use cli_status::Fault;
+use text_replay::Cut;
+use text_script::status::Fault;
 use rbc_line::Line;
 use std::alloc::Global;
 

@@ -2,8 +2,8 @@
 
 use crate::heard::event_of;
 use crate::run::{Event, Run};
-use cli_replay::{Cut, events_in, train_in};
-use cli_status::Fault;
+use text_replay::{Cut, events_in, train_in};
+use text_script::status::Fault;
 use rbc_line::Line;
 use rbc_world::{World, WorldEvent};
 use std::alloc::Global;

@@ -5,12 +5,12 @@ use Rattle.std.proofs.lemmas.List.{drop_more}
 use Rattle.rbc_spec.specs.Line.{Line}
 use Rattle.rbc_spec.specs.World.{World}
 use Rattle.rbc_world.specs.declared.event.WorldEvent.{WorldEvent}
-use Rattle.cli_script.specs.declared.script.Entry.{Entry}
-use Rattle.cli_script.specs.declared.script.Entry.TheVariants as entry
-use Rattle.cli_script.specs.declared.play.PlayFault.{PlayFault}
-use Rattle.cli_script.specs.declared.play.PlayFault.TheVariants.{Refused, Untold}
-use Rattle.cli_script.specs.Played.{Telling, IsPlayed, Leaves}
-use Rattle.cli_script.proofs.Playing.{Goes, goes_on, stops}
+use Rattle.text_script.specs.declared.script.Entry.{Entry}
+use Rattle.text_script.specs.declared.script.Entry.TheVariants as entry
+use Rattle.text_script.specs.declared.play.PlayFault.{PlayFault}
+use Rattle.text_script.specs.declared.play.PlayFault.TheVariants.{Refused, Untold}
+use Rattle.text_script.specs.Played.{Telling, IsPlayed, Leaves}
+use Rattle.text_script.proofs.Playing.{Goes, goes_on, stops}
 use Rattle.cli_storm.specs.Storm.{Passes, Continues, Rest, after, with_drawn, with_delivery, deliveries, played_by, storm}
 
 module _ {T : Type 0} (tells : T → Telling → T → Type 0) (line : Line) where

@@ -6,10 +6,10 @@ use Rattle.rbc_spec.specs.Step.{Refusal}
 use Rattle.rbc_centre.specs.declared.fault.StepFault.{StepFault}
 use Rattle.rbc_world.specs.Views.{event_of}
 use Rattle.rbc_world.specs.declared.event.WorldEvent.{WorldEvent}
-use Rattle.cli_script.specs.declared.script.Entry.{Entry}
-use Rattle.cli_script.specs.declared.script.Entry.TheVariants as entry
-use Rattle.cli_script.specs.declared.play.PlayFault.{PlayFault}
-use Rattle.cli_script.specs.Played.{Telling, IsPlayed, IsStopped, Leaves}
+use Rattle.text_script.specs.declared.script.Entry.{Entry}
+use Rattle.text_script.specs.declared.script.Entry.TheVariants as entry
+use Rattle.text_script.specs.declared.play.PlayFault.{PlayFault}
+use Rattle.text_script.specs.Played.{Telling, IsPlayed, IsStopped, Leaves}
 use Rattle.cli_storm.specs.Links.{delivery, sending}
 
 abbrev pub world_of : World → Result (Answer × World) Refusal → World

@@ -6,3 +6,8 @@ pub mod Lines
 pub mod Acts
 pub mod Standstill
 pub mod Worlds
+pub mod WalkLemmas
+pub mod RulesLemmas
+pub mod CountingLemmas
+pub mod LocalLemmas
+pub mod PiecesLemmas

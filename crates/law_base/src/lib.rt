@@ -1,6 +1,12 @@
-//! Lemmas that the laws of several crates stand on: of lists and ranges, of runs of sections, of functions with another
-//! value at one place, and of the sections and homes of a line. They stand in `proofs/`, for the crates above to cite.
-//! No code.
+//! The base of the laws: lemmas of lists, ranges and runs of sections; each rule walked in small moves (`walk`); laws
+//! of the rules themselves (`rules`), of counting (`counting`), of one centre (`local`), and of the pieces of a run of
+//! the single line centre (`pieces`).
 //!
 //! No code: what `laws.rt` states stays, and how it is proved is free.
 #![tactic(auto)]
+
+pub mod counting;
+pub mod local;
+pub mod pieces;
+pub mod rules;
+pub mod walk;

@@ -7,7 +7,7 @@ use Rattle.rbc_spec.specs.Frame.{Frame, Body}
 use Rattle.rbc_spec.specs.Outcome.{Outcome}
 use Rattle.rbc_spec.specs.Centre.{Centre}
 use Rattle.rbc_spec.specs.Step.{Event, Train, Set, Unset, Deliver, Refusal, effect, numbered, refusal, stamp_of, ticked, taken, step}
-use Rattle.law_walk.proofs.Clock.{stamp_above, clock_kept}
+use Rattle.law_base.proofs.WalkLemmas.Clock.{stamp_above, clock_kept}
 use Rattle.law_logs.specs.Logs.{IsStamped, IsAboveItsFrame}
 use Rattle.law_base.proofs.Worlds.{numbered_at}
 

@@ -1,8 +1,8 @@
 -- The wrong rules break the laws on a small line, computed.
 use Rattle.std.proofs.Common.{◌≡◌, true, false, refl, nat_le, nat_lt, leb-true, ltb-true}
-use Rattle.law_counting.specs.Sums.{sum_below, sum_links}
-use Rattle.law_counting.specs.Network.{took, TakesHead}
-use Rattle.law_counting.specs.Resource.{Resource, carried, placed, allowed}
+use Rattle.law_base.specs.Counting.Sums.{sum_below, sum_links}
+use Rattle.law_base.specs.Counting.Network.{took, TakesHead}
+use Rattle.law_base.specs.Counting.Resource.{Resource, carried, placed, allowed}
 use Rattle.rbc_spec.specs.SectionRuns.{within, longest}
 use Rattle.rbc_spec.specs.Line.{Line, start as line_start, end}
 use Rattle.rbc_spec.specs.Place.{extent}
@@ -13,9 +13,9 @@ use Rattle.rbc_spec.specs.Acts.{◌>>◌, begun}
 use Rattle.rbc_spec.specs.Links.{may_take}
 use Rattle.rbc_spec.specs.Step.{step}
 use Rattle.rbc_spec.specs.World.{new_world, world_step, world_run}
-use Rattle.law_network.specs.Counts.{rights, tokens}
-use Rattle.law_network.specs.Flow.{Flow, centre_count}
-use Rattle.law_network.specs.Leads.{replied}
+use Rattle.law_invariants.specs.Flow.Counts.{rights, tokens}
+use Rattle.law_invariants.specs.Flow.Flow.{Flow, centre_count}
+use Rattle.law_invariants.specs.Flow.Leads.{replied}
 use Rattle.law_mutants.specs.Small.{small, only, in_section_0, in_section_1, world_after, flow, at_the_other, pooled, returning, taking, expecting}
 use Rattle.law_mutants.specs.Past.{GoesPast}
 use Rattle.law_mutants.specs.Rules.{lending_again, shutting_at_once, giving_back_all, keeping_pool, starting_at_once, keeping_yield, keeping_older, cancelling_any, handed_over_by, sent_home_by}

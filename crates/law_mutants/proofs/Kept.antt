@@ -1,9 +1,9 @@
 -- The rules keep what is counted, in whatever flow.
 use Rattle.std.proofs.Common.{◌≡◌, ℕ, true, ap, arith, ltb-true}
 use Rattle.std.proofs.lemmas.Bool.{and_parts}
-use Rattle.law_counting.specs.Network.{took, TakesHead, IsCounted}
-use Rattle.law_counting.specs.Resource.{IsFair, IsWithinCap}
-use Rattle.law_counting.proofs.Resource.{placed_sound, placed_sound_took}
+use Rattle.law_base.specs.Counting.Network.{took, TakesHead, IsCounted}
+use Rattle.law_base.specs.Counting.Resource.{IsFair, IsWithinCap}
+use Rattle.law_base.proofs.CountingLemmas.Resource.{placed_sound, placed_sound_took}
 use Rattle.rbc_spec.specs.SectionRuns.{SectionRun, all_of}
 use Rattle.rbc_spec.specs.Line.{Line, IsLine, is_centre, is_home}
 use Rattle.rbc_spec.specs.Place.{Place, covered}
@@ -14,18 +14,18 @@ use Rattle.rbc_spec.specs.Rules.{start_waiting}
 use Rattle.rbc_spec.specs.Links.{route_asked, route_returned}
 use Rattle.rbc_spec.specs.Step.{unset}
 use Rattle.law_base.proofs.Runs.{each_within}
-use Rattle.law_local.proofs.Ordered.{is_ordered}
-use Rattle.law_network.specs.Counts.{rights, tokens}
-use Rattle.law_network.specs.Flow.{Flow, centre_count}
-use Rattle.law_network.specs.Leads.{replied}
-use Rattle.law_no_copy.proofs.Tally.{Tally, IsTally, Fair, mission_of, fair_or, fair_rest}
-use Rattle.law_no_copy.proofs.Leaving.{fair_yield}
-use Rattle.law_no_copy.proofs.Starts.{fair_start_waiting}
-use Rattle.law_no_copy.proofs.Messages.{fair_return_pool}
-use Rattle.law_no_copy.proofs.Routes.{fair_route_asked, fair_home}
-use Rattle.law_no_copy.proofs.Interlocking.{fair_section_unset}
-use Rattle.law_no_copy.proofs.Rights.{rights_tally, rights_counted}
-use Rattle.law_no_copy.proofs.Tokens.{tokens_tally, tokens_counted}
+use Rattle.law_base.proofs.LocalLemmas.Ordered.{is_ordered}
+use Rattle.law_invariants.specs.Flow.Counts.{rights, tokens}
+use Rattle.law_invariants.specs.Flow.Flow.{Flow, centre_count}
+use Rattle.law_invariants.specs.Flow.Leads.{replied}
+use Rattle.law_invariants.proofs.NoCopyLemmas.Tally.{Tally, IsTally, Fair, mission_of, fair_or, fair_rest}
+use Rattle.law_invariants.proofs.NoCopyLemmas.Leaving.{fair_yield}
+use Rattle.law_invariants.proofs.NoCopyLemmas.Starts.{fair_start_waiting}
+use Rattle.law_invariants.proofs.NoCopyLemmas.Messages.{fair_return_pool}
+use Rattle.law_invariants.proofs.NoCopyLemmas.Routes.{fair_route_asked, fair_home}
+use Rattle.law_invariants.proofs.NoCopyLemmas.Interlocking.{fair_section_unset}
+use Rattle.law_invariants.proofs.NoCopyLemmas.Rights.{rights_tally, rights_counted}
+use Rattle.law_invariants.proofs.NoCopyLemmas.Tokens.{tokens_tally, tokens_counted}
 use Rattle.law_mutants.specs.Rules.{handed_over_by, sent_home_by}
 
 module _ (line : Line) (c : ℕ) (y : Tally) (is : IsTally line c y) where

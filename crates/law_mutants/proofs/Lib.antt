@@ -1,3 +1,4 @@
 pub mod Kept
 pub mod Stamps
 pub mod Broken
+pub mod AnswersLemmas

@@ -1,3 +1,4 @@
 pub mod Small
 pub mod Past
 pub mod Rules
+pub mod Answers

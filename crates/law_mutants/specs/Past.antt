@@ -1,10 +1,10 @@
 -- What is counted goes past what may be out.
 use Rattle.std.specs.Prelude.{◌<◌}
-use Rattle.law_counting.specs.Resource.{Resource, placed, allowed, IsWithinCap}
+use Rattle.law_base.specs.Counting.Resource.{Resource, placed, allowed, IsWithinCap}
 use Rattle.rbc_spec.specs.Line.{Line}
 use Rattle.rbc_spec.specs.Frame.{Body}
 use Rattle.rbc_spec.specs.Centre.{Centre}
-use Rattle.law_network.specs.Flow.{Flow, centre_count}
+use Rattle.law_invariants.specs.Flow.Flow.{Flow, centre_count}
 
 -- no more was anywhere than may be out, and then there is more
 pub record GoesPast (r : Resource Centre Body) (line : Line) (w v : Flow) : Type 0 where

@@ -8,7 +8,7 @@ use Rattle.rbc_spec.specs.Message.{TrainBody, InitiationOfSession, SessionEstabl
 use Rattle.rbc_spec.specs.Centre.{Centre, beginning}
 use Rattle.rbc_spec.specs.Step.{Refusal}
 use Rattle.rbc_spec.specs.World.{World, Answer, Event, Bytes, Set, Unset, Delivery, new_world, world_run}
-use Rattle.law_network.specs.Flow.{Flow, flow_of}
+use Rattle.law_invariants.specs.Flow.Flow.{Flow, flow_of}
 
 -- centres A (0) and B (1), a track of three sections of 1 000 m, the first at A and two at B, and trains 1 and 2,
 -- registered at A and at B

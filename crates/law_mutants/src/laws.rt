@@ -1,8 +1,8 @@
 //! Laws of rules, and of the wrong rules beside them.
 
 ghost use Rattle.std.specs.Prelude.{◌≡◌, ◌≢◌, ◌⊎◌, ℕ, true, false, Some};
-ghost use Rattle.law_counting.specs.Network.{took, TakesHead, IsCounted};
-ghost use Rattle.law_counting.specs.Resource.{IsWithinCap};
+ghost use Rattle.law_base.specs.Counting.Network.{took, TakesHead, IsCounted};
+ghost use Rattle.law_base.specs.Counting.Resource.{IsWithinCap};
 ghost use Rattle.rbc_spec.specs.SectionRuns.{SectionRun, all_of};
 ghost use Rattle.rbc_spec.specs.Line.{Line, IsLine, is_centre};
 ghost use Rattle.rbc_spec.specs.Place.{Place, covered};
@@ -13,9 +13,9 @@ ghost use Rattle.rbc_spec.specs.Acts.{yield, return_pool, begun};
 ghost use Rattle.rbc_spec.specs.Rules.{start_waiting};
 ghost use Rattle.rbc_spec.specs.Links.{route_asked, route_returned, may_take, take_mission, cancelled};
 ghost use Rattle.rbc_spec.specs.Step.{unset};
-ghost use Rattle.law_network.specs.Counts.{rights, tokens};
-ghost use Rattle.law_network.specs.Flow.{Flow, centre_count};
-ghost use Rattle.law_network.specs.Leads.{replied};
+ghost use Rattle.law_invariants.specs.Flow.Counts.{rights, tokens};
+ghost use Rattle.law_invariants.specs.Flow.Flow.{Flow, centre_count};
+ghost use Rattle.law_invariants.specs.Flow.Leads.{replied};
 ghost use Rattle.law_mutants.specs.Small.{small, only, in_section_0, in_section_1, flow, at_the_other, pooled, returning, taking, expecting};
 ghost use Rattle.law_mutants.specs.Past.{GoesPast};
 ghost use Rattle.law_mutants.specs.Rules.{lending_again, shutting_at_once, giving_back_all, keeping_pool, starting_at_once, keeping_yield, keeping_older, cancelling_any, handed_over_by, sent_home_by};

@@ -1,10 +1,9 @@
-//! Wrong rules that tempt, each beside the rule that stands in its place: the rule keeps a law of the whole line in
-//! whatever flow or state, and the wrong one breaks it on a small line. So an edit that puts the wrong rule in the
-//! place of the right one is refused.
+//! Tempting wrong rules and wrong answers, each beside the rule that is right.
 //!
 //! No code: what `laws.rt` states stays, and how it is proved is free.
 #![tactic(auto)]
 
+pub mod answers;
 mod laws;
 
 pub use laws::{

@@ -9,10 +9,10 @@ use Rattle.rbc_spec.specs.Acts.{hear, Act, Reply, ◌>>◌}
 use Rattle.rbc_spec.specs.Maps.{put}
 use Rattle.rbc_spec.specs.Links.{received}
 use Rattle.rbc_spec.specs.Step.{hear_and_answer, taken_by}
-use Rattle.law_walk.proofs.Moves.{May, Move, announces, Answer, nothing_waits, Walk, of_walk}
-use Rattle.law_walk.proofs.Messages.{may_announce, may_do}
-use Rattle.law_walk.proofs.Frames.{frame_may, of_taking, received_taking}
-use Rattle.law_walk.proofs.Steps.{heard_walks}
+use Rattle.law_base.proofs.WalkLemmas.Moves.{May, Move, announces, Answer, nothing_waits, Walk, of_walk}
+use Rattle.law_base.proofs.WalkLemmas.Messages.{may_announce, may_do}
+use Rattle.law_base.proofs.WalkLemmas.Frames.{frame_may, of_taking, received_taking}
+use Rattle.law_base.proofs.WalkLemmas.Steps.{heard_walks}
 use Rattle.law_progress.specs.Ends.{IsSessionOrReport}
 
 -- what an act leaves of a centre, which was k, has announced no more

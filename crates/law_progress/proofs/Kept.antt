@@ -2,9 +2,9 @@
 use Rattle.std.proofs.Common.{◌≡◌, ◌≢◌, ◌⊎◌, inl, inr, ℕ, ◌+◌, ◌<◌, ◌≤◌, ◌==◌, ◌&&◌, Bool, true, false, if◌then◌else◌, List, [], ◌∷◌, option_and_then, is_some, Option, Some, None, Result, Ok, Err, refl, sym, ap, ◌∙◌, subst, arith, ⊎_elim}
 use Rattle.std.specs.Option.{option_map_or}
 use Rattle.std.proofs.lemmas.Bool.{cases_eq}
-use Rattle.law_counting.specs.Sums.{one_if}
-use Rattle.law_counting.specs.Chain.{after_all}
-use Rattle.law_counting.proofs.Sums.{put_same, put_other}
+use Rattle.law_base.specs.Counting.Sums.{one_if}
+use Rattle.law_base.specs.Counting.Chain.{after_all}
+use Rattle.law_base.proofs.CountingLemmas.Sums.{put_same, put_other}
 use Rattle.rbc_spec.specs.Maps.{put}
 use Rattle.rbc_spec.specs.Line.{Line, IsLine, is_centre}
 use Rattle.rbc_spec.specs.Message.{TrainMessage}
@@ -16,14 +16,14 @@ use Rattle.rbc_spec.specs.Step as centre
 use Rattle.rbc_spec.specs.Step.{Effect, Refusal, step, refusal, taken, hear_and_answer, silence, link_answer, stamp_of, ticked}
 use Rattle.rbc_spec.specs.World.{World, Event, Bytes, Set, Unset, Delivery, Answer, NoCentre, NotSent, frame_sent, mention, stepped, takes, world_step}
 use Rattle.law_base.proofs.Puts.{itself, put_keeps}
-use Rattle.law_local.proofs.Worlds.{world_of}
-use Rattle.law_network.specs.Flow.{Flow, flow_of}
-use Rattle.law_network.specs.Pairs.{follows, handing_to, announces, count_if}
-use Rattle.law_handover.specs.Orderly.{number_announced, IsTakenWith, Allowance, IsOrderlyWith}
-use Rattle.law_handover.specs.Steps.{left_by, sent_by}
-use Rattle.law_handover.specs.Worlds.{IsWorldSound}
-use Rattle.law_handover.proofs.Steps.{step_orderly, step_taken}
-use Rattle.law_no_unasked.proofs.Split.{world_step_keeps}
+use Rattle.law_base.proofs.LocalLemmas.Worlds.{world_of}
+use Rattle.law_invariants.specs.Flow.Flow.{Flow, flow_of}
+use Rattle.law_invariants.specs.Flow.Pairs.{follows, handing_to, announces, count_if}
+use Rattle.law_invariants.specs.Handover.Orderly.{number_announced, IsTakenWith, Allowance, IsOrderlyWith}
+use Rattle.law_invariants.specs.Handover.Steps.{left_by, sent_by}
+use Rattle.law_invariants.specs.Handover.Worlds.{IsWorldSound}
+use Rattle.law_invariants.proofs.HandoverLemmas.Steps.{step_orderly, step_taken}
+use Rattle.law_invariants.proofs.NoUnaskedLemmas.Split.{world_step_keeps}
 use Rattle.law_progress.specs.Ends.{IsGoingOn, is_handing}
 use Rattle.law_progress.proofs.Announced.{taken_keeps, heard_keeps}
 

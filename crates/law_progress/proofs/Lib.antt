@@ -3,3 +3,5 @@ pub mod Kept
 pub mod Places
 pub mod Messages
 pub mod Rounds
+pub mod RestLemmas
+pub mod FairLemmas

@@ -3,7 +3,7 @@
 use Rattle.std.proofs.Common.{◌≡◌, ℕ, ◌+◌, ◌&&◌, not, Bool, true, false, if◌then◌else◌, is_none, is_some, nat_le, ◌++◌, option_map, Option, Some, None, Ok, Err, List, refl, sym, ap, ◌∙◌, subst, arith, ⊎_elim, leb-true, eq-eqb}
 use Rattle.std.specs.Option.{option_map_or}
 use Rattle.std.proofs.lemmas.Bool.{cases_Bool}
-use Rattle.law_counting.proofs.Sums.{put_same}
+use Rattle.law_base.proofs.CountingLemmas.Sums.{put_same}
 use Rattle.rbc_spec.specs.Maps.{put}
 use Rattle.rbc_spec.specs.SectionRuns.{joined, next_after, part_from, passing}
 use Rattle.rbc_spec.specs.Line.{Line, is_centre, train_number, registrar}
@@ -17,9 +17,9 @@ use Rattle.rbc_spec.specs.Rules.{drop_wait, cleared, clear, report_here, take_ov
 use Rattle.rbc_spec.specs.Step.{Effect, Refusal, Train, step, refusal, taken, hear_and_answer, silence, is_awaited, mission_has, frames_of, ticked}
 use Rattle.rbc_spec.specs.World.{World, Bytes, Answer, NoCentre, mention, stepped, takes, world_step}
 use Rattle.law_base.proofs.Puts.{put_there}
-use Rattle.law_local.proofs.Worlds.{world_of}
-use Rattle.law_no_copy.specs.Steps.{done}
-use Rattle.law_handover.specs.Steps.{left_by}
+use Rattle.law_base.proofs.LocalLemmas.Worlds.{world_of}
+use Rattle.law_invariants.specs.NoCopy.Steps.{done}
+use Rattle.law_invariants.specs.Handover.Steps.{left_by}
 use Rattle.law_progress.specs.Ends.{is_handing}
 
 -- the next message of train t after T_TRAIN x

@@ -13,7 +13,7 @@ use Rattle.rbc_spec.proofs.Places.{IsAt, section_on, start_is, end_of, ends_rise
 use Rattle.law_base.proofs.Lists.{each_at}
 use Rattle.law_base.proofs.Longest.{longest_is}
 use Rattle.law_base.proofs.Runs.{within_from, within_true}
-use Rattle.law_network.specs.Sound.{IsHandAt}
+use Rattle.law_invariants.specs.Flow.Sound.{IsHandAt}
 
 -- where each section of a run passes, all pass
 all_pass : (test : ℕ → Bool) (r : SectionRun) → ((s : ℕ) → within r s ≡ true → test s ≡ true) → passing test r ≡ r.count

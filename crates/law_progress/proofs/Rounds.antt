@@ -5,8 +5,8 @@ use Rattle.std.proofs.lemmas.Bool.{cases_Bool, cases_lt, both_ways}
 use Rattle.std.proofs.lemmas.Option.{slice_get-get_or}
 use Rattle.std.proofs.lemmas.List.Quantifiers.{position-Some}
 use Rattle.std.proofs.lemmas.List.Elements.{All-nil, All-cons, All-head, All-tail}
-use Rattle.law_counting.specs.Network.{way}
-use Rattle.law_counting.specs.Chain.{after_all}
+use Rattle.law_base.specs.Counting.Network.{way}
+use Rattle.law_base.specs.Counting.Chain.{after_all}
 use Rattle.rbc_spec.specs.Line.{Line, Train, IsLine, is_centre, train_number}
 use Rattle.rbc_spec.specs.Message.{Report, InitiationOfSession, SessionEstablished, unknown_time}
 use Rattle.rbc_spec.specs.Frame.{Frame, Body}
@@ -15,16 +15,16 @@ use Rattle.rbc_spec.specs.Step.{Refusal}
 use Rattle.rbc_spec.specs.World.{World, Event, Bytes, Set, Unset, Delivery, Answer, world_step, world_run}
 use Rattle.law_base.proofs.Lists.{any-range_none}
 use Rattle.law_base.proofs.Worlds.{bind_ok, same_ok}
-use Rattle.law_network.specs.Flow.{flow_of, centre_count}
-use Rattle.law_network.specs.Pairs.{follows, handing_to}
-use Rattle.law_network.proofs.Frames.{way_is}
-use Rattle.law_handover.specs.Orderly.{number_expected, number_announced}
-use Rattle.law_runs.proofs.Runs.{run_of_none, whole_run}
-use Rattle.law_ranges.specs.Stays.{IsReadInRange, IsWorldInRange}
-use Rattle.law_ranges.proofs.Worlds.{step_in_range}
-use Rattle.law_no_stray.proofs.Worlds.{IsReachedSo, step_reached}
-use Rattle.law_quiescence.specs.Rest.{work_of, IsDelivery, IsAtRest, IsStopped}
-use Rattle.law_quiescence.proofs.Rest.{work_is, no_way, comes_to_rest}
+use Rattle.law_invariants.specs.Flow.Flow.{flow_of, centre_count}
+use Rattle.law_invariants.specs.Flow.Pairs.{follows, handing_to}
+use Rattle.law_invariants.proofs.FlowLemmas.Frames.{way_is}
+use Rattle.law_invariants.specs.Handover.Orderly.{number_expected, number_announced}
+use Rattle.law_base.proofs.PiecesLemmas.Runs.{run_of_none, whole_run}
+use Rattle.law_invariants.specs.Ranges.Stays.{IsReadInRange, IsWorldInRange}
+use Rattle.law_invariants.proofs.RangesLemmas.Worlds.{step_in_range}
+use Rattle.law_invariants.proofs.NoStrayLemmas.Worlds.{IsReachedSo, step_reached}
+use Rattle.law_progress.specs.Rest.Rest.{work_of, IsDelivery, IsAtRest, IsStopped}
+use Rattle.law_progress.proofs.RestLemmas.Rest.{work_is, no_way, comes_to_rest}
 use Rattle.law_progress.specs.Ends.{IsGoingOn, is_handing, HasNoHandover, messages_for_report, IsOutOfStamps, IsRefusedThere, GoesOn}
 use Rattle.law_progress.proofs.Kept.{none_to, none_new}
 use Rattle.law_progress.proofs.Places.{at_end, clears}

@@ -6,8 +6,8 @@ use Rattle.rbc_spec.specs.Message.{TrainBody, Report, InitiationOfSession, Sessi
 use Rattle.rbc_spec.specs.Centre.{Mission, Phase, Closed, Opened, Up, is_expected}
 use Rattle.rbc_spec.specs.Step.{Refusal}
 use Rattle.rbc_spec.specs.World.{World, Event, Bytes, Delivery, Answer, world_step, world_run}
-use Rattle.law_ranges.specs.Ranges.{HasMessageRanges}
-use Rattle.law_quiescence.specs.Rest.{IsAtRest}
+use Rattle.law_invariants.specs.Ranges.Ranges.{HasMessageRanges}
+use Rattle.law_progress.specs.Rest.Rest.{IsAtRest}
 
 -- a message that begins a session, or a position report
 abbrev pub IsSessionOrReport : TrainBody → Type 0

@@ -3,7 +3,7 @@
 ghost use Rattle.std.specs.Prelude.{◌≡◌, List, All, Ok};
 ghost use Rattle.rbc_spec.specs.Line.{Line, IsLine};
 ghost use Rattle.rbc_spec.specs.World.{World, Event, Answer, new_world, world_run};
-ghost use Rattle.law_ranges.specs.Stays.{IsReadInRange};
+ghost use Rattle.law_invariants.specs.Ranges.Stays.{IsReadInRange};
 ghost use Rattle.law_progress.specs.Ends.{GoesOn};
 
 /// From each world that events led to, each message of a train in its ranges, finitely many deliveries and messages of

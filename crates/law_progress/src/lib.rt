@@ -1,9 +1,11 @@
-//! The rest of progress without time: from each world finitely many messages of trains and deliveries lead to rest with
-//! no handover. That they come is not claimed.
+//! Progress without time: rest is reached from each world, by finitely many deliveries and messages (`rest`), and in
+//! every fair schedule (`fair`). That a frame is ever delivered is a premise, and not claimed.
 //!
 //! No code: what `laws.rt` states stays, and how it is proved is free.
 #![tactic(auto)]
 
+pub mod fair;
 mod laws;
+pub mod rest;
 
 pub use laws::each_handover_can_end;

@@ -19,8 +19,8 @@ use Rattle.rbc_spec.proofs.Places.{section_on, start_is, end_is, before, covers_
 use Rattle.law_base.proofs.Lines.{on_line}
 use Rattle.law_base.proofs.Puts.{put_other, put_there, put_pair_there}
 use Rattle.law_base.proofs.Runs.{within_true, within_from}
-use Rattle.law_local.proofs.Fits.{IsFit}
-use Rattle.law_runs.proofs.Waits.{WaitsKeep, IsLoose, opened, kept_for, PutAt, there, elsewhere, put_at, is_waited, quiet_leaves}
+use Rattle.law_base.proofs.LocalLemmas.Fits.{IsFit}
+use Rattle.law_base.proofs.PiecesLemmas.Waits.{WaitsKeep, IsLoose, opened, kept_for, PutAt, there, elsewhere, put_at, is_waited, quiet_leaves}
 use Rattle.law_outside.specs.Outside.{View, Stretch, accepted, begun, front_end, metres_from, asked_for, gets, starts, is_told, all_told}
 use Rattle.law_promises.proofs.Marks.{Stays, if_true, if_false, loose_stays, plain_stays, given_moves}
 use Rattle.law_promises.proofs.Spans.{first_stretch, last_covered, last_is, lt_up}

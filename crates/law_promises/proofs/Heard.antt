@@ -21,10 +21,10 @@ use Rattle.law_base.proofs.Lines.{on_line}
 use Rattle.law_base.proofs.Lists.{any-range}
 use Rattle.law_base.proofs.Puts.{put_other, put_there, put_same, put_pair_there, itself}
 use Rattle.law_base.proofs.Runs.{within_true, within_from, each_within, same_tests}
-use Rattle.law_centre.proofs.Places.{extent_ahead, has_group, fit_is, IsPlacedOn, placed_on}
-use Rattle.law_local.proofs.Fits.{fit_parts}
-use Rattle.law_runs.proofs.Waits.{WaitsKeep, IsLoose, opened, kept_for, PutAt, there, elsewhere, put_at}
-use Rattle.law_runs.proofs.Frees.{by_test, own_leaves, closed_mark, closed_wait}
+use Rattle.law_base.proofs.RulesLemmas.Places.{extent_ahead, has_group, fit_is, IsPlacedOn, placed_on}
+use Rattle.law_base.proofs.LocalLemmas.Fits.{fit_parts}
+use Rattle.law_base.proofs.PiecesLemmas.Waits.{WaitsKeep, IsLoose, opened, kept_for, PutAt, there, elsewhere, put_at}
+use Rattle.law_base.proofs.PiecesLemmas.Frees.{by_test, own_leaves, closed_mark, closed_wait}
 use Rattle.law_outside.specs.Outside as outside
 use Rattle.law_outside.specs.Outside.{View, Stretch, accepted, all_told, begun, starts, cleared, up_to, after_message, extended, metres_from, gets, stamp_of, front_end, is_told, takes_back}
 use Rattle.law_promises.proofs.Marks.{Stays, Moves, by, if_true, if_false, loose_stays, given_moves, released_moves}

@@ -6,3 +6,5 @@ pub mod Standstill
 pub mod Follows
 pub mod Heard
 pub mod Pieces
+pub mod ArrivalLemmas
+pub mod ApartLemmas

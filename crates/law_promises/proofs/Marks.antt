@@ -4,7 +4,7 @@ use Rattle.std.proofs.lemmas.Bool.{ne_eqb, or_left}
 use Rattle.rbc_spec.specs.Line.{Line, is_home}
 use Rattle.rbc_spec.specs.LineCentre.{LineState, Mark, Shut, Open, Kept, Given, is_given_to, release}
 use Rattle.law_base.proofs.Puts.{itself}
-use Rattle.law_runs.proofs.Waits.{IsLoose, opened, kept_for}
+use Rattle.law_base.proofs.PiecesLemmas.Waits.{IsLoose, opened, kept_for}
 
 -- all hands stay as they are, and what is shut stays shut
 pub record Stays (a b : ℕ → Mark) : Type 0 where

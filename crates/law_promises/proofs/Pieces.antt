@@ -19,9 +19,9 @@ use Rattle.rbc_spec.specs.World.{Event, Bytes, Set, Unset, Delivery, centre_of, 
 use Rattle.rbc_spec.specs.Run.{Piece, Goes, Run, Steps, silent, heard, listened, OwnStep, silence, holds, has_here, may_request_at, answers_it, may_listen}
 use Rattle.law_base.proofs.Lists.{none_passes}
 use Rattle.law_base.proofs.Puts.{itself, put_here, put_other, put_pair_there}
-use Rattle.law_runs.proofs.Waits.{wait_on}
-use Rattle.law_runs.proofs.Frees.{by_test}
-use Rattle.law_runs.proofs.Words.{Fits, quiets_fit, own_fits}
+use Rattle.law_base.proofs.PiecesLemmas.Waits.{wait_on}
+use Rattle.law_base.proofs.PiecesLemmas.Frees.{by_test}
+use Rattle.law_base.proofs.PiecesLemmas.Words.{Fits, quiets_fit, own_fits}
 use Rattle.law_outside.specs.Outside as outside
 use Rattle.law_outside.specs.Outside.{View, Stretch, is_told, all_told, all_heard, said_by, sees, sees_all, nothing_seen, may_run_over, is_in, IsSafeOutside, gets, starts, spoken_of}
 use Rattle.law_promises.proofs.Marks.{if_true}

@@ -11,10 +11,10 @@ use Rattle.rbc_spec.specs.ReadOff.{holder, mark_of, read_off}
 use Rattle.rbc_spec.proofs.Safe.{given_mark}
 use Rattle.rbc_spec.specs.Promises.{is_given, MayFree, KeepsPromises, IsSound, user}
 use Rattle.law_base.proofs.Worlds.{bind_ok, same_ok}
-use Rattle.law_network.proofs.Neighbours.{home_below}
-use Rattle.law_handover.proofs.Worlds.{world_begins, world_run_sound, world_step_sound}
-use Rattle.law_runs.proofs.Runs.{run_of_none, whole_run}
-use Rattle.law_runs.proofs.Promised.{given_is, given_home, given_held}
+use Rattle.law_invariants.proofs.FlowLemmas.Neighbours.{home_below}
+use Rattle.law_invariants.proofs.HandoverLemmas.Worlds.{world_begins, world_run_sound, world_step_sound}
+use Rattle.law_base.proofs.PiecesLemmas.Runs.{run_of_none, whole_run}
+use Rattle.law_base.proofs.PiecesLemmas.Promised.{given_is, given_home, given_held}
 use Rattle.law_refinement.proofs.Promises.{promises, sound_after, run_sound, run_further}
 use Rattle.law_promises.specs.Promised.{IsFreedWithin, IsTakenBack}
 

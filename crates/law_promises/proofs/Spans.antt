@@ -9,7 +9,7 @@ use Rattle.rbc_spec.specs.Place.{Place, covers, covered}
 use Rattle.rbc_spec.proofs.Places.{IsCovered, covers_parts, covers_from, covers_run, starts_rise, ends_before, section_on, start_is, end_of}
 use Rattle.law_base.proofs.Lists.{each_at}
 use Rattle.law_base.proofs.Runs.{within_true, within_from}
-use Rattle.law_local.proofs.Fits.{IsFit, fit_covers}
+use Rattle.law_base.proofs.LocalLemmas.Fits.{IsFit, fit_covers}
 use Rattle.law_outside.specs.Outside.{Stretch, is_in, cleared, up_to}
 
 -- the stretch ends where a section of its track ends

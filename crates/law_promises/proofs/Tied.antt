@@ -13,7 +13,7 @@ use Rattle.rbc_spec.specs.LineCentre.{LineMission, Supervisor, At, Parted}
 use Rattle.rbc_spec.proofs.Places.{covers_parts, covers_run, covers_convex, ends_rise}
 use Rattle.law_base.proofs.Lines.{one_track}
 use Rattle.law_base.proofs.Puts.{itself}
-use Rattle.law_local.proofs.Fits.{IsFit, fit_covers}
+use Rattle.law_base.proofs.LocalLemmas.Fits.{IsFit, fit_covers}
 use Rattle.law_outside.specs.Outside.{Stretch, Shortening, accepted, cleared, up_to}
 use Rattle.law_promises.proofs.Spans.{Spans, IsLess, in_from, some_metres, rear_other, not_in_rear, rear_up, trimmed, cut_back, lengthened, begun_spans, goes_on_spans, first_stretch, spans_less, cleared_less}
 use Rattle.law_promises.proofs.Marks.{by, if_true, if_false}

@@ -1,1 +1,3 @@
 pub mod Promised
+pub mod Arrival
+pub mod Apart

@@ -1,10 +1,11 @@
-//! Laws of what the centres of a line promise: a section leaves a train's hand only by what the train said, in one step
-//! and in any list of events, and what is told back to the interlocking is nobody's. And the promise to the outside: by
-//! what they are told no two trains may run over one section.
+//! The promise of the centres to the world outside, what of it arrives at the trains (`arrival`), and that no train
+//! takes from another (`apart`).
 //!
 //! No code: what `laws.rt` states stays, and how it is proved is free.
 #![tactic(auto)]
 
+pub mod apart;
+pub mod arrival;
 mod laws;
 
 pub use laws::{

@@ -4,14 +4,14 @@ use Rattle.std.proofs.Common.{◌≡◌, ◌⊎◌, inl, inr, ℕ, zero, suc, tr
 use Rattle.std.proofs.Props.{props}
 use Rattle.std.proofs.lemmas.Option.{same_Some}
 use Rattle.std.proofs.lemmas.List.Elements.{All-weaker}
-use Rattle.law_counting.specs.Network.{EachOnTheWay, way}
+use Rattle.law_base.specs.Counting.Network.{EachOnTheWay, way}
 use Rattle.rbc_spec.specs.SectionRuns.{SectionRun}
 use Rattle.rbc_spec.specs.Line.{Line, next_centre}
 use Rattle.rbc_spec.specs.Place.{Place}
 use Rattle.rbc_spec.specs.Frame.{YieldedPlace, place_with_front, carried_place, Body, Announce, Cancel, Yield}
-use Rattle.law_network.specs.Flow.{Flow}
-use Rattle.law_network.specs.Pairs.{IsPaired, before, after}
-use Rattle.law_network.specs.Sound.{IsHandAt, IsYieldSound, IsBodySound}
+use Rattle.law_invariants.specs.Flow.Flow.{Flow}
+use Rattle.law_invariants.specs.Flow.Pairs.{IsPaired, before, after}
+use Rattle.law_invariants.specs.Flow.Sound.{IsHandAt, IsYieldSound, IsBodySound}
 use Rattle.law_reached.specs.Known.{IsYieldKnown, IsBodyKnown, IsPairKnown}
 
 -- ## Bodies

@@ -6,10 +6,10 @@ use Rattle.rbc_spec.specs.LineCentre.{line_beginning}
 use Rattle.rbc_spec.specs.World.{World, Event, Answer, new_world, world_step, world_run}
 use Rattle.rbc_spec.specs.ReadOff.{read_off}
 use Rattle.rbc_spec.specs.Theorems.{IsOneCentreLine, GoesForced, ForcedRun, IsOneCentreRun}
-use Rattle.law_local.specs.Local.{IsLocal}
-use Rattle.law_local.proofs.Ordered.{is_ordered}
-use Rattle.law_local.proofs.Worlds.{new_local, run_local}
-use Rattle.law_one_centre.proofs.Whole as single
+use Rattle.law_base.specs.Local.Local.{IsLocal}
+use Rattle.law_base.proofs.LocalLemmas.Ordered.{is_ordered}
+use Rattle.law_base.proofs.LocalLemmas.Worlds.{new_local, run_local}
+use Rattle.law_reached.proofs.OneCentreLemmas.Whole as single
 use Rattle.law_reached.specs.Known.{IsKnown}
 use Rattle.law_reached.proofs.Known.{meets}
 

@@ -8,9 +8,9 @@ use Rattle.rbc_spec.specs.World.{World, Event, Answer, new_world, world_step, wo
 use Rattle.rbc_spec.specs.Run.{Goes}
 use Rattle.rbc_spec.specs.ReadOff.{StandsFor, read_off}
 use Rattle.rbc_spec.specs.Promises.{KeepsPromises, IsSound}
-use Rattle.law_network.specs.Flow.{flow_of}
-use Rattle.law_network.specs.Sound.{IsFlowSound}
-use Rattle.law_runs.proofs.Promised.{keeps_promises}
+use Rattle.law_invariants.specs.Flow.Flow.{flow_of}
+use Rattle.law_invariants.specs.Flow.Sound.{IsFlowSound}
+use Rattle.law_base.proofs.PiecesLemmas.Promised.{keeps_promises}
 use Rattle.law_refinement.specs.Meets.{Meets}
 use Rattle.law_refinement.proofs.Events.{each_event_goes}
 use Rattle.law_refinement.proofs.Lines.{is_read, stands_read}

@@ -5,3 +5,4 @@ pub mod Missions
 pub mod Marks
 pub mod Forced
 pub mod Whole
+pub mod OneCentreLemmas

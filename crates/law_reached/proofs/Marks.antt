@@ -5,10 +5,10 @@ use Rattle.rbc_spec.specs.Line.{Line}
 use Rattle.rbc_spec.specs.World.{World}
 use Rattle.rbc_spec.specs.ReadOff.{read_off}
 use Rattle.rbc_spec.specs.Promises.{is_given}
-use Rattle.law_network.specs.Flow.{flow_of}
-use Rattle.law_network.specs.Sound.{IsFlowSound}
-use Rattle.law_network.specs.Shows.{Shows, shown, is_in_hand}
-use Rattle.law_network.proofs.Stands.{found, counted}
+use Rattle.law_invariants.specs.Flow.Flow.{flow_of}
+use Rattle.law_invariants.specs.Flow.Sound.{IsFlowSound}
+use Rattle.law_invariants.specs.Flow.Shows.{Shows, shown, is_in_hand}
+use Rattle.law_invariants.proofs.FlowLemmas.Stands.{found, counted}
 use Rattle.law_reached.specs.Seen.{AreSectionsSeen}
 
 module _ (line : Line) (w : World) (sound : IsFlowSound line (flow_of w)) (sees : Shows line (flow_of w) (read_off line w)) where

@@ -10,11 +10,11 @@ use Rattle.rbc_spec.specs.LineCentre.{At}
 use Rattle.rbc_spec.specs.World.{World}
 use Rattle.rbc_spec.specs.ReadOff.{StandsFor, read_off, seen, Held, held, held_at, handed_over, centres_of, frames_on_way}
 use Rattle.rbc_spec.proofs.Held.{held_as, among, is_there, held_first, none_first, contains_filter_map}
-use Rattle.law_network.specs.Flow.{flow_of}
-use Rattle.law_network.specs.Sound.{IsFlowSound}
-use Rattle.law_network.specs.Shows.{Shows}
-use Rattle.law_network.proofs.Seats.{first_seat, seat_known}
-use Rattle.law_network.proofs.Stands.{stands}
+use Rattle.law_invariants.specs.Flow.Flow.{flow_of}
+use Rattle.law_invariants.specs.Flow.Sound.{IsFlowSound}
+use Rattle.law_invariants.specs.Flow.Shows.{Shows}
+use Rattle.law_invariants.proofs.FlowLemmas.Seats.{first_seat, seat_known}
+use Rattle.law_invariants.proofs.FlowLemmas.Stands.{stands}
 use Rattle.law_reached.specs.Seen.{supervisor_of, yielded_on_way, AreMissionsSeen}
 
 -- ## Lists

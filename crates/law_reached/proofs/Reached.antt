@@ -5,11 +5,11 @@ use Rattle.rbc_spec.specs.World.{World, Event, Answer, new_world, world_run}
 use Rattle.rbc_spec.specs.ReadOff.{StandsFor, read_off}
 use Rattle.rbc_spec.specs.Promises.{IsSound}
 use Rattle.rbc_spec.proofs.Safe.{safe}
-use Rattle.law_network.specs.Flow.{flow_of}
-use Rattle.law_network.specs.Sound.{LosesNothing}
-use Rattle.law_network.proofs.OnePlace.{has_one_place}
-use Rattle.law_handover.proofs.Worlds.{world_begins}
-use Rattle.law_no_loss.proofs.Worlds.{never_lost}
+use Rattle.law_invariants.specs.Flow.Flow.{flow_of}
+use Rattle.law_invariants.specs.Flow.Sound.{LosesNothing}
+use Rattle.law_invariants.proofs.FlowLemmas.OnePlace.{has_one_place}
+use Rattle.law_invariants.proofs.HandoverLemmas.Worlds.{world_begins}
+use Rattle.law_invariants.proofs.NoLossLemmas.Worlds.{never_lost}
 use Rattle.law_refinement.specs.Meets.{Meets}
 use Rattle.law_refinement.specs.Announced.{IsAnnounced}
 use Rattle.law_refinement.proofs.Lines.{run_read, stands_read}

@@ -1,19 +1,19 @@
 -- What is known of a world that events led to. There is one proof of it at most, so a value may keep it: where a world
 -- is sound by one of two reasons, this says the test that tells.
 use Rattle.std.specs.Prelude.{◌≡◌, ℕ, ◌+◌, ◌<◌, ◌≤◌, true, false, ◌&&◌, [], Some, None, option_map, is_some, nat_lt, length}
-use Rattle.law_counting.specs.Network.{IsCounted, EachOnTheWay, way}
-use Rattle.law_counting.specs.Chain.{Chain}
+use Rattle.law_base.specs.Counting.Network.{IsCounted, EachOnTheWay, way}
+use Rattle.law_base.specs.Counting.Chain.{Chain}
 use Rattle.rbc_spec.specs.SectionRuns.{SectionRun, within}
 use Rattle.rbc_spec.specs.Line.{Line, is_centre, is_home, next_centre, train_number}
 use Rattle.rbc_spec.specs.Place.{Place}
 use Rattle.rbc_spec.specs.Frame.{YieldedPlace, carried_place, Body, Announce, Cancel, Yield}
 use Rattle.rbc_spec.specs.World.{World}
 use Rattle.rbc_spec.specs.ReadOff.{read_off}
-use Rattle.law_network.specs.Flow.{Flow, flow_of}
-use Rattle.law_network.specs.Numbers.{IsNumbered}
-use Rattle.law_network.specs.Pairs.{follows, handing_to, before, after}
-use Rattle.law_network.specs.Sound.{IsHandAt, IsCentreSound, LosesNothing}
-use Rattle.law_network.specs.Shows.{Shows}
+use Rattle.law_invariants.specs.Flow.Flow.{Flow, flow_of}
+use Rattle.law_invariants.specs.Flow.Numbers.{IsNumbered}
+use Rattle.law_invariants.specs.Flow.Pairs.{follows, handing_to, before, after}
+use Rattle.law_invariants.specs.Flow.Sound.{IsHandAt, IsCentreSound, LosesNothing}
+use Rattle.law_invariants.specs.Flow.Shows.{Shows}
 use Rattle.law_refinement.specs.Announced.{IsAnnounced}
 
 -- ## What is on the way

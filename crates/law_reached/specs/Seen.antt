@@ -8,7 +8,7 @@ use Rattle.rbc_spec.specs.LineCentre.{Shut, IsHand}
 use Rattle.rbc_spec.specs.World.{World}
 use Rattle.rbc_spec.specs.ReadOff.{Held, held, held_at, handed_over, frames_on_way, read_off}
 use Rattle.rbc_spec.specs.Promises.{is_given}
-use Rattle.law_network.specs.Shows.{shown}
+use Rattle.law_invariants.specs.Flow.Shows.{shown}
 
 -- the first centre of the line that has a mission of the train
 abbrev pub supervisor_of : Line → World → ℕ → Option ℕ

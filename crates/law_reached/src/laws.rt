@@ -9,7 +9,7 @@ ghost use Rattle.rbc_spec.specs.Run.{Goes};
 ghost use Rattle.rbc_spec.specs.ReadOff.{StandsFor, read_off};
 ghost use Rattle.rbc_spec.specs.Promises.{KeepsPromises, IsSound};
 ghost use Rattle.rbc_spec.specs.Theorems.{IsOneCentreLine, GoesForced, ForcedRun, IsOneCentreRun};
-ghost use Rattle.law_local.specs.Local.{IsLocal};
+ghost use Rattle.law_base.specs.Local.Local.{IsLocal};
 ghost use Rattle.law_reached.specs.Known.{IsKnown};
 ghost use Rattle.law_reached.specs.Seen.{AreMissionsSeen, AreSectionsSeen};
 

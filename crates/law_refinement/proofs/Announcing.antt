@@ -6,7 +6,7 @@ use Rattle.rbc_spec.specs.Line.{Line, IsLine, is_centre}
 use Rattle.rbc_spec.specs.Centre.{Centre, beginning}
 use Rattle.rbc_spec.specs.Step.{taken}
 use Rattle.rbc_spec.specs.World.{World, Event, Answer, new_world, world_step}
-use Rattle.law_handover.specs.Worlds.{IsWorldSound}
+use Rattle.law_invariants.specs.Handover.Worlds.{IsWorldSound}
 use Rattle.law_refinement.specs.Announced.{HasAnnounced, IsAnnounced}
 use Rattle.law_refinement.proofs.BorderFrames.{step_announces}
 

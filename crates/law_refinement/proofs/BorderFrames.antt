@@ -19,8 +19,8 @@ use Rattle.rbc_spec.specs.Rules.{tell, choose, drop_wait, begin, reject, answere
 use Rattle.rbc_spec.specs.Links.{received, of_train, is_train, lendable, expect, is_under, may_take, may_arrive, is_wanted, right_asked, right_given, right_refused, right_returned, route_asked, route_told, route_withdrawn, route_returned, announced, cancelled, taking_over, take_mission, yielded}
 use Rattle.rbc_spec.specs.Step as step
 use Rattle.rbc_spec.specs.Step.{Train, taken, link_answer, taken_by, effect, set, unset, wished, make, hear_and_answer}
-use Rattle.law_network.specs.Counts.{wait_has}
-use Rattle.law_network.specs.Sound.{IsCentreSound, IsHandAt}
+use Rattle.law_invariants.specs.Flow.Counts.{wait_has}
+use Rattle.law_invariants.specs.Flow.Sound.{IsCentreSound, IsHandAt}
 use Rattle.law_refinement.specs.Announced.{HasAnnounced}
 use Rattle.law_refinement.proofs.Bordering.{Good, Keeps, good_from, good_to, put_so, both, branch, when, chosen, of_some, changes, none_there, next_apart}
 use Rattle.law_refinement.proofs.BorderMessages.{return_keeps, propose_keeps, end_keeps, drop_keeps, close_session_keeps, begun_so, start_good, report_good, end_good, granted_good, request_good, over_keeps}

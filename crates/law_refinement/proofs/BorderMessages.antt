@@ -7,7 +7,7 @@ use Rattle.std.proofs.lemmas.Option.{same_Some}
 use Rattle.law_base.proofs.Puts.{put_there, put_here, put_other}
 use Rattle.law_base.proofs.Runs.{each_within, within_part_before, within_part_from}
 use Rattle.law_base.proofs.Standstill.{rests_or_cuts}
-use Rattle.law_centre.proofs.Reported.{report_leaves}
+use Rattle.law_base.proofs.RulesLemmas.Reported.{report_leaves}
 use Rattle.rbc_spec.specs.Maps.{put}
 use Rattle.rbc_spec.specs.SectionRuns.{SectionRun, no_run, most_in_hand, within, next_after, is_empty, part_before, part_from, joined, all_of}
 use Rattle.rbc_spec.specs.Line.{Line, IsLine, is_home, end, next_centre, registrar}
@@ -18,10 +18,10 @@ use Rattle.rbc_spec.specs.Frame.{AskRight, Cancel}
 use Rattle.rbc_spec.specs.Centre.{Centre, Taken, Mission, Handing, Proposal, is_open, is_up, is_free, is_registrar_of}
 use Rattle.rbc_spec.specs.Acts.{Act, become, rest, ◌>>◌, where_so, with_mission, send, say, booked, leave, set_mission, change_mission, return_pool, cancel, close, return_right, begun, part_at, may_propose, propose, propose_if_so, announce, ask_route, end_order, yield}
 use Rattle.rbc_spec.specs.Rules.{accept, reject, drop_wait, close_session, restart, begin, start_here, start_waiting, start_new, start_mission, extension, extended_by, authority, announce_if_due, ask_route_if_due, at_border, grant, request, clear, report_here, take_over, report, end_mission, cut, granted, answer_granted, stand_still}
-use Rattle.law_centre.proofs.Places.{placed_on, fit_is}
-use Rattle.law_local.proofs.Ordered.{is_ordered}
-use Rattle.law_network.specs.Sound.{IsHandAt}
-use Rattle.law_centre_sound.proofs.Places.{reported, fit_hand, same_track}
+use Rattle.law_base.proofs.RulesLemmas.Places.{placed_on, fit_is}
+use Rattle.law_base.proofs.LocalLemmas.Ordered.{is_ordered}
+use Rattle.law_invariants.specs.Flow.Sound.{IsHandAt}
+use Rattle.law_invariants.proofs.SoundLemmas.Places.{reported, fit_hand, same_track}
 use Rattle.law_refinement.proofs.Bordering.{Is, IsSo, Good, Keeps, put_so, both, branch, when, of_some, of_option, ends, changes, at_mission, part_of, own_is}
 
 abbrev without_handing : Mission → Mission

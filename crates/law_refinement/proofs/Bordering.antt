@@ -13,7 +13,7 @@ use Rattle.rbc_spec.proofs.Places.{homes_run}
 use Rattle.rbc_spec.specs.Centre.{Centre, Mission}
 use Rattle.rbc_spec.specs.Acts.{Act, rest, ◌>>◌, where_so, with_some, set_mission, change_mission, part_at}
 use Rattle.rbc_spec.specs.Rules.{choose}
-use Rattle.law_network.proofs.Neighbours.{neighbours}
+use Rattle.law_invariants.proofs.FlowLemmas.Neighbours.{neighbours}
 use Rattle.law_refinement.specs.Announced.{HasAnnounced}
 
 module _ (line : Line) (c : ℕ) where

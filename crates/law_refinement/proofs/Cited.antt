@@ -1,6 +1,6 @@
 -- What the laws of each part say, in the form that is wanted of it.
 use Rattle.std.proofs.Common.{◌≡◌, ℕ, Bool, None, sym, subst}
-use Rattle.law_counting.specs.Network.{took}
+use Rattle.law_base.specs.Counting.Network.{took}
 use Rattle.rbc_spec.specs.Line.{Line, IsLine}
 use Rattle.rbc_spec.specs.Place.{Position}
 use Rattle.rbc_spec.specs.Message.{TrainBody, Request, Report, ShorteningGranted, EndOfMission, TrainData, ShorteningRejected, InitiationOfSession, TerminationOfSession, StartOfMission, SessionEstablished}
@@ -10,26 +10,26 @@ use Rattle.rbc_spec.specs.Links.{received}
 use Rattle.rbc_spec.specs.Step as step
 use Rattle.rbc_spec.specs.LineCentre.{LineState, hears}
 use Rattle.rbc_spec.specs.OwnSteps.{Sets, Unsets}
-use Rattle.law_network.specs.Flow.{Flow, took_frame}
-use Rattle.law_network.specs.Leads.{HeardAs, Leads, LeadsHeard, LeadsOwn}
+use Rattle.law_invariants.specs.Flow.Flow.{Flow, took_frame}
+use Rattle.law_invariants.specs.Flow.Leads.{HeardAs, Leads, LeadsHeard, LeadsOwn}
 use Rattle.rbc_spec.specs.Frame.{Body, AskRight, GiveRight, RefuseRight, ReturnRight, RouteAsk, RouteInfo, RouteWithdraw, RouteReturn, Announce, Cancel, TakingOver, Yield}
-use Rattle.law_refine_sessions.specs.Heard.{IsHeardAs, LeadsAlone}
-use Rattle.law_refine_sessions.proofs.Data.{established, data_heard, rejected}
-use Rattle.law_refine_sessions.proofs.Ends.{begins, ends}
-use Rattle.law_refine_sessions.proofs.Starts.{starts}
-use Rattle.law_refine_missions.specs.Parts.{IsOwnStep, own_report, own_end, own_granted, IsWhole}
-use Rattle.law_refine_missions.proofs.Asked.{report_is_own, end_is_own, granted_is_own, report_is_whole, end_is_whole, granted_is_whole}
-use Rattle.law_refine_routes.proofs.Rights.{asked_leads, given_leads, returned_leads}
-use Rattle.law_refine_routes.proofs.Refused.{refused_leads}
-use Rattle.law_refine_handovers.proofs.Announced.{announce_leads, cancel_leads}
-use Rattle.law_refine_handovers.proofs.TakenOver.{over_body_leads}
-use Rattle.law_refine_handovers.proofs.Yielded.{yield_leads}
-use Rattle.law_refine_routes.specs.Interlocking.{LeadsFrom}
-use Rattle.law_refine_routes.proofs.Interlocking.{from_once, set_leads, unset_leads}
-use Rattle.law_refine_routes.proofs.Lending.{lent_leads}
-use Rattle.law_refine_routes.proofs.Told.{told_leads, withdrawn_leads}
-use Rattle.law_refine_routes.proofs.Homes.{home_leads}
-use Rattle.law_refine_routes.proofs.Linked.{ends as ends_of}
+use Rattle.law_refinement.specs.Sessions.Heard.{IsHeardAs, LeadsAlone}
+use Rattle.law_refinement.proofs.SessionsLemmas.Data.{established, data_heard, rejected}
+use Rattle.law_refinement.proofs.SessionsLemmas.Ends.{begins, ends}
+use Rattle.law_refinement.proofs.SessionsLemmas.Starts.{starts}
+use Rattle.law_refinement.specs.Missions.Parts.{IsOwnStep, own_report, own_end, own_granted, IsWhole}
+use Rattle.law_refinement.proofs.MissionsLemmas.Asked.{report_is_own, end_is_own, granted_is_own, report_is_whole, end_is_whole, granted_is_whole}
+use Rattle.law_refinement.proofs.RoutesLemmas.Rights.{asked_leads, given_leads, returned_leads}
+use Rattle.law_refinement.proofs.RoutesLemmas.Refused.{refused_leads}
+use Rattle.law_refinement.proofs.HandoversLemmas.Announced.{announce_leads, cancel_leads}
+use Rattle.law_refinement.proofs.HandoversLemmas.TakenOver.{over_body_leads}
+use Rattle.law_refinement.proofs.HandoversLemmas.Yielded.{yield_leads}
+use Rattle.law_refinement.specs.Routes.Interlocking.{LeadsFrom}
+use Rattle.law_refinement.proofs.RoutesLemmas.Interlocking.{from_once, set_leads, unset_leads}
+use Rattle.law_refinement.proofs.RoutesLemmas.Lending.{lent_leads}
+use Rattle.law_refinement.proofs.RoutesLemmas.Told.{told_leads, withdrawn_leads}
+use Rattle.law_refinement.proofs.RoutesLemmas.Homes.{home_leads}
+use Rattle.law_refinement.proofs.RoutesLemmas.Linked.{ends as ends_of}
 use Rattle.law_refinement.specs.Announced.{HasAnnounced}
 use Rattle.law_refinement.proofs.Work.{IsAtWork, IsBrought, Answers, Brings, message}
 use Rattle.law_refinement.proofs.Requests.{request_heard}

@@ -1,11 +1,11 @@
 -- A centre's clock, and what it keeps of the links, are not shown.
 use Rattle.std.proofs.Common.{◌≡◌, ℕ, ◌==◌, Bool, true, false, if◌then◌else◌, List, [], ◌∷◌, Option, refl, sym, ap, ◌∙◌, subst}
-use Rattle.law_counting.specs.Network.{acted, took, TakesHead}
-use Rattle.law_counting.specs.Resource.{placed}
-use Rattle.law_counting.proofs.Network.{way_acted_none}
-use Rattle.law_counting.proofs.Sums.{put_same}
-use Rattle.law_counting.proofs.Resource.{carried_none}
-use Rattle.law_network.specs.Counts.{hands, missions}
+use Rattle.law_base.specs.Counting.Network.{acted, took, TakesHead}
+use Rattle.law_base.specs.Counting.Resource.{placed}
+use Rattle.law_base.proofs.CountingLemmas.Network.{way_acted_none}
+use Rattle.law_base.proofs.CountingLemmas.Sums.{put_same}
+use Rattle.law_base.proofs.CountingLemmas.Resource.{carried_none}
+use Rattle.law_invariants.specs.Flow.Counts.{hands, missions}
 use Rattle.rbc_spec.specs.Maps.{put}
 use Rattle.rbc_spec.specs.Line.{Line, is_centre, is_linked}
 use Rattle.rbc_spec.specs.Frame.{Frame, Body}
@@ -13,15 +13,15 @@ use Rattle.rbc_spec.specs.Centre.{Centre, Phase}
 use Rattle.rbc_spec.specs.LineCentre.{LineState}
 use Rattle.rbc_spec.specs.Acts.{Reply}
 use Rattle.rbc_spec.specs.Step.{ticked}
-use Rattle.law_network.specs.Flow.{Flow}
-use Rattle.law_network.specs.Keeping.{nothing_came}
-use Rattle.law_network.specs.Sound.{IsFlowSound}
-use Rattle.law_network.specs.Shows.{Shows}
-use Rattle.law_network.specs.Leads.{replied}
-use Rattle.law_network.proofs.Compose.{acted_twice}
-use Rattle.law_network.proofs.Kept.{aside_sound}
-use Rattle.law_abstraction.proofs.Acts.{by_itself}
-use Rattle.law_abstraction.proofs.Shows.{unseen_shown, part_stays}
+use Rattle.law_invariants.specs.Flow.Flow.{Flow}
+use Rattle.law_invariants.specs.Flow.Keeping.{nothing_came}
+use Rattle.law_invariants.specs.Flow.Sound.{IsFlowSound}
+use Rattle.law_invariants.specs.Flow.Shows.{Shows}
+use Rattle.law_invariants.specs.Flow.Leads.{replied}
+use Rattle.law_invariants.proofs.FlowLemmas.Compose.{acted_twice}
+use Rattle.law_invariants.proofs.FlowLemmas.Kept.{aside_sound}
+use Rattle.law_refinement.proofs.AbstractionLemmas.Acts.{by_itself}
+use Rattle.law_refinement.proofs.AbstractionLemmas.Shows.{unseen_shown, part_stays}
 use Rattle.law_refinement.proofs.Work.{IsAtWork, IsBrought}
 
 -- the centre with another clock and other links

@@ -14,10 +14,10 @@ use Rattle.rbc_spec.specs.Step as step
 use Rattle.rbc_spec.specs.Step.{Refusal, Effect, stamp_of, outcome_of, state_after, link_answer, taken_by}
 use Rattle.rbc_spec.specs.World.{World, Event, Bytes, Set, Unset, Delivery, centre_of, Answer, Answered, NoCentre, NotSent, Fault, frame_sent, mention, stepped, at_centre, takes, world_step}
 use Rattle.rbc_spec.specs.Run.{Piece, Goes}
-use Rattle.law_network.specs.Flow.{flow_of, in_world}
-use Rattle.law_network.specs.Shows.{Shows}
-use Rattle.law_network.proofs.Numbers.{next_sent}
-use Rattle.law_handover.proofs.Worlds.{linked_next, sent_between, world_step_sound}
+use Rattle.law_invariants.specs.Flow.Flow.{flow_of, in_world}
+use Rattle.law_invariants.specs.Flow.Shows.{Shows}
+use Rattle.law_invariants.proofs.FlowLemmas.Numbers.{next_sent}
+use Rattle.law_invariants.proofs.HandoverLemmas.Worlds.{linked_next, sent_between, world_step_sound}
 use Rattle.law_refinement.specs.Meets.{Meets, StaysWith}
 use Rattle.law_refinement.specs.Announced.{IsAnnounced}
 use Rattle.law_refinement.proofs.Silence.{silent_by_clock}

@@ -4,7 +4,7 @@ use Rattle.std.specs.Option.{option_map_or}
 use Rattle.std.specs.List.{range_with_len}
 use Rattle.std.proofs.lemmas.Bool.{cond-false, ne_eqb}
 use Rattle.law_base.proofs.Standstill.{rests_or_cuts}
-use Rattle.law_centre.proofs.SentActs.{close_leaves_none}
+use Rattle.law_base.proofs.RulesLemmas.SentActs.{close_leaves_none}
 use Rattle.law_base.proofs.Puts.{put_there}
 use Rattle.rbc_spec.specs.Maps.{put}
 use Rattle.rbc_spec.specs.SectionRuns.{SectionRun, all_of, within, no_run, is_empty, part_before, part_from, joined, next_after}
@@ -21,8 +21,8 @@ use Rattle.rbc_spec.specs.Links.{received, of_train, is_train, right_refused, ro
 use Rattle.rbc_spec.specs.Step as step
 use Rattle.rbc_spec.specs.Step.{Train, taken, link_answer, taken_by, effect, set, unset, wished, make, hear_and_answer}
 use Rattle.rbc_spec.specs.Run.{TellsInOrder}
-use Rattle.law_runs.proofs.InOrder.{none_in_order, one_in_order, range_in_order, ranges_in_order}
-use Rattle.law_walk.proofs.Messages.{may_do, answered_walks}
+use Rattle.law_base.proofs.PiecesLemmas.InOrder.{none_in_order, one_in_order, range_in_order, ranges_in_order}
+use Rattle.law_base.proofs.WalkLemmas.Messages.{may_do, answered_walks}
 use Rattle.law_refinement.proofs.Words.{Tells, IsNone, IsSilent, silent, silent_frame, both, branch, when, of_some, of_option, cancel_silent, close_silent, end_silent, wished_silent}
 
 abbrev pub IsOrdered : Act → Type 0

@@ -15,3 +15,9 @@ pub mod Events
 pub mod Waits
 pub mod Lines
 pub mod Promises
+pub mod AbstractionLemmas
+pub mod FollowupsLemmas
+pub mod MissionsLemmas
+pub mod HandoversLemmas
+pub mod RoutesLemmas
+pub mod SessionsLemmas

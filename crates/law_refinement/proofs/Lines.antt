@@ -6,10 +6,10 @@ use Rattle.rbc_spec.specs.World.{World, Event, Answer, new_world, world_step, wo
 use Rattle.rbc_spec.specs.Run.{Run}
 use Rattle.rbc_spec.specs.ReadOff.{StandsFor, IsLineRun, read_off}
 use Rattle.law_base.proofs.Worlds.{bind_ok, same_ok}
-use Rattle.law_network.proofs.Begins.{line_shows}
-use Rattle.law_network.proofs.Stands.{stands}
-use Rattle.law_handover.proofs.Worlds.{world_begins}
-use Rattle.law_abstraction.proofs.ReadOff.{is_read_off}
+use Rattle.law_invariants.proofs.FlowLemmas.Begins.{line_shows}
+use Rattle.law_invariants.proofs.FlowLemmas.Stands.{stands}
+use Rattle.law_invariants.proofs.HandoverLemmas.Worlds.{world_begins}
+use Rattle.law_refinement.proofs.AbstractionLemmas.ReadOff.{is_read_off}
 use Rattle.law_refinement.specs.Meets.{Meets}
 use Rattle.law_refinement.specs.Announced.{IsAnnounced}
 use Rattle.law_refinement.proofs.Announcing.{announced_begins, announced_stays}

@@ -4,7 +4,7 @@ use Rattle.std.specs.Bool.{MatchBool}
 use Rattle.std.specs.List.{find, list_all}
 use Rattle.std.proofs.lemmas.Option.{same_Some}
 use Rattle.std.specs.Option.{option_map_or}
-use Rattle.law_counting.specs.Network.{took, TakesHead}
+use Rattle.law_base.specs.Counting.Network.{took, TakesHead}
 use Rattle.rbc_spec.specs.Maps.{put}
 use Rattle.rbc_spec.specs.Line.{Line, IsLine, is_centre, is_linked}
 use Rattle.rbc_spec.specs.Place.{Position, place_on}
@@ -23,17 +23,17 @@ use Rattle.rbc_spec.specs.Step.{Effect, effect, outcome_of, state_after, link_an
 use Rattle.rbc_spec.specs.World.{World, Event, Bytes, Set, Unset, Delivery, centre_of}
 use Rattle.rbc_spec.specs.Run as run
 use Rattle.rbc_spec.specs.Run.{Piece, OwnStep, Steps, heard, listened, TellsInOrder, may_listen}
-use Rattle.law_network.specs.Flow.{Flow, flow_of, took_frame}
-use Rattle.law_network.specs.Numbers.{taken_after}
-use Rattle.law_network.specs.Shows.{Shows}
-use Rattle.law_network.proofs.Heard.{own_of}
-use Rattle.law_network.specs.Leads.{Reports, HeardAs, said_by, Leads}
-use Rattle.law_network.proofs.Numbers.{is_next}
-use Rattle.law_network.proofs.Steps.{at_head}
-use Rattle.law_network.proofs.Takes.{train_keeps, set_keeps, unset_keeps, deliver_taken}
-use Rattle.law_handover.proofs.Worlds.{linked_next}
+use Rattle.law_invariants.specs.Flow.Flow.{Flow, flow_of, took_frame}
+use Rattle.law_invariants.specs.Flow.Numbers.{taken_after}
+use Rattle.law_invariants.specs.Flow.Shows.{Shows}
+use Rattle.law_invariants.proofs.FlowLemmas.Heard.{own_of}
+use Rattle.law_invariants.specs.Flow.Leads.{Reports, HeardAs, said_by, Leads}
+use Rattle.law_invariants.proofs.FlowLemmas.Numbers.{is_next}
+use Rattle.law_invariants.proofs.FlowLemmas.Steps.{at_head}
+use Rattle.law_invariants.proofs.FlowLemmas.Takes.{train_keeps, set_keeps, unset_keeps, deliver_taken}
+use Rattle.law_invariants.proofs.HandoverLemmas.Worlds.{linked_next}
 use Rattle.law_refinement.specs.Meets.{Meets}
-use Rattle.law_refine_routes.specs.Interlocking.{LeadsFrom}
+use Rattle.law_refinement.specs.Routes.Interlocking.{LeadsFrom}
 use Rattle.law_refinement.specs.Announced.{HasAnnounced}
 use Rattle.law_refinement.proofs.Work.{IsAtWork, message}
 use Rattle.law_refinement.proofs.Clocks.{shows_stamped, begun, begun_at_work, begun_brought, begun_replied, begun_taken}

@@ -9,12 +9,12 @@ use Rattle.rbc_spec.specs.Promises.{KeepsPromises, IsSound}
 use Rattle.rbc_spec.specs.Theorems.{WholeLineTheorem, EachEventTheorem}
 use Rattle.rbc_spec.proofs.Safe.{safe}
 use Rattle.law_base.proofs.Worlds.{bind_ok, keeps_run, same_ok}
-use Rattle.law_network.proofs.OnePlace.{has_one_place}
-use Rattle.law_handover.specs.Worlds.{IsWorldSound}
-use Rattle.law_handover.proofs.Worlds.{world_begins, world_step_sound}
-use Rattle.law_no_loss.proofs.Worlds.{never_lost}
-use Rattle.law_runs.proofs.Promised.{keeps_promises}
-use Rattle.law_runs.proofs.Runs.{run_of_none, whole_run}
+use Rattle.law_invariants.proofs.FlowLemmas.OnePlace.{has_one_place}
+use Rattle.law_invariants.specs.Handover.Worlds.{IsWorldSound}
+use Rattle.law_invariants.proofs.HandoverLemmas.Worlds.{world_begins, world_step_sound}
+use Rattle.law_invariants.proofs.NoLossLemmas.Worlds.{never_lost}
+use Rattle.law_base.proofs.PiecesLemmas.Promised.{keeps_promises}
+use Rattle.law_base.proofs.PiecesLemmas.Runs.{run_of_none, whole_run}
 use Rattle.law_refinement.specs.Meets.{Meets}
 use Rattle.law_refinement.proofs.Events.{each_event_goes}
 use Rattle.law_refinement.proofs.Lines.{is_read, stands_read, run_read, the_run}

@@ -2,7 +2,7 @@
 use Rattle.std.proofs.lemmas.Option.{same_Some}
 use Rattle.std.proofs.Common.{◌≡◌, ℕ, true, Option, Some, None, refl, sym, ap, ◌∙◌, subst}
 use Rattle.std.specs.Option.{option_map_or}
-use Rattle.law_counting.proofs.Sums.{put_same}
+use Rattle.law_base.proofs.CountingLemmas.Sums.{put_same}
 use Rattle.law_base.proofs.Puts.{put_there}
 use Rattle.rbc_spec.specs.SectionRuns.{is_empty}
 use Rattle.rbc_spec.specs.Line.{Line, IsLine, is_centre, next_centre}
@@ -12,18 +12,18 @@ use Rattle.rbc_spec.specs.Centre.{Centre, Mission}
 use Rattle.rbc_spec.specs.Acts.{Act, Reply, ◌>>◌, hear, rest, part_at}
 use Rattle.rbc_spec.specs.Step as step
 use Rattle.rbc_spec.specs.LineCentre.{LineState}
-use Rattle.law_centre.specs.Distances.{IsRequestHeard, extended}
-use Rattle.law_centre.proofs.Places.{placed_on}
-use Rattle.law_network.specs.Flow.{Flow}
-use Rattle.law_network.specs.Sound.{IsFlowSound}
-use Rattle.law_network.specs.Shows.{Shows}
-use Rattle.law_network.specs.Leads.{replied, Leads, LeadsOwn, LeadsHeard}
-use Rattle.law_network.proofs.Compose.{heard_then}
-use Rattle.law_refine_followups.specs.Borders.{MayAnnounce}
-use Rattle.law_refine_followups.proofs.Borders.{grants_so}
-use Rattle.law_refine_followups.proofs.Requested.{request_may_announce}
-use Rattle.law_refine_missions.specs.Parts.{own_request, at_border_then, border_of, extend}
-use Rattle.law_refine_missions.proofs.Asked.{request_is_own, request_in_parts, Placed, has_place_for}
+use Rattle.law_base.specs.Rules.Distances.{IsRequestHeard, extended}
+use Rattle.law_base.proofs.RulesLemmas.Places.{placed_on}
+use Rattle.law_invariants.specs.Flow.Flow.{Flow}
+use Rattle.law_invariants.specs.Flow.Sound.{IsFlowSound}
+use Rattle.law_invariants.specs.Flow.Shows.{Shows}
+use Rattle.law_invariants.specs.Flow.Leads.{replied, Leads, LeadsOwn, LeadsHeard}
+use Rattle.law_invariants.proofs.FlowLemmas.Compose.{heard_then}
+use Rattle.law_refinement.specs.Followups.Borders.{MayAnnounce}
+use Rattle.law_refinement.proofs.FollowupsLemmas.Borders.{grants_so}
+use Rattle.law_refinement.proofs.FollowupsLemmas.Requested.{request_may_announce}
+use Rattle.law_refinement.specs.Missions.Parts.{own_request, at_border_then, border_of, extend}
+use Rattle.law_refinement.proofs.MissionsLemmas.Asked.{request_is_own, request_in_parts, Placed, has_place_for}
 use Rattle.law_refinement.specs.Announced.{HasAnnounced}
 use Rattle.law_refinement.proofs.Work.{message}
 

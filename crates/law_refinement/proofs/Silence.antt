@@ -3,8 +3,8 @@ use Rattle.std.proofs.Common.{◌≡◌, ◌⊎◌, ℕ, ◌+◌, ◌-◌, ◌�
 use Rattle.std.specs.List.{find}
 use Rattle.law_base.proofs.Runs.{within_from}
 use Rattle.law_base.proofs.Lines.{on_line}
-use Rattle.law_centre.specs.Silences.{HasEndIfAsked, EndsOnLine}
-use Rattle.law_centre.proofs.SameReasons as reasons
+use Rattle.law_base.specs.Rules.Silences.{HasEndIfAsked, EndsOnLine}
+use Rattle.law_base.proofs.RulesLemmas.SameReasons as reasons
 use Rattle.rbc_spec.specs.Line.{Line, is_centre}
 use Rattle.rbc_spec.specs.Message.{TrainMessage, TrainBody, TrainData, Request, Report, ShorteningGranted, ShorteningRejected, EndOfMission, InitiationOfSession, TerminationOfSession, StartOfMission, SessionEstablished}
 use Rattle.rbc_spec.specs.Outcome.{Reason, reasons_of}
@@ -13,10 +13,10 @@ use Rattle.rbc_spec.specs.LineCentre.{LineState}
 use Rattle.rbc_spec.specs.Step as step
 use Rattle.rbc_spec.specs.World.{World}
 use Rattle.rbc_spec.specs.Run as run
-use Rattle.law_network.specs.Flow.{flow_of}
-use Rattle.law_network.specs.Sound.{IsFlowSound, IsHandAt}
-use Rattle.law_network.specs.Shows.{Shows}
-use Rattle.law_network.proofs.Stands.{stands}
+use Rattle.law_invariants.specs.Flow.Flow.{flow_of}
+use Rattle.law_invariants.specs.Flow.Sound.{IsFlowSound, IsHandAt}
+use Rattle.law_invariants.specs.Flow.Shows.{Shows}
+use Rattle.law_invariants.proofs.FlowLemmas.Stands.{stands}
 
 -- whatever the clock shows
 pub silent_by_clock : (line : Line) (c stamp : ℕ) (k : Centre) (m : TrainMessage) → step.silence line c (step.ticked stamp k) m ≡ step.silence line c k m

@@ -12,11 +12,11 @@ use Rattle.rbc_spec.specs.Step as step
 use Rattle.rbc_spec.specs.Step.{Effect, outcome_of, state_after, taken_by}
 use Rattle.rbc_spec.specs.World.{World, Event, Bytes, Delivery}
 use Rattle.rbc_spec.specs.Run.{Piece, silent, TellsInOrder}
-use Rattle.law_network.specs.Flow.{Flow, flow_of, in_world}
-use Rattle.law_network.specs.Shows.{Shows}
-use Rattle.law_network.specs.Leads.{said_by, replied}
-use Rattle.law_network.proofs.Steps.{by_itself}
-use Rattle.law_runs.proofs.InOrder.{none_in_order}
+use Rattle.law_invariants.specs.Flow.Flow.{Flow, flow_of, in_world}
+use Rattle.law_invariants.specs.Flow.Shows.{Shows}
+use Rattle.law_invariants.specs.Flow.Leads.{said_by, replied}
+use Rattle.law_invariants.proofs.FlowLemmas.Steps.{by_itself}
+use Rattle.law_base.proofs.PiecesLemmas.InOrder.{none_in_order}
 use Rattle.law_refinement.specs.Meets.{Meets}
 use Rattle.law_refinement.proofs.Work.{IsAtWork}
 use Rattle.law_refinement.proofs.Clocks.{shows_stamped, begun_shown}

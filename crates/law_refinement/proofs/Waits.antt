@@ -1,6 +1,6 @@
 -- A start that waits keeps its sections; nothing waits elsewhere than at centres of the line.
 use Rattle.std.proofs.Common.{◌≡◌, ℕ, Bool, true, false, List, [], Option, Some, None, Ok, refl, sym, ap, ◌∙◌, arith}
-use Rattle.law_counting.proofs.Sums.{one_if_true, one_if_some}
+use Rattle.law_base.proofs.CountingLemmas.Sums.{one_if_true, one_if_some}
 use Rattle.law_base.proofs.Puts.{put_other}
 use Rattle.law_base.proofs.Worlds.{Brings, says, sets, unsets, delivers, of_event}
 use Rattle.rbc_spec.specs.Maps.{put}
@@ -11,16 +11,16 @@ use Rattle.rbc_spec.specs.Centre.{Centre, is_taken_for, is_used_for, beginning}
 use Rattle.rbc_spec.specs.LineCentre.{LineState}
 use Rattle.rbc_spec.specs.Step as step
 use Rattle.rbc_spec.specs.World.{World, Event, Answer, new_world, world_step}
-use Rattle.law_network.specs.Flow.{flow_of}
-use Rattle.law_network.specs.Counts.{wait_has}
-use Rattle.law_network.specs.Keeping.{nothing_came}
-use Rattle.law_network.specs.Sound.{IsFlowSound, IsCentreSound}
-use Rattle.law_network.specs.Shows.{Shows, is_in_hand}
-use Rattle.law_network.proofs.Basics.{taken_is}
-use Rattle.law_abstraction.proofs.Acts.{by_itself}
-use Rattle.law_abstraction.proofs.Marks.{in_no_hand, kept_mark_of}
-use Rattle.law_handover.proofs.Worlds.{sent_between}
-use Rattle.law_runs.proofs.Waits.{WaitsKeep, IsWaited, waiting_at}
+use Rattle.law_invariants.specs.Flow.Flow.{flow_of}
+use Rattle.law_invariants.specs.Flow.Counts.{wait_has}
+use Rattle.law_invariants.specs.Flow.Keeping.{nothing_came}
+use Rattle.law_invariants.specs.Flow.Sound.{IsFlowSound, IsCentreSound}
+use Rattle.law_invariants.specs.Flow.Shows.{Shows, is_in_hand}
+use Rattle.law_invariants.proofs.FlowLemmas.Basics.{taken_is}
+use Rattle.law_refinement.proofs.AbstractionLemmas.Acts.{by_itself}
+use Rattle.law_refinement.proofs.AbstractionLemmas.Marks.{in_no_hand, kept_mark_of}
+use Rattle.law_invariants.proofs.HandoverLemmas.Worlds.{sent_between}
+use Rattle.law_base.proofs.PiecesLemmas.Waits.{WaitsKeep, IsWaited, waiting_at}
 
 -- nothing waits where no centre of the line is
 pub record WaitsAtCentres (line : Line) (w : World) : Type 0 where

@@ -8,9 +8,9 @@ use Rattle.rbc_spec.specs.Centre.{Centre, Entry, Shut, Open, Taken, Out, Mission
 use Rattle.rbc_spec.specs.Acts.{Act, Reply, rest, ◌>>◌, where_so, with_some, cancel, return_right, close, propose_if_so, end_order}
 use Rattle.rbc_spec.specs.Links.{received}
 use Rattle.rbc_spec.specs.Step.{wished}
-use Rattle.law_walk.proofs.Moves.{May, still, Move, tells, frees, Answer, drops, Walk, of_walk}
-use Rattle.law_walk.proofs.Acts.{return_right_walks, end_order_walks, propose_if_walks}
-use Rattle.law_walk.proofs.Frames.{frame_speaks, frame_may, of_taking, received_taking}
+use Rattle.law_base.proofs.WalkLemmas.Moves.{May, still, Move, tells, frees, Answer, drops, Walk, of_walk}
+use Rattle.law_base.proofs.WalkLemmas.Acts.{return_right_walks, end_order_walks, propose_if_walks}
+use Rattle.law_base.proofs.WalkLemmas.Frames.{frame_speaks, frame_may, of_taking, received_taking}
 
 -- each of its words, whatever the centre is in, is as P says
 pub record Tells (P : List Word → Type 0) (act : Act) : Type 0 where

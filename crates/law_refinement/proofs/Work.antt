@@ -1,7 +1,7 @@
 -- What a message, a set or an unset, and a frame lead to for the one line centre, where a centre of the line acts in a
 -- sound flow.
 use Rattle.std.proofs.Common.{◌≡◌, ℕ, true, None}
-use Rattle.law_counting.specs.Network.{took, TakesHead}
+use Rattle.law_base.specs.Counting.Network.{took, TakesHead}
 use Rattle.rbc_spec.specs.Line.{Line, is_centre, is_linked}
 use Rattle.rbc_spec.specs.Message.{TrainMessage, TrainBody}
 use Rattle.rbc_spec.specs.Frame.{Body}
@@ -9,11 +9,11 @@ use Rattle.rbc_spec.specs.Centre.{Centre}
 use Rattle.rbc_spec.specs.Links.{received}
 use Rattle.rbc_spec.specs.Step as step
 use Rattle.rbc_spec.specs.LineCentre.{LineState, hears}
-use Rattle.law_network.specs.Flow.{Flow, took_frame}
-use Rattle.law_network.specs.Sound.{IsFlowSound}
-use Rattle.law_network.specs.Shows.{Shows}
-use Rattle.law_network.specs.Leads.{HeardAs, Leads}
-use Rattle.law_refine_routes.specs.Interlocking.{LeadsFrom}
+use Rattle.law_invariants.specs.Flow.Flow.{Flow, took_frame}
+use Rattle.law_invariants.specs.Flow.Sound.{IsFlowSound}
+use Rattle.law_invariants.specs.Flow.Shows.{Shows}
+use Rattle.law_invariants.specs.Flow.Leads.{HeardAs, Leads}
+use Rattle.law_refinement.specs.Routes.Interlocking.{LeadsFrom}
 
 -- centre c, which is k, acts in a sound flow that v shows
 pub record IsAtWork (line : Line) (w : Flow) (c : ℕ) (k : Centre) (v : LineState) : Type 0 where

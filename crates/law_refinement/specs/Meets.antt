@@ -4,9 +4,9 @@ use Rattle.rbc_spec.specs.Line.{Line}
 use Rattle.rbc_spec.specs.LineCentre.{LineState}
 use Rattle.rbc_spec.specs.World.{World, Event, Answer, world_step}
 use Rattle.rbc_spec.specs.Run.{Goes}
-use Rattle.law_network.specs.Flow.{flow_of}
-use Rattle.law_network.specs.Shows.{Shows}
-use Rattle.law_handover.specs.Worlds.{IsWorldSound}
+use Rattle.law_invariants.specs.Flow.Flow.{flow_of}
+use Rattle.law_invariants.specs.Flow.Shows.{Shows}
+use Rattle.law_invariants.specs.Handover.Worlds.{IsWorldSound}
 
 -- all of the world is sound, and the one line centre's state shows it
 pub record Meets (line : Line) (w : World) (v : LineState) : Type 0 where

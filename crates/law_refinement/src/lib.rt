@@ -1,9 +1,17 @@
-//! The law of the whole line.
+//! The law of the whole line: each step of a centre is a step of the single line centre, followed by quiet steps.
+//! `abstraction` says how the centres together are read as the single line centre; the other modules are its parts by
+//! subject.
 //!
 //! No code: what `laws.rt` states stays, and how it is proved is free.
 #![tactic(auto)]
 
+pub mod abstraction;
+pub mod followups;
+pub mod handovers;
 mod laws;
+pub mod missions;
+pub mod routes;
+pub mod sessions;
 
 pub use laws::{
     each_event_of_the_line, each_step_tells_in_order, the_line_centre_is_silent_alike,

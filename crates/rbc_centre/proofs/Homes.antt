@@ -7,9 +7,9 @@ use Rattle.rbc_spec.specs.Sections.{is_on, home_run}
 use Rattle.rbc_spec.specs.Frame.{RouteReturn}
 use Rattle.rbc_spec.specs.Centre.{beginning}
 use Rattle.rbc_spec.specs.Acts.{returned}
-use Rattle.law_local.specs.Local.{IsOrdered}
-use Rattle.law_local.proofs.Ordered.{is_ordered}
-use Rattle.law_local.proofs.Simple.{all_home, none_returned}
+use Rattle.law_base.specs.Local.Local.{IsOrdered}
+use Rattle.law_base.proofs.LocalLemmas.Ordered.{is_ordered}
+use Rattle.law_base.proofs.LocalLemmas.Simple.{all_home, none_returned}
 use Rattle.rbc_train.specs.Letters.{going_home}
 
 -- those of a centre's own home

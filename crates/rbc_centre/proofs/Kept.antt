@@ -13,14 +13,14 @@ use Rattle.rbc_spec.specs.Step as step
 use Rattle.rbc_spec.specs.Step.{Event, Train, Set, Unset, Deliver}
 use Rattle.law_base.proofs.Lines.{on_line}
 use Rattle.law_base.proofs.Runs.{within_from}
-use Rattle.law_local.specs.Local.{IsOrdered}
-use Rattle.law_local.proofs.Ordered.{is_ordered}
-use Rattle.law_network.specs.Sound.{IsCentreSound}
-use Rattle.law_centre_sound.specs.Stays.{IsInRange}
-use Rattle.law_centre_sound.proofs.Events.{stays_sound}
-use Rattle.law_centre_sound.proofs.Ranges.{range_hand}
-use Rattle.law_ranges.specs.Ranges.{HasEventRanges, HasStateRanges, IsSentInRange}
-use Rattle.law_ranges.proofs.Steps.{stays_in_range}
+use Rattle.law_base.specs.Local.Local.{IsOrdered}
+use Rattle.law_base.proofs.LocalLemmas.Ordered.{is_ordered}
+use Rattle.law_invariants.specs.Flow.Sound.{IsCentreSound}
+use Rattle.law_invariants.specs.Sound.Stays.{IsInRange}
+use Rattle.law_invariants.proofs.SoundLemmas.Events.{stays_sound}
+use Rattle.law_invariants.proofs.SoundLemmas.Ranges.{range_hand}
+use Rattle.law_invariants.specs.Ranges.Ranges.{HasEventRanges, HasStateRanges, IsSentInRange}
+use Rattle.law_invariants.proofs.RangesLemmas.Steps.{stays_in_range}
 use Rattle.rbc_book.specs.Book.{Pages, is_own}
 use Rattle.rbc_link.specs.declared.link.Link.{Link}
 use Rattle.rbc_link.specs.declared.sent.Sent.{Sent}

@@ -20,7 +20,7 @@ use Rattle.rbc_link.specs.Posted.{HasPosted}
 use Rattle.rbc_link.proofs.Posted.{posted_none, posted_count, posted_join, numbered_append}
 use Rattle.rbc_linkmsg.specs.Bodies.{body_of}
 use Rattle.rbc_linkmsg.specs.declared.body.Body.{Body}
-use Rattle.law_ranges.specs.Ranges.{IsSentInRange}
+use Rattle.law_invariants.specs.Ranges.Ranges.{IsSentInRange}
 use Rattle.rbc_centre.specs.declared.desk.Desk.{Desk}
 use Rattle.rbc_line.specs.SectionRuns.{run_of}
 use Rattle.rbc_line.specs.declared.section_run.SectionRun.{SectionRun as SectionRunCode}

@@ -5,10 +5,10 @@ use Rattle.rbc_spec.specs.Maps.{put}
 use Rattle.rbc_spec.specs.Line.{Line, IsLine, is_home, train_number}
 use Rattle.rbc_spec.specs.Centre as centre
 use Rattle.rbc_book.specs.Book.{Pages, is_own, entry_at, wish_at}
-use Rattle.law_network.specs.Sound.{IsCentreSound}
+use Rattle.law_invariants.specs.Flow.Sound.{IsCentreSound}
 use Rattle.rbc_link.specs.declared.link.Link.{Link}
 use Rattle.rbc_linkmsg.specs.declared.body.Body.{Body}
-use Rattle.law_ranges.specs.Ranges.{HasStateRanges}
+use Rattle.law_invariants.specs.Ranges.Ranges.{HasStateRanges}
 use Rattle.rbc_handover.specs.Expectations.{expected_from}
 use Rattle.rbc_handover.specs.Giving.{with_count}
 use Rattle.rbc_right.specs.Rights.{Rights, is_here}

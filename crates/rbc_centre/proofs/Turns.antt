@@ -12,7 +12,7 @@ use Rattle.rbc_spec.specs.Centre.{Expectation}
 use Rattle.rbc_spec.specs.Step as step
 use Rattle.rbc_spec.specs.Step.{Event, Train, Set, Unset, Effect, numbered}
 use Rattle.rbc_spec.specs.Message.{TrainMessage}
-use Rattle.law_ranges.specs.Ranges.{HasMessageRanges, HasEventRanges, IsSentInRange}
+use Rattle.law_invariants.specs.Ranges.Ranges.{HasMessageRanges, HasEventRanges, IsSentInRange}
 use Rattle.rbc_book.specs.Book.{Pages, is_own}
 use Rattle.rbc_link.specs.declared.link.Link.{Link}
 use Rattle.rbc_link.specs.Links.{has_link, sent_to, room_to, HasRoom}

@@ -9,9 +9,9 @@ use Rattle.rbc_spec.specs.Centre.{Entry, Shut, Open, Taken, Out, is_unused, is_t
 use Rattle.rbc_spec.specs.Frame.{RouteWithdraw}
 use Rattle.rbc_spec.specs.Acts.{propose_if_so, ◌>>◌}
 use Rattle.rbc_spec.specs.Step as step
-use Rattle.law_local.specs.Local.{hand_has}
-use Rattle.law_network.specs.Counts.{wait_has}
-use Rattle.law_network.specs.Sound.{IsCentreSound}
+use Rattle.law_base.specs.Local.Local.{hand_has}
+use Rattle.law_invariants.specs.Flow.Counts.{wait_has}
+use Rattle.law_invariants.specs.Flow.Sound.{IsCentreSound}
 use Rattle.rbc_book.specs.Book.{Pages, is_own, entry_at, wish_at}
 use Rattle.rbc_book.specs.Answers.{unset_answer}
 use Rattle.rbc_book.specs.Entries.{entry_of}

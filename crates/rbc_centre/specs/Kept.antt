@@ -2,8 +2,8 @@
 use Rattle.std.specs.Prelude.{◌≡◌, ◌≤◌, ◌*◌, ℕ, true, List, length, Some, slice_get, All}
 use Rattle.rbc_spec.specs.Line.{Line, IsLine, is_centre, is_home, is_linked, train_number}
 use Rattle.rbc_spec.specs.Frame.{HasFrameRanges}
-use Rattle.law_network.specs.Sound.{IsCentreSound}
-use Rattle.law_ranges.specs.Ranges.{HasStateRanges}
+use Rattle.law_invariants.specs.Flow.Sound.{IsCentreSound}
+use Rattle.law_invariants.specs.Ranges.Ranges.{HasStateRanges}
 use Rattle.rbc_book.specs.Book.{Pages, is_own}
 use Rattle.rbc_link.specs.declared.link.Link.{Link}
 use Rattle.rbc_link.specs.Links.{has_link, sent_to}

@@ -4,7 +4,7 @@ use Rattle.std.proofs.Props.{props}
 use Rattle.rbc_spec.specs.SectionRuns.{SectionRun}
 use Rattle.rbc_spec.specs.Line.{Line}
 use Rattle.rbc_spec.specs.Frame.{Frame, Body, YieldedPlace, AskRight, GiveRight, RefuseRight, ReturnRight, RouteAsk, RouteInfo, RouteWithdraw, RouteReturn, Announce, Cancel, TakingOver, Yield, HasRunRange, HasPlaceRange, HasBodyRange, HasFrameRanges}
-use Rattle.law_ranges.specs.Ranges.{IsSentInRange}
+use Rattle.law_invariants.specs.Ranges.Ranges.{IsSentInRange}
 
 HasRunRange-prop : (least most : ℕ) (run : SectionRun) → IsProp (HasRunRange least most run)
 HasRunRange-prop least most run = hlevel props

@@ -7,7 +7,7 @@ ghost use Rattle.rbc_spec.specs.Step as spec;
 ghost use Rattle.rbc_msgs.specs.StepMessage.{step_message};
 ghost use Rattle.rbc_msgs.specs.declared.train_body.TrainBody.TheVariants.{InitiationOfSession};
 ghost use Rattle.rbc_session.specs.Sessions as sessions;
-ghost use Rattle.law_ranges.specs.Ranges.{HasMessageRanges};
+ghost use Rattle.law_invariants.specs.Ranges.Ranges.{HasMessageRanges};
 ghost use Rattle.rbc_train.specs.Letters.{tells_others};
 ghost use Rattle.rbc_centre.specs.Answer.{Steps, IsWantedBy, TakesMemory};
 ghost use Rattle.rbc_centre.specs.States.{line_of, number_of, state_of, IsSame};

@@ -1,7 +1,7 @@
 //! The ranges of what a train's message says: each is one of its type.
 
 ghost use Rattle.rbc_msgs.specs.StepMessage.{step_message, position_of};
-ghost use Rattle.law_ranges.specs.Ranges.{HasMessageRanges, HasPositionRanges};
+ghost use Rattle.law_invariants.specs.Ranges.Ranges.{HasMessageRanges, HasPositionRanges};
 
 use rbc_msgs::{TrainBody, TrainMsg};
 use rbc_packets::{Position, TrainLength};

@@ -4,7 +4,7 @@ use crate::record::lock_journals;
 use cli_commands::disk::Disk;
 use cli_commands::line_file::{LineFile, line_file_in};
 use cli_commands::words::ServeWords;
-use cli_status::report;
+use text_script::status::report;
 use serve_line::{Endpoints, StderrNotes, ServeOptions, Notes, NoNotes, Record, ServeFault, serve};
 use std::fs::File;
 use std::io::{Eprint, Write};

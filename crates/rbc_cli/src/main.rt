@@ -13,7 +13,7 @@ use crate::train::run_train;
 use cli_commands::command::command;
 use cli_commands::disk::{Disk, words_of};
 use cli_commands::words::{Request, requested};
-use cli_status::{ended, report};
+use text_script::status::{ended, report};
 use std::io;
 use std::process::ExitCode;
 

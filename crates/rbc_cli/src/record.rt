@@ -3,9 +3,9 @@
 use cli_commands::journal::{Journal, journal_name, journal_of};
 use cli_commands::line_file::LineFile;
 use cli_commands::words::JournalWords;
-use cli_journal::{Entry, first_line, in_order};
-use cli_status::Fault;
-use serve_journal::{OpenFault, make_journal, open_journal, read_whole};
+use text_journal::{Entry, first_line, in_order};
+use text_script::status::Fault;
+use serve_line::journaling::{OpenFault, make_journal, open_journal, read_whole};
 use serve_line::{JournalFile, Notes, Record, ServeFault};
 use std::alloc::AllocError;
 use std::fs;

@@ -3,7 +3,7 @@
 use cli_commands::disk::Disk;
 use cli_commands::files::Files as _;
 use cli_drive::{DriveFault, drive, see_off, steps_of};
-use cli_status::Fault;
+use text_script::status::Fault;
 use std::alloc::AllocError;
 use std::fs::File;
 use std::io::Write;

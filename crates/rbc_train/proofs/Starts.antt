@@ -12,8 +12,8 @@ use Rattle.rbc_spec.specs.Acts.{Reply, ◌>>◌, say}
 use Rattle.rbc_spec.specs.Rules.{start_mission, start_here, start_waiting}
 use Rattle.rbc_spec.specs.Step.{Train, effect}
 use Rattle.law_base.proofs.Puts.{put_there}
-use Rattle.law_local.proofs.Ordered.{is_ordered}
-use Rattle.law_local.proofs.Fits.{begun_local, fit_parts}
+use Rattle.law_base.proofs.LocalLemmas.Ordered.{is_ordered}
+use Rattle.law_base.proofs.LocalLemmas.Fits.{begun_local, fit_parts}
 use Rattle.rbc_book.specs.Book.{Pages}
 use Rattle.rbc_linkmsg.specs.declared.body.Body.TheVariants as code
 use Rattle.rbc_right.specs.Rights.{Rights, is_here, right_of}

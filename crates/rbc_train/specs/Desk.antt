@@ -11,7 +11,7 @@ use Rattle.rbc_spec.specs.Outcome.{Saying, Told}
 use Rattle.rbc_spec.specs.Centre.{Centre, Mission}
 use Rattle.rbc_spec.specs.Acts.{Act, Reply}
 use Rattle.rbc_spec.specs.Step.{Effect, Train, effect}
-use Rattle.law_local.specs.Local.{IsOrdered}
+use Rattle.law_base.specs.Local.Local.{IsOrdered}
 use Rattle.rbc_book.specs.Book.{Pages, is_own, entry_at, wish_at}
 use Rattle.rbc_right.specs.Rights.{Rights, is_here}
 use Rattle.rbc_pending_start.specs.Waits.{IsCovered}

@@ -8,7 +8,7 @@ use Rattle.rbc_spec.specs.World.{World, frame_sent}
 use Rattle.rbc_spec.specs.ReadOff.{StandsFor, read_off}
 use Rattle.rbc_spec.specs.Promises.{IsSound}
 use Rattle.rbc_spec.specs.Theorems.{IsOneCentreLine}
-use Rattle.law_local.specs.Local.{IsLocal}
+use Rattle.law_base.specs.Local.Local.{IsLocal}
 use Rattle.law_reached.specs.Seen.{AreMissionsSeen, AreSectionsSeen}
 use Rattle.law_reached.specs.Known.{IsKnown}
 use Rattle.law_reached.proofs.Known as seen

@@ -3,7 +3,7 @@ ghost use Rattle.rbc_spec.specs.Maps.{has};
 ghost use Rattle.rbc_spec.specs.SectionRuns.{within};
 ghost use Rattle.rbc_spec.specs.Line.{section};
 ghost use Rattle.rbc_spec.specs.ReadOff.{StandsFor, read_off};
-ghost use Rattle.law_network.specs.Shows.{shown};
+ghost use Rattle.law_invariants.specs.Flow.Shows.{shown};
 ghost use Rattle.law_reached.specs.Seen.{is_in_its_hand};
 ghost use Rattle.rbc_book.specs.Entries.{entry_of};
 ghost use Rattle.rbc_world.specs.Reached.{WasReached};

@@ -1,10 +1,10 @@
 -- What a line at the control endpoint asks for is what the entries of its script ask for.
 use Rattle.std.proofs.Common.{◌≡◌, ◌≢◌, Bool, true, false, ℕ, List, [], ◌∷◌, map, codes, Option, Some, None, IfOk, IfErr, ok_or, refl, ap, sym, ◌∙◌, inr}
 use Rattle.rbc_spec.specs.Line.{Line}
-use Rattle.cli_script.specs.Script as script
-use Rattle.cli_script.specs.Script.{Asked, rows}
-use Rattle.cli_script.specs.Entries.{AreAsked, asked_of}
-use Rattle.cli_script.specs.declared.script.Entry.{Entry}
+use Rattle.text_script.specs.Script as script
+use Rattle.text_script.specs.Script.{Asked, rows}
+use Rattle.text_script.specs.Entries.{AreAsked, asked_of}
+use Rattle.text_script.specs.declared.script.Entry.{Entry}
 use Rattle.serve_control.specs.Commands.{AskFor, bidden, bidden_once, Bids, IsNoCommand}
 use Rattle.serve_control.specs.declared.command.Command.{Command}
 use Rattle.serve_control.specs.declared.command.Command.TheVariants as command

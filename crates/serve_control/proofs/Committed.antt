@@ -6,8 +6,8 @@ use Rattle.rbc_centre.specs.Views.{outcome_of}
 use Rattle.rbc_centre.specs.declared.outcome.Outcome.{Outcome}
 use Rattle.rbc_world.specs.declared.event.WorldEvent.{WorldEvent}
 use Rattle.rbc_node.specs.declared.fault.ShareFault.{ShareFault}
-use Rattle.cli_print.specs.Rows.{name_at, event_row}
-use Rattle.cli_print.specs.Answers.{IsOutcomePrint}
+use Rattle.text_script.specs.Print.Rows.{name_at, event_row}
+use Rattle.text_script.specs.Print.Answers.{IsOutcomePrint}
 use Rattle.serve_control.specs.Answers.{IsCommitPrint}
 
 adds_both : (a b c : Option (List ℕ)) (xs ys : List ℕ) → Appends a b xs → Appends b c ys → Appends a c (xs ++ ys)

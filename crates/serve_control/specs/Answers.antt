@@ -7,8 +7,8 @@ use Rattle.rbc_centre.specs.declared.outcome.Outcome.{Outcome}
 use Rattle.rbc_world.specs.declared.event.WorldEvent.{WorldEvent}
 use Rattle.rbc_node.specs.Faults.{number_of_fault}
 use Rattle.rbc_node.specs.declared.fault.ShareFault.{ShareFault}
-use Rattle.cli_print.specs.Rows.{name_at, event_row}
-use Rattle.cli_print.specs.Answers.{IsOutcomePrint}
+use Rattle.text_script.specs.Print.Rows.{name_at, event_row}
+use Rattle.text_script.specs.Print.Answers.{IsOutcomePrint}
 
 -- the number of a fault
 abbrev pub refusal_row : ShareFault → List ℕ

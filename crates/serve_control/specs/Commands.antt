@@ -1,10 +1,10 @@
 -- What a line at the control endpoint asks for.
 use Rattle.std.specs.Prelude.{◌≡◌, ◌≢◌, ℕ, List, [], ◌∷◌, map, filter, codes, Option, Some, None, ◌⊎◌}
 use Rattle.rbc_spec.specs.Line.{Line}
-use Rattle.cli_script.specs.Script as script
-use Rattle.cli_script.specs.Script.{Asked, row_asks, is_kept, rows}
-use Rattle.cli_script.specs.Entries.{IsFirstFault}
-use Rattle.cli_script.specs.declared.script.ScriptFault.TheVariants as refused
+use Rattle.text_script.specs.Script as script
+use Rattle.text_script.specs.Script.{Asked, row_asks, is_kept, rows}
+use Rattle.text_script.specs.Entries.{IsFirstFault}
+use Rattle.text_script.specs.declared.script.ScriptFault.TheVariants as refused
 use Rattle.serve_control.specs.declared.command.Command.{Command}
 use Rattle.serve_control.specs.declared.command.Command.TheVariants as command
 use Rattle.serve_control.specs.declared.command.CommandFault.{CommandFault}

@@ -1,6 +1,6 @@
 -- The exit statuses of the running centres.
 use Rattle.std.specs.Prelude.{ℕ}
-use Rattle.cli_status.specs.Statuses.{status_of}
+use Rattle.text_script.specs.Status.Statuses.{status_of}
 use Rattle.serve_control.specs.declared.fault.ServeFault.{ServeFault}
 use Rattle.serve_control.specs.declared.fault.ServeFault.TheVariants.{Socket, Gather, Merge, Journal, Run}
 

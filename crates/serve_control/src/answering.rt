@@ -2,8 +2,8 @@ ghost use Rattle.std.specs.Prelude.{ℕ, List, OnOk};
 ghost use Rattle.std.specs.Io.KnownBytes.{Appends};
 ghost use Rattle.serve_control.specs.Answers.{IsCommitPrint};
 
-use cli_print::{name_of, print_event, print_outcome};
-use cli_status::Fault;
+use text_script::print::{name_of, print_event, print_outcome};
+use text_script::status::Fault;
 use rbc_centre::Outcome;
 use rbc_line::Line;
 use rbc_node::ShareFault;

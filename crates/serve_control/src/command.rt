@@ -1,8 +1,8 @@
 ghost use Rattle.std.specs.Prelude.{◌≡◌, map, IfOk, IfErr};
-ghost use Rattle.cli_script.specs.Entries.{asked_of, event_of};
+ghost use Rattle.text_script.specs.Entries.{asked_of, event_of};
 ghost use Rattle.serve_control.specs.Commands.{bidden, bidden_once, Bids, IsNoCommand};
 
-use cli_script::script::{Entry, ScriptFault, script_of};
+use text_script::script::{Entry, ScriptFault, script_of};
 use rbc_line::Line;
 use rbc_world::WorldEvent;
 use std::alloc::Global;

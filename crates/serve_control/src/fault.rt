@@ -1,4 +1,4 @@
-use cli_status::Fault;
+use text_script::status::Fault;
 use rbc_log::MergeFault;
 use rbc_node::GatherFault;
 use std::alloc::{AllocError, AllocFailed};

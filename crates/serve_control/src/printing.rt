@@ -5,8 +5,8 @@ ghost use Rattle.rbc_world.specs.Views.{event_of};
 ghost use Rattle.serve_control.specs.Events.{IsCommitted};
 
 use crate::fault::ServeFault;
-use cli_print::{name_of, print_event, print_line, print_outcome};
-use cli_status::Fault;
+use text_script::print::{name_of, print_event, print_line, print_outcome};
+use text_script::status::Fault;
 use rbc_centre::{Event, StepFault};
 use rbc_line::Line;
 use rbc_log::{CentreLog, Entry, merge};

@@ -1,8 +1,8 @@
-use cli_status::Fault;
+use text_script::status::Fault;
 use rbc_line::Line;
 use rbc_node::Node;
-use serve_glance::PageSnapshot;
-use serve_hall::{DOOR_REST_MS, Endpoint, Listening};
+use crate::looking::PageSnapshot;
+use crate::state::{DOOR_REST_MS, Endpoint, Listening};
 use std::alloc::Global;
 use std::net::{Shutdown, SocketAddr, TcpListener, TcpStream};
 use std::sync::atomic::{AtomicBool, AtomicU64, Ordering};

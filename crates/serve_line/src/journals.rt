@@ -1,11 +1,11 @@
-use cli_journal::Entry;
-use cli_print::name_of;
+use text_journal::Entry;
+use text_script::print::name_of;
 use rbc_line::Line;
 use rbc_node::{Node, Share};
 use serve_control::ServeFault;
-use serve_hall::Server;
-use serve_journal::{JournalFile, JournalWriter, ResumeFault, keep_journal, resume};
-use serve_show::Notes;
+use crate::state::Server;
+use crate::journaling::{JournalFile, JournalWriter, ResumeFault, keep_journal, resume};
+use crate::status::Notes;
 use std::alloc::{AllocError, Global};
 use std::fs::OpenFile;
 use std::io::{Seek, Write};

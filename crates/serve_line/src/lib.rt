@@ -1,19 +1,25 @@
-//! A railway's line of centres that runs: a thread for each endpoint and each journal, and two for each link, which
-//! carry the frames from centre to centre; the port of the page; and at the end the print of all that happened.
+//! A running line of centres: its threads (here), their shared state (`state`), the clients of its endpoints
+//! (`clients`), its status and notes (`status`), the page's look at its centres (`looking`), and its journals
+//! (`journaling`).
 //!
 //! Bodies are free. What goes over a connection is fixed by docs/FORMATS.md.
 #![tactic(auto)]
 
 mod browsers;
+pub mod clients;
+pub mod journaling;
 mod journals;
 mod links;
+pub mod looking;
 mod pages;
 mod running;
+pub mod state;
+pub mod status;
 mod tally;
 
 pub use journals::Record;
 pub use running::serve;
 pub use serve_control::ServeFault;
-pub use serve_hall::{Endpoints, ServeOptions};
-pub use serve_journal::JournalFile;
-pub use serve_show::{Kind, StderrNotes, Notes, NoNotes};
+pub use crate::state::{Endpoints, ServeOptions};
+pub use crate::journaling::JournalFile;
+pub use crate::status::{Kind, StderrNotes, Notes, NoNotes};

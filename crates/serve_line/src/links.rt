@@ -1,6 +1,6 @@
 use rbc_board::{Carrier, QueueCarrier};
-use serve_hall::{DirectedLink, Server};
-use serve_journal::JournaledCarrier;
+use crate::state::{DirectedLink, Server};
+use crate::journaling::JournaledCarrier;
 use serve_workers::{InOrder, pass_over, receive_frames, send_frames};
 use std::alloc::AllocError;
 use std::sync::Wait;

@@ -1,8 +1,8 @@
 use crate::browsers::{PageEndpoint, Seen};
-use cli_status::Fault;
-use serve_hall::{Peer, Endpoint, Server};
+use text_script::status::Fault;
+use crate::state::{Peer, Endpoint, Server};
 use serve_page::{Asked, LineNow, Refusal, answer, asked_of, refusal};
-use serve_show::Notes;
+use crate::status::Notes;
 use std::alloc::Global;
 use std::io::{ErrorKind, Read, Write};
 use std::net::{Shutdown, TcpStream};

@@ -6,14 +6,14 @@ use crate::tally::Tally;
 use crossbeam_channel::bounded;
 use rbc_line::Line;
 use rbc_node::{Family, Node, Share, gather};
-use serve_callers::run_endpoint;
+use crate::clients::run_endpoint;
 use serve_control::{ServeFault, print_family};
-use serve_hall::{
+use crate::state::{
     DirectedLink, Endpoint, Endpoints, Server, ServeOptions, Slot, State, wakers_of, endpoints_of, connections_of,
     journals_of, links_of, nodes_of, sinks_of,
 };
-use serve_journal::JournalFile;
-use serve_show::{Backlog, Notes, QueuedNotes, write_notes};
+use crate::journaling::JournalFile;
+use crate::status::{Backlog, Notes, QueuedNotes, write_notes};
 use std::alloc::{AllocError, Global};
 use std::fs::OpenFile;
 use std::io::{Seek, Write};

@@ -4,7 +4,7 @@ ghost use Rattle.std.specs.Prelude.{◌≡◌, string_bytes, IfOk};
 ghost use Rattle.serve_page.specs.Replies.{refusal_text, IsAnswer, HasBody, answer_of};
 
 use crate::request::{Asked, Refusal};
-use cli_page::{Layout, LineNow, line_json, live_page, now_json};
+use text_page::{Layout, LineNow, line_json, live_page, now_json};
 use std::alloc::{AllocError, Global};
 
 const HTML: &str =

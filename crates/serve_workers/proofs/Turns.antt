@@ -6,10 +6,10 @@ use Rattle.rbc_msgs.specs.TrainText.{TrainText}
 use Rattle.rbc_msgs.specs.Streams.{IsRest, Spell, Adds}
 use Rattle.rbc_msgs.specs.declared.fault.StreamFault.TheVariants.{Message, Failed}
 use Rattle.rbc_msgs.proofs.Streams.{adds-none, adds-then, adds-after}
-use Rattle.serve_reading.specs.Intake.{Brings}
-use Rattle.serve_reading.specs.Intake as intake
-use Rattle.serve_reading.specs.declared.reading.IntakeEnd.{IntakeEnd}
-use Rattle.serve_reading.specs.declared.reading.IntakeEnd.TheVariants as end
+use Rattle.serve_workers.specs.Reading.Intake.{Brings}
+use Rattle.serve_workers.specs.Reading.Intake as intake
+use Rattle.serve_workers.specs.declared.reading.reading.IntakeEnd.{IntakeEnd}
+use Rattle.serve_workers.specs.declared.reading.reading.IntakeEnd.TheVariants as end
 use Rattle.rbc_node.specs.Receipts.{ShareValue}
 use Rattle.rbc_node.specs.declared.fault.ShareFault.{ShareFault}
 use Rattle.serve_workers.specs.declared.end.SessionEnd.TheVariants.{Refused}

@@ -1,8 +1,8 @@
 -- How a session ends.
 use Rattle.std.specs.Prelude.{◌≡◌, ℕ, ◌+◌, List, Option}
 use Rattle.std.specs.Io.KnownBytes.{IsAtEnd}
-use Rattle.serve_reading.specs.declared.reading.IntakeEnd.{IntakeEnd}
-use Rattle.serve_reading.specs.declared.reading.IntakeEnd.TheVariants as intake
+use Rattle.serve_workers.specs.declared.reading.reading.IntakeEnd.{IntakeEnd}
+use Rattle.serve_workers.specs.declared.reading.reading.IntakeEnd.TheVariants as intake
 use Rattle.serve_workers.specs.declared.end.SessionEnd.{SessionEnd}
 use Rattle.serve_workers.specs.declared.end.SessionEnd.TheVariants.{EndOfStream, Fault, Device, Refused}
 

@@ -3,7 +3,7 @@ ghost use Rattle.serve_workers.specs.Ends.{number_of_end};
 
 use rbc_msgs::StreamFault;
 use rbc_node::ShareFault;
-use serve_reading::IntakeEnd;
+use crate::reading::IntakeEnd;
 
 /// How the session of a connection ended. None of the ends closes the train's session at the centre.
 #[derive(Clone, Copy, Debug, PartialEq, Eq)]

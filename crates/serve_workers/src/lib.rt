@@ -1,18 +1,21 @@
-//! The workers of a running centre, each of which runs in a thread of its own: one reads a train's connection and
-//! commits its messages, and two carry the frames of a link between two centres.
+//! The connections of trains at a centre: reading (`reading`), writing (`writing`), which connection serves which
+//! engine (`connections`), and the workers that commit messages and carry frames.
 //!
 //! Bodies are free. What goes over a connection is fixed by docs/FORMATS.md.
 #![tactic(auto)]
 
 mod committer;
+pub mod connections;
 mod end;
 mod laws;
 mod links;
 mod order;
-mod sink;
 mod passing;
+pub mod reading;
 mod session;
 mod signals;
+mod sink;
+pub mod writing;
 
 pub use committer::Committer;
 pub use end::SessionEnd;

@@ -10,7 +10,7 @@ use crate::sink::AnswerSink;
 use rbc_centre::Event;
 use rbc_msgs::{Stream, TrainBody, TrainMsg};
 use rbc_node::{Gate, Node, Share, ShareFault};
-use serve_reading::{Source, read_messages};
+use crate::reading::{Source, read_messages};
 use std::alloc::Global;
 use std::sync::Wait;
 

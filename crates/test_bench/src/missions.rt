@@ -2,7 +2,7 @@
 
 use crate::print::print_answer;
 use anyhow::{Context, bail};
-use cli_script::script::{Entry, script_of};
+use text_script::script::{Entry, script_of};
 use rbc_centre::Outcome;
 use rbc_line::Line;
 use rbc_msgs::encode_track;

@@ -1,6 +1,6 @@
 //! A line of two centres, with a train that has sections 0 and 1 of four.
 
-use cli_page::{
+use text_page::{
     CentreNow, Layout, LineNow, LinkNow, MissionNow, Phase, Place, Run, SectionNow, SessionNow,
     Usage,
 };

@@ -2,7 +2,7 @@
 
 use crate::line::{layout, now};
 use crate::shown::lacking;
-use cli_page::{Changes, Layout, LineNow, Part, Phase, RunSheet, SectionNow, Usage};
+use text_page::{Changes, Layout, LineNow, Part, Phase, RunSheet, SectionNow, Usage};
 use std::alloc::{AllocError, Global};
 use std::test::*;
 

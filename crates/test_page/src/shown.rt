@@ -1,7 +1,7 @@
 //! What an answer shows.
 
 use crate::line::{layout, now};
-use cli_page::Layout;
+use text_page::Layout;
 use serve_page::{Asked, Refusal, answer, refusal};
 use std::alloc::{AllocError, Global};
 use std::test::*;

@@ -4,7 +4,7 @@ use crate::line::{BEGINS, START};
 use crate::playing::Stopped;
 use rbc_centre::{Event, Frame};
 use rbc_node::{Node, Open, Share, ShareFault};
-use serve_reading::Reads;
+use serve_workers::reading::Reads;
 use serve_workers::{NoSink, SessionEnd, run_session};
 use std::alloc::Global;
 use std::sync::Wait;

@@ -4,7 +4,7 @@ use crate::playing::Stopped;
 use crossbeam_channel::{Sender, bounded};
 use rbc_msgs::TrackMsg;
 use rbc_node::Share;
-use serve_writing::{Reply, run_writer};
+use serve_workers::writing::{Reply, run_writer};
 use std::alloc::{AllocError, Global};
 use std::sync::Wait;
 

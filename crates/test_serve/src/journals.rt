@@ -5,8 +5,8 @@ use crate::client::{Done, Missed, TURNS, answers, connect, heard, is_ended, say}
 use crate::line::{INITIATION_OF_ONE, VERSION, bytes_of, two_centres};
 use crate::railway::{Addresses, audited, printed_of, served_with};
 use crate::sheet::{Paper, Sheet, cells};
-use cli_audit::Verdict;
-use cli_journal::Entry;
+use cli_commands::auditing::Verdict;
+use text_journal::Entry;
 use rbc_world::WorldEvent;
 use serve_line::{JournalFile, ServeOptions, Record};
 use std::alloc::Global;

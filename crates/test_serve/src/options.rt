@@ -5,7 +5,7 @@ use crate::line::{MISSION_OF_ONE, REQUEST_OF_ONE, bytes_of};
 use crate::play::{Act, Step, printed_after};
 use crate::railway::{Addresses, printed_of_two_centres};
 use serve_line::ServeOptions;
-use serve_reading::Rate;
+use serve_workers::reading::Rate;
 use std::alloc::Global;
 use std::net::{Net, TcpStream};
 use std::sync::atomic::{AtomicU64, Ordering};

@@ -2,7 +2,7 @@
 
 use crate::client::{Done, Missed, connect, say};
 use crate::line::{CONTROL, two_centres};
-use cli_audit::{Audit, Verdict};
+use cli_commands::auditing::{Audit, Verdict};
 use rbc_line::Line;
 use serve_line::{Endpoints, ServeOptions, NoNotes, Record, serve};
 use std::alloc::Global;

@@ -2,7 +2,7 @@ use crate::client::{Done, Missed, TURNS};
 use crate::line::{ACCEPTED, INITIATION_OF_ONE, VERSION, two_centres};
 use crate::play::{Act, Step, play};
 use crate::railway::{Addresses, audited, printed_with};
-use cli_audit::Verdict;
+use cli_commands::auditing::Verdict;
 use rbc_line::Line;
 use serve_line::ServeOptions;
 use std::alloc::Global;

@@ -2,7 +2,7 @@
 //! while it is written.
 
 use crate::journal::line::{ENTRIES, FIRST};
-use serve_journal::{JournalFile, OpenFault, make_journal, open_journal, read_whole};
+use serve_line::journaling::{JournalFile, OpenFault, make_journal, open_journal, read_whole};
 use std::fs::OpenOptions;
 use std::io::Write;
 use std::os::unix::fs::PermissionsExt;

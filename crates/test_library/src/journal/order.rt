@@ -1,7 +1,7 @@
 //! Several journals in one order, stamps that fall, and where the whole lines of a text end.
 
 use crate::journal::line::{B, two_centres};
-use cli_journal::{Entry, file_name, first_fallen, in_order, whole_length};
+use text_journal::{Entry, file_name, first_fallen, in_order, whole_length};
 use rbc_world::WorldEvent;
 use std::alloc::Global;
 use std::test::*;

@@ -1,7 +1,7 @@
 //! What is read.
 
 use crate::journal::line::{B, ENTRIES, FILE, FIRST, two_centres};
-use cli_journal::{Entry, JournalFault, read_journal};
+use text_journal::{Entry, JournalFault, read_journal};
 use rbc_world::WorldEvent;
 use std::alloc::Global;
 use std::test::*;

@@ -1,7 +1,7 @@
 //! What is written.
 
 use crate::journal::line::{B, ENTRIES, FILE, FIRST, two_centres};
-use cli_journal::{Entry, add_entry, first_line};
+use text_journal::{Entry, add_entry, first_line};
 use rbc_world::WorldEvent;
 use std::alloc::Global;
 use std::test::*;

@@ -1,7 +1,7 @@
 //! The order in which a train hears what its centre says, over bytes in memory.
 
 use rbc_msgs::{NID_LRBG_UNKNOWN, TrackBody, TrackMsg};
-use serve_writing::{Order, Reply};
+use serve_workers::writing::{Order, Reply};
 use std::alloc::Global;
 use std::test::*;
 

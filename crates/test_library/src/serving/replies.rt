@@ -3,7 +3,7 @@
 use crate::line::{ACCEPTED, VERSION};
 use crossbeam_channel::{Receiver, Sender, bounded};
 use rbc_msgs::decode_track;
-use serve_writing::{Pipe, Reply, WriteFailed, run_writer};
+use serve_workers::writing::{Pipe, Reply, WriteFailed, run_writer};
 use std::alloc::Global;
 use std::io;
 use std::io::{ErrorKind, Write};

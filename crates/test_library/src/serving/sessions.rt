@@ -3,7 +3,7 @@
 use crate::line::{HALF_AN_INITIATION, INITIATION};
 use crate::nodes::node_of_a;
 use rbc_node::{Open, Share};
-use serve_reading::Reads;
+use serve_workers::reading::Reads;
 use serve_workers::{Closed, SessionEnd, run_session};
 use std::alloc::Global;
 use std::io;

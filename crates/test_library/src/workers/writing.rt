@@ -7,7 +7,7 @@ use crossbeam_channel::{Receiver, Sender, bounded};
 use rbc_centre::Phase;
 use rbc_msgs::TrackMsg;
 use rbc_node::{Node, Share};
-use serve_writing::{Reply, WriteFailed, run_writer};
+use serve_workers::writing::{Reply, WriteFailed, run_writer};
 use std::alloc::Global;
 use std::io;
 use std::io::{ErrorKind, Write};

@@ -1,6 +1,6 @@
 use Rattle.rbc_spec.specs.World.{new_world}
-use Rattle.law_ranges.proofs.Worlds.{new_in_range, run_in_range}
-use Rattle.law_no_stray.proofs.Worlds.{each_reached}
+use Rattle.law_invariants.proofs.RangesLemmas.Worlds.{new_in_range, run_in_range}
+use Rattle.law_invariants.proofs.NoStrayLemmas.Worlds.{each_reached}
 use Rattle.law_progress.proofs.Rounds.{goes_on}
 use Rattle.law_progress.proofs.laws.each_handover_can_end.Goals as goal
 

@@ -1,4 +1,4 @@
-use Rattle.law_network.proofs.Numbers.{sent_number}
+use Rattle.law_invariants.proofs.FlowLemmas.Numbers.{sent_number}
 use Rattle.law_reached.proofs.Known.{one_proof, is_known, stands, sound}
 use Rattle.law_reached.proofs.laws.what_is_known_of_a_world.Goals as goal
 

@@ -1,6 +1,6 @@
 use Rattle.std.proofs.Common.{IfOk, IfErr, sym, subst, rules}
-use Rattle.cli_script.specs.Script.{rows}
-use Rattle.cli_script.specs.Entries.{AreAsked}
+use Rattle.text_script.specs.Script.{rows}
+use Rattle.text_script.specs.Entries.{AreAsked}
 use Rattle.serve_control.specs.Commands.{Bids, IsNoCommand}
 use Rattle.serve_control.proofs.Bidden.{bids, bids_nothing}
 use Rattle.serve_control.proofs.command.command_of.Goals as goal

@@ -1,10 +1,10 @@
 use Rattle.std.proofs.Common.{◌≡◌, ◌∙◌, ap, sym, subst, true}
 use Rattle.rbc_spec.specs.Line.{is_centre}
 use Rattle.rbc_spec.specs.Centre.{beginning}
-use Rattle.law_network.specs.Sound.{IsCentreSound}
-use Rattle.law_network.proofs.Begins.{centre_begins}
-use Rattle.law_ranges.specs.Ranges.{HasStateRanges}
-use Rattle.law_ranges.proofs.Steps.{begins_in_range}
+use Rattle.law_invariants.specs.Flow.Sound.{IsCentreSound}
+use Rattle.law_invariants.proofs.FlowLemmas.Begins.{centre_begins}
+use Rattle.law_invariants.specs.Ranges.Ranges.{HasStateRanges}
+use Rattle.law_invariants.proofs.RangesLemmas.Steps.{begins_in_range}
 use Rattle.rbc_book.specs.Book.{Pages, is_own}
 use Rattle.rbc_session.specs.Sessions.{phase_at}
 use Rattle.rbc_centre.specs.declared.desk.Desk.{Desk}

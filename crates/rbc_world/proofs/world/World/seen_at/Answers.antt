@@ -1,6 +1,6 @@
 use Rattle.std.proofs.Common.{◌∙◌, ap}
 use Rattle.rbc_spec.specs.Centre.{Entry}
-use Rattle.law_network.specs.Shows.{shown}
+use Rattle.law_invariants.specs.Flow.Shows.{shown}
 use Rattle.law_reached.specs.Seen.{is_in_its_hand}
 use Rattle.rbc_world.specs.World.{line_of, state_of}
 use Rattle.rbc_world.proofs.world.World.seen_at.Goals as goal

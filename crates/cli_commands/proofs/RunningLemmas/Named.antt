@@ -1,0 +1,81 @@
+-- What a writer holds that is known by its name.
+use Rattle.std.proofs.Common.{◌≡◌, ℕ, List, [], ◌∷◌, ◌++◌, Option, Some, None, Result, Ok, Err, OnOk, is_err, false, sym, ap, subst, ◌∙◌, append-nil}
+use Rattle.std.specs.Io.KnownBytes.{Keeps, Appends, WriteAppends, append_known}
+use Rattle.rbc_spec.specs.Line.{Line}
+use Rattle.text_script.specs.declared.script.Entry.{Entry}
+use Rattle.text_script.specs.declared.play.PlayFault.{PlayFault}
+use Rattle.text_script.specs.declared.play.PlayFault.TheVariants.{Refused, Untold}
+use Rattle.cli_commands.specs.Running.Named.{named}
+use Rattle.cli_commands.specs.Running.Printed.{LeavesPrint}
+
+-- ## One write
+
+pub named_appends : (name : ℕ) (a b : Option (List ℕ)) (bytes : List ℕ) → Appends a b bytes → Appends (named name a) (named name b) bytes
+named_appends name None b bytes h = tt
+named_appends name (Some xs) None bytes h = absurd h
+named_appends name (Some xs) (Some ys) bytes h = ap (λ zs. name ∷ zs) h
+
+pub named_keeps : (name : ℕ) (a b : Option (List ℕ)) → Keeps a b → Keeps (named name a) (named name b)
+named_keeps name None b h = tt
+named_keeps name (Some xs) None h = absurd h
+named_keeps name (Some xs) (Some ys) h = ap (λ zs. name ∷ zs) h
+
+pub named_writes : {E : Type 0} (name : ℕ) (a b : Option (List ℕ)) (result : Result ℕ E) (bytes : List ℕ) → WriteAppends a b result bytes → WriteAppends (named name a) (named name b) result bytes
+named_writes name a b (Ok n) bytes h = named_appends name a b _ h
+named_writes name a b (Err why) bytes h = named_keeps name a b h
+
+pub named_all : {T E : Type 0} (name : ℕ) (a b : Option (List ℕ)) (result : Result T E) (bytes : List ℕ) → OnOk result (Appends a b bytes) → OnOk result (Appends (named name a) (named name b) bytes)
+named_all name a b (Ok x) bytes h = named_appends name a b bytes h
+named_all name a b (Err why) bytes h = tt
+
+-- what holds at Ok, where there is no fault
+pub when_ok : {X E : Type 0} (result : Result X E) (P : Type 0) → OnOk result P → is_err result ≡ false → P
+when_ok (Ok x) P h e = h
+when_ok (Err why) P h e = absurd cc
+
+-- ## A print through a buffer
+
+-- A buffer that held nothing was put in front of a writer. What was written through it stands in the writer once the
+-- buffer is empty again: it is this writer, where its bytes are known.
+abbrev pub Stands : ℕ → ℕ → Option (List ℕ) → Option (List ℕ) → List ℕ → Type 0
+Stands old new None after text = Unit {0}
+Stands old new (Some xs) None text = ⊥
+Stands old new (Some xs) (Some ys) text = (new ≡ old) × (ys ≡ xs ++ text)
+
+abbrev head_or : ℕ → List ℕ → ℕ
+head_or n [] = n
+head_or n (x ∷ xs) = x
+
+abbrev tail_of : List ℕ → List ℕ
+tail_of [] = []
+tail_of (x ∷ xs) = xs
+
+same_head : (n m : ℕ) (xs ys : List ℕ) → n ∷ xs ≡ m ∷ ys → (n ≡ m) × (xs ≡ ys)
+same_head n m xs ys h = (ap (head_or n) h, ap tail_of h)
+
+pub stands : (old mid new : ℕ) (a b c : Option (List ℕ)) (empty left none text : List ℕ) → empty ≡ [] → none ≡ []
+    → Appends (append_known (named old a) empty) (append_known (named mid b) left) text → Keeps (append_known (named mid b) left) (append_known (named new c) none)
+    → Stands old new a c text
+stands old mid new None b c empty left none text e f h k = tt
+stands old mid new (Some xs) None c empty left none text e f h k = absurd h
+stands old mid new (Some xs) (Some ys) None empty left none text e f h k = absurd k
+stands old mid new (Some xs) (Some ys) (Some zs) empty left none text e f h k =
+    same_head new old zs (xs ++ text) (
+    sym (append-nil (new ∷ zs)) ∙ sym (ap (λ us. (new ∷ zs) ++ us) f) ∙ k ∙ h ∙ ap (λ us. ((old ∷ xs) ++ us) ++ text) e ∙ ap (λ us. us ++ text) (append-nil (old ∷ xs))
+    )
+
+-- so it is of the writer that was lent: it is left as it stands under its name
+pub stands_at_last : (old new : ℕ) (a c last : Option (List ℕ)) (text : List ℕ) → Stands old new a c text → (new ≡ old → last ≡ c) → Appends a last text
+stands_at_last old new None c last text h left = tt
+stands_at_last old new (Some xs) None last text h left = absurd h
+stands_at_last old new (Some xs) (Some ys) last text (same, grows) left = subst (λ (f : Option (List ℕ)). Appends (Some xs) f text) (sym (left same)) grows
+
+-- what is printed of a script through a buffer
+pub print_stands : {F : Type 0} (line : Line) (entries : List Entry) (result : Result (Unit {0}) (PlayFault F)) (old mid new : ℕ) (a b c last : Option (List ℕ)) (empty held none : List ℕ)
+    → empty ≡ [] → none ≡ [] → LeavesPrint {F = F} line entries result (append_known (named old a) empty) (append_known (named mid b) held)
+    → Keeps (append_known (named mid b) held) (append_known (named new c) none) → (new ≡ old → last ≡ c) → LeavesPrint {F = F} line entries result a last
+print_stands line entries (Ok done) old mid new a b c last empty held none e f (text, is, grows) k left =
+    (text, is, stands_at_last old new a c last text (stands old mid new a b c empty held none text e f grows k) left)
+print_stands line entries (Err (Refused fault)) old mid new a b c last empty held none e f (text, is, grows) k left =
+    (text, is, stands_at_last old new a c last text (stands old mid new a b c empty held none text e f grows k) left)
+print_stands line entries (Err (Untold why)) old mid new a b c last empty held none e f h k left = tt

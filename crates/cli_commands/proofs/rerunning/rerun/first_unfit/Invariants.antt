@@ -1,0 +1,11 @@
+use Rattle.std.proofs.Common.{◌≡◌, take}
+use Rattle.rbc_world.specs.World.{line_of, state_of}
+use Rattle.cli_commands.specs.Rerunning.Rerun.{IsRerun}
+use Rattle.cli_commands.proofs.rerunning.rerun.first_unfit.Given as goal
+
+abbrev pub invariant-loop-entry : goal.invariant-loop-entry
+invariant-loop-entry l = record {
+  at : l.at ≡ l.entry-index;
+  line : line_of l.world ≡ l.line;
+  run : IsRerun l.line (take l.entry-index l.entries) (state_of l.world);
+}

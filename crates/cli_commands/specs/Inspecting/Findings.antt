@@ -1,0 +1,31 @@
+-- Which fault of a line file each thing that is wrong in it is a case of.
+use Rattle.rbc_line.specs.declared.fault.LineFault.{LineFault}
+use Rattle.rbc_line.specs.declared.fault.LineFault.TheVariants.{Shape, Centres, Tracks, Sections, Trains, Length, Number, Twice, Home, Order}
+use Rattle.cli_commands.specs.declared.inspecting.finding.Counted.{Counted}
+use Rattle.cli_commands.specs.declared.inspecting.finding.Counted.TheVariants as counted
+use Rattle.cli_commands.specs.declared.inspecting.finding.Flaw.{Flaw}
+use Rattle.cli_commands.specs.declared.inspecting.finding.Flaw.TheVariants as flaw
+
+-- too few or too many of them
+abbrev pub count_fault : Counted → LineFault
+count_fault counted.Centres = Centres
+count_fault counted.Tracks = Tracks
+count_fault counted.Sections = Sections
+count_fault counted.Trains = Trains
+
+-- what is wrong at a place
+abbrev pub flaw_fault : Flaw → LineFault
+flaw_fault (flaw.Missing key) = Shape
+flaw_fault (flaw.Unknown key) = Shape
+flaw_fault (flaw.OtherType key wanted found) = Shape
+flaw_fault (flaw.NoTable found) = Shape
+flaw_fault (flaw.Count which count) = count_fault which
+flaw_fault flaw.Empty = Sections
+flaw_fault (flaw.Length metres) = Length
+flaw_fault (flaw.Number key value highest) = Number
+flaw_fault (flaw.Name name) = Number
+flaw_fault (flaw.NameTwice name first) = Twice
+flaw_fault (flaw.NumberTwice key value first) = Twice
+flaw_fault (flaw.Home key name) = Home
+flaw_fault (flaw.Order home) = Order
+flaw_fault (flaw.Unplaced fault) = fault

@@ -1,0 +1,61 @@
+use text_script::print::{print_answer, print_event, print_line, print_show};
+use text_script::script::Entry;
+use text_script::status::Fault;
+use rbc_centre::StepFault;
+use rbc_line::Line;
+use rbc_world::{World, WorldEvent};
+use std::alloc::Global;
+
+/// The centres of the line, on which the entries of a print are played again.
+#[derive(Drop)]
+pub(crate) struct Played<'a> {
+    alloc: Global,
+    line: &'a Line,
+    world: World,
+}
+
+impl<'a> Played<'a> {
+    pub(crate) fn new(alloc: Global, line: &'a Line) -> Result<Played<'a>, StepFault> {
+        let world = World::new(alloc, line)?;
+        Ok(Played { alloc, line, world })
+    }
+
+    /// Plays an entry, and gives the lines that a run prints of it.
+    pub(crate) fn entry(&mut self, entry: &Entry) -> Result<Vec<u8>, StepFault> {
+        let mut text = Vec::new(self.alloc);
+        match entry {
+            Entry::Show => {
+                told(print_show(&mut text))?;
+                self.add_line(&mut text)?;
+            }
+            Entry::Event(event) => self.add_event(&mut text, event)?,
+        }
+        Ok(text)
+    }
+
+    /// The lines with which a run ends, if nothing is played any more.
+    pub(crate) fn ending(&self) -> Result<Vec<u8>, StepFault> {
+        let mut text = Vec::new(self.alloc);
+        self.add_line(&mut text)?;
+        Ok(text)
+    }
+
+    fn add_event(&mut self, text: &mut Vec<u8>, event: &WorldEvent) -> Result<(), StepFault> {
+        told(print_event(self.alloc, text, self.line, event))?;
+        let answer = self.world.step(event)?;
+        told(print_answer(self.alloc, text, self.line, event, &answer))
+    }
+
+    fn add_line(&self, text: &mut Vec<u8>) -> Result<(), StepFault> {
+        told(print_line(self.alloc, text, self.line, &self.world))
+    }
+}
+
+// Printing into memory fails for want of memory alone.
+fn told(printed: Result<(), Fault<'static>>) -> Result<(), StepFault> {
+    match printed {
+        Ok(()) => Ok(()),
+        Err(Fault::Step(fault)) => Err(fault),
+        Err(_) => Err(StepFault::Memory),
+    }
+}

@@ -1,0 +1,56 @@
+ghost use Rattle.std.specs.Prelude.{◌≡◌, ℕ, ◌+◌, ◌&&◌, List, [], ◌∷◌, is_none};
+ghost use Rattle.cli_commands.specs.Comparing.Lines.{is_over, lines_of};
+ghost use Rattle.cli_commands.specs.Comparing.Part.{differs_after, due_after, found, fresh};
+
+use crate::comparing::due::Due;
+
+/// A part of a print that is held against the lines that have to stand there, line by line.
+#[derive(Drop)]
+pub struct Part {
+    due: Due,
+    /// The number of the first line that differs.
+    differs: Option<u64>,
+}
+
+impl Part {
+    /// A part of which no line has come, and in which the lines of a text have to stand.
+    pub fn of(text: Vec<u8>) -> Part
+        ensures { result ≡ fresh (lines_of text.items) }
+    {
+        Part {
+            due: Due::of(text),
+            differs: None,
+        }
+    }
+
+    /// Whether all lines have come, and no other.
+    pub fn is_over(&self) -> bool
+        ensures { result ≡ is_none self.now.differs && is_over self.now.due }
+    {
+        self.differs.is_none() && self.due.is_over()
+    }
+
+    /// Takes the next line of the print, by its number.
+    pub fn row(&mut self, number: u64, row: &str)
+        ensures told { (rows : List (List ℕ))
+            → found self.old number (row.now ∷ rows) ≡ found self.new (number + 1) rows }
+        ensures differs { self.new.differs ≡ differs_after number row.now self.old.differs self.old.due }
+        ensures due { self.new.due ≡ due_after row.now self.old.differs self.old.due }
+    {
+        if self.differs.is_none() && !self.due.takes(row) {
+            self.differs = Some(number);
+        }
+    }
+
+    /// The number of the first line that differs, where no further line comes, by the number that such a line would
+    /// have.
+    pub fn end(&self, number: u64) -> Option<u64>
+        ensures { result ≡ found self.now number [] }
+    {
+        match self.differs {
+            Some(earlier) => Some(earlier),
+            None if self.due.is_over() => None,
+            None => Some(number),
+        }
+    }
+}

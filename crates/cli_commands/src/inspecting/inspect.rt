@@ -1,0 +1,212 @@
+//! One walk through the tables of a line file that notes all that is wrong, table by table.
+use crate::inspecting::finding::{Counted, Finding, Flaw, Place};
+use crate::inspecting::inspection::{Inspection, first_place};
+use std::alloc::{AllocError, Global};
+use std::collections::HashSet;
+use toml::value::Array;
+use toml::{Table, Value};
+
+/// The homes along one track so far.
+#[derive(Drop)]
+struct Homes<'a> {
+    begun: HashSet<&'a str>,
+    last: Option<&'a str>,
+}
+
+impl<'a> Homes<'a> {
+    /// One more section of this home: whether the home comes again, after another.
+    fn comes_again(&mut self, home: &'a str) -> Result<bool, AllocError> {
+        if self.last == Some(home) {
+            return Ok(false);
+        }
+        self.last = Some(home);
+        Ok(!self.begun.insert(home)?)
+    }
+}
+
+/// All that is wrong in the tables of a text as a line file, in the order in which the walk comes to it: within a table
+/// its keys, then what stands in it. What is missing or of another type is tested no further.
+pub fn cases_in(alloc: Global, table: &Table) -> Result<Vec<Finding<'_>>, AllocError> {
+    let mut inspection = Inspection::new(alloc);
+    inspection.file(alloc, table)?;
+    Ok(inspection.findings)
+}
+
+impl<'a> Inspection<'a> {
+    fn file(&mut self, alloc: Global, table: &'a Table) -> Result<(), AllocError> {
+        let file = Place::File;
+        self.keys(file, table, &["nid_c", "centre", "track", "train"])?;
+        self.number(file, table, "nid_c", 1023)?;
+        self.centres(table)?;
+        self.tracks(alloc, table)?;
+        self.trains(table)
+    }
+
+    fn centres(&mut self, file: &'a Table) -> Result<(), AllocError> {
+        let Some(centres) = self.array(Place::File, file, "centre")? else {
+            return Ok(());
+        };
+        self.has_centres = true;
+        self.count(Counted::Centres, centres.len())?;
+        for (number, centre) in centres.iter().enumerate() {
+            self.centre(number, centre)?;
+        }
+        Ok(())
+    }
+
+    fn centre(&mut self, number: usize, centre: &'a Value) -> Result<(), AllocError> {
+        let name = name_in(centre);
+        let place = Place::Centre { number, name };
+        let Some(table) = self.table(place, centre, &["name", "nid_rbc"])? else {
+            return Ok(());
+        };
+        if let Some(name) = self.name(place, table)? {
+            if let Some(first) = first_place(&mut self.centre_names, name, place)? {
+                self.note(place, Flaw::NameTwice { name, first })?;
+            }
+        }
+        self.own_number(place, table, "nid_rbc", 16382)
+    }
+
+    fn tracks(&mut self, alloc: Global, file: &'a Table) -> Result<(), AllocError> {
+        let Some(tracks) = self.array(Place::File, file, "track")? else {
+            return Ok(());
+        };
+        self.count(Counted::Tracks, tracks.len())?;
+        let mut sections = 0;
+        for (number, track) in tracks.iter().enumerate() {
+            sections = self.track(alloc, number, sections, track)?;
+        }
+        // A track without a section is found at the track.
+        if sections > 0 {
+            self.count(Counted::Sections, sections)?;
+        }
+        Ok(())
+    }
+
+    /// A track, whose first section has this number: the number of the section after it.
+    fn track(
+        &mut self,
+        alloc: Global,
+        number: usize,
+        sections: usize,
+        track: &'a Value,
+    ) -> Result<usize, AllocError> {
+        let place = Place::Track {
+            number,
+            name: name_in(track),
+        };
+        let Some(table) = self.table(place, track, &["name", "section"])? else {
+            return Ok(sections);
+        };
+        let name = self.track_name(place, table)?;
+        let Some(items) = self.array(place, table, "section")? else {
+            return Ok(sections);
+        };
+        if items.is_empty() {
+            self.note(place, Flaw::Empty)?;
+        }
+        self.sections(alloc, name, sections, items)
+    }
+
+    fn track_name(
+        &mut self,
+        place: Place<'a>,
+        table: &'a Table,
+    ) -> Result<Option<&'a str>, AllocError> {
+        let name = self.name(place, table)?;
+        if let Some(name) = name {
+            if let Some(first) = first_place(&mut self.track_names, name, place)? {
+                self.note(place, Flaw::NameTwice { name, first })?;
+            }
+        }
+        Ok(name)
+    }
+
+    fn sections(
+        &mut self,
+        alloc: Global,
+        track: Option<&'a str>,
+        first: usize,
+        sections: &'a Array,
+    ) -> Result<usize, AllocError> {
+        let mut number = first;
+        let mut homes = Homes {
+            begun: HashSet::new(alloc),
+            last: None,
+        };
+        for section in sections {
+            let place = Place::Section { number, track };
+            if let Some(home) = self.section(place, section)? {
+                if homes.comes_again(home)? {
+                    self.note(place, Flaw::Order { home })?;
+                }
+            }
+            number = number.saturating_add(1);
+        }
+        Ok(number)
+    }
+
+    /// A section: its home, where it has one.
+    fn section(
+        &mut self,
+        place: Place<'a>,
+        section: &'a Value,
+    ) -> Result<Option<&'a str>, AllocError> {
+        let Some(table) = self.table(place, section, &["length", "home", "balise"])? else {
+            return Ok(None);
+        };
+        self.length(place, table)?;
+        let home = self.centre_name(place, table, "home")?;
+        self.own_number(place, table, "balise", 16382)?;
+        Ok(home)
+    }
+
+    fn trains(&mut self, file: &'a Table) -> Result<(), AllocError> {
+        let Some(trains) = self.array(Place::File, file, "train")? else {
+            return Ok(());
+        };
+        self.count(Counted::Trains, trains.len())?;
+        for (number, train) in trains.iter().enumerate() {
+            self.train(number, train)?;
+        }
+        Ok(())
+    }
+
+    fn train(&mut self, number: usize, train: &'a Value) -> Result<(), AllocError> {
+        let engine = engine_in(train);
+        let place = Place::Train { number, engine };
+        let Some(table) = self.table(place, train, &["engine", "registrar"])? else {
+            return Ok(());
+        };
+        self.own_number(place, table, "engine", 16777215)?;
+        self.centre_name(place, table, "registrar")?;
+        Ok(())
+    }
+
+    /// The name of a centre of the file.
+    fn centre_name(
+        &mut self,
+        place: Place<'a>,
+        table: &'a Table,
+        key: &'static str,
+    ) -> Result<Option<&'a str>, AllocError> {
+        let text = self.text(place, table, key)?;
+        if let Some(name) = text {
+            if self.has_centres && !self.centre_names.contains_key(name) {
+                self.note(place, Flaw::Home { key, name })?;
+            }
+        }
+        Ok(text)
+    }
+}
+
+/// The name in a table, to find the place by.
+fn name_in(value: &Value) -> Option<&str> {
+    value.as_table()?.get("name")?.as_str()
+}
+
+/// The engine in a table, to find the place by.
+fn engine_in(value: &Value) -> Option<i64> {
+    value.as_table()?.get("engine")?.as_integer()
+}

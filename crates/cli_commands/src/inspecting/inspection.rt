@@ -1,0 +1,212 @@
+//! What has been found in a line file so far, and the looks at one table of it.
+
+use crate::inspecting::finding::{Counted, Finding, Flaw, Place};
+use rbc_line::limits::{has_count_fault, is_name, is_outside};
+use std::alloc::{AllocError, Global};
+use std::collections::HashMap;
+use std::hash::Hash;
+use toml::value::Array;
+use toml::{Table, Value};
+
+/// What has been found so far, and where each value stands that may stand once.
+#[derive(Drop)]
+pub(crate) struct Inspection<'a> {
+    pub(crate) findings: Vec<Finding<'a>>,
+    /// The file has a list of centres, so that homes and registrars can be sought among them.
+    pub(crate) has_centres: bool,
+    pub(crate) centre_names: HashMap<&'a str, Place<'a>>,
+    pub(crate) track_names: HashMap<&'a str, Place<'a>>,
+    /// The numbers that may stand once, each with its key.
+    numbers: HashMap<(&'static str, i64), Place<'a>>,
+}
+
+impl<'a> Inspection<'a> {
+    pub(crate) fn new(alloc: Global) -> Inspection<'a> {
+        Inspection {
+            findings: Vec::new(alloc),
+            has_centres: false,
+            centre_names: HashMap::new(alloc),
+            track_names: HashMap::new(alloc),
+            numbers: HashMap::new(alloc),
+        }
+    }
+
+    pub(crate) fn note(&mut self, place: Place<'a>, flaw: Flaw<'a>) -> Result<(), AllocError> {
+        self.findings.push(Finding { place, flaw })?;
+        Ok(())
+    }
+
+    /// The table that has to stand at this place, with no key but these.
+    pub(crate) fn table(
+        &mut self,
+        place: Place<'a>,
+        value: &'a Value,
+        keys: &[&'a str],
+    ) -> Result<Option<&'a Table>, AllocError> {
+        let Some(table) = value.as_table() else {
+            let found = value.type_str();
+            self.note(place, Flaw::NoTable { found })?;
+            return Ok(None);
+        };
+        self.keys(place, table, keys)?;
+        Ok(Some(table))
+    }
+
+    /// Notes the keys of a table but for these.
+    pub(crate) fn keys(
+        &mut self,
+        place: Place<'a>,
+        table: &'a Table,
+        keys: &[&'a str],
+    ) -> Result<(), AllocError> {
+        for key in table.keys() {
+            let key = key.as_str();
+            if !keys.contains(&key) {
+                self.note(place, Flaw::Unknown { key })?;
+            }
+        }
+        Ok(())
+    }
+
+    /// The value of a key that has to be there, and of this type.
+    fn value(
+        &mut self,
+        place: Place<'a>,
+        table: &'a Table,
+        key: &'static str,
+        wanted: &'static str,
+    ) -> Result<Option<&'a Value>, AllocError> {
+        let flaw = match table.get(key) {
+            Some(value) if value.type_str() == wanted => return Ok(Some(value)),
+            Some(value) => {
+                let found = value.type_str();
+                Flaw::OtherType { key, wanted, found }
+            }
+            None => Flaw::Missing { key },
+        };
+        self.note(place, flaw)?;
+        Ok(None)
+    }
+
+    fn integer(
+        &mut self,
+        place: Place<'a>,
+        table: &'a Table,
+        key: &'static str,
+    ) -> Result<Option<i64>, AllocError> {
+        match self.value(place, table, key, "integer")? {
+            Some(value) => Ok(value.as_integer()),
+            None => Ok(None),
+        }
+    }
+
+    pub(crate) fn text(
+        &mut self,
+        place: Place<'a>,
+        table: &'a Table,
+        key: &'static str,
+    ) -> Result<Option<&'a str>, AllocError> {
+        match self.value(place, table, key, "string")? {
+            Some(value) => Ok(value.as_str()),
+            None => Ok(None),
+        }
+    }
+
+    pub(crate) fn array(
+        &mut self,
+        place: Place<'a>,
+        table: &'a Table,
+        key: &'static str,
+    ) -> Result<Option<&'a Array>, AllocError> {
+        match self.value(place, table, key, "array")? {
+            Some(value) => Ok(value.as_array()),
+            None => Ok(None),
+        }
+    }
+
+    /// A number from 0 to the highest.
+    pub(crate) fn number(
+        &mut self,
+        place: Place<'a>,
+        table: &'a Table,
+        key: &'static str,
+        highest: u32,
+    ) -> Result<Option<i64>, AllocError> {
+        let number = self.integer(place, table, key)?;
+        if let Some(value) = number {
+            if is_outside(0, highest, value) {
+                self.note(
+                    place,
+                    Flaw::Number {
+                        key,
+                        value,
+                        highest,
+                    },
+                )?;
+            }
+        }
+        Ok(number)
+    }
+
+    /// A number from 0 to the highest that no other has under this key.
+    pub(crate) fn own_number(
+        &mut self,
+        place: Place<'a>,
+        table: &'a Table,
+        key: &'static str,
+        highest: u32,
+    ) -> Result<(), AllocError> {
+        if let Some(value) = self.number(place, table, key, highest)? {
+            if let Some(first) = first_place(&mut self.numbers, (key, value), place)? {
+                self.note(place, Flaw::NumberTwice { key, value, first })?;
+            }
+        }
+        Ok(())
+    }
+
+    /// The name of a centre or a track.
+    pub(crate) fn name(
+        &mut self,
+        place: Place<'a>,
+        table: &'a Table,
+    ) -> Result<Option<&'a str>, AllocError> {
+        let text = self.text(place, table, "name")?;
+        if let Some(name) = text {
+            if !is_name(name) {
+                self.note(place, Flaw::Name { name })?;
+            }
+        }
+        Ok(text)
+    }
+
+    /// The length of a section.
+    pub(crate) fn length(&mut self, place: Place<'a>, table: &'a Table) -> Result<(), AllocError> {
+        if let Some(metres) = self.integer(place, table, "length")? {
+            if is_outside(100, 2000, metres) {
+                self.note(place, Flaw::Length { metres })?;
+            }
+        }
+        Ok(())
+    }
+
+    pub(crate) fn count(&mut self, counted: Counted, count: usize) -> Result<(), AllocError> {
+        let (low, high) = counted.limits();
+        if has_count_fault(low, high, count) {
+            self.note(Place::File, Flaw::Count { counted, count })?;
+        }
+        Ok(())
+    }
+}
+
+/// Where the value stands further in front in the file. Where it stands for the first time, the place is kept.
+pub(crate) fn first_place<'a, K: Copy + Drop + Eq + Hash>(
+    places: &mut HashMap<K, Place<'a>>,
+    key: K,
+    place: Place<'a>,
+) -> Result<Option<Place<'a>>, AllocError> {
+    let first = places.get(&key).copied();
+    if first.is_none() {
+        places.insert(key, place)?;
+    }
+    Ok(first)
+}

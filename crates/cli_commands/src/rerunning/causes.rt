@@ -1,0 +1,44 @@
+use text_journal::Entry;
+use rbc_centre::StepFault;
+use rbc_line::Line;
+use rbc_world::{Answer, World};
+use std::alloc::Global;
+
+/// Entries of which each frame that is delivered was sent, and how many others are left out.
+#[derive(Drop)]
+pub struct Caused {
+    pub entries: Vec<Entry>,
+    pub left_out: usize,
+}
+
+/// Cuts each journal before its first delivery of a frame that was not sent. Journals that are read one after another
+/// while centres write them may have such a delivery: the event that sent the frame was written after its journal was
+/// read. The entries are in the order of their stamps.
+pub fn with_causes(alloc: Global, line: &Line, entries: Vec<Entry>) -> Result<Caused, StepFault> {
+    let mut world = World::new(alloc, line)?;
+    keep_caused(alloc, &mut world, entries)
+}
+
+fn keep_caused(alloc: Global, world: &mut World, entries: Vec<Entry>) -> Result<Caused, StepFault> {
+    let mut cut: Vec<u8> = Vec::new(alloc);
+    let mut kept = Vec::new(alloc);
+    let mut left_out = 0usize;
+    for entry in entries {
+        let centre = entry.centre();
+        if cut.contains(&centre) {
+            left_out = left_out.saturating_add(1);
+            continue;
+        }
+        match world.step(&entry.event)? {
+            Answer::NotSent => {
+                cut.push(centre)?;
+                left_out = left_out.saturating_add(1);
+            }
+            Answer::Outcome(_) | Answer::NoCentre | Answer::Fault(_) => kept.push(entry)?,
+        }
+    }
+    Ok(Caused {
+        entries: kept,
+        left_out,
+    })
+}

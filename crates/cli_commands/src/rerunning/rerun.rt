@@ -1,0 +1,50 @@
+ghost use Rattle.std.specs.Prelude.{◌≡◌, ◌↔◌, Some, IsTrue};
+ghost use Rattle.rbc_world.specs.Views.{answer_of};
+ghost use Rattle.cli_commands.specs.Rerunning.Rerun.{Finds, stamp_of};
+
+use crate::rerunning::place::{Place, missing_sender, next_row};
+use text_journal::Entry;
+use rbc_centre::StepFault;
+use rbc_line::Line;
+use rbc_world::{Answer, World};
+use std::alloc::Global;
+
+/// Runs the events of the entries from the line's beginning, and finds the first entry whose stamp is not the one that
+/// its event is answered with; none where they are a run of the line. An event that no centre takes, as a frame that
+/// was not sent, has no stamp.
+pub fn first_unfit(
+    alloc: Global,
+    line: &Line,
+    entries: &[Entry],
+) -> Result<Option<Place>, StepFault>
+    ensures { Finds line.now entries.now result }
+{
+    let mut world = World::new(alloc, line)?;
+    let mut at = 0;
+    for entry in entries {
+        let answer = world.step(&entry.event)?;
+        if has_stamp(&answer, entry.stamp) {
+            at += 1;
+        } else {
+            let centre = entry.centre();
+            let row = next_row(entries, at, centre);
+            let sender = missing_sender(&answer, &entry.event);
+            return Ok(Some(Place {
+                centre,
+                row,
+                sender,
+            }));
+        }
+    }
+    Ok(None)
+}
+
+// Whether an event is answered with this stamp.
+fn has_stamp(answer: &Answer, stamp: u32) -> bool
+    ensures { IsTrue result ↔ (stamp_of (answer_of answer.now) ≡ Some stamp) }
+{
+    match answer {
+        Answer::Outcome(outcome) => outcome.stamp == stamp,
+        Answer::NoCentre | Answer::NotSent | Answer::Fault(_) => false,
+    }
+}

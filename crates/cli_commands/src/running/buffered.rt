@@ -1,0 +1,34 @@
+ghost use Rattle.cli_commands.specs.Running.Printed.{LeavesPrint};
+
+use crate::running::underlying::Underlying;
+use crate::running::played::print_played;
+use text_script::play::PlayFault;
+use text_script::script::Entry;
+use text_script::status::Fault;
+use rbc_line::Line;
+use std::alloc::{AllocError, Global};
+use std::io::{BufWriter, Write};
+
+/// Prints so too, with a buffer in front of the writer, which is empty after it. Where the writer refused a write, it
+/// may have any part of the print.
+pub fn print_buffered<O: Write>(
+    alloc: Global,
+    line: &Line,
+    entries: &[Entry],
+    out: &mut O,
+) -> Result<(), PlayFault<Fault<'static>>>
+    ensures { LeavesPrint line.now entries.now result (O.contents out.old) (O.contents out.new) }
+{
+    let Ok(mut held) = BufWriter::new(alloc, Underlying { out }) else {
+        return Err(PlayFault::Untold(AllocError.into()));
+    };
+    let done = print_played(alloc, line, entries, &mut held);
+    if held.flush().is_err() {
+        return Err(PlayFault::Untold(Fault::Write));
+    }
+    let (underlying, _) = held.into_parts();
+    let Underlying { out } = underlying;
+    // No effect at run time. The proof reads what the writer holds from this use of it.
+    let _ = &*out;
+    done
+}

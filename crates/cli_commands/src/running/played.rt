@@ -1,0 +1,32 @@
+ghost use Rattle.cli_commands.specs.Running.Printed.{LeavesPrint};
+
+use crate::running::printer::Printer;
+use text_script::play::PlayFault;
+use text_script::script::Entry;
+use text_script::status::Fault;
+use rbc_line::Line;
+use rbc_world::World;
+use std::alloc::Global;
+use std::io::Write;
+
+/// Plays the entries of a script on the line from its beginning, and prints each, what it led to, and at the end the
+/// line. It stops at the first event whose step is refused: all in front of it is printed then, and the event.
+pub fn print_played<W: Write>(
+    alloc: Global,
+    line: &Line,
+    entries: &[Entry],
+    out: &mut W,
+) -> Result<(), PlayFault<Fault<'static>>>
+    ensures { LeavesPrint line.now entries.now result (W.contents out.old) (W.contents out.new) }
+{
+    let mut world = match World::new(alloc, line) {
+        Ok(world) => world,
+        Err(error) => return Err(PlayFault::Untold(error.into())),
+    };
+    let mut printer = Printer { alloc, line, out };
+    let done = printer.print_all(&mut world, entries);
+    let Printer { out, .. } = printer;
+    // No effect at run time. The proof reads what the writer holds from this use of it.
+    let _ = &*out;
+    done
+}

@@ -1,7 +1,0 @@
-use Rattle.std.proofs.Common.{rules}
-use Rattle.std.proofs.lemmas.List.Sorted.{IsNonDecreasingBy-from_sort_by_key}
-use Rattle.cli_explain.specs.Lowest.{fault_number}
-use Rattle.cli_explain.proofs.order.findings_in.Goals as goal
-
-pub returns : goal.returns
-returns c = IsNonDecreasingBy-from_sort_by_key fault_number _ c.in_ok-sort_by_key.ensures.sorted (λ a r q k. search rules)

@@ -1,5 +1,0 @@
-use Rattle.cli_journal.proofs.Whole.{whole_journal}
-use Rattle.cli_journal.proofs.laws.whole_lines_are_a_journal.Goals as goal
-
-pub returns : goal.returns
-returns c = λ line number file text es n good it h whole some. whole_journal line good number file text es n it h whole some

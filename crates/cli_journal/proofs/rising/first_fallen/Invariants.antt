@@ -1,5 +1,0 @@
-use Rattle.cli_journal.specs.Order.{RiseTo, stamps_of}
-use Rattle.cli_journal.proofs.rising.first_fallen.Given as goal
-
-abbrev pub invariant-loop-at : goal.invariant-loop-at
-invariant-loop-at l = RiseTo l.at (stamps_of l.entries)

@@ -1,7 +1,0 @@
-use Rattle.rbc_centre.specs.Sent.{frames_to}
-use Rattle.cli_print.proofs.After.{frames_after}
-use Rattle.cli_print.proofs.outcome.print_all_frames.Goals as goal
-
-pub loop-to-preserved : goal.loop-to-preserved
-loop-to-preserved g c =
-    frames_after _ _ _ c.args.line.now c.args.centre.now (frames_to c.args.frames.now) c.loop-to.to c.loop-to.invariant c.in_ok-print_frames.ensures

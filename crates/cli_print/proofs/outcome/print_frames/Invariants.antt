@@ -1,8 +1,0 @@
-use Rattle.std.proofs.Common.{take}
-use Rattle.std.specs.List.{flat_map}
-use Rattle.std.specs.Io.KnownBytes.{Appends}
-use Rattle.cli_print.specs.Rows.{frame_row}
-use Rattle.cli_print.proofs.outcome.print_frames.Given as goal
-
-abbrev pub invariant-loop-frame : goal.invariant-loop-frame
-invariant-loop-frame g l = Appends (g.W.Write.contents l.initial.out) (g.W.Write.contents l.out) (flat_map (frame_row l.centre l.name) (take l.frame-index l.frame-items))

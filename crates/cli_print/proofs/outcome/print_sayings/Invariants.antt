@@ -1,8 +1,0 @@
-use Rattle.std.proofs.Common.{ℕ, List, take, map}
-use Rattle.std.specs.Io.KnownBytes.{Appends}
-use Rattle.rbc_train.specs.Sayings.{saying_of}
-use Rattle.cli_print.specs.Answers.{AreSayingRows}
-use Rattle.cli_print.proofs.outcome.print_sayings.Given as goal
-
-abbrev pub invariant-loop-saying : goal.invariant-loop-saying
-invariant-loop-saying g l = (text : List ℕ) × AreSayingRows l.centre (map saying_of (take l.saying-index l.sayings)) text × Appends (g.W.Write.contents l.initial.out) (g.W.Write.contents l.out) text

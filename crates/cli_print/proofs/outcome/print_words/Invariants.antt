@@ -1,9 +1,0 @@
-use Rattle.std.proofs.Common.{take, map}
-use Rattle.std.specs.List.{flat_map}
-use Rattle.std.specs.Io.KnownBytes.{Appends}
-use Rattle.rbc_centre.specs.Views.{word_of}
-use Rattle.cli_print.specs.Rows.{word_row}
-use Rattle.cli_print.proofs.outcome.print_words.Given as goal
-
-abbrev pub invariant-loop-word : goal.invariant-loop-word
-invariant-loop-word g l = Appends (g.W.Write.contents l.initial.out) (g.W.Write.contents l.out) (flat_map (word_row l.centre) (map word_of (take l.word-index l.word-items)))

@@ -1,7 +1,0 @@
-use Rattle.cli_print.proofs.After.{section_after}
-use Rattle.cli_print.proofs.print.print_sections.Goals as goal
-
-pub loop-number-preserved : goal.loop-number-preserved
-loop-number-preserved g c v shows =
-    section_after _ _ _ c.args.line.now v c.args.view.now _ c.loop-number.number _ shows c.deref-section-items.ensures.value c.loop-number-test.true
-    (c.loop-number.invariant v shows) c.in_ok-print_section.ensures

@@ -1,6 +1,0 @@
-use Rattle.std.proofs.Common.{◌≡◌, map, take}
-use Rattle.cli_replay.specs.Stretches.{seen_in}
-use Rattle.cli_replay.proofs.stretch.column_of.Given as goal
-
-abbrev pub invariant-loop-view : goal.invariant-loop-view
-invariant-loop-view l = l.column.items ≡ map (seen_in l.section) (take l.view-index l.views)

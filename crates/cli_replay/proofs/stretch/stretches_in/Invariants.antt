@@ -1,5 +1,0 @@
-use Rattle.cli_replay.proofs.Stretches.{AreMade}
-use Rattle.cli_replay.proofs.stretch.stretches_in.Given as goal
-
-abbrev pub invariant-loop-i : goal.invariant-loop-i
-invariant-loop-i l = AreMade l.column l.i l.since l.stretches.items

@@ -1,2 +1,0 @@
-mod Prints
-mod Named

@@ -1,6 +1,0 @@
-use Rattle.std.proofs.Common.{map}
-use Rattle.cli_script.proofs.Scripts.{Reads}
-use Rattle.cli_script.proofs.script.entries_of.Given as goal
-
-abbrev pub invariant-loop-i : goal.invariant-loop-i
-invariant-loop-i l = Reads l.line (map (λ row. row.now) l.rows) l.i l.entries.items

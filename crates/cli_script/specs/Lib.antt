@@ -1,3 +1,0 @@
-pub mod Script
-pub mod Entries
-pub mod Played

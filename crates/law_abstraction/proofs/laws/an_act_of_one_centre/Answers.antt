@@ -1,8 +1,0 @@
-use Rattle.law_abstraction.proofs.Acts.{by_itself, at_head}
-use Rattle.law_abstraction.proofs.laws.an_act_of_one_centre.Goals as goal
-
-pub returns-clause-by_itself : goal.returns-clause-by_itself
-returns-clause-by_itself ctx = by_itself
-
-pub returns-clause-at_head : goal.returns-clause-at_head
-returns-clause-at_head ctx = at_head

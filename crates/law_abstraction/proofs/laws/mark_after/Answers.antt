@@ -1,8 +1,0 @@
-use Rattle.law_abstraction.proofs.Hands.{mark_shown, mark_stays}
-use Rattle.law_abstraction.proofs.laws.mark_after.Goals as goal
-
-pub returns-clause-shown : goal.returns-clause-shown
-returns-clause-shown ctx = mark_shown
-
-pub returns-clause-stays : goal.returns-clause-stays
-returns-clause-stays ctx = mark_stays

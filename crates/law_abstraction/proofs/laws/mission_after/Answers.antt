@@ -1,5 +1,0 @@
-use Rattle.law_abstraction.proofs.Missions.{mission_shown}
-use Rattle.law_abstraction.proofs.laws.mission_after.Goals as goal
-
-pub returns : goal.returns
-returns ctx line w c came y frames new t old mission sound at act after before = mission_shown line w c came y frames new t sound act at old mission before after

@@ -1,8 +1,0 @@
-//! What a train's message does to other trains: nothing (`specs/Apart.antt`).
-//!
-//! No code: what `laws.rt` states stays, and how it is proved is free.
-#![tactic(auto)]
-
-mod laws;
-
-pub use laws::no_train_takes_from_another;

@@ -1,6 +1,0 @@
-use Rattle.law_refinement.proofs.Promises.{whole_line}
-use Rattle.law_arrival.proofs.Runs.{received_safe}
-use Rattle.law_arrival.proofs.laws.received_messages_are_safe.Goals as goal
-
-pub returns : goal.returns
-returns ctx line events answers w came ok is received = let h = whole_line line events answers w ok is in received_safe line ok events answers came h.last h.is_run received

@@ -1,0 +1,5 @@
+use Rattle.law_base.proofs.RulesLemmas.Places.{extent_ahead}
+use Rattle.law_base.proofs.rules.distances.a_place_is_ahead_of_its_group.Goals as goal
+
+pub returns : goal.returns
+returns c = extent_ahead

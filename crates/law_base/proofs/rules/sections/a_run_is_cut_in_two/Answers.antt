@@ -1,0 +1,11 @@
+use Rattle.law_base.proofs.Runs.{within_part_before, within_part_from, parts_count}
+use Rattle.law_base.proofs.rules.sections.a_run_is_cut_in_two.Goals as goal
+
+pub returns-clause-before : goal.returns-clause-before
+returns-clause-before c = within_part_before
+
+pub returns-clause-from : goal.returns-clause-from
+returns-clause-from c = within_part_from
+
+pub returns-clause-count : goal.returns-clause-count
+returns-clause-count c = parts_count

@@ -1,5 +1,0 @@
-use Rattle.law_beginnings.proofs.Written.{written_first}
-use Rattle.law_beginnings.proofs.laws.what_is_written_first_is_there.Goals as goal
-
-pub returns : goal.returns
-returns c = λ written n h. written_first written n h

@@ -1,5 +1,0 @@
-use Rattle.law_base.proofs.Runs.{joined_again}
-use Rattle.law_centre.proofs.sections.a_cut_run_is_joined_again.Goals as goal
-
-pub returns : goal.returns
-returns c = joined_again

@@ -1,5 +1,0 @@
-use Rattle.law_base.proofs.Runs.{run_only}
-use Rattle.law_centre.proofs.sections.runs_of_the_same_sections.Goals as goal
-
-pub returns : goal.returns
-returns c = run_only

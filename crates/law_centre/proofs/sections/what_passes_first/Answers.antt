@@ -1,5 +1,0 @@
-use Rattle.law_base.proofs.Longest.{longest_is}
-use Rattle.law_centre.proofs.sections.what_passes_first.Goals as goal
-
-pub returns : goal.returns
-returns c test r = longest_is test r.first r.count

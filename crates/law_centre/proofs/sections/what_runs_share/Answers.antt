@@ -1,5 +1,0 @@
-use Rattle.law_base.proofs.Runs.{within_shared}
-use Rattle.law_centre.proofs.sections.what_runs_share.Goals as goal
-
-pub returns : goal.returns
-returns c = within_shared

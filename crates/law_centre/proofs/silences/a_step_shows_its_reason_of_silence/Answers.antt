@@ -1,5 +1,0 @@
-use Rattle.law_centre.proofs.Silent.{silence_is}
-use Rattle.law_centre.proofs.silences.a_step_shows_its_reason_of_silence.Goals as goal
-
-pub returns : goal.returns
-returns a line c k m = silence_is line c k m

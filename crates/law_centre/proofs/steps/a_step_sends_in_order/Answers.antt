@@ -1,5 +1,0 @@
-use Rattle.law_centre.proofs.SentTaken.{in_order}
-use Rattle.law_centre.proofs.steps.a_step_sends_in_order.Goals as goal
-
-pub returns : goal.returns
-returns a line c d k event h few = in_order d line c k event h few

@@ -1,5 +1,0 @@
-use Rattle.law_centre.proofs.Counted.{counted}
-use Rattle.law_centre.proofs.steps.each_frame_is_counted_in_range.Goals as goal
-
-pub returns : goal.returns
-returns a line c d k event h few linked = counted d line c k event h few linked

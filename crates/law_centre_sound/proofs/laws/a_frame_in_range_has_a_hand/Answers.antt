@@ -1,8 +1,0 @@
-use Rattle.law_centre_sound.proofs.Ranges.{range_hand, sound_hand}
-use Rattle.law_centre_sound.proofs.laws.a_frame_in_range_has_a_hand.Goals as goal
-
-pub returns-clause-ranges : goal.returns-clause-ranges
-returns-clause-ranges o body range = range_hand body range
-
-pub returns-clause-sound : goal.returns-clause-sound
-returns-clause-sound o line a b body sound = sound_hand line a b body sound

@@ -1,6 +1,0 @@
-use Rattle.rbc_spec.specs.World.{new_world}
-use Rattle.law_centre_sound.proofs.Worlds.{new_sound, run_sound}
-use Rattle.law_centre_sound.proofs.laws.each_centre_of_a_world_is_sound.Goals as goal
-
-pub returns : goal.returns
-returns o line events answers w ok is = run_sound line ok events (new_world line) (new_sound line) answers w is

@@ -1,8 +1,0 @@
-use Rattle.law_counting.proofs.Coin.{letters_in_turn, next_in_turn}
-use Rattle.law_counting.proofs.in_turn.Goals as goal
-
-pub returns-clause-chain : goal.returns-clause-chain
-returns-clause-chain c = letters_in_turn
-
-pub returns-clause-next : goal.returns-clause-next
-returns-clause-next c = next_in_turn

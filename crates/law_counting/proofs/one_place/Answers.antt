@@ -1,8 +1,0 @@
-use Rattle.law_counting.proofs.Coin.{coin_in_one_place, coin_in_one_place_at_most}
-use Rattle.law_counting.proofs.one_place.Goals as goal
-
-pub returns-clause-at_most : goal.returns-clause-at_most
-returns-clause-at_most c = coin_in_one_place_at_most
-
-pub returns-clause-exactly : goal.returns-clause-exactly
-returns-clause-exactly c = coin_in_one_place

@@ -1,5 +1,0 @@
-use Rattle.law_fair.proofs.Fair.{comes_to_rest}
-use Rattle.law_fair.proofs.laws.each_fair_schedule_comes_to_rest.Goals as goal
-
-pub returns : goal.returns
-returns ctx line schedule ok ranges fair ends = comes_to_rest line ok schedule ranges fair ends

@@ -1,5 +1,0 @@
-use Rattle.law_fair.proofs.InTurn.{begins}
-use Rattle.law_fair.proofs.laws.each_list_begins_a_fair_schedule.Goals as goal
-
-pub returns : goal.returns
-returns ctx line events ok = let it = begins line events in (it.0, it.1, it.3 ok, it.2)

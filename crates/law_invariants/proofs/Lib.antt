@@ -1,0 +1,9 @@
+pub mod FlowLemmas
+pub mod SoundLemmas
+pub mod NoCopyLemmas
+pub mod HandoverLemmas
+pub mod NoUnaskedLemmas
+pub mod NoLossLemmas
+pub mod NoStrayLemmas
+pub mod OnePlaceLemmas
+pub mod RangesLemmas

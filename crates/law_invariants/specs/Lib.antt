@@ -1,0 +1,9 @@
+pub mod Flow
+pub mod Sound
+pub mod NoCopy
+pub mod Handover
+pub mod NoUnasked
+pub mod NoLoss
+pub mod NoStray
+pub mod OnePlace
+pub mod Ranges

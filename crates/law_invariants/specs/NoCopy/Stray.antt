@@ -1,0 +1,39 @@
+-- Frames that are looked for: what they have inside is not dropped. Any other frame with a right or a section inside is
+-- stray.
+use Rattle.std.specs.Prelude.{ℕ, ◌==◌, Bool, true, false, ◌&&◌, ◌||◌, not, is_none}
+use Rattle.rbc_spec.specs.Maps.{has}
+use Rattle.rbc_spec.specs.SectionRuns.{all_of}
+use Rattle.rbc_spec.specs.Line.{Line, is_home}
+use Rattle.rbc_spec.specs.Frame.{Body, carried_place, AskRight, GiveRight, RefuseRight, ReturnRight, RouteAsk, RouteInfo, RouteWithdraw, RouteReturn, Announce, Cancel, TakingOver, Yield}
+use Rattle.rbc_spec.specs.Centre.{Centre, is_out_for, is_registrar_of}
+use Rattle.rbc_spec.specs.Links.{is_of_line, is_train, may_take}
+use Rattle.law_base.specs.Walk.Trains.{train_of}
+
+-- a body that has neither a right nor a section inside
+abbrev pub is_plain : Body → Bool
+is_plain (AskRight t) = true
+is_plain (RefuseRight t) = true
+is_plain (RouteAsk t first most) = true
+is_plain (RouteWithdraw t s) = true
+is_plain (Announce number t track) = true
+is_plain (Cancel number t) = true
+is_plain (TakingOver number t) = true
+is_plain body = false
+
+-- centre c, which is k, has a place for what comes from centre d: a right was asked for, and is not here; it comes back
+-- to the registrar, where neither right nor mission is; sections that centre d lends are those that were asked for;
+-- sections that come home are out at centre d for the train; a mission is taken
+abbrev pub has_place_for : Line → ℕ → ℕ → Centre → Body → Bool
+has_place_for line c d k (GiveRight t) = k.has_asked t && not (k.has_right t)
+has_place_for line c d k (ReturnRight t) = is_registrar_of line c t && (not (k.has_right t) && is_none (k.mission t))
+has_place_for line c d k (RouteInfo t r) =
+    (has (λ first. first == r.first) (k.route_ask t) && (is_of_line line r && is_home line d r.first))
+    && all_of (is_home line d) r
+has_place_for line c d k (RouteReturn t r) = all_of (λ s. is_home line c s && is_out_for t (k.book s)) r
+has_place_for line c d k (Yield number t heard has_data is_ended place hand) =
+    has (λ at. may_take line c k d number t at hand) (carried_place place)
+has_place_for line c d k body = true
+
+-- the frame is looked for: nothing is inside, or its train is of the line, and it has its place here
+abbrev pub is_looked_for : Line → ℕ → ℕ → Centre → Body → Bool
+is_looked_for line c d k body = is_plain body || (is_train line (train_of body) && has_place_for line c d k body)

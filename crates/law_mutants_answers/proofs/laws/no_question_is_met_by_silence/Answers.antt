@@ -1,9 +1,0 @@
-use Rattle.law_mutants_answers.proofs.Kept.{answered}
-use Rattle.law_mutants_answers.proofs.Broken.{vain_question_comes, met_by_silence}
-use Rattle.law_mutants_answers.proofs.laws.no_question_is_met_by_silence.Goals as goal
-
-pub returns-clause-the_rule_keeps : goal.returns-clause-the_rule_keeps
-returns-clause-the_rule_keeps ctx line w a c t d x ok counted from to takes known here full = answered line ok w a c t counted from to takes known here x d full
-
-pub returns-clause-the_wrong_rule_breaks : goal.returns-clause-the_wrong_rule_breaks
-returns-clause-the_wrong_rule_breaks ctx = (vain_question_comes, met_by_silence)

@@ -1,5 +1,0 @@
-use Rattle.law_network.proofs.OnePlace.{has_one_place}
-use Rattle.law_network.proofs.laws.a_flow_that_loses_nothing_has_one_place.Goals as goal
-
-pub returns : goal.returns
-returns ctx line w ok sound whole = has_one_place line ok w sound whole

@@ -1,5 +1,0 @@
-use Rattle.law_network.proofs.Admitted.{leads}
-use Rattle.law_network.proofs.laws.a_right_is_admitted.Goals as goal
-
-pub returns : goal.returns
-returns ctx line w v a c t number place sound sees from to takes waits asked = leads line w sound v sees a c t number place from to takes waits asked

@@ -1,5 +1,0 @@
-use Rattle.law_network.proofs.Homes.{returned_once}
-use Rattle.law_network.proofs.laws.what_goes_home_goes_once.Goals as goal
-
-pub returns : goal.returns
-returns ctx line c t track u s r k ordered = returned_once line ordered c t track r k u s

@@ -1,5 +1,0 @@
-use Rattle.law_no_loss.proofs.Looked.{right_once}
-use Rattle.law_no_loss.proofs.laws.a_sound_flow_has_each_right_once.Goals as goal
-
-pub returns : goal.returns
-returns ctx line w c sound centre = right_once line w c sound centre

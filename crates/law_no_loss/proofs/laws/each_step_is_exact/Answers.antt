@@ -1,9 +1,0 @@
-use Rattle.law_no_loss.proofs.Rights.{no_right_lost}
-use Rattle.law_no_loss.proofs.Tokens.{no_token_lost}
-use Rattle.law_no_loss.proofs.laws.each_step_is_exact.Goals as goal
-
-pub returns : goal.returns
-returns ctx line c k event ok range sound order due = record {
-  rights = λ t. no_right_lost line ok c t k event sound order due;
-  tokens = λ t s. no_token_lost line ok c t s k event range sound order due;
-}

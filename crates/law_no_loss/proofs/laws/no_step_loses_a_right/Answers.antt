@@ -1,5 +1,0 @@
-use Rattle.law_no_loss.proofs.Rights.{no_right_lost}
-use Rattle.law_no_loss.proofs.laws.no_step_loses_a_right.Goals as goal
-
-pub returns : goal.returns
-returns ctx line c t k event ok sound order due = no_right_lost line ok c t k event sound order due

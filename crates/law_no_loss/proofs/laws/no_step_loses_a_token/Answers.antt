@@ -1,5 +1,0 @@
-use Rattle.law_no_loss.proofs.Tokens.{no_token_lost}
-use Rattle.law_no_loss.proofs.laws.no_step_loses_a_token.Goals as goal
-
-pub returns : goal.returns
-returns ctx line c t s k event ok range sound order due = no_token_lost line ok c t s k event range sound order due

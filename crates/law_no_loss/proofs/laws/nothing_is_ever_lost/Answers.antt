@@ -1,8 +1,0 @@
-use Rattle.law_no_loss.proofs.Worlds.{step_loses_nothing, never_lost}
-use Rattle.law_no_loss.proofs.laws.nothing_is_ever_lost.Goals as goal
-
-pub returns-clause-step : goal.returns-clause-step
-returns-clause-step ctx line w event answer new ok sound asked whole is = step_loses_nothing line ok w sound asked whole event answer new is
-
-pub returns-clause-run : goal.returns-clause-run
-returns-clause-run ctx line events answers w ok is = never_lost line ok events answers w is

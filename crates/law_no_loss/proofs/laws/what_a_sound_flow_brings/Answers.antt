@@ -1,5 +1,0 @@
-use Rattle.law_no_loss.proofs.Looked.{looked_for}
-use Rattle.law_no_loss.proofs.laws.what_a_sound_flow_brings.Goals as goal
-
-pub returns : goal.returns
-returns ctx line w a c f ok sound asked from to takes = looked_for line ok w sound asked a c from to f takes

@@ -1,5 +1,0 @@
-use Rattle.law_no_stray.proofs.Reached.{due}
-use Rattle.law_no_stray.proofs.laws.no_frame_is_stray.Goals as goal
-
-pub returns : goal.returns
-returns ctx line events answers w a b number f ok is sent next = due line ok events answers w is a b number f sent next

@@ -1,5 +1,0 @@
-use Rattle.law_no_stray.proofs.Reached.{right_asked}
-use Rattle.law_no_stray.proofs.laws.no_right_comes_unasked.Goals as goal
-
-pub returns : goal.returns
-returns ctx line events answers w a b number t f ok is sent next comes = right_asked line ok events answers w is a b number f sent next t comes

@@ -1,5 +1,0 @@
-use Rattle.law_no_stray.proofs.Reached.{route_asked}
-use Rattle.law_no_stray.proofs.laws.no_route_comes_unasked.Goals as goal
-
-pub returns : goal.returns
-returns ctx line events answers w a b number t r f ok is sent next tells = route_asked line ok events answers w is a b number f sent next t r tells

@@ -1,5 +1,0 @@
-use Rattle.law_no_stray.proofs.Reached.{home_out}
-use Rattle.law_no_stray.proofs.laws.only_what_is_out_comes_home.Goals as goal
-
-pub returns : goal.returns
-returns ctx line events answers w a b number t s r f ok is sent next brings in_run = home_out line ok events answers w is a b number f sent next t s r brings in_run

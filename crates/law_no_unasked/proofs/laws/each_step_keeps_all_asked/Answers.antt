@@ -1,5 +1,0 @@
-use Rattle.law_no_unasked.proofs.Worlds.{step_keeps_asked}
-use Rattle.law_no_unasked.proofs.laws.each_step_keeps_all_asked.Goals as goal
-
-pub returns : goal.returns
-returns ctx line w event answer new ok sound old is = step_keeps_asked line ok w sound old event answer new is

@@ -1,5 +1,0 @@
-use Rattle.law_one_centre.proofs.Whole.{run_read}
-use Rattle.law_one_centre.proofs.laws.each_run_leaves_no_choice.Goals as goal
-
-pub returns : goal.returns
-returns c line d events answers w ok one is = run_read line ok d one events answers w is

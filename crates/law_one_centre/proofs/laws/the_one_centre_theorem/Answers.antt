@@ -1,5 +1,0 @@
-use Rattle.law_one_centre.proofs.Whole.{run_is}
-use Rattle.law_one_centre.proofs.laws.the_one_centre_theorem.Goals as goal
-
-pub returns : goal.returns
-returns c line d events answers w ok one is = run_is line ok d one events answers w is

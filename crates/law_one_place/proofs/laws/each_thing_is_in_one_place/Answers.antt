@@ -1,5 +1,0 @@
-use Rattle.law_one_place.proofs.Where.{in_one_place}
-use Rattle.law_one_place.proofs.laws.each_thing_is_in_one_place.Goals as goal
-
-pub returns : goal.returns
-returns ctx line events answers w ok is = in_one_place line ok events answers w is

@@ -1,0 +1,80 @@
+-- What trains go by if any message to them may be lost, also an acceptance (41). A message that is still under way
+-- counts as lost, and one that has come counts from the event that it follows. Two things are required of trains, and
+-- none of the centres. A train grants only a request that has come to it. And no authority comes to a train whose last
+-- acceptance was lost: within a session over GSM-R nothing is lost, and in a later session a train requests no
+-- authority before it is accepted.
+use Rattle.std.specs.Prelude.{◌≡◌, ℕ, ◌==◌, Bool, true, false, ◌&&◌, ◌||◌, not, List, [], ◌∷◌, map, Option, Some, None, Ok}
+use Rattle.rbc_spec.specs.Maps.{put}
+use Rattle.rbc_spec.specs.Line.{Line, IsLine}
+use Rattle.rbc_spec.specs.Message.{TrainBody, ShorteningGranted, TrackBody, Authority, ShorteningRequest, TrainAccepted}
+use Rattle.rbc_spec.specs.Outcome.{Saying, Word}
+use Rattle.rbc_spec.specs.World.{World, Event, Bytes, centre_of, Answer, new_world, world_run}
+use Rattle.law_outside.specs.Outside.{Spoken, nothing_seen, sees_all, spoken_of}
+use Rattle.law_promises.specs.Arrival.Arrival.{IsSafeByWhatCame}
+
+-- of each train whether its last acceptance (41) was lost; and of each train, centre and T_TRAIN whether a request to
+-- shorten (9) with that T_TRAIN has come from that centre to the train
+pub record Known : Type 0 where
+  pub misses : ℕ → Bool
+  pub requested : ℕ → ℕ → ℕ → Bool
+
+abbrev pub nothing_known : Known
+nothing_known = record { misses = λ t. false; requested = λ t c stamp. false }
+
+-- an authority comes only to a train whose last acceptance has come
+abbrev pub may_come : Known → Saying → TrackBody → Bool
+may_come k p (Authority l) = not (k.misses p.nid_engine)
+may_come k p body = true
+
+-- a message of centre c comes to its train
+abbrev pub after_coming : ℕ → Saying → TrackBody → Known → Known
+after_coming c p TrainAccepted k = record k { misses = put k.misses p.nid_engine false }
+after_coming c p (ShorteningRequest l) k =
+    record k {
+      requested = λ t d stamp.
+          ((t == p.nid_engine && d == c) && stamp == p.message.t_train) || k.requested t d stamp;
+    }
+after_coming c p body k = k
+
+-- a message is lost
+abbrev pub after_loss : Saying → TrackBody → Known → Known
+after_loss p TrainAccepted k = record k { misses = put k.misses p.nid_engine true }
+after_loss p body k = k
+
+-- some of the messages of centre c reach their trains, in order, and the others are lost; new is known after them
+pub data Reaches (c : ℕ) (new : Known) : Known → List Saying → List Saying → Type 0 where
+  none_left : Reaches c new new [] []
+  reaches : (k : Known) (p : Saying) (told some : List Saying) → may_come k p p.message.body ≡ true
+      → Reaches c new (after_coming c p p.message.body k) told some → Reaches c new k (p ∷ told) (p ∷ some)
+  lost : (k : Known) (p : Saying) (told some : List Saying)
+      → Reaches c new (after_loss p p.message.body k) told some → Reaches c new k (p ∷ told) some
+
+-- of what is spoken after an event at centre c, what comes; the words to the interlocking always do
+pub data PartReaches (c : ℕ) (new : Known) : Known → Option Spoken → Option Spoken → Type 0 where
+  nothing_spoken : PartReaches c new new None None
+  part_reaches : (k : Known) (is_heard : Bool) (told some : List Saying) (words : List Word) → Reaches c new k told some
+      → PartReaches c new k (Some (record { is_heard = is_heard; sayings = told; words = words }))
+      (Some (record { is_heard = is_heard; sayings = some; words = words }))
+
+-- train t grants to centre c only a request that has come to it from there
+abbrev pub may_say : Known → (c t : ℕ) → TrainBody → Bool
+may_say k c t (ShorteningGranted stamp position) = k.requested t c stamp
+may_say k c t body = true
+
+abbrev pub may_happen : Known → Event → Bool
+may_happen k (Bytes c (Ok m)) = may_say k c m.nid_engine m.body
+may_happen k event = true
+
+-- after each event some part of what is spoken comes
+abbrev pub AreReceived : Known → List Event → List (Option Spoken) → List (Option Spoken) → Type 0
+AreReceived k [] [] [] = Unit {0}
+AreReceived k (event ∷ events) (spoken ∷ others) (part ∷ parts) =
+    (may_happen k event ≡ true) × ((new : Known) × PartReaches (centre_of event) new k spoken part × AreReceived new events others parts)
+AreReceived k events spoken parts = ⊥
+
+-- whatever comes to the centres of a line, and whatever part of their messages reaches the trains
+abbrev pub ReceivedTheorem : Type 0
+ReceivedTheorem = (line : Line) (events : List Event) (answers : List Answer) (w : World) (came : List (Option Spoken))
+    → IsLine line → world_run line (new_world line) events ≡ Ok (answers, w)
+    → AreReceived nothing_known events (map spoken_of answers) came
+    → IsSafeByWhatCame line (sees_all line events came nothing_seen)

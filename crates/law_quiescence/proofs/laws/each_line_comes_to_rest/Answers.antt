@@ -1,9 +1,0 @@
-use Rattle.rbc_spec.specs.World.{new_world}
-use Rattle.law_ranges.proofs.Worlds.{new_in_range, run_in_range}
-use Rattle.law_no_stray.proofs.Worlds.{each_reached}
-use Rattle.law_quiescence.proofs.Rest.{comes_to_rest}
-use Rattle.law_quiescence.proofs.laws.each_line_comes_to_rest.Goals as goal
-
-pub returns : goal.returns
-returns ctx line events answers w ok ranges before = comes_to_rest line ok w (each_reached line ok events answers w before)
-    (run_in_range line ok events (new_world line) ranges (new_in_range line) answers w before)

@@ -1,5 +1,0 @@
-use Rattle.law_ranges.proofs.Steps.{begins_in_range}
-use Rattle.law_ranges.proofs.laws.a_centre_begins_in_range.Goals as goal
-
-pub returns : goal.returns
-returns o line c = begins_in_range line c

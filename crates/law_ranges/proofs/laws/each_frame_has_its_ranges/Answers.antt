@@ -1,5 +1,0 @@
-use Rattle.law_ranges.proofs.Steps.{sends_in_range}
-use Rattle.law_ranges.proofs.laws.each_frame_has_its_ranges.Goals as goal
-
-pub returns : goal.returns
-returns o line c k event ok range old none = sends_in_range line ok c k event range old none

@@ -1,6 +1,0 @@
-use Rattle.rbc_spec.specs.World.{new_world}
-use Rattle.law_ranges.proofs.Worlds.{new_in_range, run_in_range}
-use Rattle.law_ranges.proofs.laws.each_frame_of_a_world_has_its_ranges.Goals as goal
-
-pub returns : goal.returns
-returns o line events answers w ok range is = run_in_range line ok events (new_world line) range (new_in_range line) answers w is

@@ -1,8 +1,0 @@
-use Rattle.law_refine_followups.proofs.AnnouncedSteps.{step_announces, begins_announced}
-use Rattle.law_refine_followups.proofs.laws.a_centre_announces_all.Goals as goal
-
-pub returns-clause-begins : goal.returns-clause-begins
-returns-clause-begins o line c ok = begins_announced line ok c
-
-pub returns-clause-step : goal.returns-clause-step
-returns-clause-step o line c k event ok sound old = step_announces line ok c k event sound old

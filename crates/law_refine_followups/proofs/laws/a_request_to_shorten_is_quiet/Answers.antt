@@ -1,5 +1,0 @@
-use Rattle.law_refine_followups.proofs.Proposals.{propose_leads}
-use Rattle.law_refine_followups.proofs.laws.a_request_to_shorten_is_quiet.Goals as goal
-
-pub returns : goal.returns
-returns o line w c t s k v = propose_leads line w c t s k v

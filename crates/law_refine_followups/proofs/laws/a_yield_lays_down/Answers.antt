@@ -1,5 +1,0 @@
-use Rattle.law_refine_followups.proofs.Laying.{yields_so}
-use Rattle.law_refine_followups.proofs.laws.a_yield_lays_down.Goals as goal
-
-pub returns : goal.returns
-returns o line w c a number t k v = yields_so line w c a number t k v

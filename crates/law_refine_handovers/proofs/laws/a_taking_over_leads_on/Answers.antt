@@ -1,5 +1,0 @@
-use Rattle.law_refine_handovers.proofs.TakenOver.{over_body_leads}
-use Rattle.law_refine_handovers.proofs.laws.a_taking_over_leads_on.Goals as goal
-
-pub returns : goal.returns
-returns o line w v a c h t number stamp ok sound sees from to head = over_body_leads line w v a c h t number stamp ok sound sees from to head

@@ -1,5 +1,0 @@
-use Rattle.law_refine_handovers.proofs.Announced.{announce_leads}
-use Rattle.law_refine_handovers.proofs.laws.an_announcement_leads_on.Goals as goal
-
-pub returns : goal.returns
-returns o line w v a c h t track number stamp ok sound sees from to head = announce_leads line w v a c h t number stamp ok sound sees from to track head

@@ -1,5 +1,0 @@
-use Rattle.law_refine_sessions.proofs.Data.{rejected}
-use Rattle.law_refine_sessions.proofs.laws.a_rejection_is_heard.Goals as goal
-
-pub returns : goal.returns
-returns ctx asked position line w v c t_train t stamp ok sound sees at heard = rejected line w v sound sees c t_train t stamp at asked position heard

@@ -1,5 +1,0 @@
-use Rattle.law_refine_sessions.proofs.Data.{established}
-use Rattle.law_refine_sessions.proofs.laws.a_session_is_established.Goals as goal
-
-pub returns : goal.returns
-returns ctx line w v c t_train t stamp ok sound sees at heard = established line w v sound sees c t_train t stamp at

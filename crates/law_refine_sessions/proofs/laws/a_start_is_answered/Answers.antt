@@ -1,5 +1,0 @@
-use Rattle.law_refine_sessions.proofs.Starts.{starts}
-use Rattle.law_refine_sessions.proofs.laws.a_start_is_answered.Goals as goal
-
-pub returns : goal.returns
-returns ctx is_valid position line w v c t_train t stamp ok sound sees at heard = starts line w v sound sees c t_train t stamp at is_valid position heard

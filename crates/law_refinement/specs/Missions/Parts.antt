@@ -1,0 +1,101 @@
+-- What a message that changes a mission comes to at its centre: the part that is the own step of the one line centre,
+-- and what follows it.
+use Rattle.std.specs.Prelude.{◌≡◌, ℕ, ◌*◌, true, if◌then◌else◌, Some, None, nat_le}
+use Rattle.std.specs.Option.{option_map_or}
+use Rattle.rbc_spec.specs.Line.{Line, is_centre, end, next_centre}
+use Rattle.rbc_spec.specs.Place.{Position, place_on}
+use Rattle.rbc_spec.specs.Message.{TrainMessage, TrainBody, Authority}
+use Rattle.rbc_spec.specs.Centre.{Centre, Taken, Mission, is_open}
+use Rattle.rbc_spec.specs.Acts.{Act, Reply, rest, ◌>>◌, with_some, with_mission, hear, say, booked, set_mission, change_mission, return_pool}
+use Rattle.rbc_spec.specs.Rules.{report_here, take_over, cut, extension, extended_by, authority, at_border, stand_still}
+use Rattle.rbc_spec.specs.Step.{silence, ticked, hear_and_answer}
+use Rattle.rbc_spec.specs.LineCentre.{LineState}
+use Rattle.law_invariants.specs.Flow.Flow.{Flow}
+use Rattle.law_invariants.specs.Flow.Sound.{IsFlowSound}
+use Rattle.law_invariants.specs.Flow.Shows.{Shows}
+use Rattle.law_invariants.specs.Flow.Leads.{HeardAs, said_by, replied, Leads, LeadsOwn}
+
+-- ## Own parts
+
+-- a report: what the train has cleared leaves its hand; or, of a train that is not supervised here, this centre takes
+-- over
+abbrev pub own_report : Line → ℕ → ℕ → Position → Act
+own_report line c t position k =
+    option_map_or (λ m. report_here line c t position m k) (k.mission t) (take_over line t k)
+
+-- an end of mission: a report, then what lies ahead of a train at standstill is cut off its hand, and then the pool
+-- goes home and the mission is ended
+abbrev pub ends : Line → ℕ → ℕ → Mission → Act
+ends line c t m = return_pool line c t m >> change_mission t (λ n. record n { is_ended = true; proposal = None })
+
+abbrev pub own_end : Line → ℕ → ℕ → Position → Act
+own_end line c t position =
+    (with_mission t (report_here line c t position) >> with_mission t (stand_still line c t position))
+    >> with_mission t (ends line c t)
+
+-- a shortening that is granted: the request no longer stands, and the hand is cut, if the train has not run past the
+-- proposed end
+abbrev pub cut_in_time : Line → ℕ → ℕ → ℕ → Position → Mission → Act
+cut_in_time line c t last_kept position m = option_map_or
+    (λ place. if nat_le place.front (10 * end line last_kept) then cut line c t last_kept m else rest)
+    (place_on line m.place.track position) rest
+
+abbrev pub own_granted : Line → ℕ → ℕ → Position → Act
+own_granted line c t position = with_mission t (λ m. with_some (λ k. m.proposal)
+    (λ p. change_mission t (λ n. record n { proposal = None }) >> cut_in_time line c t p.last_kept position m))
+
+-- a request: the hand is extended, and the authority for it is said
+abbrev pub extend : Line → ℕ → ℕ → Mission → Act
+extend line c t m k =
+    let r = extension line c k m in
+    let n = extended_by r m in
+    ((booked is_open (Taken t) r >> set_mission t (Some n)) >> say t m.place.group (Authority (authority line n))) k
+
+abbrev pub own_request : Line → ℕ → ℕ → Position → Act
+own_request line c t position =
+    with_mission t (λ m. option_map_or (λ place. extend line c t (record m { place = place }))
+    (place_on line m.place.track position) rest)
+
+-- and what follows it, where the request has a place: what the centre does at the border
+abbrev pub border_of : Line → ℕ → ℕ → ℕ → Act
+border_of line c t track = option_map_or (at_border line c t) (next_centre line c track) rest
+
+abbrev pub at_border_then : Line → ℕ → ℕ → Position → Act
+at_border_then line c t position =
+    with_mission t (λ m. option_map_or (λ place. border_of line c t place.track)
+    (place_on line m.place.track position) rest)
+
+-- ## The own step of the one line centre
+
+-- an act of centre c, where the one line centre has heard the message and showed v, is its own step
+pub record Answers (line : Line) (w : Flow) (c : ℕ) (m : TrainMessage) (r : Reply) (v : LineState) : Type 0 where
+  pub mid : LineState
+  pub own : HeardAs line v c m m.body (said_by r) mid
+  pub shows : Shows line (replied w c r) mid
+  pub sound : IsFlowSound line (replied w c r)
+
+-- ## Of a message
+
+abbrev pub of_train : ℕ → ℕ → TrainBody → TrainMessage
+of_train t_train t body = record { t_train = t_train; nid_engine = t; body = body }
+
+-- a message that is not silent at centre c is heard, and this act is then the own step, whatever the clock shows
+abbrev pub IsOwnStep : Line → ℕ → TrainMessage → Act → Type 0
+IsOwnStep line c m own =
+    (w : Flow) (v : LineState) (stamp : ℕ) → IsFlowSound line w → Shows line w v → is_centre line c ≡ true
+    → silence line c (ticked stamp (w.at c)) m ≡ None → LeadsOwn line w c m ((hear m >> own) (ticked stamp (w.at c))) v
+
+-- what it comes to is this act
+abbrev pub IsWhole : Line → ℕ → TrainMessage → Act → Type 0
+IsWhole line c m own = (k : Centre) → silence line c k m ≡ None → hear_and_answer line c m k ≡ (hear m >> own) k
+
+-- or this act, and then another
+abbrev pub IsInParts : Line → ℕ → TrainMessage → Act → Act → Type 0
+IsInParts line c m own later =
+    (k : Centre) → silence line c k m ≡ None → hear_and_answer line c m k ≡ ((hear m >> own) >> later) k
+
+-- an act of centre c, whatever it is in, leads to quiet steps
+abbrev pub LeadsOnward : Line → ℕ → Act → Type 0
+LeadsOnward line c later =
+    (w : Flow) (v : LineState) (k : Centre) → IsFlowSound line w → Shows line w v → w.at c ≡ k
+    → Leads line w c (later k) v

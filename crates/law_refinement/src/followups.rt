@@ -1,0 +1,12 @@
+//! Laws of the acts that follow a centre's own step: each leads to quiet steps of the one line centre, shows what is
+//! then shown, and keeps all sound.
+//!
+//! No code: what `laws.rt` states stays, and how it is proved is free.
+
+mod laws;
+
+pub use laws::{
+    a_centre_announces_all, a_request_may_announce, a_request_to_shorten_is_quiet,
+    a_yield_lays_down, an_act_keeps_all_sound, an_end_of_session_is_quiet,
+    an_ended_mission_is_shown, what_follows_at_a_border,
+};

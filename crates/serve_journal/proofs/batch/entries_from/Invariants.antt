@@ -1,6 +1,0 @@
-use Rattle.std.proofs.Common.{take}
-use Rattle.serve_journal.specs.Noting.{AreNotesOf}
-use Rattle.serve_journal.proofs.batch.entries_from.Given as goal
-
-abbrev pub invariant-loop-entry : goal.invariant-loop-entry
-invariant-loop-entry l = AreNotesOf (take l.entry-index l.entries) l.next.items

@@ -1,7 +1,0 @@
-use Rattle.serve_journal.proofs.Resumed.{resumed_next}
-use Rattle.serve_journal.proofs.resuming.commit_all.Goals as goal
-
-pub loop-entry-preserved : goal.loop-entry-preserved
-loop-entry-preserved g c =
-    resumed_next c.args.nodes.now c.args.entries.now c.loop-entry.entry-index c.entry-item.result c.args.shares.now c.loop-entry.shares _
-    c.loop-entry-test.true c.entry-item.is c.loop-entry.invariant c.in_ok-commit_entry.ensures

@@ -1,6 +1,0 @@
-use Rattle.std.proofs.Common.{take}
-use Rattle.serve_journal.specs.Resuming.{AreResumed}
-use Rattle.serve_journal.proofs.resuming.commit_all.Given as goal
-
-abbrev pub invariant-loop-entry : goal.invariant-loop-entry
-invariant-loop-entry g l = AreResumed l.nodes (take l.entry-index l.entries) l.fn.shares l.shares

@@ -1,0 +1,147 @@
+use crate::clients::answer::{SCRIPT_FAULT, Served, answer};
+use crate::clients::limits::{CONTROL_REST_MS, RESERVE_RESTS, set_waits};
+use crate::clients::rows::{Came, RowReader};
+use crate::clients::sending::{Sent, send};
+use rbc_node::Share;
+use serve_control::{Command, CommandFault, command_of};
+use crate::state::{Server, Slot};
+use crate::status::{Kind, Notes, MentionOrder};
+use std::net::TcpStream;
+use std::sync::Wait;
+use std::sync::atomic::Ordering;
+use std::time::{Clock, Duration};
+
+/// How a connection of the interlocking went on after a line, and how it ended.
+#[derive(Clone, Copy, PartialEq, Eq)]
+enum Next {
+    /// The next line may come.
+    Listen,
+    /// No further line is taken.
+    End,
+    /// The centres are to end.
+    Stop,
+}
+
+/// Serves a connection of the interlocking to its end.
+pub(crate) fn serve_control<R: Wait + Clock, N: Notes>(
+    rt: &R,
+    server: &Server<'_>,
+    notes: &N,
+    slot: &Slot,
+    stream: &TcpStream,
+) {
+    let number = slot.number;
+    notes.often(
+        Kind::Begin,
+        format_args!("control: connection {number} begins"),
+    );
+    let rest = Duration::from_millis(CONTROL_REST_MS);
+    set_waits(stream, rest, rest);
+    let mut shares = slot.shares.lock(rt);
+    if answer_rows(rt, server, notes, slot, shares.as_mut_slice(), stream) == Next::Stop {
+        notes.note(format_args!("control: connection {number} says stop"));
+        server.stop();
+    }
+    notes.often(Kind::End, format_args!("control: connection {number} ends"));
+}
+
+// Answers the lines of a connection, until none comes any more, or all sessions have ended.
+fn answer_rows<R: Wait + Clock, N: Notes>(
+    rt: &R,
+    server: &Server<'_>,
+    notes: &N,
+    slot: &Slot,
+    shares: &mut [Share],
+    stream: &TcpStream,
+) -> Next {
+    let Ok(mut mention_order) = MentionOrder::new(server.alloc, server.line) else {
+        return Next::End;
+    };
+    let mut rows = RowReader::new(server.alloc, stream);
+    let served = Served { server, slot };
+    let mut rests = 0u32;
+    for _ in rt.forever() {
+        let next = match rows.next() {
+            Came::Row(row) => {
+                rests = 0;
+                slot.heard.store(server.state.hear(), Ordering::SeqCst);
+                answer_row(rt, served, notes, shares, &mut mention_order, &row, stream)
+            }
+            Came::Nothing if server.state.is_empty() => Next::End,
+            Came::Nothing => {
+                rests = rests.saturating_add(1);
+                Next::Listen
+            }
+            Came::End => Next::End,
+        };
+        let told = send(rt, stream, slot.take_told(rt, server.alloc).as_slice());
+        if next != Next::Listen {
+            return next;
+        }
+        if told == Sent::Short || slot.is_reserve && is_over(server, rests) {
+            return Next::End;
+        }
+    }
+    unreachable!()
+}
+
+// Whether the reserve connection ends: the thread of the endpoint serves it, and others wait.
+fn is_over(server: &Server<'_>, rests: u32) -> bool {
+    rests >= RESERVE_RESTS || server.state.is_stopped()
+}
+
+// Answers one line.
+fn answer_row<R: Wait + Clock, N: Notes>(
+    rt: &R,
+    served: Served<'_, '_>,
+    notes: &N,
+    shares: &mut [Share],
+    mention_order: &mut MentionOrder,
+    row: &[u8],
+    stream: &TcpStream,
+) -> Next {
+    if is_of_another_protocol(row) {
+        notes.often(
+            Kind::Line,
+            "control: a connection is ended, it speaks another protocol",
+        );
+        return Next::End;
+    }
+    let Ok(row) = std::str::from_utf8(row) else {
+        return answered(send(rt, stream, SCRIPT_FAULT.as_bytes()));
+    };
+    let Served { server, .. } = served;
+    let command = match command_of(server.alloc, server.line, row) {
+        Ok(Command::Stop) => return Next::Stop,
+        Ok(command) => command,
+        Err(CommandFault::Form) => {
+            notes.often(Kind::Line, "control: a line is refused, script fault");
+            return answered(send(rt, stream, SCRIPT_FAULT.as_bytes()));
+        }
+        Err(CommandFault::Memory) => return Next::End,
+    };
+    let mut text = Vec::new(server.alloc);
+    match answer(rt, served, shares, mention_order, command, &mut text) {
+        Ok(()) => answered(send(rt, stream, text.as_slice())),
+        Err(_) => Next::End,
+    }
+}
+
+// How a connection goes on after an answer.
+fn answered(sent: Sent) -> Next {
+    match sent {
+        Sent::Whole => Next::Listen,
+        Sent::Short => Next::End,
+    }
+}
+
+// Whether a line is the first of a request of HTTP/1, or has a control character. A browser sends it, perhaps for a
+// page of another site: the lines that follow are not the interlocking's.
+fn is_of_another_protocol(row: &[u8]) -> bool {
+    let row = row.strip_suffix(b"\r").unwrap_or(row);
+    row.ends_with(b" HTTP/1.0")
+        || row.ends_with(b" HTTP/1.1")
+        || row
+            .iter()
+            .any(|byte| byte.is_ascii_control() && *byte != b'\t')
+}

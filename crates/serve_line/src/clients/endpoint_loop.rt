@@ -1,0 +1,274 @@
+use crate::clients::control::serve_control;
+use crate::clients::entrance::{Entrance, is_idle};
+use crate::clients::limits::{DEAF_REST_MS, GRACE_RESTS, LEAVING_RESTS, NEXT_RESTS};
+use crate::clients::sessions::serve_train;
+use crate::state::{Peer, DOOR_REST_MS, Endpoint, Server, Slot, Watch};
+use crate::status::{Kind, Life, Notes};
+use std::alloc::Global;
+use std::net::TcpStream;
+use std::sync::atomic::Ordering;
+use std::sync::{Arc, Wait};
+use std::thread::Threads;
+use std::time::{Clock, Duration};
+use std::{io, thread};
+
+/// Lets peers in at one endpoint until the centres stop, and closes it. It returns with the last of them, and ends
+/// those that are left after a while.
+pub fn run_endpoint<R: Threads + Wait + Sync + Clock, N: Notes + Sync>(
+    rt: &R,
+    server: &Server<'_>,
+    notes: &N,
+    endpoint: &Endpoint,
+) {
+    thread::scope(thread::scope_env(), rt, |scope| {
+        let Some(mut entrance) = entrance_of(rt, endpoint) else {
+            return;
+        };
+        let mut looks = Looks::new();
+        for _ in rt.forever() {
+            if server.state.is_stopped() {
+                break;
+            }
+            looks.look(rt, server, notes, endpoint);
+            let Some((stream, slot)) = next_caller(rt, server, notes, endpoint, &mut entrance) else {
+                continue;
+            };
+            let peer = endpoint.peer;
+            if slot.is_reserve {
+                attend(rt, server, notes, peer, slot, stream);
+            } else if scope
+                .spawn(move || attend(rt, server, notes, peer, slot, stream))
+                .is_err()
+            {
+                attend_here(rt, server, notes, endpoint, slot);
+            }
+        }
+        drop(entrance);
+        match endpoint.peer {
+            Peer::Trains(_) => end_trains(rt, server, notes, endpoint),
+            Peer::Interlocking => end_controls(rt, server, endpoint),
+        }
+    });
+    if let Peer::Trains(_) = endpoint.peer {
+        server.state.close_endpoint();
+    }
+}
+
+// Where the connections of an endpoint come from. That of the interlocking keeps a file in reserve.
+fn entrance_of<R: Wait>(rt: &R, endpoint: &Endpoint) -> Option<Entrance> {
+    let listener = endpoint.listener.lock(rt).take()?;
+    let has_reserve = matches!(endpoint.peer, Peer::Interlocking);
+    Some(Entrance::new(listener, has_reserve))
+}
+
+/// What the thread of an endpoint looks at now and then.
+#[derive(Clone, Copy)]
+struct Looks {
+    life: Life,
+    watch: Watch,
+}
+
+impl Looks {
+    fn new() -> Looks {
+        Looks {
+            life: Life::new(),
+            watch: Watch::new(),
+        }
+    }
+
+    fn look<R: Wait + Clock, N: Notes>(&mut self, rt: &R, server: &Server<'_>, notes: &N, endpoint: &Endpoint) {
+        let (Some(node), Some(sink)) = (server.node(endpoint.peer), server.sink(endpoint.peer)) else {
+            return;
+        };
+        self.life.look(rt, server.line, node, notes, sink.name);
+        self.watch.look(rt, &sink.queue, notes, sink.name);
+    }
+}
+
+// Serves the connection of a slot for which no thread can be made. One of the interlocking is served in the thread of
+// the endpoint, so that `stop` can be sent. One of a train ends.
+fn attend_here<R: Threads + Wait + Sync + Clock, N: Notes + Sync>(
+    rt: &R,
+    server: &Server<'_>,
+    notes: &N,
+    endpoint: &Endpoint,
+    slot: &Slot,
+) {
+    let stream = slot.stream.lock(rt).take();
+    slot.leave(rt);
+    let Some((stream, reserve)) = reserve_for(rt, endpoint, stream) else {
+        let text = "a connection is ended, no thread could be made";
+        notes.often(Kind::Thread, text);
+        return;
+    };
+    attend(rt, server, notes, endpoint.peer, reserve, stream);
+}
+
+// A connection at the reserve slot of an endpoint, if the endpoint has one.
+fn reserve_for<'a, R: Wait>(
+    rt: &R,
+    endpoint: &'a Endpoint,
+    stream: Option<Arc<TcpStream, Global>>,
+) -> Option<(Arc<TcpStream, Global>, &'a Slot)> {
+    let stream = stream?;
+    let shared = Arc::try_clone(&stream).ok()?;
+    let slot = endpoint.reserve_seat(rt)?;
+    *slot.stream.lock(rt) = Some(shared);
+    Some((stream, slot))
+}
+
+// Who comes through an endpoint now, with a slot. It rests a while where nobody comes, and refuses who finds no slot.
+fn next_caller<'a, R: Wait, N: Notes>(
+    rt: &R,
+    server: &Server<'_>,
+    notes: &N,
+    endpoint: &'a Endpoint,
+    entrance: &mut Entrance,
+) -> Option<(Arc<TcpStream, Global>, &'a Slot)> {
+    let stream = match entrance.accept() {
+        Ok(stream) => stream,
+        Err(error) => {
+            rest_after(rt, server, notes, endpoint, &error);
+            return None;
+        }
+    };
+    let stream = Arc::new(server.alloc, stream).ok()?;
+    let shared = Arc::try_clone(&stream).ok()?;
+    if let Peer::Trains(centre) = endpoint.peer {
+        if server.is_stuck(rt, centre) {
+            let name = server.name(endpoint.peer);
+            notes.often(
+                Kind::Refusal,
+                format_args!("{name}: a connection is refused, the journal can't be written"),
+            );
+            return None;
+        }
+    }
+    let Some(slot) = slot_for(rt, server, endpoint) else {
+        let name = server.name(endpoint.peer);
+        notes.often(
+            Kind::Refusal,
+            format_args!("{name}: a connection is refused, there are too many"),
+        );
+        return None;
+    };
+    slot.heard.store(server.state.hear(), Ordering::SeqCst);
+    *slot.stream.lock(rt) = Some(shared);
+    Some((stream, slot))
+}
+
+// Rests a while if no connection came. It rests longer if the system can give none, as when too many files are open.
+fn rest_after<R: Wait, N: Notes>(
+    rt: &R,
+    server: &Server<'_>,
+    notes: &N,
+    endpoint: &Endpoint,
+    error: &io::Error,
+) {
+    if is_idle(error.kind()) {
+        rest(rt, endpoint);
+        return;
+    }
+    let name = server.name(endpoint.peer);
+    notes.often(
+        Kind::Device,
+        format_args!("{name}: no connection can be taken now: {error}"),
+    );
+    endpoint.waker
+        .park_timeout(rt, Duration::from_millis(DEAF_REST_MS));
+}
+
+// Rests a while at an endpoint.
+fn rest<R: Wait>(rt: &R, endpoint: &Endpoint) {
+    endpoint.waker
+        .park_timeout(rt, Duration::from_millis(DOOR_REST_MS));
+}
+
+// A slot for a new connection. If all are taken, another connection leaves its own: of those of trains the first that
+// serves no train, of those of the interlocking the one that has been silent longest. If that one does not leave, as
+// when it waits for the disk, the next one of the interlocking has to. If none does, the reserve slot is taken.
+fn slot_for<'a, R: Wait>(rt: &R, server: &Server<'_>, endpoint: &'a Endpoint) -> Option<&'a Slot> {
+    let each = match endpoint.peer {
+        Peer::Trains(_) => LEAVING_RESTS,
+        Peer::Interlocking => NEXT_RESTS,
+    };
+    for turn in 0..LEAVING_RESTS {
+        if let Some(slot) = endpoint.free_slot(rt) {
+            return Some(slot);
+        }
+        if turn % each == 0 {
+            match dispensable(rt, server, endpoint) {
+                Some(slot) => slot.shut(rt),
+                None if !endpoint.is_awaiting_leave() => break,
+                None => {}
+            }
+        }
+        rest(rt, endpoint);
+    }
+    match endpoint.free_slot(rt) {
+        Some(slot) => Some(slot),
+        None => endpoint.reserve_seat(rt),
+    }
+}
+
+// The slot whose connection has to leave it for a new one.
+fn dispensable<'a, R: Wait>(rt: &R, server: &Server<'_>, endpoint: &'a Endpoint) -> Option<&'a Slot> {
+    let mut oldest = None;
+    for slot in &endpoint.slots {
+        let is_kept = slot.is_reserve || slot.is_leaving();
+        if !is_kept && !server.is_serving(rt, endpoint.peer, slot.number) {
+            oldest = Some(Endpoint::older(oldest, slot));
+        }
+    }
+    oldest
+}
+
+// After `stop` trains have a while to end their connections. Then those that are left are ended.
+fn end_trains<R: Wait, N: Notes>(rt: &R, server: &Server<'_>, notes: &N, endpoint: &Endpoint) {
+    for _ in 0..GRACE_RESTS {
+        if endpoint.is_empty() {
+            return;
+        }
+        rest(rt, endpoint);
+    }
+    let name = server.name(endpoint.peer);
+    notes.note(format_args!("{name}: the connections that are left are ended"));
+    for slot in &endpoint.slots {
+        slot.shut(rt);
+    }
+}
+
+// After the last session the interlocking has a second to take its last answers.
+fn end_controls<R: Wait>(rt: &R, server: &Server<'_>, endpoint: &Endpoint) {
+    for _ in rt.forever() {
+        if endpoint.is_empty() || server.state.is_empty() {
+            break;
+        }
+        rest(rt, endpoint);
+    }
+    for _ in 0..LEAVING_RESTS {
+        if endpoint.is_empty() {
+            return;
+        }
+        rest(rt, endpoint);
+    }
+    for slot in &endpoint.slots {
+        slot.shut(rt);
+    }
+}
+
+// Serves one connection, and leaves its slot.
+fn attend<R: Threads + Wait + Sync + Clock, N: Notes + Sync>(
+    rt: &R,
+    server: &Server<'_>,
+    notes: &N,
+    peer: Peer,
+    slot: &Slot,
+    stream: Arc<TcpStream, Global>,
+) {
+    match peer {
+        Peer::Trains(centre) => serve_train(rt, server, notes, centre, slot, stream),
+        Peer::Interlocking => serve_control(rt, server, notes, slot, &stream),
+    }
+    slot.leave(rt);
+}

@@ -1,0 +1,49 @@
+use crate::clients::limits::UNWRITTEN;
+use rbc_centre::Outcome;
+use serve_workers::connections::ConnectionSink;
+use crate::state::CentreSink;
+use crate::status::{Kind, Notes};
+use serve_workers::AnswerSink;
+use std::sync::Wait;
+use std::sync::atomic::{AtomicU32, Ordering};
+
+/// A train's connection as the session over it sees it, which notes each train that opens its session.
+#[derive(Drop)]
+pub(crate) struct LoggedSink<'a, N> {
+    pub connection_sink: ConnectionSink<'a>,
+    pub sink: &'a CentreSink<'a>,
+    pub notes: &'a N,
+    /// How many events of the connection were answered.
+    pub events: AtomicU32,
+}
+
+impl<N> LoggedSink<'_, N> {
+    // Waits for the journal after each `UNWRITTEN`th event: so answers that wait for the disk have room.
+    fn keep_near<R: Wait>(&self, rt: &R, stamp: u32) {
+        if self.events.fetch_add(1, Ordering::SeqCst) % UNWRITTEN == UNWRITTEN - 1 {
+            let _ = self.sink.reaches(rt, stamp);
+        }
+    }
+}
+
+impl<N: Notes> AnswerSink for LoggedSink<'_, N> {
+    fn opened<R: Wait>(&self, rt: &R, nid_engine: u32) {
+        self.connection_sink.opened(rt, nid_engine);
+        let name = self.sink.name;
+        let number = self.connection_sink.number;
+        self.notes.often(
+            Kind::Session,
+            format_args!(
+                "{name}: train {nid_engine} opens its session over train connection {number}"
+            ),
+        );
+    }
+
+    fn answered<R: Wait>(&self, rt: &R, outcome: &Outcome) {
+        if self.sink.may_send(rt, outcome) {
+            self.connection_sink.answered(rt, outcome);
+            self.sink.tell(rt, outcome);
+        }
+        self.keep_near(rt, outcome.stamp);
+    }
+}

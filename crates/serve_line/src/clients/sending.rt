@@ -1,0 +1,54 @@
+use crate::clients::limits::PATIENCE_S;
+use std::io::{ErrorKind, Write};
+use std::net::TcpStream;
+use std::time::{Clock, Duration, Instant};
+
+/// How much of an answer went out.
+#[derive(Clone, Copy, PartialEq, Eq)]
+pub(crate) enum Sent {
+    Whole,
+    /// Only a part: the connection failed, or did not take all in time.
+    Short,
+}
+
+/// Writes an answer. Ten seconds after it began no further part of it is written.
+pub(crate) fn send<R: Clock>(rt: &R, stream: &TcpStream, text: &[u8]) -> Sent {
+    let Ok(begun) = Instant::now(rt) else {
+        return Sent::Short;
+    };
+    let mut rest = text;
+    for _ in 0..u64::MAX {
+        if rest.is_empty() {
+            return Sent::Whole;
+        }
+        let Some(left) = write_some(stream, rest) else {
+            break;
+        };
+        rest = left;
+        if !rest.is_empty() && is_late(rt, begun) {
+            break;
+        }
+    }
+    Sent::Short
+}
+
+// Writes what the connection takes now. The result is the rest; `None` if the connection failed.
+fn write_some<'a>(stream: &TcpStream, text: &'a [u8]) -> Option<&'a [u8]> {
+    let mut out = stream;
+    match out.write(text) {
+        Ok(0) => None,
+        Ok(count) => text.get(count..),
+        Err(error) => match error.kind() {
+            ErrorKind::WouldBlock | ErrorKind::TimedOut | ErrorKind::Interrupted => Some(text),
+            _ => None,
+        },
+    }
+}
+
+// Whether an answer that began then takes too long.
+fn is_late<R: Clock>(rt: &R, begun: Instant) -> bool {
+    match Instant::now(rt) {
+        Ok(now) => now.duration_since(begun) >= Duration::from_secs(PATIENCE_S),
+        Err(_) => true,
+    }
+}

@@ -1,0 +1,202 @@
+use crate::clients::limits::{PATIENCE_S, REPLIES, SILENCE_S, set_waits};
+use crate::clients::noted::LoggedSink;
+use crate::clients::rate_limit::RateLimit;
+use crate::clients::paced::Paced;
+use text_script::print::name_of;
+use crossbeam_channel::{Receiver, bounded};
+use rbc_node::{Node, Open};
+use serve_workers::connections::{Connection, Shared, ConnectionSink};
+use crate::state::{Server, Slot, CentreSink};
+use crate::status::{Kind, Notes};
+use serve_workers::{SessionEnd, run_session};
+use serve_workers::writing::{SharedWriter, Reply, run_held_writer, run_writer};
+use std::alloc::{AllocError, Global};
+use std::net::{Shutdown, TcpStream};
+use std::sync::atomic::AtomicU32;
+use std::sync::{Arc, Wait};
+use std::thread;
+use std::thread::Threads;
+use std::time::{Clock, Duration};
+
+/// Serves a train's connection at a centre to its end.
+pub(crate) fn serve_train<R: Threads + Wait + Sync + Clock, N: Notes + Sync>(
+    rt: &R,
+    server: &Server<'_>,
+    notes: &N,
+    centre: u8,
+    slot: &Slot,
+    stream: Arc<TcpStream, Global>,
+) {
+    let name = name_of(server.line, centre);
+    let number = slot.number;
+    let at = centre as usize;
+    let (Some(node), Some(sink)) = (server.nodes.get(at), server.sinks.get(at)) else {
+        return;
+    };
+    let connections = sink.connections;
+    let Ok(ends) = entered(rt, server.alloc, sink, number, stream) else {
+        notes.often(
+            Kind::Refusal,
+            format_args!("{name}: a train is refused, memory ran out"),
+        );
+        return;
+    };
+    notes.often(
+        Kind::Begin,
+        format_args!("{name}: train connection {number} begins"),
+    );
+    let noted = LoggedSink {
+        connection_sink: ConnectionSink { connections, number },
+        sink,
+        events: AtomicU32::new(0),
+        notes,
+    };
+    match read_and_write(rt, server, node, slot, &ends, &noted) {
+        Some(end) => tell_end(notes, name, number, end),
+        None => notes.often(
+            Kind::Thread,
+            format_args!("{name}: train connection {number} is ended, no thread could be made"),
+        ),
+    }
+}
+
+/// How a connection ended.
+#[derive(Clone, Copy)]
+enum End {
+    Session(SessionEnd),
+    /// Its train was too slow to take its answers.
+    Cut,
+}
+
+// What the two threads of a connection have of it.
+#[derive(Drop)]
+struct Ends {
+    stream: Arc<TcpStream, Global>,
+    shared_writer: Arc<SharedWriter<Shared>, Global>,
+    replies: Receiver<Reply>,
+}
+
+// Takes the connection into the connections.
+fn entered<R: Wait>(
+    rt: &R,
+    alloc: Global,
+    sink: &CentreSink<'_>,
+    number: usize,
+    stream: Arc<TcpStream, Global>,
+) -> Result<Ends, AllocError> {
+    set_waits(
+        &stream,
+        Duration::from_secs(SILENCE_S),
+        Duration::from_secs(PATIENCE_S),
+    );
+    let (ends, mut connection) = ends_of(alloc, stream)?;
+    if sink.journal.is_some() {
+        connection = connection.held();
+    }
+    sink.connections.enter(rt, number, connection)?;
+    Ok(ends)
+}
+
+// What the threads of a connection have of it, and what the connections has.
+fn ends_of(
+    alloc: Global,
+    stream: Arc<TcpStream, Global>,
+) -> Result<(Ends, Connection), AllocError> {
+    let shared_writer = Arc::new(alloc, SharedWriter::new(Shared(Arc::try_clone(&stream)?)))?;
+    let (sender, replies) = bounded(alloc, REPLIES)?;
+    let connection = Connection::new(sender, Arc::try_clone(&shared_writer)?, Arc::try_clone(&stream)?);
+    let ends = Ends {
+        stream,
+        shared_writer,
+        replies,
+    };
+    Ok((ends, connection))
+}
+
+// Reads and writes the connection, each in a thread, and says how it ended. Without a thread that writes it is not
+// read, and there is no end to tell.
+fn read_and_write<R: Threads + Wait + Sync + Clock, N: Notes + Sync>(
+    rt: &R,
+    server: &Server<'_>,
+    node: &Node,
+    slot: &Slot,
+    ends: &Ends,
+    noted: &LoggedSink<'_, N>,
+) -> Option<End> {
+    thread::scope(thread::scope_env(), rt, |scope| {
+        let sink = noted.sink;
+        if scope
+            .spawn(move || write_replies(rt, ends, sink))
+            .is_err()
+        {
+            noted.connection_sink.connections.leave(rt, slot.number);
+            return None;
+        }
+        Some(read_messages(rt, server, node, slot, &ends.stream, noted))
+    })
+}
+
+// Commits what the train says, and says how the session ended.
+fn read_messages<R: Wait + Clock, N: Notes>(
+    rt: &R,
+    server: &Server<'_>,
+    node: &Node,
+    slot: &Slot,
+    stream: &TcpStream,
+    noted: &LoggedSink<'_, N>,
+) -> End {
+    let mut shares = slot.shares.lock(rt);
+    let Some(share) = shares.first_mut() else {
+        return End::Cut;
+    };
+    let rate_limit = RateLimit {
+        rt,
+        line: server.line,
+        paces: &noted.sink.paces,
+        slot,
+    };
+    let mut source = Paced::new(stream, rate_limit);
+    let end = run_session(rt, server.alloc, node, &Open, share, &mut source, noted);
+    if noted.connection_sink.connections.leave(rt, slot.number) {
+        End::Session(end)
+    } else {
+        End::Cut
+    }
+}
+
+// Writes the replies of a connection that wait, each once its event is in the journal, if there is one. After the last
+// one the connection is ended for the reader too.
+fn write_replies<R: Wait>(rt: &R, ends: &Ends, sink: &CentreSink<'_>) {
+    let mut out = ends.shared_writer.end(rt);
+    let _ = match sink.journal {
+        Some(_) => run_held_writer(rt, &ends.replies, sink, &mut out),
+        None => run_writer(rt, &ends.replies, &mut out),
+    };
+    let _ = ends.stream.shutdown(Shutdown::Both);
+}
+
+fn tell_end<N: Notes>(notes: &N, name: &str, number: usize, end: End) {
+    match ending(end) {
+        (told, Some(fault)) => {
+            notes.often(
+                Kind::End,
+                format_args!("{name}: train connection {number} {told} {fault}"),
+            );
+        }
+        (told, None) => notes.often(
+            Kind::End,
+            format_args!("{name}: train connection {number} {told}"),
+        ),
+    }
+}
+
+// What is noted of an end, with the number of its fault.
+fn ending(end: End) -> (&'static str, Option<u8>) {
+    match end {
+        End::Session(SessionEnd::EndOfStream) => ("ends", None),
+        End::Session(SessionEnd::Fault(fault)) => ("is ended, stream fault", Some(fault.number())),
+        End::Session(SessionEnd::Device) => ("is lost", None),
+        End::Session(SessionEnd::Refused(fault)) => ("is ended, refused", Some(fault.number())),
+        End::Cut => ("is cut, its train is too slow", None),
+    }
+}

@@ -1,0 +1,72 @@
+ghost use Rattle.std.specs.Prelude.{◌≡◌, take, drop, IfOk};
+ghost use Rattle.std.specs.List.{flat_map};
+ghost use Rattle.text_journal.specs.Journal.{entry_line};
+ghost use Rattle.rbc_log.specs.Log.{LogValue};
+ghost use Rattle.rbc_node.specs.Node.{centre_of, IsLogOf};
+ghost use Rattle.serve_line.specs.Journaling.Noting.{AreNotesOf};
+
+use text_journal::{Entry, add_entry};
+use rbc_line::Line;
+use rbc_log::{CentreLog, Entry as Committed};
+use rbc_node::Node;
+use serve_control::world_event;
+use std::alloc::{AllocError, Global};
+use std::sync::Wait;
+
+/// How many events are written at once at most. The centre takes no step while they are copied.
+const MOST_AT_ONCE: usize = 256;
+
+/// The next events of a centre after the first `written`, in the order of its log: all of them, and 256 at most.
+pub(crate) fn next_entries<R: Wait>(
+    rt: &R,
+    alloc: Global,
+    node: &Node,
+    written: usize,
+) -> Result<Vec<Entry>, AllocError>
+    ensures { IfOk result (λ next. (l : LogValue) × IsLogOf (centre_of node.now) l
+        × AreNotesOf (take 256 (drop written l.entries)) next.items) }
+{
+    let look = node.look(rt);
+    Ok(entries_from(alloc, look.log(), written)?)
+}
+
+// What is left of a row after its first, so much as is written at once.
+fn next_of(entries: &[Committed], written: usize) -> &[Committed]
+    ensures { result.now ≡ take 256 (drop written entries.now) }
+{
+    let Some(left) = entries.get(written..) else {
+        return &[];
+    };
+    match left.get(..MOST_AT_ONCE) {
+        Some(first) => first,
+        None => left,
+    }
+}
+
+fn entries_from(alloc: Global, log: &CentreLog, written: usize) -> Result<Vec<Entry>, AllocError>
+    ensures { IfOk result (λ next. AreNotesOf (take 256 (drop written log.now.entries)) next.items) }
+{
+    let entries = next_of(log.entries(), written);
+    let mut next = Vec::new(alloc);
+    for entry in entries {
+        let Ok(event) = world_event(alloc, entry) else {
+            return Err(AllocError);
+        };
+        next.push(Entry {
+            stamp: entry.outcome.stamp,
+            event,
+        })?;
+    }
+    Ok(next)
+}
+
+/// The lines of entries, each ended by a line feed.
+pub(crate) fn lines_of(alloc: Global, line: &Line, entries: &[Entry]) -> Result<Vec<u8>, AllocError>
+    ensures { IfOk result (λ text. text.items ≡ flat_map (entry_line line.now) entries.now) }
+{
+    let mut text = Vec::new(alloc);
+    for entry in entries {
+        add_entry(alloc, line, entry, &mut text)?;
+    }
+    Ok(text)
+}

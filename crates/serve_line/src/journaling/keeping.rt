@@ -1,0 +1,107 @@
+use crate::journaling::batch::{lines_of, next_entries};
+use crate::journaling::file::JournalFile;
+use crate::journaling::journal::Journal;
+use rbc_line::Line;
+use rbc_node::Node;
+use crate::status::Notes;
+use std::alloc::Global;
+use std::fs::OpenFile;
+use std::io::{ErrorKind, Seek, Write};
+use std::sync::Wait;
+use std::sync::atomic::{AtomicBool, Ordering};
+use std::time::{Clock, Duration};
+use std::{io, thread};
+
+/// How long the thread that writes rests after a write that failed, in milliseconds.
+const STUCK_REST_MS: u64 = 500;
+
+/// Who writes the journal of a centre.
+#[derive(Drop)]
+pub struct JournalWriter<'a, N> {
+    pub alloc: Global,
+    pub line: &'a Line,
+    /// The name of the centre.
+    pub name: &'a str,
+    pub node: &'a Node,
+    pub journal: &'a Journal,
+    pub notes: &'a N,
+    /// The centres are to end: a journal that can't be written is given up.
+    pub is_stopped: &'a AtomicBool,
+    /// Nothing more is committed.
+    pub is_over: &'a AtomicBool,
+}
+
+/// Writes what the centre commits after the events with which the journal begins, in the order of its log. It ends
+/// where nothing more is committed and all is written, or where the journal is to be given up, and says whether all is
+/// written.
+pub fn keep_journal<R: Wait + Clock, N: Notes, F: Write + Seek + OpenFile>(
+    rt: &R,
+    writer: &JournalWriter<'_, N>,
+    file: &mut JournalFile<F>,
+) -> bool {
+    let mut written = writer.journal.begins();
+    let mut is_stuck = false;
+    for _ in rt.forever() {
+        let is_over = writer.is_over.load(Ordering::SeqCst);
+        match writer.write_next(rt, file, written) {
+            Ok(0) if is_over => return true,
+            Ok(0) => writer.journal.rest(rt),
+            Ok(count) => {
+                written = written.saturating_add(count);
+                writer.note_written(is_stuck);
+                is_stuck = false;
+            }
+            Err(error) => {
+                writer.note_stuck(rt, is_stuck, &error);
+                is_stuck = true;
+                if writer.is_stopped.load(Ordering::SeqCst) {
+                    return false;
+                }
+                thread::sleep(rt, Duration::from_millis(STUCK_REST_MS));
+            }
+        }
+    }
+    unreachable!()
+}
+
+impl<N: Notes> JournalWriter<'_, N> {
+    // Writes the next events, and gives their count. An error leaves them unwritten.
+    fn write_next<R: Wait, F: Write + Seek + OpenFile>(
+        &self,
+        rt: &R,
+        file: &mut JournalFile<F>,
+        written: usize,
+    ) -> io::Result<usize> {
+        let Ok(entries) = next_entries(rt, self.alloc, self.node, written) else {
+            return Err(io::Error::from(ErrorKind::OutOfMemory));
+        };
+        let Some(last) = entries.last() else {
+            return Ok(0);
+        };
+        let Ok(text) = lines_of(self.alloc, self.line, &entries) else {
+            return Err(io::Error::from(ErrorKind::OutOfMemory));
+        };
+        file.add(&text)?;
+        self.journal.reached(rt, last.stamp);
+        Ok(entries.len())
+    }
+
+    fn note_written(&self, was_stuck: bool) {
+        if was_stuck {
+            let name = self.name;
+            self.notes
+                .note(format_args!("{name}: the journal is written again"));
+        }
+    }
+
+    // The first failure of several is noted.
+    fn note_stuck<R: Wait>(&self, rt: &R, was_stuck: bool, error: &io::Error) {
+        self.journal.stick(rt);
+        if !was_stuck {
+            let name = self.name;
+            self.notes.note(format_args!(
+                "{name}: the journal can't be written, and nothing more is answered until it can: {error}"
+            ));
+        }
+    }
+}

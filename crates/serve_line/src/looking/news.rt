@@ -1,0 +1,123 @@
+use text_script::print::{name_of, print_event, print_outcome};
+use text_replay::rows_in_words;
+use text_script::status::Fault;
+use text_words::number_of_train;
+use rbc_centre::{Body, Event, FrameRoom, StepFault};
+use rbc_line::Line;
+use rbc_log::{CentreLog, Entry};
+use serve_control::world_event;
+use std::alloc::{AllocError, Global};
+
+/// How many events are told.
+const TOLD: usize = 24;
+
+/// How many of a log's last entries are looked through for them at most, under its centre's lock.
+const OLDEST: usize = 256;
+
+/// The last events that are worth a person's while, in words.
+#[derive(Drop)]
+pub(crate) struct News {
+    // By the centres' numbers: how many entries of the log were looked at.
+    looked: Vec<usize>,
+    // Copies of what came since the words were told last.
+    fresh: Vec<Entry>,
+    room: FrameRoom,
+    told: Vec<String>,
+}
+
+impl News {
+    pub fn new(alloc: Global, line: &Line) -> Result<News, AllocError> {
+        Ok(News {
+            looked: vec![in alloc; 0usize; line.centre_count() as usize]?,
+            fresh: Vec::new(alloc),
+            room: FrameRoom::new(alloc),
+            told: Vec::new(alloc),
+        })
+    }
+
+    /// Copies what came to a centre since it was looked at last: the last events that are worth it.
+    pub fn read_on(
+        &mut self,
+        alloc: Global,
+        line: &Line,
+        log: &CentreLog,
+    ) -> Result<(), AllocError> {
+        let Some(looked) = self.looked.get_mut(log.number() as usize) else {
+            return Ok(());
+        };
+        let count = log.entries().len();
+        let from = (*looked).max(count.saturating_sub(OLDEST));
+        *looked = count;
+        let Some(entries) = log.entries().get(from..) else {
+            return Ok(());
+        };
+        let mut copied = 0usize;
+        for entry in entries.iter().rev() {
+            if copied < TOLD && is_news(line, entry) {
+                copied = copied.saturating_add(1);
+                self.room.reserve()?;
+                self.fresh.push(entry.copied(alloc, &mut self.room)?)?;
+            }
+        }
+        Ok(())
+    }
+
+    /// Tells in words what was copied, and gives the last events, the newest first. No lock is held for it.
+    pub fn tell(&mut self, alloc: Global, line: &Line) -> Result<Vec<String>, Fault<'static>> {
+        self.fresh.sort_by_key(|entry| entry.outcome.stamp)?;
+        let old = self.fresh.len().saturating_sub(TOLD);
+        for entry in self.fresh.iter().skip(old) {
+            if self.told.len() >= TOLD {
+                self.told.pop();
+            }
+            self.told.insert(0, in_words(alloc, line, entry)?)?;
+        }
+        self.fresh.clear();
+        let mut last = Vec::new(alloc);
+        for words in self.told.iter() {
+            last.push(String::from_str(alloc, words.as_str())?)?;
+        }
+        Ok(last)
+    }
+}
+
+// An event and what it led to, in words, after its stamp.
+fn in_words(alloc: Global, line: &Line, entry: &Entry) -> Result<String, Fault<'static>> {
+    let mut printed: Vec<u8> = Vec::new(alloc);
+    print_event(alloc, &mut printed, line, &world_event(alloc, entry)?)?;
+    let name = name_of(line, entry.centre);
+    print_outcome(alloc, &mut printed, line, name, &entry.outcome)?;
+    let stamp = entry.outcome.stamp;
+    let words = rows_in_words(alloc, line, printed.as_slice())?;
+    Ok(format!(in alloc; "{stamp} · {words}")?)
+}
+
+// Whether an event is worth a person's while: reports and requests of a train that runs on as it should are not, and of
+// what comes over links handovers alone.
+fn is_news(line: &Line, entry: &Entry) -> bool {
+    if entry.outcome.silence.is_some() || announces(line, entry) {
+        return true;
+    }
+    match &entry.event {
+        Event::Set(_) | Event::Unset(_) => true,
+        Event::Train(message) => !matches!(number_of_train(message.body()), 129 | 132 | 136 | 159),
+        Event::Deliver { frame, .. } => is_of_handover(frame.body()),
+    }
+}
+
+// Whether it led to a frame of a handover.
+fn announces(line: &Line, entry: &Entry) -> bool {
+    for sent in entry.outcome.frames.as_slice() {
+        if is_of_handover(sent.frame.body()) {
+            return true;
+        }
+    }
+    false
+}
+
+fn is_of_handover(body: Body) -> bool {
+    matches!(
+        body,
+        Body::Announce { .. } | Body::Cancel { .. } | Body::TakingOver { .. } | Body::Yield { .. }
+    )
+}

@@ -1,0 +1,101 @@
+//! What one centre shows.
+
+use text_page::{LineNow, SectionNow, SessionNow, Usage};
+use text_replay::{mission_now, phase_now};
+use rbc_book::Entry;
+use rbc_centre::{Centre, TrainPage};
+use rbc_line::Line;
+use rbc_log::CentreLog;
+use std::alloc::AllocError;
+
+/// Adds what a centre has of its own sections, of its trains, and of its life.
+pub(crate) fn see_centre(
+    line: &Line,
+    log: &CentreLog,
+    now: &mut LineNow,
+) -> Result<(), AllocError> {
+    let centre = log.core();
+    see_life(log, now);
+    see_sections(line, centre, now);
+    see_links(centre, now);
+    for i in 0..line.train_count() {
+        if let Some(train) = line.train(i) {
+            let page = centre.train(train.nid_engine);
+            see_mission(centre.number(), i, train.nid_engine, &page, now);
+            see_session(centre.number(), train.nid_engine, &page, now)?;
+        }
+    }
+    Ok(())
+}
+
+fn see_life(log: &CentreLog, now: &mut LineNow) {
+    let entries = log.entries().len() as u64;
+    now.events = now.events.saturating_add(entries);
+    if let Some(place) = now.centres.get_mut(log.number() as usize) {
+        place.entries = entries;
+        place.clock = match log.entries().last() {
+            Some(entry) => entry.outcome.stamp,
+            None => 0,
+        };
+    }
+}
+
+fn see_sections(line: &Line, centre: &Centre, now: &mut LineNow) {
+    for s in 0..line.section_count() {
+        if line.is_home(centre.number(), s) {
+            if let Some(place) = now.sections.get_mut(s as usize) {
+                let page = centre.page(s);
+                *place = SectionNow {
+                    usage: usage_of(page.entry),
+                    is_wished: page.is_wished,
+                };
+            }
+        }
+    }
+}
+
+// What a section is used for, where no movement authority is known.
+fn usage_of(entry: Entry) -> Usage {
+    match entry {
+        Entry::Shut => Usage::Shut,
+        Entry::Open => Usage::Open,
+        Entry::Taken { nid_engine } | Entry::Out { nid_engine } => Usage::Kept { nid_engine },
+    }
+}
+
+// What its links have sent and taken.
+fn see_links(centre: &Centre, now: &mut LineNow) {
+    for link in now.links.iter_mut() {
+        if link.from == centre.number() {
+            link.sent = centre.sent(link.to);
+        }
+        if link.to == centre.number() {
+            link.taken = centre.taken(link.from);
+        }
+    }
+}
+
+// A train that is supervised here. Where two centres showed it, the later look counts.
+fn see_mission(centre: u8, i: u8, nid_engine: u32, page: &TrainPage, now: &mut LineNow) {
+    let (Some(facts), Some(place)) = (page.mission, now.missions.get_mut(i as usize)) else {
+        return;
+    };
+    *place = Some(mission_now(nid_engine, Some(centre), &facts, page.hand, page.pool));
+}
+
+fn see_session(
+    centre: u8,
+    nid_engine: u32,
+    page: &TrainPage,
+    now: &mut LineNow,
+) -> Result<(), AllocError> {
+    let Some(phase) = phase_now(page.phase, page.waiting.is_some()) else {
+        return Ok(());
+    };
+    now.sessions.push(SessionNow {
+        nid_engine,
+        centre,
+        phase,
+    })?;
+    Ok(())
+}

@@ -1,0 +1,217 @@
+use crate::state::endpoints::Listening;
+use crate::state::server::{Peer, DirectedLink};
+use crate::state::limits::{CONTROLS, SPARE};
+use crate::state::options::ServeOptions;
+use crate::state::paces::Paces;
+use crate::state::queue::Queue;
+use crate::state::slots::{Endpoint, Slot};
+use crate::state::sink::CentreSink;
+use text_script::print::name_of;
+use rbc_line::Line;
+use rbc_node::{Node, Share};
+use serve_workers::connections::TrainConnections;
+use crate::journaling::Journal;
+use serve_workers::LinkEnds;
+use std::alloc::{AllocError, Global};
+use std::sync::atomic::{AtomicBool, AtomicU64};
+use std::sync::{Mutex, Wait};
+use std::thread::Parker;
+
+// How many connections a centre of the line serves at once.
+fn most_trains(line: &Line) -> usize {
+    line.train_count() as usize + SPARE
+}
+
+/// A node for each centre of the line.
+pub fn nodes_of(alloc: Global, line: &Line) -> Result<Vec<Node>, AllocError> {
+    let mut nodes = Vec::new(alloc);
+    for centre in 0..line.centre_count() {
+        nodes.push(Node::new(alloc, line, centre)?)?;
+    }
+    Ok(nodes)
+}
+
+/// The endpoints of the centres, and after them the control endpoint, each with its slots.
+pub fn endpoints_of(
+    alloc: Global,
+    line: &Line,
+    nodes: &[Node],
+    listening: Vec<Listening>,
+) -> Result<Vec<Endpoint>, AllocError> {
+    let mut endpoints = Vec::new(alloc);
+    for (number, listening) in listening.into_iter().enumerate() {
+        endpoints.push(door_of(alloc, line, nodes, number, listening)?)?;
+    }
+    Ok(endpoints)
+}
+
+// The endpoint of this number: that of a centre, or after those the control endpoint.
+fn door_of(
+    alloc: Global,
+    line: &Line,
+    nodes: &[Node],
+    number: usize,
+    listening: Listening,
+) -> Result<Endpoint, AllocError> {
+    let (peer, slots) = match nodes.get(number) {
+        Some(node) => {
+            let reached = &nodes[number..=number];
+            let peer = Peer::Trains(node.share().centre());
+            (peer, seats_of(alloc, most_trains(line), reached)?)
+        }
+        None => (Peer::Interlocking, control_seats(alloc, nodes)?),
+    };
+    Ok(Endpoint {
+        listener: Mutex::new(Some(listening.listener)),
+        address: listening.address,
+        peer,
+        slots,
+        waker: Parker::new(),
+    })
+}
+
+// The slots of the control endpoint, and the reserve slot.
+fn control_seats(alloc: Global, nodes: &[Node]) -> Result<Vec<Slot>, AllocError> {
+    let mut slots = seats_of(alloc, CONTROLS, nodes)?;
+    slots.push(seat_of(alloc, CONTROLS, true, nodes)?)?;
+    Ok(slots)
+}
+
+// So many slots, from which these nodes are reached.
+fn seats_of(alloc: Global, count: usize, nodes: &[Node]) -> Result<Vec<Slot>, AllocError> {
+    let mut slots = Vec::with_capacity(alloc, count)?;
+    for number in 0..count {
+        slots.push(seat_of(alloc, number, false, nodes)?)?;
+    }
+    Ok(slots)
+}
+
+// The slot of this number, which is free.
+fn seat_of(
+    alloc: Global,
+    number: usize,
+    is_reserve: bool,
+    nodes: &[Node],
+) -> Result<Slot, AllocError> {
+    let mut shares = Vec::with_capacity(alloc, nodes.len())?;
+    for node in nodes {
+        shares.push(node.share())?;
+    }
+    Ok(Slot {
+        number,
+        is_reserve,
+        is_taken: AtomicBool::new(false),
+        is_leaving: AtomicBool::new(false),
+        heard: AtomicU64::new(0),
+        stream: Mutex::new(None),
+        shares: Mutex::new(shares),
+        told: Mutex::new(Vec::new(alloc)),
+    })
+}
+
+/// The links of the line, each in one direction.
+pub fn links_of(
+    alloc: Global,
+    line: &Line,
+    nodes: &[Node],
+) -> Result<Vec<DirectedLink>, AllocError> {
+    let mut links = Vec::new(alloc);
+    for from in 0..line.centre_count() {
+        for node in nodes {
+            let share = node.share();
+            if line.linked(from, share.centre()) {
+                links.push(link_of(from, share))?;
+            }
+        }
+    }
+    Ok(links)
+}
+
+// The link from a centre to that of the share.
+fn link_of(from: u8, share: Share) -> DirectedLink {
+    DirectedLink {
+        from,
+        to: share.centre(),
+        ends: LinkEnds::new(),
+        share: Mutex::new(share),
+    }
+}
+
+/// For each centre the wakers of its links, by the numbers of the centres that they lead to.
+pub fn wakers_of(alloc: Global, line: &Line) -> Result<Vec<Vec<Parker>>, AllocError> {
+    let mut wakers = Vec::new(alloc);
+    for _ in 0..line.centre_count() {
+        wakers.push(bells_from(alloc, line)?)?;
+    }
+    Ok(wakers)
+}
+
+// The wakers of the links from one centre.
+fn bells_from(alloc: Global, line: &Line) -> Result<Vec<Parker>, AllocError> {
+    let mut wakers = Vec::new(alloc);
+    for _ in 0..line.centre_count() {
+        wakers.push(Parker::new())?;
+    }
+    Ok(wakers)
+}
+
+/// For each centre the connections of its trains.
+pub fn connections_of<'a>(
+    alloc: Global,
+    line: &'a Line,
+    wakers: &'a [Vec<Parker>],
+) -> Result<Vec<TrainConnections<'a>>, AllocError> {
+    let mut connections = Vec::new(alloc);
+    for row in wakers {
+        connections.push(TrainConnections::new(alloc, line, most_trains(line), row.as_slice())?)?;
+    }
+    Ok(connections)
+}
+
+/// For each centre the journal that it goes on with, after what its node has.
+pub fn journals_of<R: Wait>(
+    rt: &R,
+    alloc: Global,
+    nodes: &[Node],
+) -> Result<Vec<Journal>, AllocError> {
+    let mut journals = Vec::with_capacity(alloc, nodes.len())?;
+    for node in nodes {
+        let look = node.look(rt);
+        let entries = look.log().entries();
+        let stamp = match entries.last() {
+            Some(entry) => entry.outcome.stamp,
+            None => 0,
+        };
+        journals.push(Journal::new(entries.len(), stamp))?;
+    }
+    Ok(journals)
+}
+
+/// For each centre where its answers go on to.
+pub fn sinks_of<'a>(
+    alloc: Global,
+    line: &'a Line,
+    connections: &'a [TrainConnections<'a>],
+    endpoints: &'a [Endpoint],
+    journals: &'a [Journal],
+    options: ServeOptions,
+) -> Result<Vec<CentreSink<'a>>, AllocError> {
+    let control = if options.is_telling {
+        endpoints.last()
+    } else {
+        None
+    };
+    let mut sinks = Vec::new(alloc);
+    for (connections, centre) in connections.iter().zip(0..line.centre_count()) {
+        let name = name_of(line, centre);
+        sinks.push(CentreSink {
+            connections,
+            control,
+            journal: journals.get(centre as usize),
+            queue: Queue::new(),
+            paces: Paces::new(alloc, line, options.rate)?,
+            name,
+        })?;
+    }
+    Ok(sinks)
+}

@@ -1,0 +1,120 @@
+use crate::status::notes::Notes;
+use text_script::print::name_of;
+use text_script::status::Fault;
+use rbc_centre::LAST_STAMP;
+use rbc_line::Line;
+use rbc_log::{CentreLog, MOST_ENTRIES};
+use rbc_node::Node;
+use std::io::Write;
+use std::sync::Wait;
+
+/// How many frames a directed link carries in all.
+const MOST_FRAMES: u32 = 65_536;
+
+/// How much of a centre's log, of its clock and of its fullest link is used up, as far as it was noted.
+#[derive(Clone, Copy)]
+pub struct Life {
+    log: Gauge,
+    clock: Gauge,
+    link: Gauge,
+}
+
+impl Life {
+    /// Nothing was noted yet.
+    pub fn new() -> Life {
+        let gauge = Gauge { noted: 0 };
+        Life {
+            log: gauge,
+            clock: gauge,
+            link: gauge,
+        }
+    }
+
+    /// Looks at the centre of this name, and notes what is half used up, or almost.
+    pub fn look<R: Wait, N: Notes>(
+        &mut self,
+        rt: &R,
+        line: &Line,
+        node: &Node,
+        notes: &N,
+        name: &str,
+    ) {
+        let (entries, stamp, frames) = used_of(node.look(rt).log(), line.centre_count());
+        self.log
+            .tell(notes, name, "log", entries, MOST_ENTRIES as u64);
+        self.clock
+            .tell(notes, name, "clock", stamp, u64::from(LAST_STAMP));
+        self.link.tell(notes, name, "fullest link", frames, u64::from(MOST_FRAMES));
+    }
+}
+
+/// Writes how much of each centre's log, clock and links is used up.
+pub fn write_life<R: Wait>(
+    rt: &R,
+    line: &Line,
+    nodes: &[Node],
+    text: &mut Vec<u8>,
+) -> Result<(), Fault<'static>> {
+    for node in nodes {
+        write_used(line, node.look(rt).log(), text)?;
+    }
+    Ok(())
+}
+
+fn write_used(line: &Line, log: &CentreLog, text: &mut Vec<u8>) -> Result<(), Fault<'static>> {
+    let name = name_of(line, log.number());
+    let (entries, stamp, _) = used_of(log, line.centre_count());
+    writeln!(text, "{name} log {entries} of {MOST_ENTRIES}")?;
+    writeln!(text, "{name} clock {stamp} of {LAST_STAMP}")?;
+    for to in 0..line.centre_count() {
+        if line.linked(log.number(), to) {
+            let (other, frames) = (name_of(line, to), log.core().sent(to));
+            writeln!(text, "{name} link {other} {frames} of {MOST_FRAMES}")?;
+        }
+    }
+    Ok(())
+}
+
+// The entries of a log, the stamp of the last, and the frames on the link that has most.
+fn used_of(log: &CentreLog, centres: u8) -> (u64, u64, u64) {
+    let stamp = match log.entries().last() {
+        Some(entry) => u64::from(entry.outcome.stamp),
+        None => 0,
+    };
+    let mut frames = 0;
+    for to in 0..centres {
+        frames = log.core().sent(to).max(frames);
+    }
+    (log.entries().len() as u64, stamp, u64::from(frames))
+}
+
+/// How much of a thing was noted last, in percent.
+#[derive(Clone, Copy)]
+struct Gauge {
+    noted: u64,
+}
+
+impl Gauge {
+    // Notes how much is used, once at 50, at 90 and at 99 percent.
+    fn tell<N: Notes>(&mut self, notes: &N, name: &str, thing: &str, used: u64, most: u64) {
+        let mark = mark_reached(used, most);
+        if mark > self.noted {
+            self.noted = mark;
+            notes.note(format_args!("{name}: {used} of {most} of its {thing} are used"));
+        }
+    }
+}
+
+// How much is used up, in percent, where that is noted.
+fn mark_reached(used: u64, most: u64) -> u64 {
+    let used = used.saturating_mul(100);
+    if used >= most.saturating_mul(99) {
+        99
+    } else if used >= most.saturating_mul(90) {
+        90
+    } else if used >= most.saturating_mul(50) {
+        50
+    } else {
+        0
+    }
+}

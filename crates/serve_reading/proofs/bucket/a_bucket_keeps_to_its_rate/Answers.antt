@@ -1,6 +1,0 @@
-use Rattle.std.proofs.Common.{arith}
-use Rattle.serve_reading.proofs.Rated.{rated}
-use Rattle.serve_reading.proofs.bucket.a_bucket_keeps_to_its_rate.Goals as goal
-
-pub returns : goal.returns
-returns ctx rate burst level at asks low goes = let h = rated rate burst level at asks goes in omega (arith, h, low)

@@ -1,0 +1,28 @@
+-- What is written, piece after piece: rows of messages.
+use Rattle.std.proofs.Common.{◌≡◌, ℕ, List, [], ◌∷◌, ◌++◌, Option, Some, None, Result, Ok, Err, OnErr, refl, sym, ap, subst, ◌∙◌, append_assoc, append-nil}
+use Rattle.std.specs.Io.KnownBytes.{Appends}
+use Rattle.rbc_spec.specs.Message.{TrackMessage}
+use Rattle.rbc_msgs.specs.TrackSpelling.{SpellsTrack}
+use Rattle.serve_workers.specs.Writing.Row.{SpellRow, IsRow}
+
+pub Appends-trans : (a b c : Option (List ℕ)) (xs ys : List ℕ) → Appends a b xs → Appends b c ys → Appends a c (xs ++ ys)
+Appends-trans None b c xs ys h k = tt
+Appends-trans (Some p) None c xs ys h k = absurd h
+Appends-trans (Some p) (Some q) None xs ys h k = absurd k
+Appends-trans (Some p) (Some q) (Some r) xs ys h k = k ∙ ap (λ zs. zs ++ ys) h ∙ append_assoc p xs ys
+
+pub Appends-same : (a b : Option (List ℕ)) (xs ys : List ℕ) → xs ≡ ys → Appends a b xs → Appends a b ys
+Appends-same a b xs ys e h = subst (λ zs. Appends a b zs) e h
+
+pub OnErr-intro : {T E : Type 0} {P : Type 0} (r : Result T E) → P → OnErr r P
+OnErr-intro (Ok x) p = tt
+OnErr-intro (Err e) p = p
+
+-- a message after those of a row
+spell-more : (ms : List TrackMessage) (bytes last : List ℕ) (m : TrackMessage) → SpellRow bytes ms → SpellsTrack last m → SpellRow (bytes ++ last) (ms ++ m ∷ [])
+spell-more [] bytes last m h s = (last, [], ap (λ xs. xs ++ last) h ∙ sym (append-nil last), s, refl)
+spell-more (n ∷ ms) bytes last m h s =
+    (h.0, h.1 ++ last, ap (λ xs. xs ++ last) h.2 ∙ append_assoc h.0 h.1 last, h.3, spell-more ms h.1 last m h.4 s)
+
+pub row-more : (bytes last : List ℕ) (m : TrackMessage) → IsRow bytes → SpellsTrack last m → IsRow (bytes ++ last)
+row-more bytes last m h s = (h.0 ++ m ∷ [], spell-more h.0 bytes last m h.1 s)

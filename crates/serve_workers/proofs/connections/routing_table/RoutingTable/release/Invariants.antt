@@ -1,0 +1,6 @@
+use Rattle.std.proofs.Common.{◌≡◌, ◌++◌, map, take, drop}
+use Rattle.serve_workers.specs.Connections.Serving.{freed}
+use Rattle.serve_workers.proofs.connections.routing_table.RoutingTable.release.Given as goal
+
+abbrev pub invariant-loop-place : goal.invariant-loop-place
+invariant-loop-place g l = l.place-items ≡ map (freed l.number) (take l.place-index l.fn.self.serving.items) ++ drop l.place-index l.fn.self.serving.items

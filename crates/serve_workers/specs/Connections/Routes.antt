@@ -1,0 +1,40 @@
+-- Where a message to a train goes: a function of the message, of the connection that it answers, and of which
+-- connection serves which train.
+use Rattle.std.specs.Prelude.{ℕ, ◌==◌, Bool, true, false, List, Option, Some, None, if◌then◌else◌, slice_get, slice_set, option_map, option_and_then}
+use Rattle.std.specs.Option.{option_map_or}
+use Rattle.rbc_spec.specs.Line.{Line, train_number}
+use Rattle.rbc_spec.specs.Message.{TrackBody, SystemVersion}
+use Rattle.serve_workers.specs.Connections.Serving.{released}
+use Rattle.serve_workers.specs.declared.connections.route.Route.{Route}
+use Rattle.serve_workers.specs.declared.connections.routing_table.Directed.{Directed}
+
+-- message 32, by which a session begins
+abbrev pub is_version : TrackBody → Bool
+is_version SystemVersion = true
+is_version body = false
+
+-- The train that the engine is, by its place in the line file. The connection that is answered serves it from message
+-- 32 on.
+abbrev pub route_of : Line → Option ℕ → ℕ → TrackBody → Option Route
+route_of line own t body =
+    option_map (λ i. record { train = i; begins = if is_version body then own else None }) (train_number line t)
+
+-- the connection that serves a train
+abbrev pub served_by : ℕ → List (Option ℕ) → Option ℕ
+served_by train serving = option_and_then (λ n. n) (slice_get serving train)
+
+-- who serves which train after a message of this route
+abbrev pub serving_after : Route → List (Option ℕ) → List (Option ℕ)
+serving_after r serving = option_map_or (λ n. slice_set (released n serving) r.train (Some n)) r.begins serving
+
+-- the connection, if it is another than this
+abbrev pub other_than : ℕ → Option ℕ → Option ℕ
+other_than n (Some b) = if b == n then None else Some b
+other_than n None = None
+
+-- It goes to the connection that serves its train then. Where another served the train before, that one ends.
+abbrev pub directed : Route → List (Option ℕ) → Directed
+directed r serving = record {
+  to = served_by r.train (serving_after r serving);
+  ended = option_and_then (λ n. other_than n (served_by r.train serving)) r.begins;
+}

@@ -1,0 +1,125 @@
+use crossbeam_channel::{Sender, TrySendError};
+use crate::writing::{SharedWriter, Reply, Turn};
+use std::alloc::Global;
+use std::io::Write;
+use std::net::{Shutdown, TcpStream};
+use std::sync::atomic::{AtomicBool, Ordering};
+use std::sync::{Arc, Wait};
+use std::{io, thread};
+
+/// How often a reply is offered to the channel of a connection before the train counts as too slow.
+const OFFERS: u32 = 100;
+
+/// A stream of which others have parts too.
+#[derive(Drop)]
+pub struct Shared(pub Arc<TcpStream, Global>);
+
+impl Write for Shared {
+    fn write(&mut self, bytes: &[u8]) -> io::Result<usize> {
+        let mut stream: &TcpStream = &self.0;
+        stream.write(bytes)
+    }
+
+    fn flush(&mut self) -> io::Result<()> {
+        Ok(())
+    }
+}
+
+/// A train's connection, as those who have something to say to the train see it.
+#[derive(Drop)]
+pub struct Connection {
+    /// Where the replies go that its writer writes.
+    replies: Sender<Reply>,
+    shared_writer: Arc<SharedWriter<Shared>, Global>,
+    stream: Arc<TcpStream, Global>,
+    /// Whether its train was too slow.
+    is_cut: AtomicBool,
+    /// Whether it was ended here.
+    is_ended: AtomicBool,
+    /// Whether each reply waits until its event is written.
+    is_held: bool,
+}
+
+impl Connection {
+    /// A connection over this stream, whose writer has the other ends of the channel and of the shared_writer.
+    pub fn new(
+        replies: Sender<Reply>,
+        shared_writer: Arc<SharedWriter<Shared>, Global>,
+        stream: Arc<TcpStream, Global>,
+    ) -> Connection {
+        Connection {
+            replies,
+            shared_writer,
+            stream,
+            is_cut: AtomicBool::new(false),
+            is_ended: AtomicBool::new(false),
+            is_held: false,
+        }
+    }
+
+    /// The same connection, where each reply waits until its event is written: only its writer writes.
+    pub fn held(self) -> Connection {
+        let mut connection = self;
+        connection.is_held = true;
+        connection
+    }
+
+    /// The right to write to the train in the calling thread, if no reply waits.
+    pub(crate) fn turn(&self) -> Option<Turn<'_, Shared>> {
+        if self.is_held {
+            return None;
+        }
+        self.shared_writer.turn()
+    }
+
+    /// Writes a reply in the calling thread. A write that fails ends the connection.
+    pub(crate) fn write(&self, turn: Turn<'_, Shared>, reply: &Reply) {
+        if turn.write(reply).is_err() {
+            self.shut();
+        }
+    }
+
+    /// Hands a reply to the writer. A connection whose train is too slow to take it is cut.
+    pub(crate) fn say<R: Wait>(&self, rt: &R, reply: Reply) {
+        self.shared_writer.expect(&reply);
+        if !self.offer(rt, reply) {
+            self.cut();
+        }
+    }
+
+    // Offers a reply to the writer. It says whether the writer took it: if not, too many replies wait already.
+    fn offer<R: Wait>(&self, rt: &R, reply: Reply) -> bool {
+        let mut left = reply;
+        for _ in 0..OFFERS {
+            match self.replies.try_send(rt, left) {
+                Ok(()) => return true,
+                Err(TrySendError::Full(back)) => left = back,
+                Err(_) => return false,
+            }
+            thread::yield_now();
+        }
+        false
+    }
+
+    /// Ends the connection, since its train is too slow.
+    pub(crate) fn cut(&self) {
+        self.is_cut.store(true, Ordering::SeqCst);
+        self.shut();
+    }
+
+    /// Whether the train was too slow.
+    pub(crate) fn is_cut(&self) -> bool {
+        self.is_cut.load(Ordering::SeqCst)
+    }
+
+    /// Whether it was ended here.
+    pub(crate) fn is_ended(&self) -> bool {
+        self.is_ended.load(Ordering::SeqCst)
+    }
+
+    /// Ends the connection for both sides.
+    pub(crate) fn shut(&self) {
+        self.is_ended.store(true, Ordering::SeqCst);
+        let _ = self.stream.shutdown(Shutdown::Both);
+    }
+}

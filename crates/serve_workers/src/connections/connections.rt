@@ -1,0 +1,251 @@
+use crate::connections::connection::Connection;
+use crate::connections::route::{Route, route_of};
+use crate::connections::routing_table::RoutingTable;
+use rbc_centre::{Outcome, Saying};
+use rbc_line::Line;
+use crate::AnswerSink;
+use crate::writing::{Order, Reply};
+use std::alloc::{AllocError, Global};
+use std::sync::{Arc, Mutex, MutexGuard, Wait};
+use std::thread;
+use std::thread::Parker;
+
+/// How many replies to a train may wait for their turn before the thread that reads its connection rests.
+const FEW: usize = 64;
+
+/// How often that thread rests at most.
+const RESTS: u32 = 10_000;
+
+/// The connections of trains at a centre, and the wakers of the links that its frames go to.
+#[derive(Drop)]
+pub struct TrainConnections<'a> {
+    alloc: Global,
+    line: &'a Line,
+    board: Mutex<RoutingTable<Arc<Connection, Global>>>,
+    // By the trains' places in the line file: the order of what the centre says to each.
+    orders: Vec<Mutex<Order>>,
+    links: &'a [Parker],
+}
+
+impl<'a> TrainConnections<'a> {
+    /// An connections for so many connections, of which there is none yet.
+    pub fn new(
+        alloc: Global,
+        line: &'a Line,
+        connections: usize,
+        links: &'a [Parker],
+    ) -> Result<TrainConnections<'a>, AllocError> {
+        let trains = line.train_count();
+        let board = RoutingTable::new(alloc, connections, trains as usize)?;
+        Ok(TrainConnections {
+            alloc,
+            line,
+            board: Mutex::new(board),
+            orders: orders_of(alloc, trains)?,
+            links,
+        })
+    }
+
+    /// Takes a connection in under this number. It serves no train yet.
+    pub fn enter<R: Wait>(
+        &self,
+        rt: &R,
+        number: usize,
+        connection: Connection,
+    ) -> Result<(), AllocError> {
+        let connection = Arc::new(self.alloc, connection)?;
+        self.board.lock(rt).enter(number, connection);
+        Ok(())
+    }
+
+    /// Lets the connection of this number go, and says whether its train was fast enough for its answers.
+    pub fn leave<R: Wait>(&self, rt: &R, number: usize) -> bool {
+        match self.board.lock(rt).leave(number) {
+            Some(connection) => !connection.is_cut(),
+            None => false,
+        }
+    }
+
+    /// Whether the connection of this number serves a train.
+    pub fn is_serving<R: Wait>(&self, rt: &R, number: usize) -> bool {
+        self.board.lock(rt).is_serving(number)
+    }
+
+    // The connection that a message of this route goes to, with its number, if one serves its train. One that served
+    // the train before ends. The board is free again after it.
+    fn direct<R: Wait>(&self, rt: &R, route: &Route) -> Option<(usize, Arc<Connection, Global>)> {
+        let mut board = self.board.lock(rt);
+        let directed = board.direct(route);
+        if let Some(before) = directed.ended {
+            if let Some(connection) = board.connection(before) {
+                connection.shut();
+            }
+        }
+        let number = directed.to?;
+        let connection = board.connection(number)?;
+        Some((number, Arc::try_clone(connection).ok()?))
+    }
+
+    // Hands a message to a train in to its order, and lets out what has its turn now. `own` is the number of the
+    // connection that the calling thread reads, and `stamp` that of the event.
+    fn say<R: Wait>(&self, rt: &R, own: Option<usize>, saying: &Saying, stamp: u32) {
+        let Some(route) = route_of(self.line, own, saying) else {
+            return;
+        };
+        let Some(place) = self.orders.get(route.train) else {
+            return;
+        };
+        let mut order = place.lock(rt);
+        let Some(route) = self.begin(rt, &mut order, route, saying.message.t_train()) else {
+            return;
+        };
+        let to = self.direct(rt, &route);
+        let is_taken = self.submit(&mut order, saying, stamp);
+        let is_long = release(rt, own, to, order, is_taken);
+        if is_long && own.is_some() {
+            rest(rt, place);
+        }
+    }
+
+    // Lets the order go on with the session that a message of this route begins. A connection that serves the train
+    // already, or was ended, begins nothing: the message has its turn as any other. `None` if a later session has
+    // begun over another connection: then this one ends.
+    fn begin<R: Wait>(
+        &self,
+        rt: &R,
+        order: &mut Order,
+        route: Route,
+        t_train: u32,
+    ) -> Option<Route> {
+        let Some(number) = route.begins else {
+            return Some(route);
+        };
+        let board = self.board.lock(rt);
+        match board.connection(number) {
+            Some(own) if !own.is_ended() && !board.serves(number, route.train) => {
+                if order.begin(t_train) {
+                    return Some(route);
+                }
+                own.shut();
+                None
+            }
+            _ => Some(Route {
+                begins: None,
+                ..route
+            }),
+        }
+    }
+
+    // Hands a message in, and says whether there was room for it.
+    fn submit(&self, order: &mut Order, saying: &Saying, stamp: u32) -> bool {
+        match Reply::new(self.alloc, saying.message) {
+            Ok(reply) => order.submit(reply.answering(stamp)).is_ok(),
+            Err(_) => false,
+        }
+    }
+
+    // Says all messages of an outcome, and rings the wakers where it has frames.
+    fn tell<R: Wait>(&self, rt: &R, own: Option<usize>, outcome: &Outcome) {
+        for saying in outcome.sayings.as_slice() {
+            self.say(rt, own, saying, outcome.stamp);
+        }
+        if outcome.frames.is_empty() {
+            return;
+        }
+        for waker in self.links {
+            waker.unpark();
+        }
+    }
+}
+
+// The order of what is said to each train, before anything is said.
+fn orders_of(alloc: Global, trains: u8) -> Result<Vec<Mutex<Order>>, AllocError> {
+    let mut orders = Vec::new(alloc);
+    for _ in 0..trains {
+        orders.push(Mutex::new(Order::new(alloc)))?;
+    }
+    Ok(orders)
+}
+
+// Says what has its turn, over the connection that serves the train, and says whether many replies wait on. Where a
+// reply was not taken, none of them comes any more: the connection is cut. The first reply is written here if the
+// calling thread reads the connection, and no other waits.
+fn release<R: Wait>(
+    rt: &R,
+    own: Option<usize>,
+    to: Option<(usize, Arc<Connection, Global>)>,
+    mut order: MutexGuard<'_, Order>,
+    is_taken: bool,
+) -> bool {
+    let Some((number, connection)) = to else {
+        say_due(rt, None, &mut order);
+        return order.waiting() > FEW;
+    };
+    if !is_taken {
+        connection.cut();
+    }
+    let turn = if own == Some(number) {
+        connection.turn()
+    } else {
+        None
+    };
+    let Some(turn) = turn else {
+        say_due(rt, Some(&connection), &mut order);
+        return order.waiting() > FEW;
+    };
+    let first = order.release();
+    say_due(rt, Some(&connection), &mut order);
+    let is_long = order.waiting() > FEW;
+    drop(order);
+    if let Some(first) = first {
+        connection.write(turn, &first);
+    }
+    is_long
+}
+
+// Hands what has its turn to the writer of the connection. Where there is none, it is let go.
+fn say_due<R: Wait>(rt: &R, connection: Option<&Connection>, order: &mut Order) {
+    for _ in 0..order.waiting() {
+        let Some(reply) = order.release() else {
+            break;
+        };
+        if let Some(connection) = connection {
+            connection.say(rt, reply);
+        }
+    }
+}
+
+// Rests a while where many replies wait for one that another thread is about to hand in.
+fn rest<R: Wait>(rt: &R, order: &Mutex<Order>) {
+    for _ in 0..RESTS {
+        if order.lock(rt).waiting() <= FEW {
+            break;
+        }
+        thread::yield_now();
+    }
+}
+
+impl AnswerSink for TrainConnections<'_> {
+    fn opened<R: Wait>(&self, _rt: &R, _nid_engine: u32) {}
+
+    fn answered<R: Wait>(&self, rt: &R, outcome: &Outcome) {
+        self.tell(rt, None, outcome);
+    }
+}
+
+/// One connection of an connections, as the session over it sees it.
+#[derive(Clone, Copy)]
+pub struct ConnectionSink<'a> {
+    pub connections: &'a TrainConnections<'a>,
+    /// The number of the connection.
+    pub number: usize,
+}
+
+impl AnswerSink for ConnectionSink<'_> {
+    // The connection serves the train from the answer on, message 32.
+    fn opened<R: Wait>(&self, _rt: &R, _nid_engine: u32) {}
+
+    fn answered<R: Wait>(&self, rt: &R, outcome: &Outcome) {
+        self.connections.tell(rt, Some(self.number), outcome);
+    }
+}

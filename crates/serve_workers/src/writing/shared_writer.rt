@@ -1,0 +1,90 @@
+use crate::writing::reply::Reply;
+use crate::writing::writer::{WriteFailed, write_whole};
+use std::io;
+use std::io::{ErrorKind, Write};
+use std::sync::atomic::{AtomicU64, Ordering};
+use std::sync::{Mutex, MutexGuard, Wait};
+
+/// Where the replies of one connection are written. Its writer writes those that wait; where none waits, the thread
+/// that reads the connection writes its own. So a reply is never written among the bytes of another, and never in front
+/// of one that waits.
+#[derive(Drop)]
+pub struct SharedWriter<W: Drop> {
+    // How many bytes wait for the writer.
+    waiting: AtomicU64,
+    // None after a reply that was not written whole.
+    out: Mutex<Option<W>>,
+}
+
+/// The right to write one reply at once: none waits, and none is written meanwhile.
+#[derive(Drop)]
+pub struct Turn<'a, W: Drop> {
+    out: MutexGuard<'a, Option<W>>,
+}
+
+impl<W: Write + Drop> Turn<'_, W> {
+    /// Writes the reply. After a write that fails nothing more is written.
+    pub fn write(mut self, reply: &Reply) -> Result<(), WriteFailed> {
+        let Some(out) = &mut *self.out else {
+            return Err(WriteFailed);
+        };
+        if write_whole(out, reply.bytes()).is_err() {
+            *self.out = None;
+            return Err(WriteFailed);
+        }
+        Ok(())
+    }
+}
+
+impl<W: Write + Drop> SharedWriter<W> {
+    /// The shared_writer to this writer. No reply waits.
+    pub fn new(out: W) -> SharedWriter<W> {
+        SharedWriter {
+            waiting: AtomicU64::new(0),
+            out: Mutex::new(Some(out)),
+        }
+    }
+
+    /// From now on this reply waits. It is said before the reply is handed to the connection's writer.
+    pub fn expect(&self, reply: &Reply) {
+        self.waiting
+            .fetch_add(reply.bytes().len() as u64, Ordering::SeqCst);
+    }
+
+    /// The right to write a reply at once, if no other waits and none is being written. It waits for nobody.
+    pub fn turn(&self) -> Option<Turn<'_, W>> {
+        let out = self.out.try_lock()?;
+        if self.waiting.load(Ordering::SeqCst) != 0 {
+            return None;
+        }
+        Some(Turn { out })
+    }
+
+    /// The shared_writer's end at which its writer writes the replies that wait.
+    pub fn end<'a, R: Wait>(&'a self, rt: &'a R) -> QueueWriter<'a, R, W> {
+        QueueWriter { rt, shared_writer: self }
+    }
+}
+
+/// The end of a shared_writer at which its writer writes the replies that wait.
+#[derive(Drop)]
+pub struct QueueWriter<'a, R, W: Drop> {
+    rt: &'a R,
+    shared_writer: &'a SharedWriter<W>,
+}
+
+impl<R: Wait, W: Write + Drop> Write for QueueWriter<'_, R, W> {
+    fn write(&mut self, bytes: &[u8]) -> io::Result<usize> {
+        let mut place = self.shared_writer.out.lock(self.rt);
+        let Some(out) = &mut *place else {
+            return Err(io::Error::from(ErrorKind::BrokenPipe));
+        };
+        let count = out.write(bytes)?;
+        self.shared_writer.waiting.fetch_sub(count as u64, Ordering::SeqCst);
+        Ok(count)
+    }
+
+    fn flush(&mut self) -> io::Result<()> {
+        Ok(())
+    }
+}

@@ -1,5 +1,0 @@
-mod Beginning
-mod LetOut
-mod Rising
-mod Spelled
-mod Written

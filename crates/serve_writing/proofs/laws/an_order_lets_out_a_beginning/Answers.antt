@@ -1,5 +1,0 @@
-use Rattle.serve_writing.proofs.Beginning.{beginning}
-use Rattle.serve_writing.proofs.laws.an_order_lets_out_a_beginning.Goals as goal
-
-pub returns : goal.returns
-returns ctx said first early acts counted waits come goes = beginning said first early acts counted waits come goes

@@ -1,6 +1,0 @@
-use Rattle.std.proofs.Common.{arith}
-use Rattle.serve_writing.proofs.Rising.{rising}
-use Rattle.serve_writing.proofs.laws.an_order_never_turns_back.Goals as goal
-
-pub returns : goal.returns
-returns ctx calls next early takes = rising calls next next early (omega arith) takes

@@ -1,5 +1,0 @@
-use Rattle.std.proofs.Common.{◌≢◌, All, take}
-use Rattle.serve_writing.proofs.order.place_of.Given as goal
-
-abbrev pub invariant-loop-place : goal.invariant-loop-place
-invariant-loop-place l = All (λ reply. reply.message.t_train ≢ l.t_train) (take l.place l.replies)

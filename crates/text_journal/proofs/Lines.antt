@@ -1,0 +1,171 @@
+-- The lines of a journal: what a line notes, and where a text of lines may end.
+use Rattle.std.proofs.Common.{◌≡◌, ◌⊎◌, ℕ, zero, suc, ◌<◌, ◌^◌, true, List, [], ◌∷◌, ◌++◌, inl, inr, refl, ap, sym, subst, ◌∙◌, arith, Some, take, drop, append_assoc}
+use Rattle.std.specs.Prelude.{codes}
+use Rattle.std.specs.List.{AllByRecursion, flat_map}
+use Rattle.std.specs.Fmt.{decimal}
+use Rattle.std.specs.Str.Parse.{digits_value}
+use Rattle.std.proofs.lemmas.Fmt.{digits_value-decimal}
+use Rattle.rbc_spec.specs.Line.{Line, IsLine, is_centre}
+use Rattle.text_script.specs.Script.{Asked, Show, Train, Set, Unset, Deliver, row_asks}
+use Rattle.text_script.specs.Print.Rows.{name_at}
+use Rattle.text_journal.specs.Journal.{checksum, digest}
+use Rattle.text_journal.specs.Reading.{Lacks, Noted, IsAt, IsNote}
+use Rattle.text_journal.proofs.Letters.{IsWord, lacks_append, lower_hex_is_word, word_of_number, upper_hex_is_word}
+use Rattle.text_journal.proofs.Asking.{own, words_of, name_is_word, three, train_read, set_read, unset_read, delivery_read, verb}
+
+-- ## One line
+
+-- what is told of an entry, and its line; neither has its line feed
+abbrev pub told_of : Line → Noted → List ℕ
+told_of line x = decimal x.stamp ++ 32 ∷ 62 ∷ 32 ∷ words_of line x.event
+
+abbrev pub line_of : Line → Noted → List ℕ
+line_of line x = checksum (told_of line x ++ 10 ∷ []) ++ 32 ∷ told_of line x
+
+pub checksum_is_word : (text : List ℕ) → IsWord (checksum text)
+unfolding checksum
+checksum_is_word text = lower_hex_is_word _
+
+pub digest_is_word : (text : List ℕ) → IsWord (digest text)
+unfolding digest
+digest_is_word text = lower_hex_is_word _
+
+pub words_read : (line : Line) → IsLine line → (c : ℕ) (a : Asked) → is_centre line c ≡ true → IsAt line c a → row_asks line (words_of line a) ≡ Some a
+words_read line good c Show it at = absurd at
+words_read line good c (Train d bytes) it at = train_read line good d bytes (ap (is_centre line) at.0 ∙ it) at.1 at.2
+words_read line good c (Set d s) it at = set_read line good d s (ap (is_centre line) at.0 ∙ it) at.1
+words_read line good c (Unset d s) it at = unset_read line good d s (ap (is_centre line) at.0 ∙ it) at.1
+words_read line good c (Deliver from d n) it at = delivery_read line good from d n at.1 (ap (is_centre line) at.0 ∙ it) at.2
+
+three_feed : (a b r : List ℕ) → IsWord a → IsWord b → IsWord r → Lacks 10 (three a b r)
+three_feed a b r h k l = lacks_append 10 a _ h.feed (λ e. omega arith, lacks_append 10 b _ k.feed (λ e. omega arith, l.feed))
+
+pub words_feed : (line : Line) → IsLine line → (c : ℕ) (a : Asked) → is_centre line c ≡ true → IsAt line c a → Lacks 10 (words_of line a)
+words_feed line good c Show it at = absurd at
+words_feed line good c (Train d bytes) it at = three_feed _ _ _ (verb (codes "train") refl) (name_is_word line good d (ap (is_centre line) at.0 ∙ it)) (upper_hex_is_word bytes)
+words_feed line good c (Set d s) it at = three_feed _ _ _ (verb (codes "set") refl) (name_is_word line good d (ap (is_centre line) at.0 ∙ it)) (word_of_number s (omega (arith, at.1)))
+words_feed line good c (Unset d s) it at = three_feed _ _ _ (verb (codes "unset") refl) (name_is_word line good d (ap (is_centre line) at.0 ∙ it)) (word_of_number s (omega (arith, at.1)))
+words_feed line good c (Deliver from d n) it at =
+    lacks_append 10 (codes "deliver") (32 ∷ three (name_at line from) (name_at line d) (decimal n)) (verb (codes "deliver") refl).feed
+    (λ e. omega arith, three_feed _ _ _ (name_is_word line good from at.1) (name_is_word line good d (ap (is_centre line) at.0 ∙ it)) (word_of_number n (omega (arith, at.2))))
+
+pub line_feed : (line : Line) → IsLine line → (c : ℕ) (x : Noted) → IsNote line c x → Lacks 10 (line_of line x)
+line_feed line good c x n =
+    lacks_append 10 (checksum (told_of line x ++ 10 ∷ [])) (32 ∷ told_of line x) (checksum_is_word _).feed (
+      λ e. omega arith,
+      lacks_append 10 (decimal x.stamp) (32 ∷ 62 ∷ 32 ∷ words_of line x.event) (word_of_number x.stamp (omega (arith, n.stamp))).feed
+          (λ e. omega arith, (λ e. omega arith, (λ e. omega arith, words_feed line good c x.event n.centre n.at))),
+    )
+
+-- ## A text is cut at a byte in one way
+
+cons_head : (p q : ℕ) (xs ys : List ℕ) → p ∷ xs ≡ q ∷ ys → p ≡ q
+cons_head p q xs ys e = cc
+
+cons_tail : (p q : ℕ) (xs ys : List ℕ) → p ∷ xs ≡ q ∷ ys → xs ≡ ys
+cons_tail p q xs ys e = ap (drop 1) e
+
+pub one_cut : (c : ℕ) (a b x y : List ℕ) → Lacks c a → Lacks c b → a ++ c ∷ x ≡ b ++ c ∷ y → (a ≡ b) × (x ≡ y)
+one_cut c [] [] x y h k e = (refl, cons_tail c c x y e)
+one_cut c [] (q ∷ b) x y h k e = absurd (k.0 (sym (cons_head c q _ _ e)))
+one_cut c (p ∷ a) [] x y h k e = absurd (h.0 (cons_head p c _ _ e))
+one_cut c (p ∷ a) (q ∷ b) x y h k e =
+    let more = one_cut c a b x y h.1 k.1 (cons_tail p q _ _ e) in
+    (λ i. cons_head p q _ _ e i ∷ more.0 i, more.1)
+
+pub no_cut : (c : ℕ) (a x : List ℕ) → Lacks c (a ++ c ∷ x) → ⊥
+no_cut c [] x h = h.0 refl
+no_cut c (p ∷ a) x h = no_cut c a x h.1
+
+-- ## A line notes one thing
+
+same_number : (m n : ℕ) → m < 2 ^ 64 → n < 2 ^ 64 → decimal m ≡ decimal n → m ≡ n
+same_number m n h k e = sym (digits_value-decimal own m h) ∙ ap (digits_value 10) e ∙ digits_value-decimal own n k
+
+pub some_same : {X : Type 0} (a b : X) → Some a ≡ Some b → a ≡ b
+some_same a b e = cc
+
+pub same_note : (line : Line) → IsLine line → (c : ℕ) (x y : Noted) → IsNote line c x → IsNote line c y → line_of line x ≡ line_of line y → x ≡ y
+same_note line good c x y m n e =
+    let told = (one_cut 32 _ _ _ _ (checksum_is_word _).blank (checksum_is_word _).blank e).1 in
+    let parts = one_cut 32 _ _ _ _ (word_of_number x.stamp (omega (arith, m.stamp))).blank (word_of_number y.stamp (omega (arith, n.stamp))).blank told in
+    let words : words_of line x.event ≡ words_of line y.event = ap (drop 2) parts.1 in
+    let event : x.event ≡ y.event = some_same _ _ (sym (words_read line good c x.event m.centre m.at) ∙ ap (row_asks line) words ∙ words_read line good c y.event n.centre n.at) in
+    let stamp : x.stamp ≡ y.stamp = same_number _ _ (omega (arith, m.stamp)) (omega (arith, n.stamp)) parts.0 in
+    λ i. record { stamp = stamp i; event = event i }
+
+-- ## Many lines
+
+abbrev pub lines_of : Line → List Noted → List ℕ
+lines_of line xs = flat_map (λ x. line_of line x ++ 10 ∷ []) xs
+
+-- a line, and what follows it
+pub joined : (a x : List ℕ) → (a ++ 10 ∷ []) ++ x ≡ a ++ 10 ∷ x
+joined a x = append_assoc a (10 ∷ []) x
+
+joined_more : (a x y : List ℕ) → ((a ++ 10 ∷ []) ++ x) ++ y ≡ a ++ 10 ∷ (x ++ y)
+joined_more a x y = append_assoc (a ++ 10 ∷ []) x y ∙ joined a (x ++ y)
+
+pub one_reading : (line : Line) → IsLine line → (c : ℕ) (xs ys : List Noted) (r s : List ℕ) →
+    AllByRecursion (IsNote line c) xs → AllByRecursion (IsNote line c) ys → Lacks 10 r → Lacks 10 s →
+    lines_of line xs ++ r ≡ lines_of line ys ++ s → xs ≡ ys
+one_reading line good c [] [] r s m n h k e = refl
+one_reading line good c [] (y ∷ ys) r s m n h k e = absurd (no_cut 10 (line_of line y) (lines_of line ys ++ s) (subst (Lacks 10) (e ∙ joined_more (line_of line y) (lines_of line ys) s) h))
+one_reading line good c (x ∷ xs) [] r s m n h k e = absurd (no_cut 10 (line_of line x) (lines_of line xs ++ r) (subst (Lacks 10) (sym e ∙ joined_more (line_of line x) (lines_of line xs) r) k))
+one_reading line good c (x ∷ xs) (y ∷ ys) r s m n h k e =
+    let cut = one_cut 10 (line_of line x) (line_of line y) (lines_of line xs ++ r) (lines_of line ys ++ s) (line_feed line good c x m.0) (line_feed line good c y n.0)
+    (sym (joined_more (line_of line x) (lines_of line xs) r) ∙ e ∙ joined_more (line_of line y) (lines_of line ys) s) in
+    let first = same_note line good c x y m.0 n.0 cut.0 in
+    let more = one_reading line good c xs ys r s m.1 n.1 h k cut.1 in
+    λ i. first i ∷ more i
+
+-- where a line is no line of a note, there is no reading
+pub no_reading : (line : Line) → IsLine line → (c : ℕ) (xs ys : List Noted) (r row others : List ℕ) →
+    AllByRecursion (IsNote line c) xs → AllByRecursion (IsNote line c) ys → Lacks 10 r → Lacks 10 row →
+    AllByRecursion (λ x. line_of line x ≡ row → ⊥) xs →
+    lines_of line xs ++ r ≡ lines_of line ys ++ (row ++ 10 ∷ others) → ⊥
+no_reading line good c [] [] r row others m n h k bad e = no_cut 10 row others (subst (Lacks 10) e h)
+no_reading line good c [] (y ∷ ys) r row others m n h k bad e =
+    no_cut 10 (line_of line y) (lines_of line ys ++ (row ++ 10 ∷ others)) (subst (Lacks 10) (e ∙ joined_more (line_of line y) (lines_of line ys) (row ++ 10 ∷ others)) h)
+no_reading line good c (x ∷ xs) [] r row others m n h k bad e =
+    bad.0 (one_cut 10 (line_of line x) row (lines_of line xs ++ r) others (line_feed line good c x m.0) k (sym (joined_more (line_of line x) (lines_of line xs) r) ∙ e)).0
+no_reading line good c (x ∷ xs) (y ∷ ys) r row others m n h k bad e =
+    no_reading line good c xs ys r row others m.1 n.1 h k bad.1
+    (one_cut 10 (line_of line x) (line_of line y) (lines_of line xs ++ r) (lines_of line ys ++ (row ++ 10 ∷ others)) (line_feed line good c x m.0) (line_feed line good c y n.0)
+    (sym (joined_more (line_of line x) (lines_of line xs) r) ∙ e ∙ joined_more (line_of line y) (lines_of line ys) (row ++ 10 ∷ others))).1
+
+-- ## A text of lines that is cut
+
+pub lacks_take : (c n : ℕ) (xs : List ℕ) → Lacks c xs → Lacks c (take n xs)
+lacks_take c zero xs h = tt
+lacks_take c (suc n) [] h = tt
+lacks_take c (suc n) (x ∷ xs) h = (h.0, lacks_take c n xs h.1)
+
+-- a text that is cut at n is all of a front with a line feed, and something of the rest, or something of the front
+pub cut_after : (a x : List ℕ) (n : ℕ) → (take n (a ++ 10 ∷ x) ≡ take n a) ⊎ ((m : ℕ) × (take n (a ++ 10 ∷ x) ≡ a ++ 10 ∷ take m x))
+cut_after [] x zero = inl refl
+cut_after [] x (suc n) = inr (n, refl)
+cut_after (p ∷ a) x zero = inl refl
+cut_after (p ∷ a) x (suc n) = elim (cut_after a x n) [
+  | inl e ↦ inl (ap (λ (t : List ℕ). p ∷ t) e)
+  | inr d ↦ inr (d.0, ap (λ (t : List ℕ). p ∷ t) d.1)
+]
+
+take_none : (n : ℕ) → take {A = ℕ} n [] ≡ []
+take_none zero = refl
+take_none (suc n) = refl
+
+pub cut_lines : (line : Line) → IsLine line → (c : ℕ) (xs : List Noted) (n : ℕ) → AllByRecursion (IsNote line c) xs →
+    (k : ℕ) × (rest : List ℕ) × Lacks 10 rest × (take n (lines_of line xs) ≡ lines_of line (take k xs) ++ rest)
+cut_lines line good c [] n m = (0, [], tt, take_none n)
+cut_lines line good c (x ∷ xs) n m = elim (cut_after (line_of line x) (lines_of line xs) n) [
+  | inl e ↦ (0, take n (line_of line x), lacks_take 10 n _ (line_feed line good c x m.0), ap (take n) (joined (line_of line x) (lines_of line xs)) ∙ e)
+  | inr d ↦
+      let more = cut_lines line good c xs d.0 m.1 in (
+        suc more.0,
+        more.1,
+        more.2,
+        ap (take n) (joined (line_of line x) (lines_of line xs)) ∙ d.1
+            ∙ ap (λ (t : List ℕ). line_of line x ++ 10 ∷ t) more.3 ∙ sym (joined_more (line_of line x) (lines_of line (take more.0 xs)) more.1),
+      )
+]

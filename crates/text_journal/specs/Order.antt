@@ -1,0 +1,30 @@
+-- The entries of a line's journals as one list, and stamps that rise.
+use Rattle.std.specs.Prelude.{◌≡◌, ℕ, ◌+◌, ◌-◌, ◌<◌, ◌≤◌, List, map, length, slice_index, Option, Some, None}
+use Rattle.std.specs.List.{AllPairs}
+use Rattle.rbc_spec.specs.World.{centre_of}
+use Rattle.rbc_world.specs.Views.{event_of}
+use Rattle.text_journal.specs.declared.entry.Entry.{Entry}
+
+-- the centre that took the event of an entry
+abbrev pub taken_at : Entry → ℕ
+taken_at e = centre_of (event_of e.event)
+
+-- one entry may stand before another: by stamp, and those of one stamp by centre
+abbrev pub ComesBefore : Entry → Entry → Type 0
+ComesBefore d e = (d.stamp ≤ e.stamp) × (d.stamp ≡ e.stamp → taken_at d ≤ taken_at e)
+
+abbrev pub AreInOrder : List Entry → Type 0
+AreInOrder es = AllPairs ComesBefore es
+
+abbrev pub stamps_of : List Entry → List ℕ
+stamps_of es = map (λ e. e.stamp) es
+
+-- each of the first n stamps is above the one before it
+abbrev pub RiseTo : ℕ → List ℕ → Type 0
+RiseTo n stamps = (i : ℕ) → i + 1 < n → slice_index stamps i < slice_index stamps (i + 1)
+
+-- the first stamp that is not above the one before it has this place; or all rise
+abbrev pub IsFirstFallen : List ℕ → Option ℕ → Type 0
+IsFirstFallen stamps None = RiseTo (length stamps) stamps
+IsFirstFallen stamps (Some at) =
+    (0 < at) × (at < length stamps) × (slice_index stamps at ≤ slice_index stamps (at - 1)) × RiseTo at stamps

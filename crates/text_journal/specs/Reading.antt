@@ -1,0 +1,82 @@
+-- What it is to read a journal that may end anywhere.
+use Rattle.std.specs.Prelude.{◌≡◌, ◌≢◌, ℕ, ◌<◌, ◌^◌, List, [], ◌∷◌, ◌++◌, length, take, true, slice_index, Option, MatchOption, Result, Ok, Err}
+use Rattle.std.specs.List.{AllByRecursion, flat_map}
+use denote.Ref.{Bor}
+use Rattle.rbc_spec.specs.Line.{Line, is_centre}
+use Rattle.text_script.specs.Script.{Asked, Show, Train, Set, Unset, Deliver}
+use Rattle.text_script.specs.Entries.{event_of}
+use Rattle.text_script.specs.declared.script.EntryFault.{EntryFault}
+use Rattle.text_script.specs.declared.script.EntryFault.TheVariants as refused
+use Rattle.text_journal.specs.Journal.{first_line, entry_line}
+use Rattle.text_journal.specs.declared.entry.Entry.{Entry}
+
+-- the byte does not stand in the text
+abbrev pub Lacks : ℕ → List ℕ → Type 0
+Lacks c text = AllByRecursion (λ b. b ≢ c) text
+
+-- ## Entries
+
+-- what an entry in memory says: a stamp, and the event as a line of a script asks for it
+pub record Noted : Type 0 where
+  pub stamp : ℕ
+  pub event : Asked
+
+abbrev pub noted_of : Entry → Noted
+noted_of e = record { stamp = e.stamp; event = event_of e.event }
+
+-- an event that comes to centre c, and that a line of a script can ask for
+abbrev pub IsAt : Line → ℕ → Asked → Type 0
+IsAt line c Show = ⊥
+IsAt line c (Train d bytes) = (d ≡ c) × (0 < length bytes) × ((i : ℕ) → slice_index bytes i < 256)
+IsAt line c (Set d s) = (d ≡ c) × (s < 2 ^ 16)
+IsAt line c (Unset d s) = (d ≡ c) × (s < 2 ^ 16)
+IsAt line c (Deliver from d number) = (d ≡ c) × (is_centre line from ≡ true) × (number < 2 ^ 32)
+
+-- what the journal of centre c may note
+pub record IsNote (line : Line) (c : ℕ) (x : Noted) : Type 0 where
+  pub stamp : x.stamp < 2 ^ 32
+  pub centre : is_centre line c ≡ true
+  pub at : IsAt line c x.event
+
+-- ## Texts
+
+-- The text is the lines of these entries, and after them what is not ended by a line feed
+pub record Follows (line : Line) (c : ℕ) (text : List ℕ) (es : List Entry) : Type 0 where
+  pub rest : List ℕ
+  pub each : AllByRecursion (λ e. IsNote line c (noted_of e)) es
+  pub unended : Lacks 10 rest
+  pub whole : text ≡ flat_map (entry_line line) es ++ rest
+
+-- The text is a journal of these entries, whose last line may be cut short; or it is the first line, cut short
+pub data Begins (line : Line) (c : ℕ) (file text : List ℕ) (es : List Entry) : Type 0 where
+  torn : (rest : List ℕ) → text ≡ first_line line c file ++ 10 ∷ rest → Follows line c rest es
+      → Begins line c file text es
+  early : (n : ℕ) → text ≡ take n (first_line line c file) → es ≡ [] → Begins line c file text es
+
+-- ## A line
+
+-- a line that is parted so: a checksum, a stamp, the sign of an event and its words
+abbrev pub ArePartsOf : List ℕ → Option (Bor (List ℕ) × Bor (List ℕ)) → Type 0
+ArePartsOf row found =
+    (sum stamp words : List ℕ) → Lacks 32 sum → Lacks 32 stamp
+    → row ≡ sum ++ 32 ∷ (stamp ++ 32 ∷ 62 ∷ 32 ∷ words)
+    → MatchOption found ⊥ (λ x. (x.0.now ≡ stamp) × (x.1.now ≡ words))
+
+-- the entry is one whose line this is; it is refused for its form only where there is none
+abbrev pub Finds : Line → ℕ → List ℕ → Result Entry EntryFault → Type 0
+Finds line c row (Ok e) = IsNote line c (noted_of e) × (entry_line line e ≡ row ++ 10 ∷ [])
+Finds line c row (Err why) =
+    why ≡ refused.Form → (e : Entry) → IsNote line c (noted_of e) → entry_line line e ≡ row ++ 10 ∷ [] → ⊥
+
+-- where there is an entry whose line this is, it is guessed, or memory ran out
+abbrev pub Guesses : Line → List ℕ → Result Entry EntryFault → Type 0
+Guesses line row (Ok found) =
+    (c : ℕ) (e : Entry) → IsNote line c (noted_of e) → entry_line line e ≡ row ++ 10 ∷ [] → noted_of found ≡ noted_of e
+Guesses line row (Err why) =
+    why ≡ refused.Form → (c : ℕ) (e : Entry) → IsNote line c (noted_of e) → entry_line line e ≡ row ++ 10 ∷ [] → ⊥
+
+-- it is the given entry whose line this is, or that is none
+abbrev pub Tells : Line → ℕ → List ℕ → Entry → Result Entry EntryFault → Type 0
+Tells line c row given (Ok e) = IsNote line c (noted_of e) × (entry_line line e ≡ row ++ 10 ∷ [])
+Tells line c row given (Err why) =
+    why ≡ refused.Form → IsNote line c (noted_of given) → entry_line line given ≡ row ++ 10 ∷ [] → ⊥

@@ -1,0 +1,29 @@
+ghost use Rattle.std.specs.Prelude.{◌≡◌, IfOk};
+ghost use Rattle.std.specs.List.{flat_map};
+ghost use Rattle.std.specs.List.Sorted.{IsPermutation};
+ghost use Rattle.text_journal.specs.Order.{AreInOrder};
+
+use crate::entry::Entry;
+use std::alloc::{AllocError, Global};
+
+/// The entries of the centres' journals, which are given by the centres' numbers, as one list: by their stamps, and
+/// those of one stamp by their centres. So a journal whose stamps rise keeps its order.
+pub fn in_order(alloc: Global, journals: Vec<Vec<Entry>>) -> Result<Vec<Entry>, AllocError>
+    ensures once { IfOk result (λ es. IsPermutation (flat_map (λ j. j.items) journals.items) es.items) }
+    ensures in_order { IfOk result (λ es. AreInOrder es.items) }
+{
+    let mut all = all_entries(alloc, journals)?;
+    all.sort_by_key(|entry| (entry.stamp, entry.centre()))?;
+    Ok(all)
+}
+
+// All entries, journal by journal.
+fn all_entries(alloc: Global, journals: Vec<Vec<Entry>>) -> Result<Vec<Entry>, AllocError>
+    ensures { IfOk result (λ es. es.items ≡ flat_map (λ j. j.items) journals.items) }
+{
+    let mut all = Vec::new(alloc);
+    for mut journal in journals {
+        all.append(&mut journal)?;
+    }
+    Ok(all)
+}

@@ -1,0 +1,133 @@
+ghost use Rattle.std.specs.Prelude.{◌≡◌, ◌↔◌, ℕ, ◌<◌, ◌^◌, ◌∷◌, ◌++◌, [], true, length, slice_index, IsTrue};
+ghost use Rattle.rbc_spec.specs.Line.{IsLine, is_centre};
+ghost use Rattle.text_script.specs.Entries.{event_of};
+ghost use Rattle.text_journal.specs.Reading.{ArePartsOf, Finds, Guesses, IsAt, Tells};
+
+use crate::entry::Entry;
+use crate::writing::entry_line;
+use text_script::script::{self, EntryFault, entry_of};
+use rbc_line::Line;
+use rbc_world::WorldEvent;
+use std::alloc::Global;
+
+/// The entry of the centre's journal that has this line, which is given without its line feed.
+pub(crate) fn entry_in(
+    alloc: Global,
+    line: &Line,
+    centre: u8,
+    row: &str,
+) -> Result<Entry, EntryFault>
+    requires line { IsLine line.now }
+    requires centre { is_centre line.now centre ≡ true }
+    ensures { Finds line.now centre row.now result }
+{
+    match guessed(alloc, line, row) {
+        Ok(entry) => told(alloc, line, centre, row, entry),
+        Err(why) => Err(why),
+    }
+}
+
+// The entry, where it may stand in the centre's journal and this is its line.
+fn told(
+    alloc: Global,
+    line: &Line,
+    centre: u8,
+    row: &str,
+    entry: Entry,
+) -> Result<Entry, EntryFault>
+    requires { is_centre line.now centre ≡ true }
+    ensures { Tells line.now centre row.now entry result }
+{
+    if !is_at(line, centre, &entry.event) {
+        return Err(EntryFault::Form);
+    }
+    match entry_line(alloc, line, &entry) {
+        Ok(spelled) => {
+            if is_ended(&spelled, row) {
+                Ok(entry)
+            } else {
+                Err(EntryFault::Form)
+            }
+        }
+        Err(_) => Err(EntryFault::Memory),
+    }
+}
+
+// The entry that a line has where it has one, whatever its checksum.
+fn guessed(alloc: Global, line: &Line, row: &str) -> Result<Entry, EntryFault>
+    requires { IsLine line.now }
+    ensures { Guesses line.now row.now result }
+{
+    let Some((stamp, words)) = parts(row) else {
+        return Err(EntryFault::Form);
+    };
+    let Ok(stamp) = stamp.parse() else {
+        return Err(EntryFault::Form);
+    };
+    match entry_of(alloc, line, words) {
+        Ok(script::Entry::Event(event)) => Ok(Entry { stamp, event }),
+        Ok(script::Entry::Show) => Err(EntryFault::Form),
+        Err(why) => Err(why),
+    }
+}
+
+// The stamp and the words of the event, after the checksum and the sign of an event.
+fn parts(row: &str) -> Option<(&str, &str)>
+    ensures { ArePartsOf row.now result }
+{
+    let (_, told) = row.split_once(' ')?;
+    let (stamp, event) = told.split_once(' ')?;
+    let (_, words) = event.split_once(' ')?;
+    Some((stamp, words))
+}
+
+// Whether the text is the line, and the line feed that ends it.
+fn is_ended(text: &[u8], row: &str) -> bool
+    ensures { IsTrue result ↔ (text.now ≡ row.now ++ 10 ∷ []) }
+{
+    match text.split_last() {
+        Some((last, front)) => *last == b'\n' && front == row.as_bytes(),
+        None => false,
+    }
+}
+
+// Whether the event comes to the centre, and a line of a script can ask for it.
+fn is_at(line: &Line, centre: u8, event: &WorldEvent) -> bool
+    ensures { IsTrue result ↔ IsAt line.now centre (event_of event.now) }
+{
+    match event {
+        WorldEvent::Train { centre: at, bytes } => *at == centre && are_bytes(bytes),
+        WorldEvent::Set {
+            centre: at,
+            section,
+        } => is_section_at(*at, *section, centre),
+        WorldEvent::Unset {
+            centre: at,
+            section,
+        } => is_section_at(*at, *section, centre),
+        WorldEvent::Deliver { from, to, number } => {
+            *to == centre && is_frame_from(line, *from, *number)
+        }
+    }
+}
+
+// Whether there is a byte.
+fn are_bytes(bytes: &[u8]) -> bool
+    ensures { IsTrue result ↔ ((0 < length bytes.now) × ((i : ℕ) → slice_index bytes.now i < 256)) }
+{
+    !bytes.is_empty()
+}
+
+// Whether a section of this number is set at the centre.
+fn is_section_at(at: u8, section: u16, centre: u8) -> bool
+    ensures { IsTrue result ↔ ((at ≡ centre) × (section < 2 ^ 16)) }
+{
+    at == centre
+}
+
+// Whether a frame of this number may come from there.
+fn is_frame_from(line: &Line, from: u8, number: u32) -> bool
+    ensures { IsTrue result ↔ ((is_centre line.now from ≡ true) × (number < 2 ^ 32)) }
+{
+    from < line.centre_count()
+}

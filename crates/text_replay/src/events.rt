@@ -1,0 +1,75 @@
+//! The events of a print: the lines that begin with `> `.
+
+ghost use Rattle.std.specs.Prelude.{◌≡◌};
+ghost use Rattle.rbc_spec.specs.World.{centre_of};
+ghost use Rattle.rbc_world.specs.Views.{event_of};
+
+use crate::cut::Cut;
+use text_script::script::{Entry, ScriptFault, script_of};
+use text_script::status::Fault;
+use rbc_line::Line;
+use rbc_world::WorldEvent;
+use std::alloc::Global;
+
+/// What an event's line begins with in a print.
+const EVENT: &str = "> ";
+
+/// The place in the line file of the train that a cut names, which has to be of the line.
+pub fn train_in(line: &Line, cut: Cut) -> Result<Option<u8>, Fault<'static>> {
+    let Some(nid_engine) = cut.train else {
+        return Ok(None);
+    };
+    match line.train_number(nid_engine) {
+        Some(train) => Ok(Some(train)),
+        None => Err(Fault::Words),
+    }
+}
+
+/// The events of a print, in order; or the first of its lines that has no form of a script.
+pub fn events_in(
+    alloc: Global,
+    line: &Line,
+    printed: &str,
+) -> Result<Vec<WorldEvent>, Fault<'static>> {
+    let mut events = Vec::new(alloc);
+    for (r, row) in printed.split('\n').enumerate() {
+        if let Some(text) = row.strip_prefix(EVENT) {
+            add_event(alloc, line, r.saturating_add(1), text, &mut events)?;
+        }
+    }
+    Ok(events)
+}
+
+// Adds what a line asks for, by the line's number. `show` is no event.
+fn add_event(
+    alloc: Global,
+    line: &Line,
+    row: usize,
+    text: &str,
+    events: &mut Vec<WorldEvent>,
+) -> Result<(), Fault<'static>> {
+    match script_of(alloc, line, text) {
+        Ok(entries) => {
+            for entry in entries {
+                if let Entry::Event(event) = entry {
+                    events.push(event)?;
+                }
+            }
+            Ok(())
+        }
+        Err(ScriptFault::Form(_)) => Err(Fault::Script(row)),
+        Err(fault) => Err(fault.into()),
+    }
+}
+
+/// The centre at which an event happens.
+pub(crate) fn centre_of(event: &WorldEvent) -> u8
+    ensures { result ≡ centre_of (event_of event.now) }
+{
+    match event {
+        WorldEvent::Train { centre, .. }
+        | WorldEvent::Set { centre, .. }
+        | WorldEvent::Unset { centre, .. } => *centre,
+        WorldEvent::Deliver { to, .. } => *to,
+    }
+}

@@ -1,0 +1,51 @@
+//! What does not change of a line.
+
+use text_page::{Layout, Place};
+use rbc_line::Line;
+use std::alloc::{AllocError, Global};
+
+/// What does not change of the line, whose centres listen at these ports.
+pub fn layout_of(alloc: Global, line: &Line, ports: Vec<u16>) -> Result<Layout, AllocError> {
+    Ok(Layout {
+        nid_c: line.nid_c(),
+        centres: centres_of(alloc, line)?,
+        ports,
+        tracks: tracks_of(alloc, line)?,
+        sections: sections_of(alloc, line)?,
+    })
+}
+
+fn centres_of(alloc: Global, line: &Line) -> Result<Vec<String>, AllocError> {
+    let mut names = Vec::new(alloc);
+    for c in 0..line.centre_count() {
+        if let Some(name) = line.centre_name(c) {
+            names.push(String::from_str(alloc, name)?)?;
+        }
+    }
+    Ok(names)
+}
+
+fn tracks_of(alloc: Global, line: &Line) -> Result<Vec<String>, AllocError> {
+    let mut names = Vec::new(alloc);
+    for track in 0..line.track_count() {
+        if let Some(name) = line.track_name(track) {
+            names.push(String::from_str(alloc, name)?)?;
+        }
+    }
+    Ok(names)
+}
+
+fn sections_of(alloc: Global, line: &Line) -> Result<Vec<Place>, AllocError> {
+    let mut places = Vec::new(alloc);
+    for s in 0..line.section_count() {
+        if let Some(section) = line.section(s) {
+            places.push(Place {
+                track: section.track,
+                home: section.home,
+                start: section.start,
+                metres: u32::from(section.metres),
+            })?;
+        }
+    }
+    Ok(places)
+}

@@ -1,0 +1,269 @@
+//! The page of a print.
+
+use crate::cut::Cut;
+use crate::events::{events_in, train_in};
+use crate::layout::layout_of;
+use crate::played::{Played, play};
+use crate::shown::{phase_now, section_now};
+use crate::stretch::stretches_of;
+use text_page::{Changes, Layout, LineNow, MissionNow, Part, Phase, RunSheet, SessionNow};
+use text_script::status::Fault;
+use rbc_line::Line;
+use rbc_world::{LineView, WorldEvent};
+use std::alloc::{AllocError, Global};
+
+/// How many events are shown at most.
+const MOST_EVENTS: usize = 10_000;
+
+/// How many of the last events are told where no script runs.
+const TOLD: usize = 24;
+
+/// The page of a print: the line before the first event that the cut shows and after each, with a slider. Only the
+/// lines that begin with `> ` are read. Errors: the cut names a train that is not of the line, or no event; a line has
+/// no form of a script; a step is refused.
+pub fn page_of(
+    alloc: Global,
+    line: &Line,
+    printed: &str,
+    cut: Cut,
+) -> Result<String, Fault<'static>> {
+    train_in(line, cut)?;
+    let events = events_in(alloc, line, printed)?;
+    let (first, after) = cut.places(events.len()).ok_or(Fault::Words)?;
+    let after = after.min(first.saturating_add(MOST_EVENTS));
+    let part = Part {
+        first: (first as u64).saturating_add(1),
+        last: after as u64,
+        all: events.len() as u64,
+        marked: cut.train,
+    };
+    let shown = events.get(..after).unwrap_or(&events);
+    page_of_part(alloc, line, shown, first, part)
+}
+
+// The page of the events from the first one on.
+fn page_of_part(
+    alloc: Global,
+    line: &Line,
+    events: &[WorldEvent],
+    first: usize,
+    part: Part,
+) -> Result<String, Fault<'static>> {
+    let run = play(alloc, line, events, first)?;
+    Ok(written(alloc, line, part, &run)?)
+}
+
+fn written(alloc: Global, line: &Line, part: Part, run: &Played) -> Result<String, AllocError> {
+    let layout = layout_of(alloc, line, Vec::new(alloc))?;
+    let sheet = sheet_of(alloc, line, &layout, part.first, run)?;
+    finished(alloc, sheet, &layout, part, run)
+}
+
+// What changes, table by table.
+fn sheet_of(
+    alloc: Global,
+    line: &Line,
+    layout: &Layout,
+    first: u64,
+    run: &Played,
+) -> Result<RunSheet, AllocError> {
+    let mut sheet = RunSheet::new(alloc, layout)?;
+    add_tables(alloc, &mut sheet, line, layout, first, run)?;
+    Ok(sheet)
+}
+
+fn add_tables(
+    alloc: Global,
+    sheet: &mut RunSheet,
+    line: &Line,
+    layout: &Layout,
+    first: u64,
+    run: &Played,
+) -> Result<(), AllocError> {
+    let before = first.saturating_sub(1);
+    add_events(sheet, first, run)?;
+    add_sections(alloc, sheet, line, before, run)?;
+    add_missions(sheet, layout, line, before, run)?;
+    add_sessions(sheet, layout, line, before, run)
+}
+
+// The page, with the line as it is at last.
+fn finished(
+    alloc: Global,
+    sheet: RunSheet,
+    layout: &Layout,
+    part: Part,
+    run: &Played,
+) -> Result<String, AllocError> {
+    let now = last_of(alloc, part, run)?;
+    sheet.page(alloc, layout, part, &now)
+}
+
+// The number of an event, by its place after the one of the number `first`.
+fn number(first: u64, place: usize) -> u64 {
+    first.saturating_add(place as u64)
+}
+
+fn add_events(sheet: &mut RunSheet, first: u64, run: &Played) -> Result<(), AllocError> {
+    sheet.begin(Changes::Events)?;
+    for (e, words) in run.words.iter().enumerate() {
+        sheet.add_event(number(first, e), words.as_str())?;
+    }
+    sheet.end()
+}
+
+fn add_sections(
+    alloc: Global,
+    sheet: &mut RunSheet,
+    line: &Line,
+    before: u64,
+    run: &Played,
+) -> Result<(), AllocError> {
+    sheet.begin(Changes::Sections)?;
+    for section in 0..line.section_count() {
+        for stretch in stretches_of(alloc, &run.views, section)? {
+            let event = number(before, stretch.since);
+            sheet.add_section(event, section, section_now(stretch.seen))?;
+        }
+    }
+    sheet.end()
+}
+
+fn add_missions(
+    sheet: &mut RunSheet,
+    layout: &Layout,
+    line: &Line,
+    before: u64,
+    run: &Played,
+) -> Result<(), AllocError> {
+    sheet.begin(Changes::Missions)?;
+    for train in 0..line.train_count() {
+        add_missions_of(sheet, layout, line, before, run, train)?;
+    }
+    sheet.end()
+}
+
+// The missions of a train.
+fn add_missions_of(
+    sheet: &mut RunSheet,
+    layout: &Layout,
+    line: &Line,
+    before: u64,
+    run: &Played,
+    train: u8,
+) -> Result<(), AllocError> {
+    let mut was = None;
+    for (e, missions) in run.missions.iter().enumerate() {
+        let now = mission_in(missions, train);
+        if now != was {
+            let event = number(before, e);
+            sheet.add_mission(layout, event, nid_engine_of(line, train), now.as_ref())?;
+            was = now;
+        }
+    }
+    Ok(())
+}
+
+fn mission_in(missions: &[Option<MissionNow>], train: u8) -> Option<MissionNow> {
+    *missions.get(train as usize)?
+}
+
+fn nid_engine_of(line: &Line, train: u8) -> u32 {
+    match line.train(train) {
+        Some(train) => train.nid_engine,
+        None => 0,
+    }
+}
+
+fn add_sessions(
+    sheet: &mut RunSheet,
+    layout: &Layout,
+    line: &Line,
+    before: u64,
+    run: &Played,
+) -> Result<(), AllocError> {
+    sheet.begin(Changes::Sessions)?;
+    for train in 0..line.train_count() {
+        for centre in 0..line.centre_count() {
+            add_sessions_at(sheet, layout, line, before, run, (train, centre))?;
+        }
+    }
+    sheet.end()
+}
+
+// The sessions of a train at a centre.
+fn add_sessions_at(
+    sheet: &mut RunSheet,
+    layout: &Layout,
+    line: &Line,
+    before: u64,
+    run: &Played,
+    (train, centre): (u8, u8),
+) -> Result<(), AllocError> {
+    let mut was = None;
+    for (e, view) in run.views.iter().enumerate() {
+        let now = phase_in(view, train, centre);
+        if now != was {
+            let event = number(before, e);
+            sheet.add_session(layout, event, nid_engine_of(line, train), centre, now)?;
+            was = now;
+        }
+    }
+    Ok(())
+}
+
+// How far the session of a train at a centre has come, if there is one.
+fn phase_in(view: &LineView, train: u8, centre: u8) -> Option<Phase> {
+    let train = view.trains.get(train as usize)?;
+    let session = train.sessions.get(centre as usize)?;
+    phase_now(session.phase, session.waiting.is_some())
+}
+
+// The line after the last event, with the last events in words.
+fn last_of(alloc: Global, part: Part, run: &Played) -> Result<LineNow, AllocError> {
+    let mut now = LineNow {
+        events: part.last,
+        is_stopped: false,
+        sections: Vec::new(alloc),
+        missions: Vec::new(alloc),
+        sessions: Vec::new(alloc),
+        centres: Vec::new(alloc),
+        links: Vec::new(alloc),
+        last: Vec::new(alloc),
+    };
+    add_last(alloc, &mut now, part.first, run)?;
+    Ok(now)
+}
+
+fn add_last(alloc: Global, now: &mut LineNow, first: u64, run: &Played) -> Result<(), AllocError> {
+    if let Some(view) = run.views.last() {
+        add_view(now, view)?;
+    }
+    if let Some(missions) = run.missions.last() {
+        now.missions.extend_from_slice(missions)?;
+    }
+    for (e, words) in run.words.iter().enumerate().rev().take(TOLD) {
+        let event = number(first, e);
+        now.last.push(format!(in alloc; "{event} · {words}")?)?;
+    }
+    Ok(())
+}
+
+// Adds the sections and the sessions of a view.
+fn add_view(now: &mut LineNow, view: &LineView) -> Result<(), AllocError> {
+    for section in &view.sections {
+        now.sections.push(section_now(*section))?;
+    }
+    for train in &view.trains {
+        for (centre, session) in train.sessions.iter().enumerate() {
+            if let Some(phase) = phase_now(session.phase, session.waiting.is_some()) {
+                now.sessions.push(SessionNow {
+                    nid_engine: train.nid_engine,
+                    centre: u8::try_from(centre).unwrap_or(u8::MAX),
+                    phase,
+                })?;
+            }
+        }
+    }
+    Ok(())
+}

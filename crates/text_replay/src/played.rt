@@ -1,0 +1,162 @@
+//! The line as it stands before the first event that is shown, and after each.
+
+use crate::events::centre_of;
+use crate::handovers::Handovers;
+use crate::shown::mission_now;
+use crate::words::event_in_words;
+use text_page::MissionNow;
+use text_script::status::Fault;
+use rbc_centre::SectionRun;
+use rbc_line::Line;
+use rbc_world::{Answer, LineView, MissionView, Supervisor, World, WorldEvent};
+use std::alloc::{AllocError, Global};
+
+/// A part of a run. What stands before its first event comes first in each list but `words`.
+#[derive(Drop)]
+pub(crate) struct Played {
+    pub views: Vec<LineView>,
+    /// By the trains' places in the line file.
+    pub missions: Vec<Vec<Option<MissionNow>>>,
+    /// The events in words.
+    pub words: Vec<String>,
+}
+
+/// Plays events, and tells those from the first one on.
+pub(crate) fn play(
+    alloc: Global,
+    line: &Line,
+    events: &[WorldEvent],
+    first: usize,
+) -> Result<Played, Fault<'static>> {
+    let mut centres = centres_at(alloc, line, events, first)?;
+    let mut played = Played {
+        views: Vec::new(alloc),
+        missions: Vec::new(alloc),
+        words: Vec::new(alloc),
+    };
+    tell(alloc, line, events, first, &mut centres, &mut played)?;
+    Ok(played)
+}
+
+/// The centres of the line, and the handovers that they have announced.
+#[derive(Drop)]
+struct Centres {
+    world: World,
+    handovers: Handovers,
+}
+
+// The centres as they are before the first event that is told.
+fn centres_at(
+    alloc: Global,
+    line: &Line,
+    events: &[WorldEvent],
+    first: usize,
+) -> Result<Centres, Fault<'static>> {
+    let world = World::new(alloc, line)?;
+    let handovers = Handovers::new(alloc, line)?;
+    let mut centres = Centres { world, handovers };
+    pass(line, events, first, &mut centres)?;
+    Ok(centres)
+}
+
+// Plays the events that come before the first one that is told.
+fn pass(
+    line: &Line,
+    events: &[WorldEvent],
+    first: usize,
+    centres: &mut Centres,
+) -> Result<(), Fault<'static>> {
+    for event in events.iter().take(first) {
+        step(line, event, centres)?;
+    }
+    Ok(())
+}
+
+// Plays those from the first one on, and tells them.
+fn tell(
+    alloc: Global,
+    line: &Line,
+    events: &[WorldEvent],
+    first: usize,
+    centres: &mut Centres,
+    played: &mut Played,
+) -> Result<(), Fault<'static>> {
+    look(alloc, centres, played)?;
+    for event in events.iter().skip(first) {
+        let words = told(alloc, line, event, centres)?;
+        played.words.push(words)?;
+        look(alloc, centres, played)?;
+    }
+    Ok(())
+}
+
+// Plays an event, and tells it in words.
+fn told(
+    alloc: Global,
+    line: &Line,
+    event: &WorldEvent,
+    centres: &mut Centres,
+) -> Result<String, Fault<'static>> {
+    let answer = step(line, event, centres)?;
+    event_in_words(alloc, line, event, &answer)
+}
+
+// Plays an event, and takes what the centres say of handovers in it.
+fn step(line: &Line, event: &WorldEvent, centres: &mut Centres) -> Result<Answer, Fault<'static>> {
+    let answer = centres.world.step(event)?;
+    hear(line, event, &answer, &mut centres.handovers);
+    Ok(answer)
+}
+
+// Takes what the centres say of handovers in an event.
+fn hear(line: &Line, event: &WorldEvent, answer: &Answer, handovers: &mut Handovers) {
+    if let Answer::Outcome(outcome) = answer {
+        for sent in outcome.frames.as_slice() {
+            handovers.hear(line, centre_of(event), sent.to, sent.frame.body());
+        }
+    }
+}
+
+// Adds the line as it stands.
+fn look(alloc: Global, centres: &Centres, played: &mut Played) -> Result<(), AllocError> {
+    let view = centres.world.view(alloc)?;
+    let missions = missions_in(alloc, &view, &centres.handovers)?;
+    played.missions.push(missions)?;
+    played.views.push(view)?;
+    Ok(())
+}
+
+// The mission of each train.
+fn missions_in(
+    alloc: Global,
+    view: &LineView,
+    handovers: &Handovers,
+) -> Result<Vec<Option<MissionNow>>, AllocError> {
+    let mut missions = Vec::new(alloc);
+    for (train, seen) in view.trains.iter().enumerate() {
+        missions.push(match seen.mission {
+            Some(mission) => Some(mission_of(seen.nid_engine, &mission, handovers, train)),
+            None => None,
+        })?;
+    }
+    Ok(missions)
+}
+
+// A mission, of which the lent sections are not told from others that are kept.
+fn mission_of(
+    nid_engine: u32,
+    mission: &MissionView,
+    handovers: &Handovers,
+    train: usize,
+) -> MissionNow {
+    let supervisor = match mission.supervisor {
+        Supervisor::At { centre } => Some(centre),
+        Supervisor::Parted { .. } => None,
+    };
+    let none = SectionRun { first: 0, count: 0 };
+    let mut now = mission_now(nid_engine, supervisor, &mission.facts, mission.hand, none);
+    if let Some(centre) = supervisor {
+        now.handover = handovers.next_of(train, centre);
+    }
+    now
+}

@@ -1,0 +1,38 @@
+-- What the entries of a script in memory stand for, and when they are those of a text.
+use Rattle.std.specs.Prelude.{◌≡◌, ℕ, ◌+◌, List, map, filter, position, Option, Some, None, option_map, Result, Ok, Err, ⊤}
+use Rattle.rbc_spec.specs.Line.{Line}
+use Rattle.rbc_world.specs.declared.event.WorldEvent.{WorldEvent}
+use Rattle.rbc_world.specs.declared.event.WorldEvent.TheVariants.{Train, Set, Unset, Deliver}
+use Rattle.text_script.specs.declared.script.Entry.{Entry}
+use Rattle.text_script.specs.declared.script.Entry.TheVariants as entry
+use Rattle.text_script.specs.declared.script.EntryFault.{EntryFault}
+use Rattle.text_script.specs.declared.script.EntryFault.TheVariants as refused
+use Rattle.text_script.specs.declared.script.ScriptFault.{ScriptFault}
+use Rattle.text_script.specs.declared.script.ScriptFault.TheVariants.{Memory, Form}
+use Rattle.text_script.specs.Script as script
+use Rattle.text_script.specs.Script.{Asked, row_asks, is_kept, is_faulty, rows}
+
+-- the result is what the format finds there, unless memory ran out
+abbrev pub Finds : {T A : Type 0} → (T → A) → Result T EntryFault → Option A → Type 0
+Finds view (Ok x) found = found ≡ Some (view x)
+Finds view (Err why) found = why ≡ refused.Form → found ≡ None
+
+abbrev pub event_of : WorldEvent → Asked
+event_of (Train centre bytes) = script.Train centre bytes.items
+event_of (Set centre section) = script.Set centre section
+event_of (Unset centre section) = script.Unset centre section
+event_of (Deliver from to number) = script.Deliver from to number
+
+-- what an entry asks for
+abbrev pub asked_of : Entry → Asked
+asked_of entry.Show = script.Show
+asked_of (entry.Event event) = event_of event
+
+-- the entries are what the lines that are not skipped ask for, in order, and each of those lines asks for something
+abbrev pub AreAsked : Line → List (List ℕ) → List Entry → Type 0
+AreAsked line rows entries = map (λ e. Some (asked_of e)) entries ≡ map (row_asks line) (filter is_kept rows)
+
+-- the fault names the first line that is not skipped and has no form, or memory ran out
+abbrev pub IsFirstFault : Line → List (List ℕ) → ScriptFault → Type 0
+IsFirstFault line rows Memory = ⊤
+IsFirstFault line rows (Form n) = option_map (λ k. k + 1) (position (is_faulty line) rows) ≡ Some n

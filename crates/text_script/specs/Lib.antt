@@ -1,0 +1,5 @@
+pub mod Script
+pub mod Entries
+pub mod Played
+pub mod Status
+pub mod Print

@@ -1,0 +1,37 @@
+ghost use Rattle.text_script.specs.Status.Statuses.{Ends, IsReported};
+
+use crate::status::fault::Fault;
+use std::fmt::Display;
+use std::io;
+use std::io::Write;
+
+/// Gives the exit status of a command: 0 where it is done; else it says the fault, as `report` does.
+pub fn ended<O: Write, E: Write>(done: Result<(), Fault<'_>>, out: &mut O, err: &mut E) -> u8
+    ensures { Ends done.entry result }
+{
+    match done {
+        Ok(()) => 0,
+        Err(fault) => report(&fault, out, err),
+    }
+}
+
+/// Says what went wrong, and gives the exit status. Help that was asked for goes to `out`.
+pub fn report<O: Write, E: Write>(fault: &Fault, out: &mut O, err: &mut E) -> u8
+    ensures { IsReported fault.now result }
+{
+    let told = match fault {
+        Fault::Write | Fault::Differs => Ok(()),
+        Fault::Usage(usage) if usage.use_stderr() => tell(err, format_args!("{usage}")),
+        Fault::Usage(help) => tell(out, format_args!("{help}")),
+        _ => tell(err, format_args!("{fault}\n")),
+    };
+    match told {
+        Ok(()) => fault.status(),
+        Err(_) => 6,
+    }
+}
+
+fn tell<W: Write, T: Display + Drop>(to: &mut W, text: T) -> io::Result<()> {
+    write!(to, "{text}")?;
+    to.flush()
+}

@@ -1,0 +1,104 @@
+ghost use Rattle.std.specs.Prelude.{◌≡◌};
+
+use rbc_centre::StepFault;
+use rbc_line::LineFault;
+use rbc_msgs::MsgFault;
+use std::alloc::{AllocError, AllocFailed};
+use std::io;
+use thiserror::Error;
+
+/// Why the program ends without having done what it was asked to do.
+#[derive(Debug, Drop, Error)]
+pub enum Fault<'a> {
+    /// The words can't be read.
+    #[error("rbcline: words refused")]
+    Words,
+    /// The words name no command, or ask for help: what is shown then.
+    #[error(transparent)]
+    Usage(clap::Error),
+    #[error("rbcline: cannot read {0}")]
+    CannotRead(&'a str),
+    /// The journal of a centre can't be read: its name, with its folder.
+    #[error("rbcline: cannot read {0}")]
+    NoJournal(String),
+    /// A journal of this name is of another centre, line or version.
+    #[error("rbcline: {0} is of another centre or line")]
+    Foreign(String),
+    /// A line of a journal is damaged; lines count from 1.
+    #[error("rbcline: {journal} line {row}")]
+    Damaged { journal: String, row: usize },
+    /// The journals are not those of one run of the line: the line of the first entry that does not fit.
+    #[error("rbcline: the journals do not fit together: {journal} line {row}")]
+    Unfit { journal: String, row: usize },
+    #[error("rbcline: line fault {number}", number = .0.number())]
+    Line(LineFault),
+    /// A line of the script has no form that a script may have; lines count from 1.
+    #[error("rbcline: script line {0}")]
+    Script(usize),
+    #[error("rbcline: step refused {number}", number = .0.number())]
+    Step(StepFault),
+    /// The bytes that are to be shown are no message.
+    #[error("rbcline: message fault {number}", number = .0.number())]
+    Message(MsgFault),
+    /// An audit found a line that differs; it is printed already.
+    #[error("rbcline: the print differs")]
+    Differs,
+    /// A port can't be listened on, or a connection failed, ended early, or brought what is no message.
+    #[error("rbcline: socket")]
+    Socket,
+    /// What the program wrote was refused. Nothing more is written.
+    #[error("rbcline: cannot write")]
+    Write,
+}
+
+impl Fault<'_> {
+    ghost use Rattle.text_script.specs.Status.Statuses.{status_of};
+
+    /// The program's exit status.
+    pub fn status(&self) -> u8
+        ensures { result ≡ status_of self.now }
+    {
+        match self {
+            Fault::Differs => 1,
+            Fault::Words | Fault::Usage(_) => 2,
+            Fault::CannotRead(_) | Fault::Script(_) => 3,
+            Fault::NoJournal(_) | Fault::Foreign(_) => 3,
+            Fault::Damaged { .. } | Fault::Unfit { .. } => 3,
+            Fault::Line(_) => 4,
+            Fault::Step(_) => 5,
+            Fault::Socket | Fault::Write => 6,
+            Fault::Message(_) => 7,
+        }
+    }
+}
+
+impl From<LineFault> for Fault<'_> {
+    fn from(fault: LineFault) -> Self {
+        Fault::Line(fault)
+    }
+}
+
+impl From<StepFault> for Fault<'_> {
+    fn from(fault: StepFault) -> Self {
+        Fault::Step(fault)
+    }
+}
+
+// Want of memory that has no number of its own counts as a refused step.
+impl From<AllocError> for Fault<'_> {
+    fn from(_error: AllocError) -> Self {
+        Fault::Step(StepFault::Memory)
+    }
+}
+
+impl<T: Drop> From<AllocFailed<T>> for Fault<'_> {
+    fn from(_error: AllocFailed<T>) -> Self {
+        Fault::Step(StepFault::Memory)
+    }
+}
+
+impl From<io::Error> for Fault<'_> {
+    fn from(_error: io::Error) -> Self {
+        Fault::Write
+    }
+}
