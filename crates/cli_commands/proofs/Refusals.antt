@@ -1,8 +1,8 @@
 -- What `run` leaves where a step is refused.
 use Rattle.std.proofs.Common.{◌≡◌, ℕ, List, Option, Err, subst}
 use Rattle.rbc_spec.specs.Line.{Line}
-use Rattle.rbc_centre.specs.declared.fault.StepFault.{StepFault}
-use Rattle.rbc_centre.specs.declared.fault.StepFault.TheVariants.{Memory, LinkFull, ClockEnd}
+use Rattle.text_script.specs.rbc_centre.declared.fault.StepFault.{StepFault}
+use Rattle.text_script.specs.rbc_centre.declared.fault.StepFault.TheVariants.{Memory, LinkFull, ClockEnd}
 use Rattle.text_script.specs.declared.status.fault.Fault.TheVariants.{Step}
 use Rattle.text_script.specs.declared.script.Entry.{Entry}
 use Rattle.text_script.specs.declared.play.PlayFault.{PlayFault}

@@ -3,7 +3,7 @@ use Rattle.std.specs.Prelude.{◌≡◌, ◌≢◌, ◌⊎◌, ℕ, List, Option
 use Rattle.rbc_spec.specs.Line.{Line}
 use Rattle.rbc_line.specs.Faults.{Names, Applies, IsLowest}
 use Rattle.rbc_line.specs.declared.fault.LineFault.TheVariants as bad
-use Rattle.rbc_centre.specs.declared.fault.StepFault.TheVariants as refused
+use Rattle.text_script.specs.rbc_centre.declared.fault.StepFault.TheVariants as refused
 use Rattle.text_script.specs.declared.status.fault.Fault.{Fault}
 use Rattle.text_script.specs.declared.status.fault.Fault.TheVariants as fault
 use Rattle.text_script.specs.Script.{rows}

@@ -5,7 +5,7 @@ use crate::scale::Scale;
 use crate::style::{colour_of, dashes_of};
 use text_replay::{Stretch, stretches_of};
 use rbc_place::{section_end, section_start};
-use rbc_world::Mark;
+use text_script::Mark;
 use std::alloc::{AllocError, Global};
 
 pub fn draw_bars(

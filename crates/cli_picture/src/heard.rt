@@ -2,12 +2,11 @@
 
 use crate::run::{Border, Event, Kind, Report, track_of};
 use text_words::number_of_train;
-use rbc_centre::{Outcome, Saying};
+use text_script::{Answer, Outcome, Saying, WorldEvent};
 use rbc_line::Line;
 use rbc_msgs::{MsgFault, TrackBody, TrainBody, TrainMsg, decode_train};
 use rbc_packets::Position;
 use rbc_place::{extent, section_start};
-use rbc_world::{Answer, WorldEvent};
 use std::alloc::{AllocError, Global};
 
 /// An event of a run, by what is answered to it.

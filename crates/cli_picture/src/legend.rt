@@ -4,7 +4,7 @@ use crate::marks::{Sign, shape_of};
 use crate::run::{Run, mission_in, nid_engine_of};
 use crate::style::{colour_of, dashes_of};
 use rbc_line::Line;
-use rbc_world::{LineView, Mark};
+use text_script::{LineView, Mark};
 use std::alloc::AllocError;
 
 // The signs, each with where it lies and what it means.

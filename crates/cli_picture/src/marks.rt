@@ -4,7 +4,7 @@ use crate::run::{Run, track_of};
 use crate::scale::Scale;
 use crate::style::colour_of;
 use rbc_place::{Place, section_end};
-use rbc_world::MissionView;
+use text_script::MissionView;
 use std::alloc::AllocError;
 
 #[derive(Clone, Copy)]

@@ -4,7 +4,7 @@
 
 use rbc_line::Line;
 use rbc_place::Place;
-use rbc_world::{LineView, MissionView};
+use text_script::{LineView, MissionView};
 
 /// What an event is.
 #[derive(Clone, Copy)]

@@ -4,7 +4,7 @@ use crate::run::{Run, waiting_in};
 use crate::scale::Scale;
 use crate::style::colour_of;
 use rbc_place::Place;
-use rbc_world::{MissionView, Supervisor};
+use text_script::{MissionView, Supervisor};
 use std::alloc::AllocError;
 
 pub fn draw_seats(svg: &mut String, scale: &Scale<'_>, run: &Run<'_>) -> Result<(), AllocError> {

@@ -4,7 +4,7 @@ use Rattle.std.specs.Result.{OnOk}
 use Rattle.std.proofs.lemmas.List.{drop_more}
 use Rattle.rbc_spec.specs.Line.{Line}
 use Rattle.rbc_spec.specs.World.{World}
-use Rattle.rbc_world.specs.declared.event.WorldEvent.{WorldEvent}
+use Rattle.text_script.specs.rbc_world.declared.event.WorldEvent.{WorldEvent}
 use Rattle.text_script.specs.declared.script.Entry.{Entry}
 use Rattle.text_script.specs.declared.script.Entry.TheVariants as entry
 use Rattle.text_script.specs.declared.play.PlayFault.{PlayFault}

@@ -4,8 +4,8 @@ use Rattle.std.specs.List.{filter, range_with_len}
 use Rattle.rbc_spec.specs.Line.{Line}
 use Rattle.rbc_spec.specs.Frame.{Frame}
 use Rattle.rbc_spec.specs.World.{World, Answer, Answered, NoCentre, NotSent, Fault}
-use Rattle.rbc_world.specs.declared.event.WorldEvent.{WorldEvent}
-use Rattle.rbc_world.specs.declared.event.WorldEvent.TheVariants.{Deliver}
+use Rattle.text_script.specs.rbc_world.declared.event.WorldEvent.{WorldEvent}
+use Rattle.text_script.specs.rbc_world.declared.event.WorldEvent.TheVariants.{Deliver}
 use Rattle.cli_storm.specs.declared.links.Link.{Link}
 use Rattle.cli_storm.specs.Draws.{next, drawn}
 

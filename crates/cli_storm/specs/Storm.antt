@@ -3,9 +3,9 @@ use Rattle.std.specs.Prelude.{ℕ, zero, suc, List, [], ◌∷◌, Option, Some,
 use Rattle.rbc_spec.specs.Line.{Line}
 use Rattle.rbc_spec.specs.World.{World, Answer, world_step}
 use Rattle.rbc_spec.specs.Step.{Refusal}
-use Rattle.rbc_centre.specs.declared.fault.StepFault.{StepFault}
-use Rattle.rbc_world.specs.Views.{event_of}
-use Rattle.rbc_world.specs.declared.event.WorldEvent.{WorldEvent}
+use Rattle.text_script.specs.rbc_centre.declared.fault.StepFault.{StepFault}
+use Rattle.text_script.specs.rbc_world.Views.{event_of}
+use Rattle.text_script.specs.rbc_world.declared.event.WorldEvent.{WorldEvent}
 use Rattle.text_script.specs.declared.script.Entry.{Entry}
 use Rattle.text_script.specs.declared.script.Entry.TheVariants as entry
 use Rattle.text_script.specs.declared.play.PlayFault.{PlayFault}

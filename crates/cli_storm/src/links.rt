@@ -3,14 +3,13 @@
 ghost use Rattle.std.specs.Prelude.{◌≡◌, ◌<◌, IfOk, length, map, slice_get, Some};
 ghost use Rattle.std.specs.List.{filter};
 ghost use Rattle.rbc_spec.specs.World.{new_world};
-ghost use Rattle.rbc_centre.specs.Sent.{frames_to};
-ghost use Rattle.rbc_world.specs.Views.{answer_of};
+ghost use Rattle.text_script.specs.rbc_centre.Sent.{frames_to};
+ghost use Rattle.text_script.specs.rbc_world.Views.{answer_of};
 ghost use Rattle.cli_storm.specs.Links.{all_links, counted, counted_by, delivery, has_sent, last_number};
 
 use crate::draws::Draws;
-use rbc_centre::{Frame, Frames};
+use text_script::{Answer, Frame, Frames, WorldEvent};
 use rbc_line::Line;
-use rbc_world::{Answer, WorldEvent};
 use std::alloc::{AllocError, Global};
 
 /// From one centre of a line to another.

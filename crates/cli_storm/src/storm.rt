@@ -1,8 +1,8 @@
 ghost use Rattle.std.specs.Prelude.{◌≡◌, ◌∷◌, [], IfOk, OnErr, OnOk};
 ghost use Rattle.rbc_spec.specs.World.{centre_of, new_world, world_step};
-ghost use Rattle.rbc_world.specs.World.{line_of, state_of};
-ghost use Rattle.rbc_world.specs.Views.{answer_of, event_of};
-ghost use Rattle.rbc_world.specs.Answers.{Gives};
+ghost use Rattle.text_script.specs.rbc_world.World.{line_of, state_of};
+ghost use Rattle.text_script.specs.rbc_world.Views.{answer_of, event_of};
+ghost use Rattle.text_script.specs.rbc_world.Answers.{Gives};
 ghost use Rattle.text_script.specs.declared.script.Entry.TheVariants as entry;
 ghost use Rattle.text_script.specs.Played.{Leaves};
 ghost use Rattle.cli_storm.specs.Links.{all_links};
@@ -11,10 +11,8 @@ ghost use Rattle.cli_storm.specs.Storm.{Continues, after, deliveries, played_by,
 use crate::draws::Draws;
 use crate::links::{Link, count_answer, draw_delivery, links_of};
 use text_script::play::{PlayFault, Teller};
-use text_script::script::Entry;
-use rbc_centre::StepFault;
+use text_script::{Answer, StepFault, World, WorldEvent, script::Entry};
 use rbc_line::Line;
-use rbc_world::{Answer, World, WorldEvent};
 use std::alloc::{AllocError, Global};
 
 /// How many deliveries are drawn after an event of the script.

@@ -5,8 +5,8 @@ use Rattle.rbc_spec.specs.Line.{Line}
 use Rattle.rbc_spec.specs.Step.{Refusal, ClockEnd as AtClockEnd, LinkFull as AtLinkFull}
 use Rattle.rbc_spec.specs.World as spec
 use Rattle.rbc_spec.specs.World.{World, Event}
-use Rattle.rbc_centre.specs.declared.fault.StepFault.{StepFault}
-use Rattle.rbc_centre.specs.declared.fault.StepFault.TheVariants.{Memory, LinkFull, ClockEnd}
+use Rattle.rbc_world.specs.rbc_centre.declared.fault.StepFault.{StepFault}
+use Rattle.rbc_world.specs.rbc_centre.declared.fault.StepFault.TheVariants.{Memory, LinkFull, ClockEnd}
 use Rattle.rbc_world.specs.Views.{answer_of}
 use Rattle.rbc_world.specs.declared.event.Answer.{Answer}
 use Rattle.law_alike.specs.Alike.{IsStep, AreSteps, seen}

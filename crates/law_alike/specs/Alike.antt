@@ -8,7 +8,7 @@ use Rattle.rbc_spec.specs.World.{World, Event, world_step}
 use Rattle.rbc_msgs.specs.Layout.{IsBytes}
 use Rattle.rbc_msgs.specs.TrackSpelling.{SpellsTrack}
 use Rattle.rbc_linkmsg.specs.Spelling.{Spells}
-use Rattle.rbc_centre.specs.declared.fault.StepFault.{StepFault}
+use Rattle.rbc_world.specs.rbc_centre.declared.fault.StepFault.{StepFault}
 use Rattle.rbc_world.specs.Answers.{Gives}
 use Rattle.rbc_world.specs.Views.{answer_of}
 use Rattle.rbc_world.specs.declared.event.Answer.{Answer}

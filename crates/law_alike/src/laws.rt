@@ -4,8 +4,8 @@ ghost use Rattle.std.specs.Prelude.{◌≡◌, ◌≢◌, ℕ, List, All, Result
 ghost use Rattle.rbc_spec.specs.Line.{Line};
 ghost use Rattle.rbc_spec.specs.Outcome.{Outcome};
 ghost use Rattle.rbc_spec.specs.World.{World, Event};
-ghost use Rattle.rbc_centre.specs.declared.fault.StepFault.{StepFault};
-ghost use Rattle.rbc_centre.specs.declared.fault.StepFault.TheVariants.{Memory};
+ghost use Rattle.rbc_world.specs.rbc_centre.declared.fault.StepFault.{StepFault};
+ghost use Rattle.rbc_world.specs.rbc_centre.declared.fault.StepFault.TheVariants.{Memory};
 ghost use Rattle.rbc_world.specs.declared.event.Answer.{Answer};
 ghost use Rattle.law_alike.specs.Alike.{IsStep, AreSteps, IsWrittenAs, seen};
 

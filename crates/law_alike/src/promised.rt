@@ -4,8 +4,7 @@ ghost use Rattle.rbc_world.specs.World.{line_of, state_of};
 ghost use Rattle.rbc_world.specs.Views.{event_of};
 ghost use Rattle.law_alike.specs.Alike.{IsStep};
 
-use rbc_centre::StepFault;
-use rbc_world::{Answer, World, WorldEvent};
+use rbc_world::{Answer, StepFault, World, WorldEvent};
 
 /// A world's step is such a step. Nothing is known of it here but the contract of `World::step`, so whatever program
 /// keeps that contract is one.

@@ -24,7 +24,7 @@ use Rattle.rbc_right.specs.Rights.{Rights, is_here}
 use Rattle.rbc_session.specs.Sessions.{Records, phase_at}
 use Rattle.rbc_session.specs.SessionStates.{session_phase}
 use Rattle.rbc_hand.specs.Hands.{Holding}
-use Rattle.rbc_allocation.specs.Sections.{IsHeldAt}
+use Rattle.rbc_train.specs.rbc_allocation.Sections.{IsHeldAt}
 use Rattle.rbc_train.specs.SessionStates.{Stands}
 use Rattle.rbc_train.specs.Trains.{unknown_state}
 use Rattle.rbc_centre.specs.Kept.{AreTrains}

@@ -29,7 +29,7 @@ use Rattle.rbc_link.specs.Outgoing.{frames_by}
 use Rattle.rbc_link.specs.Posted.{HasPosted}
 use Rattle.rbc_linkmsg.specs.Bodies.{body_of}
 use Rattle.rbc_linkmsg.specs.declared.body.Body.{Body}
-use Rattle.rbc_mission.specs.Supervisions.{HasRouteForm}
+use Rattle.rbc_train.specs.rbc_mission.Supervisions.{HasRouteForm}
 use Rattle.rbc_session.specs.Sessions.{Records}
 use Rattle.rbc_train.specs.declared.train.TrainState.{TrainState}
 use Rattle.rbc_centre.specs.Kept.{IsCentre, AreLinks, AreTrains}

@@ -6,12 +6,12 @@ use Rattle.std.specs.Option.{option_map_or}
 use Rattle.rbc_spec.specs.Maps.{put}
 use Rattle.rbc_spec.specs.Line.{Line, Train, is_home, train_number}
 use Rattle.rbc_hand.specs.Hands.{Holding}
-use Rattle.rbc_allocation.specs.Sections.{IsHeldAt}
+use Rattle.rbc_train.specs.rbc_allocation.Sections.{IsHeldAt}
 use Rattle.rbc_right.specs.Rights.{Rights, is_here}
 use Rattle.rbc_session.specs.Sessions.{Records}
 use Rattle.rbc_spec.specs.Centre.{Phase}
 use Rattle.rbc_session.specs.declared.session.SessionState.{SessionState}
-use Rattle.rbc_pending_start.specs.Waits.{WaitState, IsCovered}
+use Rattle.rbc_train.specs.rbc_pending_start.Waits.{WaitState, IsCovered}
 use Rattle.rbc_train.specs.SessionStates.{Enters, Stands}
 use Rattle.rbc_centre.specs.State.{of_trains, right_at, IsOfTrain}
 use Rattle.rbc_train.proofs.SessionStates.{stands_for_train, stands_with_train}

@@ -7,7 +7,7 @@ use Rattle.rbc_book.specs.Book.{Pages, entry_at, wish_at}
 use Rattle.rbc_right.specs.Rights.{Rights, is_here}
 use Rattle.rbc_session.specs.Sessions.{Records}
 use Rattle.rbc_session.specs.SessionStates.{session_phase}
-use Rattle.rbc_pending_start.specs.Waits.{IsCovered}
+use Rattle.rbc_train.specs.rbc_pending_start.Waits.{IsCovered}
 use Rattle.rbc_handover.specs.Expectations.{expected_from}
 use Rattle.rbc_link.specs.declared.link.Link.{Link}
 use Rattle.rbc_link.specs.Links.{sent_to, taken_from}

@@ -7,7 +7,7 @@ ghost use Rattle.rbc_spec.specs.Step as spec;
 ghost use Rattle.rbc_spec.specs.Step.{refusal, stamp_of};
 ghost use Rattle.rbc_book.specs.Entries.{entry_of};
 ghost use Rattle.rbc_line.specs.SectionRuns.{run_of};
-ghost use Rattle.rbc_place.specs.Places.{place_of};
+ghost use Rattle.rbc_train.specs.rbc_place.Places.{place_of};
 ghost use Rattle.rbc_train.specs.Desks.{mission_by};
 ghost use Rattle.rbc_msgs.specs.StepMessage.{step_message};
 ghost use Rattle.rbc_session.specs.SessionStates.{phase_of};

@@ -22,6 +22,7 @@ mod returned;
 mod same;
 mod sent_frame;
 
+pub use rbc_train::{MissionFacts, Place, Told};
 pub use centre::{Centre, LAST_STAMP};
 pub use event::Event;
 pub use fault::StepFault;
@@ -31,7 +32,6 @@ pub use outcome::{Outcome, Word};
 pub use rbc_line::SectionRun;
 pub use rbc_link::LinkAnswer;
 pub use rbc_linkmsg::{Body, Frame};
-pub use rbc_mission::{MissionFacts, Told};
 pub use rbc_session::Phase;
 pub use rbc_train::{Letter, Mail, Notice, Reason, Saying, TrainPage};
 pub use sent_frame::SentFrame;

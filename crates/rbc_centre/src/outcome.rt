@@ -8,8 +8,7 @@ ghost use Rattle.rbc_centre.specs.Views.{word_of};
 use crate::frames::Frames;
 use arrayvec::ArrayVec;
 use rbc_link::LinkAnswer;
-use rbc_mission::Told;
-use rbc_train::{Heard, Reason, Saying};
+use rbc_train::{Heard, Reason, Saying, Told};
 
 /// A word to the interlocking of a section, by its number over the whole line.
 #[derive(Clone, Copy, Debug, PartialEq, Eq)]

@@ -30,3 +30,4 @@ pub mod Shortened
 pub mod RouteFrames
 pub mod Gone
 pub mod Takes
+pub use Rattle.rbc_border.proofs as rbc_border_lemmas

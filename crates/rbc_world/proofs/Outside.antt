@@ -9,8 +9,8 @@ use Rattle.law_promises.proofs.Pieces.{run_safe}
 use Rattle.law_reached.proofs.Whole.{the_run}
 use Rattle.rbc_centre.specs.declared.fault.StepFault.{StepFault}
 use Rattle.rbc_world.specs.Answers.{Gives}
-use Rattle.rbc_train.specs.Reasons.{reason_of}
-use Rattle.rbc_train.specs.Sayings.{saying_of}
+use Rattle.rbc_centre.specs.rbc_train.Reasons.{reason_of}
+use Rattle.rbc_centre.specs.rbc_train.Sayings.{saying_of}
 use Rattle.rbc_centre.specs.Views.{words_of}
 use Rattle.rbc_world.specs.Views.{event_of, answer_of, spoken_by}
 use Rattle.rbc_world.specs.declared.event.Answer.{Answer as AnswerCode}

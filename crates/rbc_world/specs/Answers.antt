@@ -7,7 +7,7 @@ use Rattle.rbc_spec.specs.World.{Event, World, new_world, mention, frame_sent, I
 use Rattle.rbc_spec.specs.Step.{Refusal, ClockEnd as AtClockEnd, LinkFull as AtLinkFull}
 use Rattle.rbc_spec.specs.Message.{TrainMessage, InitiationOfSession}
 use Rattle.rbc_msgs.specs.StepMessage.{step_message}
-use Rattle.rbc_train.specs.Letters.{tells_others}
+use Rattle.rbc_centre.specs.rbc_train.Letters.{tells_others}
 use Rattle.rbc_msgs.specs.TrainText.{TrainText}
 use Rattle.rbc_msgs.specs.TrainReading.{read_train}
 use Rattle.rbc_msgs.specs.Kept.{kept_packets, IsAfterPackets}

@@ -6,9 +6,9 @@ use Rattle.rbc_spec.specs.LineCentre.{LineState, IsHand}
 use Rattle.rbc_spec.specs.World.{World}
 use Rattle.rbc_spec.specs.ReadOff.{Held, held, read_off}
 use Rattle.rbc_line.specs.SectionRuns.{run_of}
-use Rattle.rbc_place.specs.Places.{place_of}
-use Rattle.rbc_shorten.specs.Facts.{standing_of}
-use Rattle.rbc_session.specs.SessionStates.{phase_of}
+use Rattle.rbc_centre.specs.rbc_place.Places.{place_of}
+use Rattle.rbc_centre.specs.rbc_shorten.Facts.{standing_of}
+use Rattle.rbc_centre.specs.rbc_session.SessionStates.{phase_of}
 use Rattle.rbc_world.specs.declared.view.Mark.{Mark}
 use Rattle.rbc_world.specs.declared.view.Mark.TheVariants as mark
 use Rattle.rbc_world.specs.declared.view.Supervisor.{Supervisor}

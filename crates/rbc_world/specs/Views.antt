@@ -11,7 +11,7 @@ use Rattle.rbc_msgs.specs.Faults.{fault_number}
 use Rattle.rbc_msgs.specs.TrainReading.{read_train}
 use Rattle.rbc_msgs.specs.declared.fault.MsgFault.{MsgFault}
 use Rattle.rbc_msgs.specs.declared.fault.MsgFault.TheVariants.{Memory}
-use Rattle.rbc_train.specs.Sayings.{saying_of}
+use Rattle.rbc_centre.specs.rbc_train.Sayings.{saying_of}
 use Rattle.rbc_centre.specs.Views.{outcome_of, words_of}
 use Rattle.rbc_world.specs.declared.event.WorldEvent.{WorldEvent}
 use Rattle.rbc_world.specs.declared.event.WorldEvent.TheVariants as event

@@ -9,16 +9,15 @@ ghost use Rattle.rbc_spec.specs.ReadOff.{held, held_at};
 ghost use Rattle.law_reached.specs.Seen.{yielded_on_way};
 ghost use Rattle.rbc_linkmsg.specs.Bodies as bodies;
 ghost use Rattle.rbc_linkmsg.specs.Bodies.{body_of};
-ghost use Rattle.rbc_place.specs.Places.{place_of};
+ghost use Rattle.rbc_centre.specs.rbc_place.Places.{place_of};
 ghost use Rattle.rbc_world.specs.World.{line_of, state_of};
 ghost use Rattle.rbc_world.specs.View.{held_shown};
 ghost use Rattle.rbc_world.specs.Missions.{held_by_a_centre, carried_between, carried_from};
 
 use crate::view::{MissionView, Supervisor};
 use crate::world::World;
-use rbc_centre::{Body, MissionFacts};
+use rbc_centre::{Body, MissionFacts, Place};
 use rbc_linkmsg::YieldedPlace;
-use rbc_place::Place;
 
 impl World {
     // The mission of a train, as the centre has it that supervises the train, and else as the frame has it that hands

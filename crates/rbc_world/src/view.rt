@@ -12,9 +12,8 @@ ghost use Rattle.rbc_world.specs.View.{mark_shown, held_shown, seat_of, EachOf, 
 
 use crate::world::{World, known_line};
 use rbc_book::{Entry, Page};
-use rbc_centre::{MissionFacts, Phase, SectionRun};
+use rbc_centre::{MissionFacts, Phase, Place, SectionRun};
 use rbc_line::Line;
-use rbc_place::Place;
 use std::alloc::{AllocError, Global};
 
 /// What a section is used for, as the line sees it.

@@ -4,14 +4,14 @@ use Rattle.rbc_spec.specs.World.{Bytes}
 use Rattle.rbc_msgs.specs.TrainText.{TrainText}
 use Rattle.rbc_msgs.specs.TrainSpelling.{SpellsTrain}
 use Rattle.rbc_msgs.proofs.TrainLaws.{read_train-again}
-use Rattle.rbc_centre.specs.Views as centre
-use Rattle.rbc_centre.specs.declared.event.Event.TheVariants.{Train}
+use Rattle.text_script.specs.rbc_centre.Views as centre
+use Rattle.text_script.specs.rbc_centre.declared.event.Event.TheVariants.{Train}
 use Rattle.law_logs.specs.Logs.{happened, happening}
 use Rattle.rbc_log.specs.Entries.{entry_of}
 use Rattle.rbc_log.specs.declared.entry.Entry.{Entry}
-use Rattle.rbc_world.specs.Views.{event_of, numbered}
-use Rattle.rbc_world.specs.declared.event.WorldEvent.TheVariants as world
-use Rattle.rbc_centre.specs.declared.event.Event.{Event}
+use Rattle.text_script.specs.rbc_world.Views.{event_of, numbered}
+use Rattle.text_script.specs.rbc_world.declared.event.WorldEvent.TheVariants as world
+use Rattle.text_script.specs.rbc_centre.declared.event.Event.{Event}
 use Rattle.serve_control.specs.Events.{IsCommitted}
 
 pub message_happened : (e : Entry) (m : TrainText) (bytes : Vec ℕ Global) → e.event ≡ Train m → SpellsTrain bytes.items m →

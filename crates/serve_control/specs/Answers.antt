@@ -2,9 +2,9 @@
 use Rattle.std.specs.Prelude.{◌≡◌, ℕ, List, ◌++◌, Result, Ok, Err, codes}
 use Rattle.std.specs.Fmt.{decimal}
 use Rattle.rbc_spec.specs.Line.{Line}
-use Rattle.rbc_centre.specs.Views.{outcome_of}
-use Rattle.rbc_centre.specs.declared.outcome.Outcome.{Outcome}
-use Rattle.rbc_world.specs.declared.event.WorldEvent.{WorldEvent}
+use Rattle.text_script.specs.rbc_centre.Views.{outcome_of}
+use Rattle.text_script.specs.rbc_centre.declared.outcome.Outcome.{Outcome}
+use Rattle.text_script.specs.rbc_world.declared.event.WorldEvent.{WorldEvent}
 use Rattle.rbc_node.specs.Faults.{number_of_fault}
 use Rattle.rbc_node.specs.declared.fault.ShareFault.{ShareFault}
 use Rattle.text_script.specs.Print.Rows.{name_at, event_row}

@@ -1,10 +1,10 @@
 -- The event of an entry, as it came to its centre.
 use Rattle.std.specs.Prelude.{◌≡◌, ℕ}
 use Rattle.rbc_msgs.specs.TrainSpelling.{SpellsTrain}
-use Rattle.rbc_centre.specs.declared.event.Event.{Event}
-use Rattle.rbc_centre.specs.declared.event.Event.TheVariants as committed
-use Rattle.rbc_world.specs.declared.event.WorldEvent.{WorldEvent}
-use Rattle.rbc_world.specs.declared.event.WorldEvent.TheVariants as came
+use Rattle.text_script.specs.rbc_centre.declared.event.Event.{Event}
+use Rattle.text_script.specs.rbc_centre.declared.event.Event.TheVariants as committed
+use Rattle.text_script.specs.rbc_world.declared.event.WorldEvent.{WorldEvent}
+use Rattle.text_script.specs.rbc_world.declared.event.WorldEvent.TheVariants as came
 
 -- what centre c took came to it so: a train's bytes spell its whole message, with the packets that no step reads
 abbrev pub IsCommitted : ℕ → Event → WorldEvent → Type 0

@@ -3,11 +3,9 @@ ghost use Rattle.std.specs.Io.KnownBytes.{Appends};
 ghost use Rattle.serve_control.specs.Answers.{IsCommitPrint};
 
 use text_script::print::{name_of, print_event, print_outcome};
-use text_script::status::Fault;
-use rbc_centre::Outcome;
+use text_script::{Outcome, WorldEvent, status::Fault};
 use rbc_line::Line;
 use rbc_node::ShareFault;
-use rbc_world::WorldEvent;
 use std::alloc::Global;
 use std::io::Write;
 

@@ -4,7 +4,7 @@ ghost use Rattle.serve_control.specs.Commands.{bidden, bidden_once, Bids, IsNoCo
 
 use text_script::script::{Entry, ScriptFault, script_of};
 use rbc_line::Line;
-use rbc_world::WorldEvent;
+use text_script::WorldEvent;
 use std::alloc::Global;
 
 /// What a line at the control endpoint asks for.

@@ -1,18 +1,16 @@
 ghost use Rattle.std.specs.Prelude.{◌≡◌, IfOk};
 ghost use Rattle.law_logs.specs.Logs.{happened};
 ghost use Rattle.rbc_log.specs.Entries.{entry_of};
-ghost use Rattle.rbc_world.specs.Views.{event_of};
+ghost use Rattle.text_script.specs.rbc_world.Views.{event_of};
 ghost use Rattle.serve_control.specs.Events.{IsCommitted};
 
 use crate::fault::ServeFault;
 use text_script::print::{name_of, print_event, print_line, print_outcome};
-use text_script::status::Fault;
-use rbc_centre::{Event, StepFault};
+use text_script::{Event, StepFault, World, WorldEvent, status::Fault};
 use rbc_line::Line;
 use rbc_log::{CentreLog, Entry, merge};
 use rbc_msgs::encode_train;
 use rbc_node::Family;
-use rbc_world::{World, WorldEvent};
 use std::alloc::{AllocError, Global};
 use std::io::{BufWriter, Write};
 

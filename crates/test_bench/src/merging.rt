@@ -4,7 +4,7 @@ ghost use Rattle.std.specs.Prelude.{◌<◌, length};
 
 use crate::missions::line_in;
 use anyhow::bail;
-use rbc_centre::Event;
+use text_script::Event;
 use rbc_line::Line;
 use rbc_log::{CentreLog, merge};
 use std::alloc::Global;

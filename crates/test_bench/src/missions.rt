@@ -3,10 +3,9 @@
 use crate::print::print_answer;
 use anyhow::{Context, bail};
 use text_script::script::{Entry, script_of};
-use rbc_centre::Outcome;
+use text_script::{Outcome, Reply, World, WorldEvent};
 use rbc_line::Line;
 use rbc_msgs::encode_track;
-use rbc_world::{Reply, World, WorldEvent};
 use std::alloc::Global;
 use std::io::{BufWriter, Write};
 use std::time::Instant;

@@ -1,9 +1,8 @@
 //! What a world answers, as lines of text.
 
-use rbc_centre::{LinkAnswer, Outcome, Saying, SentFrame, Word};
+use text_script::{Answer, LinkAnswer, Outcome, Saying, SentFrame, Word};
 use rbc_linkmsg::encode_frame;
 use rbc_msgs::encode_track;
-use rbc_world::Answer;
 use std::alloc::{AllocError, Global};
 use std::io;
 use std::io::Write;

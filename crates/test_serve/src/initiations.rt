@@ -5,7 +5,7 @@ use crate::client::{Done, Missed, connect};
 use crate::line::{INITIATION_OF_ONE, VERSION, bytes_of, node_of_a, two_centres};
 use crate::order::heard_to_the_end;
 use crossbeam_channel::{Receiver, bounded};
-use rbc_centre::{Event, Outcome};
+use rbc_world::{Event, Outcome};
 use rbc_msgs::decode_train;
 use rbc_node::{Node, Open, Share};
 use serve_workers::connections::{Connection, TrainConnections, Shared, ConnectionSink};

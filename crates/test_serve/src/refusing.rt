@@ -2,7 +2,7 @@
 
 use crate::client::{Done, Missed, answers, connect};
 use crate::line::two_centres;
-use rbc_centre::{Body, Event, Frame};
+use rbc_world::{Body, Event, Frame};
 use rbc_line::Line;
 use rbc_node::{Node, Open};
 use serve_line::clients::run_endpoint;

@@ -13,8 +13,8 @@ use Rattle.std.specs.List.{AllByRecursion, flat_map, starts_with}
 use Rattle.std.specs.Fmt.{decimal}
 use Rattle.hex.specs.Hex.{encode_upper}
 use Rattle.rbc_spec.specs.Line.{Line, IsLine, is_centre}
-use Rattle.rbc_world.specs.declared.event.WorldEvent.{WorldEvent}
-use Rattle.rbc_world.specs.declared.event.WorldEvent.TheVariants as event
+use Rattle.text_script.specs.rbc_world.declared.event.WorldEvent.{WorldEvent}
+use Rattle.text_script.specs.rbc_world.declared.event.WorldEvent.TheVariants as event
 use Rattle.text_script.specs.Entries.{event_of}
 use Rattle.text_script.specs.Print.Rows.{event_row, name_at}
 use Rattle.text_journal.specs.Journal.{checksum, digest, entry_line, first_line, journal, told}

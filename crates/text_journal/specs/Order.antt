@@ -2,7 +2,7 @@
 use Rattle.std.specs.Prelude.{◌≡◌, ℕ, ◌+◌, ◌-◌, ◌<◌, ◌≤◌, List, map, length, slice_index, Option, Some, None}
 use Rattle.std.specs.List.{AllPairs}
 use Rattle.rbc_spec.specs.World.{centre_of}
-use Rattle.rbc_world.specs.Views.{event_of}
+use Rattle.text_script.specs.rbc_world.Views.{event_of}
 use Rattle.text_journal.specs.declared.entry.Entry.{Entry}
 
 -- the centre that took the event of an entry

@@ -1,7 +1,7 @@
 ghost use Rattle.std.specs.Prelude.{◌≡◌};
 ghost use Rattle.text_journal.specs.Order.{taken_at};
 
-use rbc_world::WorldEvent;
+use text_script::WorldEvent;
 
 /// An event that a centre took, and the stamp of what it answered.
 #[derive(Debug, Drop)]

@@ -7,7 +7,7 @@ use crate::entry::Entry;
 use crate::writing::entry_line;
 use text_script::script::{self, EntryFault, entry_of};
 use rbc_line::Line;
-use rbc_world::WorldEvent;
+use text_script::WorldEvent;
 use std::alloc::Global;
 
 /// The entry of the centre's journal that has this line, which is given without its line feed.

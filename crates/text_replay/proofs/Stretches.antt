@@ -5,7 +5,7 @@ use Rattle.std.proofs.lemmas.Bool.{cases_lt}
 use Rattle.std.proofs.lemmas.Bool.Decides.{nat_tests}
 use Rattle.std.proofs.lemmas.List.Elements.{All-append, All-cons, All-nil}
 use Rattle.std.proofs.lemmas.Option.{slice_get_past, slice_get_within}
-use Rattle.rbc_world.specs.declared.view.SectionView.{SectionView}
+use Rattle.text_script.specs.rbc_world.declared.view.SectionView.{SectionView}
 use Rattle.text_replay.specs.declared.stretch.Stretch.{Stretch}
 use Rattle.text_replay.specs.Stretches.{shown_at, IsSeen, AreStretchesOf}
 

@@ -1,9 +1,9 @@
 -- What the bars of a diagram say of a section.
 use Rattle.std.specs.Prelude.{◌≡◌, ℕ, ◌<◌, ◌≤◌, ◌&&◌, nat_lt, nat_le, false, List, [], ◌∷◌, Option, Some, None, unwrap_or, slice_get, if◌then◌else◌}
 use Rattle.std.specs.List.{All}
-use Rattle.rbc_world.specs.declared.view.Mark.TheVariants as mark
-use Rattle.rbc_world.specs.declared.view.SectionView.{SectionView}
-use Rattle.rbc_world.specs.declared.view.LineView.{LineView}
+use Rattle.text_script.specs.rbc_world.declared.view.Mark.TheVariants as mark
+use Rattle.text_script.specs.rbc_world.declared.view.SectionView.{SectionView}
+use Rattle.text_script.specs.rbc_world.declared.view.LineView.{LineView}
 use Rattle.text_replay.specs.declared.stretch.Stretch.{Stretch}
 
 -- what is seen of a section: one that is not of the line is shut

@@ -2,13 +2,12 @@
 
 ghost use Rattle.std.specs.Prelude.{◌≡◌};
 ghost use Rattle.rbc_spec.specs.World.{centre_of};
-ghost use Rattle.rbc_world.specs.Views.{event_of};
+ghost use Rattle.text_script.specs.rbc_world.Views.{event_of};
 
 use crate::cut::Cut;
 use text_script::script::{Entry, ScriptFault, script_of};
-use text_script::status::Fault;
+use text_script::{WorldEvent, status::Fault};
 use rbc_line::Line;
-use rbc_world::WorldEvent;
 use std::alloc::Global;
 
 /// What an event's line begins with in a print.

@@ -1,6 +1,6 @@
 //! The handovers that are announced, by what the centres send each other.
 
-use rbc_centre::Body;
+use text_script::Body;
 use rbc_line::Line;
 use std::alloc::{AllocError, Global};
 

@@ -7,9 +7,8 @@ use crate::played::{Played, play};
 use crate::shown::{phase_now, section_now};
 use crate::stretch::stretches_of;
 use text_page::{Changes, Layout, LineNow, MissionNow, Part, Phase, RunSheet, SessionNow};
-use text_script::status::Fault;
+use text_script::{LineView, WorldEvent, status::Fault};
 use rbc_line::Line;
-use rbc_world::{LineView, WorldEvent};
 use std::alloc::{AllocError, Global};
 
 /// How many events are shown at most.

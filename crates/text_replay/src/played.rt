@@ -5,10 +5,8 @@ use crate::handovers::Handovers;
 use crate::shown::mission_now;
 use crate::words::event_in_words;
 use text_page::MissionNow;
-use text_script::status::Fault;
-use rbc_centre::SectionRun;
+use text_script::{Answer, LineView, MissionView, SectionRun, Supervisor, World, WorldEvent, status::Fault};
 use rbc_line::Line;
-use rbc_world::{Answer, LineView, MissionView, Supervisor, World, WorldEvent};
 use std::alloc::{AllocError, Global};
 
 /// A part of a run. What stands before its first event comes first in each list but `words`.

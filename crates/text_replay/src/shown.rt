@@ -1,12 +1,11 @@
 //! What the page is told of a section, a mission and a session.
 
 ghost use Rattle.std.specs.Prelude.{◌≡◌};
-ghost use Rattle.rbc_world.specs.View.{mark_shown};
+ghost use Rattle.text_script.specs.rbc_world.View.{mark_shown};
 ghost use Rattle.text_replay.specs.Shown.{usage_shown};
 
 use text_page::{MissionNow, Phase, Run, SectionNow, Usage};
-use rbc_centre::{MissionFacts, Phase as SessionPhase, SectionRun};
-use rbc_world::{Mark, SectionView};
+use text_script::{Mark, MissionFacts, Phase as SessionPhase, SectionRun, SectionView};
 
 /// A section.
 pub(crate) fn section_now(view: SectionView) -> SectionNow

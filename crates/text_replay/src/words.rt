@@ -1,10 +1,9 @@
 //! Events in words.
 
 use text_script::print::{print_answer, print_event};
-use text_script::status::Fault;
+use text_script::{Answer, WorldEvent, status::Fault};
 use text_words::{Told, line_in_words};
 use rbc_line::Line;
-use rbc_world::{Answer, WorldEvent};
 use std::alloc::{AllocError, Global};
 
 /// An event and what is answered to it, in words.

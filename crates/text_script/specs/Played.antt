@@ -3,7 +3,7 @@ use Rattle.std.specs.Prelude.{◌≡◌, List, [], ◌∷◌, ◌++◌, Result, 
 use Rattle.rbc_spec.specs.Line.{Line}
 use Rattle.rbc_spec.specs.World as spec
 use Rattle.rbc_spec.specs.World.{World, world_step}
-use Rattle.rbc_centre.specs.declared.fault.StepFault.{StepFault}
+use Rattle.rbc_world.specs.rbc_centre.declared.fault.StepFault.{StepFault}
 use Rattle.rbc_world.specs.Answers.{IsRefusal}
 use Rattle.rbc_world.specs.Views.{event_of}
 use Rattle.rbc_world.specs.declared.event.WorldEvent.{WorldEvent}

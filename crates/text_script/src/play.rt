@@ -7,8 +7,7 @@ ghost use Rattle.text_script.specs.declared.script.Entry.TheVariants as entry;
 ghost use Rattle.text_script.specs.Played.{Telling, Showing, Coming, Answering, Leaves};
 
 use crate::script::Entry;
-use rbc_centre::StepFault;
-use rbc_world::{Answer, World, WorldEvent};
+use rbc_world::{Answer, StepFault, World, WorldEvent};
 
 /// Who is told what a script comes to.
 pub trait Teller {

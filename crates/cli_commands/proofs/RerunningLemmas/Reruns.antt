@@ -4,11 +4,11 @@ use Rattle.std.proofs.lemmas.List.{map-append}
 use Rattle.rbc_spec.specs.Line.{Line}
 use Rattle.rbc_spec.specs.Step.{Refusal, ClockEnd as AtClockEnd, LinkFull as AtLinkFull}
 use Rattle.rbc_spec.specs.World.{World, Answer, IsRefused, new_world, world_run, world_step}
-use Rattle.rbc_centre.specs.declared.fault.StepFault.{StepFault}
-use Rattle.rbc_centre.specs.declared.fault.StepFault.TheVariants.{Memory, LinkFull, ClockEnd}
-use Rattle.rbc_world.specs.Answers.{IsRefusal, IsRefusedRun}
-use Rattle.rbc_world.proofs.Loop.{map_push}
-use Rattle.rbc_world.proofs.Reached.{run_on}
+use Rattle.text_script.specs.rbc_centre.declared.fault.StepFault.{StepFault}
+use Rattle.text_script.specs.rbc_centre.declared.fault.StepFault.TheVariants.{Memory, LinkFull, ClockEnd}
+use Rattle.text_script.specs.rbc_world.Answers.{IsRefusal, IsRefusedRun}
+use Rattle.text_script.proofs.rbc_world_lemmas.Loop.{map_push}
+use Rattle.text_script.proofs.rbc_world_lemmas.Reached.{run_on}
 use Rattle.law_reached.proofs.Whole.{run_of_none}
 use Rattle.text_journal.specs.declared.entry.Entry.{Entry}
 use Rattle.cli_commands.specs.Rerunning.Rerun.{IsRerun, happened, stamp_of}

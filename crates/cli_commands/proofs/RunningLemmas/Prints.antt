@@ -3,8 +3,8 @@ use Rattle.std.proofs.Common.{◌≡◌, ℕ, List, [], ◌∷◌, ◌++◌, Opt
 use Rattle.std.specs.Io.KnownBytes.{Appends}
 use Rattle.rbc_spec.specs.Line.{Line}
 use Rattle.rbc_spec.specs.World.{World, new_world, world_step}
-use Rattle.rbc_world.specs.Answers.{IsRefusal}
-use Rattle.rbc_world.specs.Views.{event_of}
+use Rattle.text_script.specs.rbc_world.Answers.{IsRefusal}
+use Rattle.text_script.specs.rbc_world.Views.{event_of}
 use Rattle.text_script.specs.declared.script.Entry.{Entry}
 use Rattle.text_script.specs.declared.script.Entry.TheVariants as entry
 use Rattle.text_script.specs.declared.play.PlayFault.{PlayFault}

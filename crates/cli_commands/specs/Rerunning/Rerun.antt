@@ -2,9 +2,9 @@
 use Rattle.std.specs.Prelude.{◌≡◌, ◌≢◌, ℕ, List, ◌∷◌, ◌++◌, map, Option, Some, None, Result, Ok, Err}
 use Rattle.rbc_spec.specs.Line.{Line}
 use Rattle.rbc_spec.specs.World.{World, Event, Answer, Answered, NoCentre, NotSent, Fault, new_world, world_step, world_run}
-use Rattle.rbc_centre.specs.declared.fault.StepFault.{StepFault}
-use Rattle.rbc_world.specs.Answers.{IsRefusedRun}
-use Rattle.rbc_world.specs.Views.{event_of}
+use Rattle.text_script.specs.rbc_centre.declared.fault.StepFault.{StepFault}
+use Rattle.text_script.specs.rbc_world.Answers.{IsRefusedRun}
+use Rattle.text_script.specs.rbc_world.Views.{event_of}
 use Rattle.text_journal.specs.Order.{taken_at}
 use Rattle.text_journal.specs.declared.entry.Entry.{Entry}
 use Rattle.cli_commands.specs.declared.rerunning.place.Place.{Place}

@@ -3,8 +3,8 @@ use Rattle.std.specs.Prelude.{◌≡◌, ℕ, List, [], ◌++◌, Option, Result
 use Rattle.std.specs.Io.KnownBytes.{Appends}
 use Rattle.rbc_spec.specs.Line.{Line}
 use Rattle.rbc_spec.specs.World.{World, new_world, centre_of}
-use Rattle.rbc_centre.specs.declared.fault.StepFault.{StepFault}
-use Rattle.rbc_world.specs.Views.{event_of}
+use Rattle.text_script.specs.rbc_centre.declared.fault.StepFault.{StepFault}
+use Rattle.text_script.specs.rbc_world.Views.{event_of}
 use Rattle.text_script.specs.declared.script.Entry.{Entry}
 use Rattle.text_script.specs.declared.play.PlayFault.{PlayFault}
 use Rattle.text_script.specs.declared.play.PlayFault.TheVariants.{Refused, Untold}

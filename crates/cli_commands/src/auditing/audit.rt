@@ -1,8 +1,7 @@
 use crate::auditing::played::Played;
 use crate::comparing::{Comparison, Verdict};
 use text_script::script::{Entry, ScriptFault, script_of};
-use text_script::status::Fault;
-use rbc_centre::StepFault;
+use text_script::{StepFault, status::Fault};
 use rbc_line::Line;
 use std::alloc::Global;
 

@@ -1,9 +1,6 @@
 use text_script::print::{print_answer, print_event, print_line, print_show};
-use text_script::script::Entry;
-use text_script::status::Fault;
-use rbc_centre::StepFault;
+use text_script::{StepFault, World, WorldEvent, script::Entry, status::Fault};
 use rbc_line::Line;
-use rbc_world::{World, WorldEvent};
 use std::alloc::Global;
 
 /// The centres of the line, on which the entries of a print are played again.

@@ -1,7 +1,6 @@
 use text_journal::Entry;
-use rbc_centre::StepFault;
+use text_script::{Answer, StepFault, World};
 use rbc_line::Line;
-use rbc_world::{Answer, World};
 use std::alloc::Global;
 
 /// Entries of which each frame that is delivered was sent, and how many others are left out.

@@ -1,6 +1,5 @@
 use crate::rerunning::place::Place;
-use text_script::status::Fault;
-use rbc_centre::StepFault;
+use text_script::{StepFault, status::Fault};
 
 /// Why the print of journals is not written whole.
 #[derive(Debug, Drop)]

@@ -1,5 +1,5 @@
 use text_journal::Entry;
-use rbc_world::{Answer, WorldEvent};
+use text_script::{Answer, WorldEvent};
 
 /// The place of an entry that does not fit: the centre of its journal, and its line in that journal, from 1.
 #[derive(Clone, Copy, Debug, PartialEq, Eq)]

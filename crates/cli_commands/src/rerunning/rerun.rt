@@ -1,12 +1,11 @@
 ghost use Rattle.std.specs.Prelude.{◌≡◌, ◌↔◌, Some, IsTrue};
-ghost use Rattle.rbc_world.specs.Views.{answer_of};
+ghost use Rattle.text_script.specs.rbc_world.Views.{answer_of};
 ghost use Rattle.cli_commands.specs.Rerunning.Rerun.{Finds, stamp_of};
 
 use crate::rerunning::place::{Place, missing_sender, next_row};
 use text_journal::Entry;
-use rbc_centre::StepFault;
+use text_script::{Answer, StepFault, World};
 use rbc_line::Line;
-use rbc_world::{Answer, World};
 use std::alloc::Global;
 
 /// Runs the events of the entries from the line's beginning, and finds the first entry whose stamp is not the one that

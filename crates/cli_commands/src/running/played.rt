@@ -1,11 +1,8 @@
 ghost use Rattle.cli_commands.specs.Running.Printed.{LeavesPrint};
 
 use crate::running::printer::Printer;
-use text_script::play::PlayFault;
-use text_script::script::Entry;
-use text_script::status::Fault;
+use text_script::{World, play::PlayFault, script::Entry, status::Fault};
 use rbc_line::Line;
-use rbc_world::World;
 use std::alloc::Global;
 use std::io::Write;
 

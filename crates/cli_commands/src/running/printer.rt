@@ -2,17 +2,15 @@
 
 ghost use Rattle.std.specs.Prelude.{◌≡◌, OnOk};
 ghost use Rattle.std.specs.Io.KnownBytes.{Appends};
-ghost use Rattle.rbc_world.specs.World.{line_of, state_of};
+ghost use Rattle.text_script.specs.rbc_world.World.{line_of, state_of};
 ghost use Rattle.text_script.specs.Print.Shown.{line_text};
 ghost use Rattle.rbc_spec.specs.World.{new_world};
 ghost use Rattle.cli_commands.specs.Running.Printed.{PrintsAll};
 
 use text_script::print::{print_answer, print_event, print_line, print_show};
 use text_script::play::{PlayFault, Teller, play};
-use text_script::script::Entry;
-use text_script::status::Fault;
+use text_script::{Answer, World, WorldEvent, script::Entry, status::Fault};
 use rbc_line::Line;
-use rbc_world::{Answer, World, WorldEvent};
 use std::alloc::Global;
 use std::io::Write;
 

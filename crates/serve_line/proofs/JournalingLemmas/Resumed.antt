@@ -1,7 +1,7 @@
 -- Entries that are committed again, in order.
 use Rattle.std.proofs.Common.{◌≡◌, ◌∙◌, ℕ, ◌+◌, ◌<◌, List, [], ◌∷◌, ◌++◌, length, take, get_or, slice_get, slice_set, Some, Result, Ok, Err, OnOk, subst, refl, sym, ap}
 use Rattle.std.proofs.lemmas.List.{take_more}
-use Rattle.rbc_centre.specs.declared.event.Event.{Event}
+use Rattle.text_script.specs.rbc_centre.declared.event.Event.{Event}
 use Rattle.rbc_node.specs.Node.{centre_of}
 use Rattle.rbc_node.specs.Receipts.{ShareValue}
 use Rattle.rbc_node.specs.declared.node.Node.{Node}

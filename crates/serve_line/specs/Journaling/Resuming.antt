@@ -1,7 +1,7 @@
 -- How centres go on from journals: each event is committed again at its centre.
 use Rattle.std.specs.Prelude.{◌≡◌, ℕ, List, [], ◌∷◌, slice_get, slice_set, Some}
 use Rattle.rbc_spec.specs.Outcome.{Outcome}
-use Rattle.rbc_centre.specs.declared.event.Event.{Event}
+use Rattle.text_script.specs.rbc_centre.declared.event.Event.{Event}
 use Rattle.rbc_node.specs.Node.{centre_of, CommitsAt}
 use Rattle.rbc_node.specs.Receipts.{ShareValue}
 use Rattle.rbc_node.specs.declared.node.Node.{Node}

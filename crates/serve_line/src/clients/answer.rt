@@ -1,7 +1,5 @@
-use text_script::status::Fault;
-use rbc_centre::Event;
+use text_script::{Event, WorldEvent, status::Fault};
 use rbc_node::Share;
-use rbc_world::WorldEvent;
 use serve_control::{Command, print_commit};
 use crate::state::{Server, Slot};
 use crate::status::{MentionOrder, show, write_life};

@@ -1,5 +1,5 @@
 use crate::clients::limits::UNWRITTEN;
-use rbc_centre::Outcome;
+use text_script::Outcome;
 use serve_workers::connections::ConnectionSink;
 use crate::state::CentreSink;
 use crate::status::{Kind, Notes};

@@ -5,10 +5,9 @@ ghost use Rattle.serve_control.specs.Events.{IsCommitted};
 ghost use Rattle.serve_line.specs.Journaling.Resuming.{first_share, AreResumed, CommitsAgain, IsResumed};
 
 use text_journal::Entry;
-use rbc_centre::Event;
+use text_script::{Event, WorldEvent};
 use rbc_msgs::{MsgFault, decode_train};
 use rbc_node::{Node, Open, Share, ShareFault};
-use rbc_world::WorldEvent;
 use std::alloc::{AllocError, AllocFailed, Global};
 use std::sync::Wait;
 

@@ -1,8 +1,7 @@
 use text_script::print::{name_of, print_event, print_outcome};
 use text_replay::rows_in_words;
-use text_script::status::Fault;
+use text_script::{Body, Event, FrameRoom, StepFault, status::Fault};
 use text_words::number_of_train;
-use rbc_centre::{Body, Event, FrameRoom, StepFault};
 use rbc_line::Line;
 use rbc_log::{CentreLog, Entry};
 use serve_control::world_event;

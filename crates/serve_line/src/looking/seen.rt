@@ -3,7 +3,7 @@
 use text_page::{LineNow, SectionNow, SessionNow, Usage};
 use text_replay::{mission_now, phase_now};
 use rbc_book::Entry;
-use rbc_centre::{Centre, TrainPage};
+use text_script::{Centre, TrainPage};
 use rbc_line::Line;
 use rbc_log::CentreLog;
 use std::alloc::AllocError;

@@ -1,6 +1,6 @@
 use text_page::LineNow;
 use text_replay::Handovers;
-use rbc_centre::Centre;
+use text_script::Centre;
 use rbc_line::Line;
 use std::alloc::{AllocError, Global};
 

@@ -1,7 +1,7 @@
 use crate::state::paces::Paces;
 use crate::state::queue::Queue;
 use crate::state::slots::Endpoint;
-use rbc_centre::{Outcome, Word};
+use text_script::{Outcome, Word};
 use serve_workers::connections::TrainConnections;
 use crate::journaling::Journal;
 use serve_workers::AnswerSink;

@@ -1,7 +1,5 @@
 use crate::status::notes::Notes;
-use text_script::print::name_of;
-use text_script::status::Fault;
-use rbc_centre::LAST_STAMP;
+use text_script::{LAST_STAMP, print::name_of, status::Fault};
 use rbc_line::Line;
 use rbc_log::{CentreLog, MOST_ENTRIES};
 use rbc_node::Node;

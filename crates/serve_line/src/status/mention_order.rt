@@ -1,4 +1,4 @@
-use rbc_centre::Event;
+use text_script::Event;
 use rbc_line::Line;
 use rbc_log::{CentreLog, Entry};
 use std::alloc::{AllocError, Global};

@@ -1,12 +1,10 @@
 use crate::status::mention_order::MentionOrder;
 use text_script::print::{print_section, print_train};
-use text_script::status::Fault;
+use text_script::{Mark, SectionRun, SectionView, status::Fault};
 use rbc_book::{Entry, Page};
-use rbc_centre::SectionRun;
 use rbc_line::Line;
 use rbc_log::{CentreLog, MOST_ENTRIES};
 use rbc_node::Node;
-use rbc_world::{Mark, SectionView};
 use std::alloc::{AllocError, Global};
 use std::io::Write;
 use std::sync::Wait;

@@ -1,7 +1,7 @@
 ghost use Rattle.std.specs.Prelude.{◌<◌};
 
 use crate::line::{A, B, START, two_centres};
-use rbc_centre::{Body, Centre, Event, Frame, LinkAnswer, Outcome};
+use rbc_world::{Body, Centre, Event, Frame, LinkAnswer, Outcome};
 use rbc_msgs::decode_train;
 use std::alloc::Global;
 use std::test::*;

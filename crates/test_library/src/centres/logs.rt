@@ -1,7 +1,7 @@
 ghost use Rattle.std.specs.Prelude.{◌<◌};
 
 use crate::line::{A, B, two_centres};
-use rbc_centre::Event;
+use rbc_world::Event;
 use rbc_log::{CentreLog, Entry, merge};
 use std::alloc::Global;
 use std::test::*;

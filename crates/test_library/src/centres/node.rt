@@ -1,7 +1,7 @@
 use crate::centres::held::Held;
 use crate::line::A;
 use crate::nodes::{both, node_of};
-use rbc_centre::{Event, Outcome, Word};
+use rbc_world::{Event, Outcome, Word};
 use rbc_node::{Node, Open, Share, ShareFault};
 use std::alloc::Global;
 use std::sync::Wait;

@@ -1,6 +1,5 @@
 use crate::line::{START, two_centres};
-use rbc_centre::{Body, Frame, LinkAnswer, Outcome, StepFault};
-use rbc_world::{Answer, Outputs, World, WorldEvent};
+use rbc_world::{Answer, Body, Frame, LinkAnswer, Outcome, Outputs, StepFault, World, WorldEvent};
 use std::alloc::Global;
 use std::test::*;
 use test_codec::bytes::bytes_of;

@@ -3,9 +3,8 @@
 
 use crate::trial::traveller::Words;
 use crate::trial::trial::centre_of;
-use rbc_centre::{LinkAnswer, Outcome, SectionRun, Word};
+use rbc_world::{Answer, LineView, LinkAnswer, Mark, Outcome, SectionRun, TrainView, Word, WorldEvent};
 use rbc_msgs::TrackBody;
-use rbc_world::{Answer, LineView, Mark, TrainView, WorldEvent};
 
 /// An event, and what a train says in it.
 #[derive(Drop)]

@@ -5,7 +5,7 @@ ghost use Rattle.rbc_msgs.specs.TrainView.{HasItsPackets};
 
 use crate::trial::line::group_of;
 use rbc_bits::BitReader;
-use rbc_centre::SectionRun;
+use rbc_world::SectionRun;
 use rbc_msgs::{TrainBody, TrainMsg, encode_train};
 use rbc_packets::{Level, Location, Opaque, Packets, Position, TrainLength};
 use rbc_vars::{

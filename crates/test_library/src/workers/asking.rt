@@ -4,7 +4,7 @@
 ghost use Rattle.std.specs.Prelude.{◌<◌, ◌≤◌, length, IfOk};
 ghost use Rattle.rbc_msgs.specs.TrainView.{HasItsPackets};
 
-use rbc_centre::{Body, Event, Frame};
+use rbc_world::{Body, Event, Frame};
 use rbc_line::Line;
 use rbc_msgs::{TrainBody, TrainMsg};
 use rbc_node::{Node, Open, Share};

@@ -3,7 +3,7 @@ use crate::workers::narrow::Narrow;
 use crate::workers::tried::Tried;
 use crate::workers::unruly::Unruly;
 use rbc_board::{Carrier, QueueCarrier};
-use rbc_centre::{Body, Event, Frame, LAST_STAMP, LinkAnswer};
+use rbc_world::{Body, Event, Frame, LAST_STAMP, LinkAnswer};
 use rbc_log::merge;
 use rbc_node::{Family, Node, Open, Share, gather};
 use serve_workers::{Closed, Desk, InOrder, LinkEnds, receive_frames, send_frames};

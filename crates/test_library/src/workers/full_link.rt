@@ -1,8 +1,7 @@
 //! A link that is full.
 
 use crate::line::{A, B, two_centres};
-use rbc_centre::StepFault;
-use rbc_world::{Answer, World, WorldEvent};
+use rbc_world::{Answer, StepFault, World, WorldEvent};
 use std::alloc::Global;
 use std::test::*;
 use test_codec::bytes::bytes_of;

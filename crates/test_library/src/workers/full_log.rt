@@ -1,7 +1,7 @@
 //! A log that is full.
 
 use crate::line::{A, two_centres};
-use rbc_centre::Event;
+use rbc_world::Event;
 use rbc_log::{CentreLog, CommitFault};
 use std::alloc::Global;
 use std::test::*;

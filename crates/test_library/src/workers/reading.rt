@@ -2,7 +2,7 @@
 
 use crate::line::{ENGINE, ESTABLISHED, INITIATION};
 use crate::nodes::node_of_a;
-use rbc_centre::Phase;
+use rbc_world::Phase;
 use rbc_node::{Node, Open, Share};
 use serve_workers::reading::Reads;
 use serve_workers::{Closed, SessionEnd, run_session};

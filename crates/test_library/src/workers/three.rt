@@ -2,7 +2,7 @@
 
 ghost use Rattle.std.specs.Prelude.{◌<◌, ◌≤◌, length, IfOk};
 
-use rbc_centre::Event;
+use rbc_world::Event;
 use rbc_line::Line;
 use rbc_log::{Entry, merge};
 use rbc_node::{Family, Node, Open, Share, gather};

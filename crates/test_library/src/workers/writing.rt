@@ -4,7 +4,7 @@ use crate::line::{ESTABLISHED, INITIATION};
 use crate::nodes::node_of_a;
 use crate::workers::reading::{left, whole_session};
 use crossbeam_channel::{Receiver, Sender, bounded};
-use rbc_centre::Phase;
+use rbc_world::Phase;
 use rbc_msgs::TrackMsg;
 use rbc_node::{Node, Share};
 use serve_workers::writing::{Reply, WriteFailed, run_writer};

@@ -2,8 +2,8 @@
 use Rattle.std.proofs.Common.{◌≡◌, ℕ, ◌+◌, ◌<◌, List, [], ◌∷◌, ◌++◌, map, take, length, get_or, refl, sym, ap, ◌∙◌, append_assoc, append-nil}
 use Rattle.std.proofs.lemmas.List.{map-append, take_more}
 use Rattle.rbc_spec.specs.Outcome.{Saying}
-use Rattle.rbc_train.specs.Sayings.{saying_of}
-use Rattle.rbc_train.specs.declared.saying.Saying.{Saying as SayingCode}
+use Rattle.rbc_world.specs.rbc_train.Sayings.{saying_of}
+use Rattle.rbc_world.specs.rbc_train.declared.saying.Saying.{Saying as SayingCode}
 use Rattle.text_script.specs.Print.Answers.{IsSayingRow, AreSayingRows}
 
 -- the row of one more message follows the others

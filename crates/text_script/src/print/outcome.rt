@@ -2,17 +2,17 @@ ghost use Rattle.std.specs.Prelude.{◌≡◌, ◌↔◌, ℕ, List, [], IsTrue,
 ghost use Rattle.std.specs.List.{flat_map};
 ghost use Rattle.std.specs.Option.{option_map_or};
 ghost use Rattle.std.specs.Io.KnownBytes.{Appends};
-ghost use Rattle.rbc_centre.specs.Sent.{frames_to};
-ghost use Rattle.rbc_centre.specs.Views.{outcome_of, word_of};
+ghost use Rattle.rbc_world.specs.rbc_centre.Sent.{frames_to};
+ghost use Rattle.rbc_world.specs.rbc_centre.Views.{outcome_of, word_of};
 ghost use Rattle.rbc_linkmsg.specs.Bodies.{body_of};
-ghost use Rattle.rbc_train.specs.Reasons.{reason_of};
-ghost use Rattle.rbc_train.specs.Sayings.{saying_of};
+ghost use Rattle.rbc_world.specs.rbc_train.Reasons.{reason_of};
+ghost use Rattle.rbc_world.specs.rbc_train.Sayings.{saying_of};
 ghost use Rattle.text_script.specs.Print.Rows.{body_name, name_at, frame_row, remark_row, silence_row, word_row};
 ghost use Rattle.text_script.specs.Print.Answers.{AreSayingRows, IsLinkRemark, IsOutcomePrint, IsRemark, IsSayingRow, SaysNothing, frame_rows};
 
 use crate::print::print::name_of;
 use crate::status::Fault;
-use rbc_centre::{Body, Frames, LinkAnswer, Outcome, Reason, Saying, StepFault, Word};
+use rbc_world::{Body, Frames, LinkAnswer, Outcome, Reason, Saying, StepFault, Word};
 use rbc_line::Line;
 use rbc_msgs::encode_track;
 use std::alloc::Global;

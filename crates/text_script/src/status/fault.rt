@@ -1,6 +1,6 @@
 ghost use Rattle.std.specs.Prelude.{◌≡◌};
 
-use rbc_centre::StepFault;
+use rbc_world::StepFault;
 use rbc_line::LineFault;
 use rbc_msgs::MsgFault;
 use std::alloc::{AllocError, AllocFailed};

@@ -1,7 +1,7 @@
 use Rattle.std.proofs.Common.{subst, sym, ◌≡◌, ℕ, ◌+◌, ◌<◌, ◌++◌, length, map, take, drop, slice_set}
 use Rattle.std.proofs.lemmas.List.{get_or_default}
 use Rattle.std.proofs.lemmas.List.Edits.{map_over_more}
-use Rattle.rbc_centre.specs.Sent.{frames_to}
+use Rattle.text_script.specs.rbc_centre.Sent.{frames_to}
 use Rattle.cli_storm.specs.Links.{counted}
 use Rattle.cli_storm.proofs.links.count_frames.Goals as goal
 

@@ -1,5 +1,5 @@
 use Rattle.std.proofs.Common.{◌≡◌, ◌++◌, map, take, drop}
-use Rattle.rbc_centre.specs.Sent.{frames_to}
+use Rattle.text_script.specs.rbc_centre.Sent.{frames_to}
 use Rattle.cli_storm.specs.Links.{counted}
 use Rattle.cli_storm.proofs.links.count_frames.Given as goal
 

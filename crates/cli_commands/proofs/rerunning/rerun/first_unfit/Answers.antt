@@ -3,9 +3,9 @@ use Rattle.std.proofs.lemmas.Result.{err_from_is_err_and}
 use Rattle.std.proofs.lemmas.Bool.{true≢false}
 use Rattle.rbc_spec.specs.Line.{Line}
 use Rattle.rbc_spec.specs.World.{world_step}
-use Rattle.rbc_world.specs.World.{state_of}
-use Rattle.rbc_world.specs.Views.{answer_of}
-use Rattle.rbc_world.specs.Answers.{IsRefusal}
+use Rattle.text_script.specs.rbc_world.World.{state_of}
+use Rattle.text_script.specs.rbc_world.Views.{answer_of}
+use Rattle.text_script.specs.rbc_world.Answers.{IsRefusal}
 use Rattle.text_journal.specs.declared.entry.Entry.{Entry}
 use Rattle.cli_commands.specs.Rerunning.Rerun.{IsRerun, happened}
 use Rattle.cli_commands.proofs.RerunningLemmas.Reruns.{begins, goes_on, refused, cut_at, one_more, all_taken}

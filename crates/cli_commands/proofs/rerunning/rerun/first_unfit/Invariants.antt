@@ -1,5 +1,5 @@
 use Rattle.std.proofs.Common.{◌≡◌, take}
-use Rattle.rbc_world.specs.World.{line_of, state_of}
+use Rattle.text_script.specs.rbc_world.World.{line_of, state_of}
 use Rattle.cli_commands.specs.Rerunning.Rerun.{IsRerun}
 use Rattle.cli_commands.proofs.rerunning.rerun.first_unfit.Given as goal
 

@@ -1,6 +1,6 @@
 use Rattle.std.proofs.Common.{◌≡◌, ◌-◌, ◌+◌, suc, ◌∙◌, arith}
 use Rattle.std.proofs.lemmas.Result.{err_from_is_err_and}
-use Rattle.rbc_world.specs.World.{line_of, state_of}
+use Rattle.text_script.specs.rbc_world.World.{line_of, state_of}
 use Rattle.cli_storm.specs.Storm.{deliveries}
 use Rattle.cli_storm.proofs.Playing.{one_delivered, delivery_fails, all_delivered}
 use Rattle.cli_storm.proofs.storm.Storm.deliver.Goals as goal

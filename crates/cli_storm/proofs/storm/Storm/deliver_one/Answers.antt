@@ -1,6 +1,6 @@
 use Rattle.std.proofs.Common.{◌∙◌, ap, sym}
 use Rattle.std.specs.List.{filter}
-use Rattle.rbc_world.specs.World.{line_of, state_of}
+use Rattle.text_script.specs.rbc_world.World.{line_of, state_of}
 use Rattle.cli_storm.specs.Links.{delivery, has_sent}
 use Rattle.cli_storm.proofs.Playing.{delivered}
 use Rattle.cli_storm.proofs.storm.Storm.deliver_one.Goals as goal

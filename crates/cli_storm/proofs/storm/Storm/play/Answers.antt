@@ -1,6 +1,6 @@
 use Rattle.std.proofs.Common.{◌∙◌}
 use Rattle.std.proofs.lemmas.Result.{err_from_is_err_and}
-use Rattle.rbc_world.specs.World.{line_of, state_of}
+use Rattle.text_script.specs.rbc_world.World.{line_of, state_of}
 use Rattle.cli_storm.specs.Storm.{storm}
 use Rattle.cli_storm.proofs.Playing.{one_played, entry_fails}
 use Rattle.cli_storm.proofs.storm.Storm.play.Goals as goal

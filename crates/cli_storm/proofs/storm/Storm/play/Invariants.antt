@@ -1,5 +1,5 @@
 use Rattle.std.proofs.Common.{◌≡◌, drop}
-use Rattle.rbc_world.specs.World.{line_of, state_of}
+use Rattle.text_script.specs.rbc_world.World.{line_of, state_of}
 use Rattle.cli_storm.specs.Storm.{Passes, storm}
 use Rattle.cli_storm.proofs.storm.Storm.play.Given as goal
 

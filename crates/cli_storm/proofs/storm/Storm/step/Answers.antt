@@ -1,7 +1,7 @@
 use Rattle.std.proofs.Common.{◌∙◌, ap, sym}
 use Rattle.rbc_spec.specs.World.{centre_of}
-use Rattle.rbc_world.specs.World.{line_of, state_of}
-use Rattle.rbc_world.specs.Views.{answer_of, event_of}
+use Rattle.text_script.specs.rbc_world.World.{line_of, state_of}
+use Rattle.text_script.specs.rbc_world.Views.{answer_of, event_of}
 use Rattle.cli_storm.specs.Links.{all_links, counted_by}
 use Rattle.cli_storm.proofs.Counts.{adds}
 use Rattle.cli_storm.proofs.storm.Storm.step.Goals as goal

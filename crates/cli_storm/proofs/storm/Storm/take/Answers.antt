@@ -1,8 +1,8 @@
 use Rattle.std.proofs.Common.{refl, sym, subst, []}
 use Rattle.rbc_spec.specs.World.{World, world_step}
-use Rattle.rbc_world.specs.World.{line_of}
-use Rattle.rbc_world.specs.Answers.{IsRefusal}
-use Rattle.rbc_world.specs.Views.{event_of}
+use Rattle.text_script.specs.rbc_world.World.{line_of}
+use Rattle.text_script.specs.rbc_world.Answers.{IsRefusal}
+use Rattle.text_script.specs.rbc_world.Views.{event_of}
 use Rattle.cli_storm.proofs.storm.Storm.take.Goals as goal
 
 pub returns-in-Err-step-clause-told : goal.returns-in-Err-step-clause-told

@@ -1,6 +1,6 @@
 use Rattle.std.proofs.Common.{◌≡◌, ◌∙◌, ap, refl, sym, slice_get, Some, option_map}
 use Rattle.std.proofs.lemmas.Option.{slice_get_read}
-use Rattle.rbc_train.specs.Desks.{mission_by}
+use Rattle.rbc_centre.specs.rbc_train.Desks.{mission_by}
 use Rattle.rbc_centre.specs.States as one
 use Rattle.rbc_centre.specs.Views.{handing_at}
 use Rattle.rbc_world.proofs.Shown.{seen_at, held_by}

@@ -1,6 +1,6 @@
 use Rattle.std.proofs.Common.{Option, IfSome, length, get_or, subst, refl, arith}
 use Rattle.std.proofs.lemmas.Option.{slice_get_read, slice_get-get_or}
-use Rattle.rbc_centre.specs.declared.event.Event.{Event}
+use Rattle.text_script.specs.rbc_centre.declared.event.Event.{Event}
 use Rattle.text_journal.specs.Order.{taken_at}
 use Rattle.serve_control.specs.Events.{IsCommitted}
 use Rattle.serve_line.proofs.JournalingLemmas.Resumed.{resumes}

@@ -1,4 +1,4 @@
-use Rattle.rbc_centre.specs.Sent.{frames_to}
+use Rattle.rbc_world.specs.rbc_centre.Sent.{frames_to}
 use Rattle.text_script.proofs.PrintLemmas.After.{frames_after}
 use Rattle.text_script.proofs.print.outcome.print_all_frames.Goals as goal
 

@@ -1,5 +1,5 @@
 use Rattle.std.specs.Io.KnownBytes.{Appends}
-use Rattle.rbc_centre.specs.Sent.{frames_to}
+use Rattle.rbc_world.specs.rbc_centre.Sent.{frames_to}
 use Rattle.text_script.specs.Print.Answers.{frame_rows}
 use Rattle.text_script.proofs.print.outcome.print_all_frames.Given as goal
 

@@ -1,6 +1,6 @@
 use Rattle.std.proofs.Common.{ap, map}
-use Rattle.rbc_centre.specs.Views.{outcome_of}
-use Rattle.rbc_train.specs.Sayings.{saying_of}
+use Rattle.rbc_world.specs.rbc_centre.Views.{outcome_of}
+use Rattle.rbc_world.specs.rbc_train.Sayings.{saying_of}
 use Rattle.text_script.proofs.PrintLemmas.After.{whole_outcome}
 use Rattle.text_script.proofs.print.outcome.print_outcome.Goals as goal
 

@@ -1,6 +1,6 @@
 use Rattle.std.proofs.Common.{ℕ, List, take, map}
 use Rattle.std.specs.Io.KnownBytes.{Appends}
-use Rattle.rbc_train.specs.Sayings.{saying_of}
+use Rattle.rbc_world.specs.rbc_train.Sayings.{saying_of}
 use Rattle.text_script.specs.Print.Answers.{AreSayingRows}
 use Rattle.text_script.proofs.print.outcome.print_sayings.Given as goal
 

@@ -1,7 +1,7 @@
 use Rattle.std.proofs.Common.{take, map}
 use Rattle.std.specs.List.{flat_map}
 use Rattle.std.specs.Io.KnownBytes.{Appends}
-use Rattle.rbc_centre.specs.Views.{word_of}
+use Rattle.rbc_world.specs.rbc_centre.Views.{word_of}
 use Rattle.text_script.specs.Print.Rows.{word_row}
 use Rattle.text_script.proofs.print.outcome.print_words.Given as goal
 

@@ -1,5 +1,5 @@
 use Rattle.std.proofs.Common.{refl, sym, ◌∙◌}
-use Rattle.rbc_world.specs.World.{line_of, state_of}
+use Rattle.text_script.specs.rbc_world.World.{line_of, state_of}
 use Rattle.text_script.specs.declared.status.fault.Fault.{Fault}
 use Rattle.cli_commands.proofs.RunningLemmas.Prints.{prints_all, prints_until}
 use Rattle.cli_commands.proofs.running.printer.Printer.print_all.Goals as goal
