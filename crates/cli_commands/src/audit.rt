@@ -1,15 +1,15 @@
 //! The audit of what `run` or `serve` printed, or of journals.
 
+use crate::auditing::Audit;
+use crate::comparing::Verdict;
 use crate::files::{Files, Rows};
 use crate::journal::{Part, journals_in, unfit};
 use crate::line_file::{LineFile, line_file_in};
-use crate::auditing::Audit;
-use crate::comparing::Verdict;
 use crate::rerunning::first_unfit;
-use text_script::status::Fault;
 use rbc_line::Line;
 use std::alloc::Global;
 use std::io::Write;
+use text_script::status::Fault;
 
 /// Runs the events of a print again, and says whether the print is that of its events, or the first line that differs.
 /// If the name is that of a folder, it does so with the journals in it, and their stamps; and it says what was read of

@@ -11,10 +11,10 @@ use crate::printed::print_journals;
 use crate::run::{check, run};
 use crate::storm::run_storm;
 use crate::words::{Request, requested};
-use text_script::status::{Fault, ended};
 use std::alloc::Global;
 use std::convert::AsStr;
 use std::io::Write;
+use text_script::status::{Fault, ended};
 
 /// Does what the words after the program's name ask for, and gives the exit status: 0 done, 1 an audit that found a
 /// difference, 2 words refused (help too), 3 a file that can't be read, a script fault or journals, 4 a line fault, 5 a

@@ -4,10 +4,10 @@ use crate::files::Files;
 use crate::line_file::line_file_in;
 use crate::printed::printed_in;
 use cli_picture::picture;
-use text_replay::{Cut, page_of};
-use text_script::status::Fault;
 use std::alloc::Global;
 use std::io::Write;
+use text_replay::{Cut, page_of};
+use text_script::status::Fault;
 
 /// Draws what `run` or `serve` has printed for a line, or what its journals hold, as far as the cut says: the
 /// time-distance diagram as an SVG document, or an HTML page with the line after each event.

@@ -1,11 +1,11 @@
 use crate::files::{Files, Rows};
-use text_script::status::Fault;
 use std::alloc::{AllocError, Global};
 use std::fs::{File, TryLockError};
 use std::io::{BufRead, BufReader, ErrorKind};
 use std::rt::Env;
 use std::str::from_utf8;
 use std::{env, fs, rt};
+use text_script::status::Fault;
 
 /// The files that the system has.
 #[derive(Clone, Copy)]

@@ -1,12 +1,12 @@
-use crate::files::Files;
-use crate::picture::print_picture;
 use crate::explaining::LineText;
+use crate::files::Files;
 use crate::inspecting::Finding;
-use text_script::status::Fault;
+use crate::picture::print_picture;
 use rbc_line::{Line, LineFault};
 use std::alloc::{AllocError, Global};
 use std::io;
 use std::io::{BufWriter, Write};
+use text_script::status::Fault;
 
 /// Reads a line file, and prints a picture of the line; of a file with faults all that is wrong, each case in a line.
 pub fn explain<'a, F: Files, O: Write>(

@@ -3,13 +3,13 @@
 use crate::files::Files;
 use crate::line_file::line_file_in;
 use crate::printed::printed_in;
-use text_script::status::Fault;
-use text_words::{Field, fields_of, line_in_words, name_of, words_of_fault};
 use hex::FromHexError;
 use rbc_line::Line;
 use std::alloc::{AllocError, Global};
 use std::io;
 use std::io::{BufWriter, Write};
+use text_script::status::Fault;
+use text_words::{Field, fields_of, line_in_words, name_of, words_of_fault};
 
 /// Shows a message field by field, or its first fault.
 pub fn show_message<O: Write>(

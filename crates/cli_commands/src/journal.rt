@@ -4,15 +4,15 @@ ghost use Rattle.std.specs.Prelude.{◌<◌, length};
 
 use crate::files::Files;
 use crate::line_file::LineFile;
-use text_journal::{
-    Entry, JournalFault, file_name, first_fallen, in_order, read_journal, whole_length,
-};
 use crate::rerunning::{Caused, Place, with_causes};
-use text_script::status::Fault;
 use rbc_line::Line;
 use std::alloc::{AllocError, Global};
 use std::fmt;
 use std::str::from_utf8;
+use text_journal::{
+    Entry, JournalFault, file_name, first_fallen, in_order, read_journal, whole_length,
+};
+use text_script::status::Fault;
 
 /// What the journal of a centre holds.
 #[derive(Drop)]

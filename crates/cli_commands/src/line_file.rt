@@ -1,7 +1,7 @@
 use crate::files::Files;
-use text_script::status::Fault;
 use rbc_line::Line;
 use std::alloc::Global;
+use text_script::status::Fault;
 
 /// A line, and the text of the file that it was read from.
 #[derive(Drop)]

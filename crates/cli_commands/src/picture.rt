@@ -1,9 +1,9 @@
 //! A line as a reader wants to see it: its centres, its tracks with their sections and borders, and its trains.
 
-use text_script::print::name_of;
 use rbc_line::{Line, Section};
 use std::io;
 use std::io::Write;
+use text_script::print::name_of;
 
 /// Prints all that a line file says.
 pub fn print_picture<W: Write>(out: &mut W, line: &Line) -> io::Result<()> {

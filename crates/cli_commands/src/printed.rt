@@ -4,9 +4,9 @@ use crate::files::Files;
 use crate::journal::{Part, journals_in, unfit_at};
 use crate::line_file::{LineFile, line_file_in};
 use crate::rerunning::{RerunFault, print_rerun};
-use text_script::status::Fault;
 use std::alloc::{AllocError, Global};
 use std::io::{BufWriter, Write};
+use text_script::status::Fault;
 
 /// Prints the run of a line whose journals are in a folder. If these are not a run of the line, nothing is printed. It
 /// says what was read of journals that a program writes meanwhile.

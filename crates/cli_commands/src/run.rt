@@ -2,12 +2,15 @@ ghost use Rattle.std.specs.Prelude.{IfErr, IfOk};
 ghost use Rattle.cli_commands.specs.Runs.{GivesEntries, GivesLine, GivesNoEntries, GivesNoLine, LeavesCheck, LeavesRun};
 
 use crate::files::Files;
-use text_script::{StepFault, play::PlayFault, print::print_counts, status::Fault};
 use crate::running::print_buffered;
-use text_script::script::{Entry, ScriptFault, script_of};
 use rbc_line::Line;
 use std::alloc::Global;
 use std::io::Write;
+use text_script::StepFault;
+use text_script::play::PlayFault;
+use text_script::print::print_counts;
+use text_script::script::{Entry, ScriptFault, script_of};
+use text_script::status::Fault;
 
 /// Runs a script on a line: prints each event and what it leads to, and at the end the line.
 pub fn run<'a, F: Files, O: Write>(

@@ -3,10 +3,10 @@
 //!
 //! Bodies are free. What is printed is fixed by docs/FORMATS.md.
 
-mod underlying;
 mod buffered;
 mod played;
 mod printer;
+mod underlying;
 
 pub use buffered::print_buffered;
 pub use played::print_played;

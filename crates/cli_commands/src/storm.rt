@@ -3,13 +3,13 @@
 use crate::files::Files;
 use crate::run::{entries_in, line_in};
 use crate::running::Printer;
-use text_script::play::PlayFault;
-use text_script::script::Entry;
-use text_script::status::Fault;
 use cli_storm::Storm;
 use rbc_line::Line;
 use std::alloc::{AllocError, Global};
 use std::io::{BufWriter, Write};
+use text_script::play::PlayFault;
+use text_script::script::Entry;
+use text_script::status::Fault;
 
 /// Runs a script on a line as `run` does, with four drawn deliveries after each event.
 pub fn run_storm<'a, F: Files, O: Write>(

@@ -1,10 +1,10 @@
 use crate::forms::rbcline;
 use clap::error::ErrorKind;
 use clap::{ArgMatches, Error};
-use text_replay::Cut;
-use text_script::status::Fault;
 use std::alloc::{AllocError, Global};
 use std::convert::AsStr;
+use text_replay::Cut;
+use text_script::status::Fault;
 
 /// What the words ask for.
 #[derive(Clone, Copy)]

@@ -3,10 +3,10 @@
 use crate::run::{Run, nid_engine_of, track_of};
 use crate::scale::Scale;
 use crate::style::{colour_of, dashes_of};
-use text_replay::{Stretch, stretches_of};
 use rbc_place::{section_end, section_start};
-use text_script::Mark;
 use std::alloc::{AllocError, Global};
+use text_replay::{Stretch, stretches_of};
+use text_script::Mark;
 
 pub fn draw_bars(
     alloc: Global,

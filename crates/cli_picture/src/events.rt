@@ -2,8 +2,8 @@
 
 use crate::run::{Event, Kind, Run};
 use crate::scale::{LEFT, RIGHT, Scale};
-use text_words::name_of_number;
 use std::alloc::AllocError;
+use text_words::name_of_number;
 
 pub fn draw_events(svg: &mut String, scale: &Scale<'_>, run: &Run<'_>) -> Result<(), AllocError> {
     let stride = scale.stride();

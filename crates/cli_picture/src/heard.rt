@@ -1,13 +1,13 @@
 //! What an event is, and what is heard of trains and told to them in it.
 
 use crate::run::{Border, Event, Kind, Report, track_of};
-use text_words::number_of_train;
-use text_script::{Answer, Outcome, Saying, WorldEvent};
 use rbc_line::Line;
 use rbc_msgs::{MsgFault, TrackBody, TrainBody, TrainMsg, decode_train};
 use rbc_packets::Position;
 use rbc_place::{extent, section_start};
 use std::alloc::{AllocError, Global};
+use text_script::{Answer, Outcome, Saying, WorldEvent};
+use text_words::number_of_train;
 
 /// An event of a run, by what is answered to it.
 pub fn event_of(

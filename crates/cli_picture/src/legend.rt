@@ -4,8 +4,8 @@ use crate::marks::{Sign, shape_of};
 use crate::run::{Run, mission_in, nid_engine_of};
 use crate::style::{colour_of, dashes_of};
 use rbc_line::Line;
-use text_script::{LineView, Mark};
 use std::alloc::AllocError;
+use text_script::{LineView, Mark};
 
 // The signs, each with where it lies and what it means.
 static SIGNS: [(Sign, u64, &str); 5] = [

@@ -21,10 +21,10 @@ mod style;
 
 use crate::draw::draw;
 use crate::played::played;
-use text_replay::Cut;
-use text_script::status::Fault;
 use rbc_line::Line;
 use std::alloc::Global;
+use text_replay::Cut;
+use text_script::status::Fault;
 
 /// The diagram, as an SVG document, of the events of a print, as far as the cut says. Only the lines that begin with
 /// `> ` are read. Errors:

@@ -4,8 +4,8 @@ use crate::run::{Run, track_of};
 use crate::scale::Scale;
 use crate::style::colour_of;
 use rbc_place::{Place, section_end};
-use text_script::MissionView;
 use std::alloc::AllocError;
+use text_script::MissionView;
 
 #[derive(Clone, Copy)]
 pub enum Sign {

@@ -2,10 +2,11 @@
 
 use crate::heard::event_of;
 use crate::run::{Event, Run};
-use text_replay::{Cut, events_in, train_in};
-use text_script::{World, WorldEvent, status::Fault};
 use rbc_line::Line;
 use std::alloc::Global;
+use text_replay::{Cut, events_in, train_in};
+use text_script::status::Fault;
+use text_script::{World, WorldEvent};
 
 /// Plays the events of a print, up to the last that is drawn.
 pub fn played<'a>(

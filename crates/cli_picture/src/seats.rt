@@ -4,8 +4,8 @@ use crate::run::{Run, waiting_in};
 use crate::scale::Scale;
 use crate::style::colour_of;
 use rbc_place::Place;
-use text_script::{MissionView, Supervisor};
 use std::alloc::AllocError;
+use text_script::{MissionView, Supervisor};
 
 pub fn draw_seats(svg: &mut String, scale: &Scale<'_>, run: &Run<'_>) -> Result<(), AllocError> {
     for train in 0..run.line.train_count() {

@@ -8,9 +8,9 @@ ghost use Rattle.text_script.specs.rbc_world.Views.{answer_of};
 ghost use Rattle.cli_storm.specs.Links.{all_links, counted, counted_by, delivery, has_sent, last_number};
 
 use crate::draws::Draws;
-use text_script::{Answer, Frame, Frames, WorldEvent};
 use rbc_line::Line;
 use std::alloc::{AllocError, Global};
+use text_script::{Answer, Frame, Frames, WorldEvent};
 
 /// From one centre of a line to another.
 #[derive(Clone, Copy)]

@@ -10,10 +10,11 @@ ghost use Rattle.cli_storm.specs.Storm.{Continues, after, deliveries, played_by,
 
 use crate::draws::Draws;
 use crate::links::{Link, count_answer, draw_delivery, links_of};
-use text_script::play::{PlayFault, Teller};
-use text_script::{Answer, StepFault, World, WorldEvent, script::Entry};
 use rbc_line::Line;
 use std::alloc::{AllocError, Global};
+use text_script::play::{PlayFault, Teller};
+use text_script::script::Entry;
+use text_script::{Answer, StepFault, World, WorldEvent};
 
 /// How many deliveries are drawn after an event of the script.
 const DELIVERIES: u8 = 4;

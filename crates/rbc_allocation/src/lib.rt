@@ -8,5 +8,5 @@
 mod sections;
 mod told;
 
-pub use sections::{run_after, clear, cut, end_hand, take_run, wished_around};
+pub use sections::{clear, cut, end_hand, run_after, take_run, wished_around};
 pub use told::Told;

@@ -8,8 +8,7 @@ ghost use Rattle.rbc_line.specs.SectionRuns.{run_of};
 ghost use Rattle.rbc_border.specs.Lending.{HasBook};
 
 use rbc_book::Book;
-use rbc_line::SectionRun;
-use rbc_line::Line;
+use rbc_line::{Line, SectionRun};
 
 /// A train that another centre hands over to this one (3.15.1).
 #[derive(Clone, Copy, Debug, PartialEq, Eq)]

@@ -20,8 +20,7 @@ use crate::names;
 use crate::question::Question;
 use crate::way::Way;
 use rbc_hand::Hand;
-use rbc_line::SectionRun;
-use rbc_line::Line;
+use rbc_line::{Line, SectionRun};
 use std::alloc::{AllocError, Global};
 use std::marker::Model;
 

@@ -9,8 +9,7 @@ ghost use Rattle.rbc_spec.specs.Links.{is_of_line};
 ghost use Rattle.rbc_line.specs.SectionRuns.{run_of};
 ghost use Rattle.rbc_border.specs.Homes.{is_of};
 
-use rbc_line::SectionRun;
-use rbc_line::Line;
+use rbc_line::{Line, SectionRun};
 
 /// Whether the section is of this home and on this track.
 pub(crate) fn is_of(line: &Line, home: u8, track: u8, s: u32) -> bool

@@ -8,8 +8,7 @@ ghost use Rattle.rbc_border.specs.Lending.{HasBook, with_book, LendsRun, sending
 
 use crate::homes::stretch;
 use rbc_book::Book;
-use rbc_line::SectionRun;
-use rbc_line::Line;
+use rbc_line::{Line, SectionRun};
 
 // Lends a section, where it is open.
 fn lend_one(book: &mut Book, nid_engine: u32, s: u16)

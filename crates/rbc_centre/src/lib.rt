@@ -22,7 +22,6 @@ mod returned;
 mod same;
 mod sent_frame;
 
-pub use rbc_train::{MissionFacts, Place, Told};
 pub use centre::{Centre, LAST_STAMP};
 pub use event::Event;
 pub use fault::StepFault;
@@ -33,5 +32,5 @@ pub use rbc_line::SectionRun;
 pub use rbc_link::LinkAnswer;
 pub use rbc_linkmsg::{Body, Frame};
 pub use rbc_session::Phase;
-pub use rbc_train::{Letter, Mail, Notice, Reason, Saying, TrainPage};
+pub use rbc_train::{Letter, Mail, MissionFacts, Notice, Place, Reason, Saying, Told, TrainPage};
 pub use sent_frame::SentFrame;

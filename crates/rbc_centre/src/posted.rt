@@ -13,12 +13,11 @@ use crate::frames::Frames;
 use crate::reach::Reach;
 use crate::returned::{letter_to, stays};
 use crate::sent_frame::SentFrame;
-use rbc_train::{Mail, Notice, part_of};
-use rbc_line::SectionRun;
 use rbc_handover::Expectations;
-use rbc_line::Line;
+use rbc_line::{Line, SectionRun};
 use rbc_link::Links;
 use rbc_linkmsg::{Body, Frame};
+use rbc_train::{Mail, Notice, part_of};
 use std::cmp::min;
 
 /// The mail of a step, and what goes with it.

@@ -9,9 +9,8 @@ ghost use Rattle.rbc_train.specs.Letters.{going_home, letters, notices};
 
 use crate::frames::MOST_CENTRES;
 use crate::posted::Dispatch;
-use rbc_line::SectionRun;
 use rbc_handover::Announcers;
-use rbc_line::Line;
+use rbc_line::{Line, SectionRun};
 use rbc_train::{Letter, Notice};
 use std::cmp::{max, min};
 

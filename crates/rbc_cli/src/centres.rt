@@ -4,8 +4,7 @@ use crate::record::lock_journals;
 use cli_commands::disk::Disk;
 use cli_commands::line_file::{LineFile, line_file_in};
 use cli_commands::words::ServeWords;
-use text_script::status::report;
-use serve_line::{Endpoints, StderrNotes, ServeOptions, Notes, NoNotes, Record, ServeFault, serve};
+use serve_line::{Endpoints, NoNotes, Notes, Record, ServeFault, ServeOptions, StderrNotes, serve};
 use std::fs::File;
 use std::io::{Eprint, Write};
 use std::net::{Net, TcpListener, TcpStream};
@@ -13,6 +12,7 @@ use std::rt::Files;
 use std::sync::Wait;
 use std::thread::Threads;
 use std::time::Clock;
+use text_script::status::report;
 
 /// Lets the centres of a line run, and gives the exit status.
 pub fn run_centres<

@@ -13,9 +13,9 @@ use crate::train::run_train;
 use cli_commands::command::command;
 use cli_commands::disk::{Disk, words_of};
 use cli_commands::words::{Request, requested};
-use text_script::status::{ended, report};
 use std::io;
 use std::process::ExitCode;
+use text_script::status::{ended, report};
 
 fn main(rt: HostRuntime) -> ExitCode {
     let mut out = io::writer(&rt);

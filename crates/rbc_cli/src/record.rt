@@ -3,8 +3,6 @@
 use cli_commands::journal::{Journal, journal_name, journal_of};
 use cli_commands::line_file::LineFile;
 use cli_commands::words::JournalWords;
-use text_journal::{Entry, first_line, in_order};
-use text_script::status::Fault;
 use serve_line::journaling::{OpenFault, make_journal, open_journal, read_whole};
 use serve_line::{JournalFile, Notes, Record, ServeFault};
 use std::alloc::AllocError;
@@ -14,6 +12,8 @@ use std::io::ErrorKind;
 use std::path::Path;
 use std::rt::Files;
 use std::time::Clock;
+use text_journal::{Entry, first_line, in_order};
+use text_script::status::Fault;
 
 /// The journal of a centre.
 #[derive(Drop)]

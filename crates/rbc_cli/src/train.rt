@@ -3,13 +3,13 @@
 use cli_commands::disk::Disk;
 use cli_commands::files::Files as _;
 use cli_drive::{DriveFault, drive, see_off, steps_of};
-use text_script::status::Fault;
 use std::alloc::AllocError;
 use std::fs::File;
 use std::io::Write;
 use std::net::{IpAddr, Ipv4Addr, Net, Shutdown, SocketAddr, TcpStream};
 use std::rt::Files;
 use std::time::Duration;
+use text_script::status::Fault;
 
 /// How long a centre may send nothing after the last line, in seconds. Then the train ends, whether the centre has
 /// ended the connection or not.

@@ -9,8 +9,7 @@ ghost use Rattle.rbc_grant.specs.Grants as grants;
 
 use rbc_book::Book;
 use rbc_hand::Hand;
-use rbc_line::SectionRun;
-use rbc_line::Line;
+use rbc_line::{Line, SectionRun};
 use rbc_place::{Place, is_on, section_end};
 
 /// The greatest distance from a balise group at which a movement authority may end, in metres.

@@ -8,8 +8,7 @@ ghost use Rattle.rbc_grant.specs.Grants as grants;
 
 use crate::follow::{MOST_METRES, following};
 use rbc_book::Book;
-use rbc_line::SectionRun;
-use rbc_line::Line;
+use rbc_line::{Line, SectionRun};
 use rbc_place::{Place, group_start, section_end};
 
 /// The answer to a request: by how many sections the hand is extended, and L_ENDSECTION of the authority.
@@ -60,7 +59,7 @@ pub fn answer_request(
         → grants.may_follow line.now book.now (run_of pool) (place_of place.now) (next_after (run_of hand) + k) ≡ true }
     ensures end { result.end
         ≡ end line.now (next_after (run_of hand) + result.sections - 1)
-            - spec.group_start line.now (place_of place.now) }
+        - spec.group_start line.now (place_of place.now) }
     ensures line { IsLine line.now }
     // L_ENDSECTION has room for it, where the request may be answered.
     ensures fits { grants.may_request line.now (run_of hand) (place_of place.now) ≡ true → result.end ≤ 32767 }

@@ -4,9 +4,9 @@ ghost use Rattle.rbc_spec.specs.SectionRuns.{next_after};
 ghost use Rattle.rbc_book.specs.Claim.{claimed, claims_train};
 ghost use Rattle.rbc_hand.specs.Hands.{own_tokens};
 
-use rbc_line::SectionRun;
 use crate::token::Token;
 use rbc_book::Claims;
+use rbc_line::SectionRun;
 use std::alloc::{AllocError, Global};
 use std::collections::VecDeque;
 use std::marker::Model;

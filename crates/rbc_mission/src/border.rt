@@ -16,8 +16,7 @@ ghost use Rattle.rbc_border.specs.Lending.{sending};
 
 use crate::supervision::Supervision;
 use rbc_border::{Question, Way};
-use rbc_line::SectionRun;
-use rbc_line::Line;
+use rbc_line::{Line, SectionRun};
 
 impl Supervision {
     ghost use Rattle.rbc_mission.specs.Supervisions.{pool_of, with_pool, without_section, HasSupervision, with_supervision};

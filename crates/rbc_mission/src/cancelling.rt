@@ -8,9 +8,8 @@ ghost use Rattle.rbc_line.specs.SectionRuns.{run_of};
 ghost use Rattle.rbc_handover.specs.Handings.{handing_of, handover_name};
 
 use rbc_border::part_at;
-use rbc_line::SectionRun;
 use rbc_handover::{Handover, HandoverName};
-use rbc_line::Line;
+use rbc_line::{Line, SectionRun};
 
 /// Whether a hand on this track still has a section of the accepting centre of the handover, if one stands.
 pub(crate) fn keeps_border(line: &Line, handover: &Handover, track: u8, hand: SectionRun) -> bool

@@ -22,9 +22,8 @@ use crate::passing::{come_all, pass_all};
 use crate::supervision::Supervision;
 use rbc_book::Book;
 use rbc_border::part_at;
-use rbc_line::SectionRun;
 use rbc_handover::{HandoverCount, HandoverName};
-use rbc_line::Line;
+use rbc_line::{Line, SectionRun};
 use rbc_right::Right;
 
 /// A handover that is announced now.

@@ -12,8 +12,7 @@ ghost use Rattle.rbc_mission.specs.Passing.{IsBooked};
 
 use rbc_book::Book;
 use rbc_hand::{Hand, Lent, Token};
-use rbc_line::SectionRun;
-use rbc_line::Line;
+use rbc_line::{Line, SectionRun};
 
 // A token passes to another centre: a section of the book's home is out from now on, and a name ends.
 fn pass_token(token: Token, book: &mut Book)

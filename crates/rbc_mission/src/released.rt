@@ -5,8 +5,8 @@ ghost use Rattle.rbc_line.specs.SectionRuns.{run_of};
 use crate::held::HeldRight;
 use rbc_allocation::Told;
 use rbc_border::Border;
-use rbc_line::SectionRun;
 use rbc_handover::HandoverName;
+use rbc_line::SectionRun;
 
 /// What leaves a mission: the sections that were wished back and are shut now, of which the interlocking is to be told,
 /// in rising order; the right to supervise the train, where the mission has closed; the run of sections that left, hand

@@ -7,8 +7,8 @@ use crate::held::HeldRight;
 use rbc_book::Book;
 use rbc_border::Border;
 use rbc_hand::Hand;
-use rbc_line::SectionRun;
 use rbc_handover::Handover;
+use rbc_line::SectionRun;
 use std::alloc::{AllocError, Global};
 use std::marker::Model;
 

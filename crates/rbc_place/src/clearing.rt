@@ -6,8 +6,7 @@ ghost use Rattle.rbc_place.specs.Places.{place_of};
 
 use crate::place::Place;
 use crate::sections::section_end;
-use rbc_line::SectionRun;
-use rbc_line::Line;
+use rbc_line::{Line, SectionRun};
 
 /// How many of the first sections of a train's hand it has cleared: those that end at or before its safe rear end
 /// (3.6.5). 0 where the rear end is not known.

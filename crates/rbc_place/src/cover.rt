@@ -8,8 +8,7 @@ ghost use Rattle.rbc_place.specs.Places.{place_of, with_last};
 use crate::ahead::first_ahead;
 use crate::place::Place;
 use crate::sections::{is_on, section_end, section_start};
-use rbc_line::SectionRun;
-use rbc_line::Line;
+use rbc_line::{Line, SectionRun};
 
 /// Whether the train may stand in the section: on its track, the section starts before the safe front end, and ends
 /// past the safe rear end. A place whose rear end is not known covers no section.

@@ -9,8 +9,7 @@ ghost use Rattle.rbc_shorten.specs.Facts.{standing_of};
 ghost use Rattle.rbc_shorten.specs.Answers.{on_asked, cut_of, freeing, act_of, IsAnswer};
 
 use crate::facts::Proposal;
-use rbc_line::SectionRun;
-use rbc_line::Line;
+use rbc_line::{Line, SectionRun};
 use rbc_place::section_end;
 
 /// What an answer cuts off the hand.

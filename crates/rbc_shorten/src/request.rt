@@ -8,8 +8,7 @@ ghost use Rattle.rbc_shorten.specs.Facts.{AreFactsOf};
 ghost use Rattle.rbc_shorten.specs.Requests.{may_shorten, may_shorten_at, shortening, shortening_at, is_free, is_cut_after_first};
 
 use crate::facts::{Shortening, ShorteningFacts};
-use rbc_line::SectionRun;
-use rbc_line::Line;
+use rbc_line::{Line, SectionRun};
 use rbc_place::section_start;
 
 /// The farthest end that L_ENDSECTION can give, in metres.

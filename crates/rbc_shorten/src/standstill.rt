@@ -5,8 +5,7 @@ ghost use Rattle.rbc_line.specs.SectionRuns.{run_of};
 ghost use Rattle.rbc_shorten.specs.Standstill.{ahead_of, begins_before};
 
 use crate::answer::Cut;
-use rbc_line::SectionRun;
-use rbc_line::Line;
+use rbc_line::{Line, SectionRun};
 use rbc_place::section_start;
 
 /// What is cut off the hand of a train that ends its mission at standstill, with its safe front end there, in

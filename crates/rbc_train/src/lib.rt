@@ -32,14 +32,14 @@ mod starting;
 mod taking_up;
 mod train;
 
-pub use rbc_place::Place;
-pub use rbc_mission::{MissionFacts, Released, Told};
-pub use rbc_border::part_of;
 pub use heard::Heard;
 pub use hearing::tells_others;
 pub use laws::{a_section_is_released, a_section_is_taken_back};
 pub use letter::Letter;
 pub use mail::{Mail, Notice};
+pub use rbc_border::part_of;
+pub use rbc_mission::{MissionFacts, Released, Told};
+pub use rbc_place::Place;
 pub use reason::Reason;
 pub use saying::Saying;
 pub use train::{TrainPage, TrainState};

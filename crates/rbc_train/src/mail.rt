@@ -5,8 +5,8 @@ ghost use Rattle.rbc_handover.specs.Expectations.{claims, expected_from};
 ghost use Rattle.rbc_train.specs.Letters.{mail_of, mail_home, notices, cancel_of, bodies_in};
 
 use crate::letter::Letter;
-use rbc_line::SectionRun;
 use rbc_handover::{Announcers, Expectations};
+use rbc_line::SectionRun;
 use rbc_linkmsg::Body;
 use rbc_mission::HandoverName;
 

@@ -13,8 +13,7 @@ ghost use Rattle.rbc_place.specs.Places.{place_of};
 ghost use Rattle.rbc_train.specs.Desks.{IsBookOf, HasBook};
 
 use rbc_book::Book;
-use rbc_line::SectionRun;
-use rbc_line::Line;
+use rbc_line::{Line, SectionRun};
 use rbc_packets::Position;
 use rbc_place::{Place, extent, is_fit};
 use rbc_vars::QStatus;

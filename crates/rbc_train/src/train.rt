@@ -10,9 +10,8 @@ ghost use Rattle.rbc_train.specs.Desks.{mission_by};
 ghost use Rattle.rbc_train.specs.Trains.{unknown_state};
 
 use rbc_book::Book;
-use rbc_line::SectionRun;
 use rbc_handover::Expectations;
-use rbc_line::Line;
+use rbc_line::{Line, SectionRun};
 use rbc_mission::{MissionFacts, Supervision};
 use rbc_pending_start::WaitingStart;
 use rbc_place::Place;

@@ -12,8 +12,11 @@ mod run;
 mod view;
 mod world;
 
-pub use rbc_centre::{Body, Centre, Event, Frame, FrameRoom, Frames, LAST_STAMP, LinkAnswer, MissionFacts, Outcome, Phase, Reason, Saying, SectionRun, SentFrame, StepFault, TrainPage, Word};
 pub use event::{Answer, Reply, WorldEvent};
+pub use rbc_centre::{
+    Body, Centre, Event, Frame, FrameRoom, Frames, LAST_STAMP, LinkAnswer, MissionFacts, Outcome,
+    Phase, Reason, Saying, SectionRun, SentFrame, StepFault, TrainPage, Word,
+};
 pub use run::Outputs;
 pub use view::{LineView, Mark, MissionView, SectionView, SessionView, Supervisor, TrainView};
 pub use world::World;

@@ -2,12 +2,13 @@ ghost use Rattle.std.specs.Prelude.{ℕ, List, OnOk};
 ghost use Rattle.std.specs.Io.KnownBytes.{Appends};
 ghost use Rattle.serve_control.specs.Answers.{IsCommitPrint};
 
-use text_script::print::{name_of, print_event, print_outcome};
-use text_script::{Outcome, WorldEvent, status::Fault};
 use rbc_line::Line;
 use rbc_node::ShareFault;
 use std::alloc::Global;
 use std::io::Write;
+use text_script::print::{name_of, print_event, print_outcome};
+use text_script::status::Fault;
+use text_script::{Outcome, WorldEvent};
 
 /// Prints what the interlocking is answered after its event at a centre: the event and what it led to, as a run prints
 /// them; or, where the commit was refused, the number of the fault.

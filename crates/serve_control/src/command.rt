@@ -2,10 +2,10 @@ ghost use Rattle.std.specs.Prelude.{◌≡◌, map, IfOk, IfErr};
 ghost use Rattle.text_script.specs.Entries.{asked_of, event_of};
 ghost use Rattle.serve_control.specs.Commands.{bidden, bidden_once, Bids, IsNoCommand};
 
-use text_script::script::{Entry, ScriptFault, script_of};
 use rbc_line::Line;
-use text_script::WorldEvent;
 use std::alloc::Global;
+use text_script::WorldEvent;
+use text_script::script::{Entry, ScriptFault, script_of};
 
 /// What a line at the control endpoint asks for.
 #[derive(Clone, Copy, Debug, PartialEq, Eq)]

@@ -1,8 +1,8 @@
-use text_script::status::Fault;
 use rbc_log::MergeFault;
 use rbc_node::GatherFault;
 use std::alloc::{AllocError, AllocFailed};
 use std::io;
+use text_script::status::Fault;
 use thiserror::Error;
 
 /// Why the running centres end without a print.

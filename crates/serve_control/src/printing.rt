@@ -5,14 +5,15 @@ ghost use Rattle.text_script.specs.rbc_world.Views.{event_of};
 ghost use Rattle.serve_control.specs.Events.{IsCommitted};
 
 use crate::fault::ServeFault;
-use text_script::print::{name_of, print_event, print_line, print_outcome};
-use text_script::{Event, StepFault, World, WorldEvent, status::Fault};
 use rbc_line::Line;
 use rbc_log::{CentreLog, Entry, merge};
 use rbc_msgs::encode_train;
 use rbc_node::Family;
 use std::alloc::{AllocError, Global};
 use std::io::{BufWriter, Write};
+use text_script::print::{name_of, print_event, print_line, print_outcome};
+use text_script::status::Fault;
+use text_script::{Event, StepFault, World, WorldEvent};
 
 /// Prints the events of all logs by their stamps, each with what it led to as its log has it, and the line at the end.
 pub fn print_family<O: Write>(

@@ -1,14 +1,14 @@
-use text_script::status::Fault;
-use rbc_line::Line;
-use rbc_node::Node;
 use crate::looking::PageSnapshot;
 use crate::state::{DOOR_REST_MS, Endpoint, Listening};
+use rbc_line::Line;
+use rbc_node::Node;
 use std::alloc::Global;
 use std::net::{Shutdown, SocketAddr, TcpListener, TcpStream};
 use std::sync::atomic::{AtomicBool, AtomicU64, Ordering};
 use std::sync::{Arc, Mutex, Wait};
 use std::thread::Parker;
 use std::time::{Clock, Duration, Instant, SystemTime, UNIX_EPOCH};
+use text_script::status::Fault;
 
 /// How many browsers are answered at once.
 const BROWSERS: usize = 8;

@@ -1,16 +1,16 @@
-use text_journal::Entry;
-use text_script::print::name_of;
+use crate::journaling::{JournalFile, JournalWriter, ResumeFault, keep_journal, resume};
+use crate::state::Server;
+use crate::status::Notes;
 use rbc_line::Line;
 use rbc_node::{Node, Share};
 use serve_control::ServeFault;
-use crate::state::Server;
-use crate::journaling::{JournalFile, JournalWriter, ResumeFault, keep_journal, resume};
-use crate::status::Notes;
 use std::alloc::{AllocError, Global};
 use std::fs::OpenFile;
 use std::io::{Seek, Write};
 use std::sync::Wait;
 use std::time::Clock;
+use text_journal::Entry;
+use text_script::print::name_of;
 
 /// What the centres write down, and what they go on from.
 #[derive(Drop)]

@@ -17,9 +17,9 @@ pub mod state;
 pub mod status;
 mod tally;
 
+pub use crate::journaling::JournalFile;
+pub use crate::state::{Endpoints, ServeOptions};
+pub use crate::status::{Kind, NoNotes, Notes, StderrNotes};
 pub use journals::Record;
 pub use running::serve;
 pub use serve_control::ServeFault;
-pub use crate::state::{Endpoints, ServeOptions};
-pub use crate::journaling::JournalFile;
-pub use crate::status::{Kind, StderrNotes, Notes, NoNotes};

@@ -1,6 +1,6 @@
-use rbc_board::{Carrier, QueueCarrier};
-use crate::state::{DirectedLink, Server};
 use crate::journaling::JournaledCarrier;
+use crate::state::{DirectedLink, Server};
+use rbc_board::{Carrier, QueueCarrier};
 use serve_workers::{InOrder, pass_over, receive_frames, send_frames};
 use std::alloc::AllocError;
 use std::sync::Wait;
@@ -97,7 +97,10 @@ fn receive<R: Wait, C: Carrier>(
 )
     requires { C.is_of carrier.now seen }
 {
-    let (Some(committer), Some(wakers)) = (server.committer(link.to), server.wakers.get(link.from as usize)) else {
+    let (Some(committer), Some(wakers)) = (
+        server.committer(link.to),
+        server.wakers.get(link.from as usize),
+    ) else {
         return;
     };
     let Some(waker) = wakers.get(link.to as usize) else {

@@ -4,8 +4,8 @@
 //!
 //! Bodies are free. What is shown is fixed by docs/FORMATS.md.
 
-mod page_snapshot;
 mod news;
+mod page_snapshot;
 mod seen;
 mod sent;
 

@@ -1,8 +1,7 @@
 use crate::browsers::{PageEndpoint, Seen};
-use text_script::status::Fault;
-use crate::state::{Peer, Endpoint, Server};
-use serve_page::{Asked, LineNow, Refusal, answer, asked_of, refusal};
+use crate::state::{Endpoint, Peer, Server};
 use crate::status::Notes;
+use serve_page::{Asked, LineNow, Refusal, answer, asked_of, refusal};
 use std::alloc::Global;
 use std::io::{ErrorKind, Read, Write};
 use std::net::{Shutdown, TcpStream};
@@ -11,6 +10,7 @@ use std::sync::{Arc, Wait};
 use std::thread;
 use std::thread::Threads;
 use std::time::{Clock, Duration, Instant};
+use text_script::status::Fault;
 
 /// How long a read or a write of a browser's connection waits, in milliseconds.
 const PAGE_REST_MS: u64 = 250;
@@ -78,7 +78,12 @@ fn refuse(stream: &TcpStream) {
 }
 
 // Answers one request, and ends the connection.
-fn serve_browser<R: Wait + Clock>(rt: &R, server: &Server<'_>, endpoint: &PageEndpoint, stream: &TcpStream) {
+fn serve_browser<R: Wait + Clock>(
+    rt: &R,
+    server: &Server<'_>,
+    endpoint: &PageEndpoint,
+    stream: &TcpStream,
+) {
     let _ = stream.set_nodelay(true);
     let _ = stream.set_read_timeout(Some(Duration::from_millis(PAGE_REST_MS)));
     let _ = stream.set_write_timeout(Some(Duration::from_millis(PAGE_REST_MS)));
@@ -149,7 +154,13 @@ fn answer_to<R: Wait + Clock>(
     }
     let page_snapshot = &seen.page_snapshot;
     let version = seen.version;
-    Ok(answer(server.alloc, &page_snapshot.layout, &page_snapshot.now, version, asked)?)
+    Ok(answer(
+        server.alloc,
+        &page_snapshot.layout,
+        &page_snapshot.now,
+        version,
+        asked,
+    )?)
 }
 
 // Looks at the centres again if the last look is old. The page goes on showing that one while a journal can't be
@@ -168,7 +179,9 @@ fn refresh<R: Wait + Clock>(
         }
     }
     seen.at = Some(time);
-    let now = seen.page_snapshot.look(rt, server.alloc, server.line, server.nodes)?;
+    let now = seen
+        .page_snapshot
+        .look(rt, server.alloc, server.line, server.nodes)?;
     let shown = &mut seen.page_snapshot.now;
     let mut has_changed = false;
     if server.await_journals(rt) {

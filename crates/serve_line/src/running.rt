@@ -1,19 +1,19 @@
 use crate::browsers::PageEndpoint;
+use crate::clients::run_endpoint;
+use crate::journaling::JournalFile;
 use crate::journals::{Record, keep, resume_noted};
 use crate::links::carry;
 use crate::pages::run_pages;
+use crate::state::{
+    DirectedLink, Endpoint, Endpoints, ServeOptions, Server, Slot, State, connections_of,
+    endpoints_of, journals_of, links_of, nodes_of, sinks_of, wakers_of,
+};
+use crate::status::{Backlog, Notes, QueuedNotes, write_notes};
 use crate::tally::Tally;
 use crossbeam_channel::bounded;
 use rbc_line::Line;
 use rbc_node::{Family, Node, Share, gather};
-use crate::clients::run_endpoint;
 use serve_control::{ServeFault, print_family};
-use crate::state::{
-    DirectedLink, Endpoint, Endpoints, Server, ServeOptions, Slot, State, wakers_of, endpoints_of, connections_of,
-    journals_of, links_of, nodes_of, sinks_of,
-};
-use crate::journaling::JournalFile;
-use crate::status::{Backlog, Notes, QueuedNotes, write_notes};
 use std::alloc::{AllocError, Global};
 use std::fs::OpenFile;
 use std::io::{Seek, Write};
@@ -85,7 +85,13 @@ fn serve_noted<
     let (listening, page) = endpoints.all();
     let endpoints = endpoints_of(alloc, line, &nodes, listening)?;
     let page = match page {
-        Some(listening) => Some(PageEndpoint::new(rt, alloc, (line, &nodes), &endpoints, listening)?),
+        Some(listening) => Some(PageEndpoint::new(
+            rt,
+            alloc,
+            (line, &nodes),
+            &endpoints,
+            listening,
+        )?),
         None => None,
     };
     let links = links_of(alloc, line, &nodes)?;

@@ -5,20 +5,22 @@
 
 mod build;
 mod endpoints;
-mod server;
 mod limits;
 mod options;
 mod paces;
 mod queue;
-mod slots;
+mod server;
 mod sink;
+mod slots;
 
-pub use build::{wakers_of, endpoints_of, connections_of, journals_of, links_of, nodes_of, sinks_of};
+pub use build::{
+    connections_of, endpoints_of, journals_of, links_of, nodes_of, sinks_of, wakers_of,
+};
 pub use endpoints::{Endpoints, Listening};
-pub use server::{Peer, DirectedLink, Server, State};
 pub use limits::DOOR_REST_MS;
 pub use options::ServeOptions;
 pub use paces::Paces;
 pub use queue::{Queue, Watch};
-pub use slots::{Endpoint, Slot};
+pub use server::{DirectedLink, Peer, Server, State};
 pub use sink::CentreSink;
+pub use slots::{Endpoint, Slot};

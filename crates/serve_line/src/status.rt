@@ -5,12 +5,12 @@
 
 mod kinds;
 mod life;
-mod notes;
 mod mention_order;
+mod notes;
 mod snapshot;
 
 pub use kinds::Kind;
 pub use life::{Life, write_life};
-pub use notes::{Backlog, StderrNotes, Notes, QueuedNotes, NoNotes, write_notes};
 pub use mention_order::MentionOrder;
+pub use notes::{Backlog, NoNotes, Notes, QueuedNotes, StderrNotes, write_notes};
 pub use snapshot::show;

@@ -8,6 +8,6 @@
 mod reply;
 mod request;
 
-pub use text_page::{CentreNow, LineNow};
 pub use reply::{answer, refusal};
 pub use request::{Asked, MOST_REQUEST, Refusal, asked_of};
+pub use text_page::{CentreNow, LineNow};

@@ -4,8 +4,8 @@ ghost use Rattle.std.specs.Prelude.{◌≡◌, string_bytes, IfOk};
 ghost use Rattle.serve_page.specs.Replies.{refusal_text, IsAnswer, HasBody, answer_of};
 
 use crate::request::{Asked, Refusal};
-use text_page::{Layout, LineNow, line_json, live_page, now_json};
 use std::alloc::{AllocError, Global};
+use text_page::{Layout, LineNow, line_json, live_page, now_json};
 
 const HTML: &str =
     "HTTP/1.1 200 OK\r\nContent-Type: text/html; charset=utf-8\r\nContent-Security-Policy: default-src 'none'; style-src 'unsafe-inline'; script-src 'unsafe-inline'; connect-src 'self'; img-src data:; base-uri 'none'; form-action 'none'; frame-ancestors 'none'\r\nReferrer-Policy: no-referrer\r\nX-Content-Type-Options: nosniff\r\nCross-Origin-Resource-Policy: same-origin\r\nCache-Control: no-store\r\nConnection: close\r\nContent-Length: ";

@@ -9,4 +9,4 @@ mod route;
 mod routing_table;
 
 pub use connection::{Connection, Shared};
-pub use connections::{TrainConnections, ConnectionSink};
+pub use connections::{ConnectionSink, TrainConnections};

@@ -1,9 +1,9 @@
 ghost use Rattle.std.specs.Prelude.{◌≡◌};
 ghost use Rattle.serve_workers.specs.Ends.{number_of_end};
 
+use crate::reading::IntakeEnd;
 use rbc_msgs::StreamFault;
 use rbc_node::ShareFault;
-use crate::reading::IntakeEnd;
 
 /// How the session of a connection ended. None of the ends closes the train's session at the centre.
 #[derive(Clone, Copy, Debug, PartialEq, Eq)]

@@ -22,7 +22,7 @@ pub use end::SessionEnd;
 pub use laws::frames_are_committed_in_their_order;
 pub use links::{Sent, receive_frames, send_frames};
 pub use order::{InOrder, Order};
-pub use sink::{NoSink, AnswerSink};
 pub use passing::pass_over;
 pub use session::run_session;
 pub use signals::{LinkEnds, Signals};
+pub use sink::{AnswerSink, NoSink};

@@ -5,8 +5,8 @@ ghost use Rattle.serve_workers.specs.Carried.{PutsInOrder, TakesTurn, TakesTurns
 
 use crate::committer::Committer;
 use crate::order::Order;
-use crate::sink::AnswerSink;
 use crate::signals::{Patience, Signals, Stage};
+use crate::sink::AnswerSink;
 use rbc_board::Carrier;
 use rbc_centre::Event;
 use rbc_node::{Gate, Node, Share};

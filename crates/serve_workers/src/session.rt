@@ -6,11 +6,11 @@ ghost use Rattle.serve_workers.specs.Ends.{EndsSo};
 ghost use Rattle.serve_workers.specs.Session.{Joins, CommitsAll, Serves};
 
 use crate::end::SessionEnd;
+use crate::reading::{Source, read_messages};
 use crate::sink::AnswerSink;
 use rbc_centre::Event;
 use rbc_msgs::{Stream, TrainBody, TrainMsg};
 use rbc_node::{Gate, Node, Share, ShareFault};
-use crate::reading::{Source, read_messages};
 use std::alloc::Global;
 use std::sync::Wait;
 

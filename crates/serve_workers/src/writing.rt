@@ -5,14 +5,14 @@
 
 mod laws;
 mod order;
-mod shared_writer;
 mod release;
 mod reply;
+mod shared_writer;
 mod writer;
 
 pub use laws::{an_order_lets_out_a_beginning, an_order_never_turns_back};
 pub use order::{NoRoom, Order};
-pub use shared_writer::{SharedWriter, QueueWriter, Turn};
 pub use release::{AtOnce, Release};
 pub use reply::Reply;
+pub use shared_writer::{QueueWriter, SharedWriter, Turn};
 pub use writer::{WriteFailed, run_held_writer, run_writer};

@@ -4,11 +4,11 @@ ghost use Rattle.std.specs.Prelude.{◌<◌, length};
 
 use crate::missions::line_in;
 use anyhow::bail;
-use text_script::Event;
 use rbc_line::Line;
 use rbc_log::{CentreLog, merge};
 use std::alloc::Global;
 use std::time::Instant;
+use text_script::Event;
 
 /// Gives each centre of a line a log of so many entries, with the same stamps, and merges the logs. It prints how many
 /// entries there are, and how many nanoseconds each took.

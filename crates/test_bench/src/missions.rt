@@ -2,14 +2,14 @@
 
 use crate::print::print_answer;
 use anyhow::{Context, bail};
-use text_script::script::{Entry, script_of};
-use text_script::{Outcome, Reply, World, WorldEvent};
 use rbc_line::Line;
 use rbc_msgs::encode_track;
 use std::alloc::Global;
 use std::io::{BufWriter, Write};
 use std::time::Instant;
 use std::{fs, io};
+use text_script::script::{Entry, script_of};
+use text_script::{Outcome, Reply, World, WorldEvent};
 
 /// Prints what the centres of a line answer to each event of a script.
 pub fn print_answers(rt: &HostRuntime, line: &str, script: &str) -> anyhow::Result<()> {

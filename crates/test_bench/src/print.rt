@@ -1,11 +1,11 @@
 //! What a world answers, as lines of text.
 
-use text_script::{Answer, LinkAnswer, Outcome, Saying, SentFrame, Word};
 use rbc_linkmsg::encode_frame;
 use rbc_msgs::encode_track;
 use std::alloc::{AllocError, Global};
 use std::io;
 use std::io::Write;
+use text_script::{Answer, LinkAnswer, Outcome, Saying, SentFrame, Word};
 
 /// Prints an answer: the stamp of a step, each message with its engine, each frame with its receiver, each word, that a
 /// frame is old or early, and the reason of silence; or why no centre took a step.

@@ -1,10 +1,10 @@
 //! A line of two centres, with a train that has sections 0 and 1 of four.
 
+use std::alloc::{AllocError, Global};
 use text_page::{
     CentreNow, Layout, LineNow, LinkNow, MissionNow, Phase, Place, Run, SectionNow, SessionNow,
     Usage,
 };
-use std::alloc::{AllocError, Global};
 
 /// Where its sections lie: two of 100 m in the home of A, two in that of B.
 pub fn layout(alloc: Global) -> Result<Layout, AllocError> {

@@ -2,9 +2,9 @@
 
 use crate::line::{layout, now};
 use crate::shown::lacking;
-use text_page::{Changes, Layout, LineNow, Part, Phase, RunSheet, SectionNow, Usage};
 use std::alloc::{AllocError, Global};
 use std::test::*;
+use text_page::{Changes, Layout, LineNow, Part, Phase, RunSheet, SectionNow, Usage};
 
 // The page of the last two of seven events, after which the line is as `now` has it. Section 2 is kept from event 6
 // on, train 19 has a mission from event 6 on, and a session with A between events 5 and 7.

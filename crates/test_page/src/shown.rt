@@ -1,10 +1,10 @@
 //! What an answer shows.
 
 use crate::line::{layout, now};
-use text_page::Layout;
 use serve_page::{Asked, Refusal, answer, refusal};
 use std::alloc::{AllocError, Global};
 use std::test::*;
+use text_page::Layout;
 
 // The version in which the line is shown.
 const VERSION: u64 = 512;

@@ -46,7 +46,9 @@ pub const TURNS: u32 = 10_000_000;
 
 /// A connection to an endpoint, which no read holds up.
 pub fn connect<R: Net<Stream = TcpStream>>(rt: &R, endpoint: SocketAddr) -> Done<TcpStream> {
-    let stream = TcpStream::connect(rt, endpoint).ok().ok_or(Missed::Endpoint)?;
+    let stream = TcpStream::connect(rt, endpoint)
+        .ok()
+        .ok_or(Missed::Endpoint)?;
     stream.set_nonblocking(true).ok().ok_or(Missed::Waiting)?;
     Ok(stream)
 }

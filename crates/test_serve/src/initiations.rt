@@ -5,12 +5,12 @@ use crate::client::{Done, Missed, connect};
 use crate::line::{INITIATION_OF_ONE, VERSION, bytes_of, node_of_a, two_centres};
 use crate::order::heard_to_the_end;
 use crossbeam_channel::{Receiver, bounded};
-use rbc_world::{Event, Outcome};
 use rbc_msgs::decode_train;
 use rbc_node::{Node, Open, Share};
-use serve_workers::connections::{Connection, TrainConnections, Shared, ConnectionSink};
+use rbc_world::{Event, Outcome};
 use serve_workers::AnswerSink;
-use serve_workers::writing::{SharedWriter, Reply, run_writer};
+use serve_workers::connections::{Connection, ConnectionSink, Shared, TrainConnections};
+use serve_workers::writing::{Reply, SharedWriter, run_writer};
 use std::alloc::Global;
 use std::io::Write;
 use std::net::{IpAddr, Ipv4Addr, Net, Shutdown, SocketAddr, TcpListener, TcpStream};
@@ -95,7 +95,11 @@ fn entered<R: Net<Stream = TcpStream, Listener = TcpListener> + Wait>(
     let stream = Arc::new(alloc, stream)?;
     let shared_writer = Arc::new(alloc, SharedWriter::new(Shared(Arc::try_clone(&stream)?)))?;
     let (sender, replies) = bounded(alloc, 8)?;
-    let connection = Connection::new(sender, Arc::try_clone(&shared_writer)?, Arc::try_clone(&stream)?);
+    let connection = Connection::new(
+        sender,
+        Arc::try_clone(&shared_writer)?,
+        Arc::try_clone(&stream)?,
+    );
     connections.enter(rt, number, connection)?;
     Ok(Ends {
         stream,
@@ -126,9 +130,18 @@ fn played<R: Net<Stream = TcpStream, Listener = TcpListener> + Wait>(
     Ok((first, second))
 }
 
-fn submit<R: Wait>(rt: &R, connections: &TrainConnections<'_>, own: Option<usize>, outcome: &Outcome) {
+fn submit<R: Wait>(
+    rt: &R,
+    connections: &TrainConnections<'_>,
+    own: Option<usize>,
+    outcome: &Outcome,
+) {
     match own {
-        Some(number) => ConnectionSink { connections, number }.answered(rt, outcome),
+        Some(number) => ConnectionSink {
+            connections,
+            number,
+        }
+        .answered(rt, outcome),
         None => connections.answered(rt, outcome),
     }
 }

@@ -6,15 +6,15 @@ use crate::line::{INITIATION_OF_ONE, VERSION, bytes_of, two_centres};
 use crate::railway::{Addresses, audited, printed_of, served_with};
 use crate::sheet::{Paper, Sheet, cells};
 use cli_commands::auditing::Verdict;
-use text_journal::Entry;
 use rbc_world::WorldEvent;
-use serve_line::{JournalFile, ServeOptions, Record};
+use serve_line::{JournalFile, Record, ServeOptions};
 use std::alloc::Global;
 use std::net::{Net, TcpStream};
 use std::sync::atomic::{AtomicUsize, Ordering};
 use std::test::*;
 use std::thread;
 use std::time::{Clock, Duration};
+use text_journal::Entry;
 
 const SET_1: &str = "c4ee5feb 1 > set A 1\n";
 

@@ -19,17 +19,17 @@ mod options;
 #[cfg(test)]
 mod order;
 #[cfg(test)]
-mod sinks;
-#[cfg(test)]
 mod play;
 #[cfg(test)]
 mod railway;
 #[cfg(test)]
 mod refusing;
 #[cfg(test)]
-mod slots;
-#[cfg(test)]
 mod sheet;
+#[cfg(test)]
+mod sinks;
+#[cfg(test)]
+mod slots;
 #[cfg(test)]
 mod torn;
 #[cfg(test)]

@@ -64,7 +64,10 @@ fn come<R: Net<Stream = TcpStream>>(
     streams: &mut Vec<TcpStream>,
     endpoint: SocketAddr,
 ) -> Done<()> {
-    streams.push(connect(rt, endpoint)?).ok().ok_or(Missed::Memory)
+    streams
+        .push(connect(rt, endpoint)?)
+        .ok()
+        .ok_or(Missed::Memory)
 }
 
 fn done(alloc: Global, streams: &[TcpStream], number: usize, act: Act<'_>) -> Done<()> {

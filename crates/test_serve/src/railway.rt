@@ -4,7 +4,7 @@ use crate::client::{Done, Missed, connect, say};
 use crate::line::{CONTROL, two_centres};
 use cli_commands::auditing::{Audit, Verdict};
 use rbc_line::Line;
-use serve_line::{Endpoints, ServeOptions, NoNotes, Record, serve};
+use serve_line::{Endpoints, NoNotes, Record, ServeOptions, serve};
 use std::alloc::Global;
 use std::fs::{File, OpenFile};
 use std::io::{Seek, Write};
@@ -38,7 +38,14 @@ pub fn printed_of<
     R: Threads + Wait + Sync + Net<Stream = TcpStream, Listener = TcpListener> + Clock,
     F: Write + Seek + OpenFile + Drop + Send,
     P: FnOnce(Addresses) -> Done<()>,
->(rt: &R, alloc: Global, line: &Line, options: ServeOptions, record: Record<F>, play: P) -> Done<Vec<u8>>
+>(
+    rt: &R,
+    alloc: Global,
+    line: &Line,
+    options: ServeOptions,
+    record: Record<F>,
+    play: P,
+) -> Done<Vec<u8>>
     requires { P.IsAlwaysCallable play }
 {
     match served_with(rt, alloc, line, options, record, play)? {
@@ -102,7 +109,9 @@ fn served<R: Threads + Wait + Sync + Clock, F: Write + Seek + OpenFile + Drop + 
     options: ServeOptions,
 ) -> (u8, Vec<u8>) {
     let mut out = Vec::new(alloc);
-    match serve(rt, alloc, line, endpoints, record, options, &NoNotes, &mut out) {
+    match serve(
+        rt, alloc, line, endpoints, record, options, &NoNotes, &mut out,
+    ) {
         Ok(()) => (0, out),
         Err(fault) => (fault.status(), out),
     }

@@ -2,12 +2,12 @@
 
 use crate::client::{Done, Missed, answers, connect};
 use crate::line::two_centres;
-use rbc_world::{Body, Event, Frame};
 use rbc_line::Line;
 use rbc_node::{Node, Open};
+use rbc_world::{Body, Event, Frame};
 use serve_line::clients::run_endpoint;
 use serve_line::state::{Server, State, bells_of, doors_of, exchanges_of, nodes_of, tellers_of};
-use serve_line::{Endpoints, ServeOptions, NoNotes};
+use serve_line::{Endpoints, NoNotes, ServeOptions};
 use std::alloc::Global;
 use std::net::{Net, SocketAddr, TcpListener, TcpStream};
 use std::sync::Wait;
@@ -83,7 +83,14 @@ fn asked<R: Threads + Wait + Sync + Net<Stream = TcpStream, Listener = TcpListen
     let endpoints = doors_of(alloc, line, nodes, listening)?;
     let wakers = bells_of(alloc, line)?;
     let connections = exchanges_of(alloc, line, &wakers)?;
-    let sinks = tellers_of(alloc, line, &connections, &endpoints, &[], ServeOptions::default())?;
+    let sinks = tellers_of(
+        alloc,
+        line,
+        &connections,
+        &endpoints,
+        &[],
+        ServeOptions::default(),
+    )?;
     let state = State::new(line.centre_count());
     let server = Server {
         alloc,

@@ -1,9 +1,9 @@
 ghost use Rattle.std.specs.Prelude.{◌≡◌, ◌++◌, IfOk, codes, string_bytes};
 ghost use Rattle.text_script.specs.Print.Rows.{name_at};
 
-use text_script::print::name_of;
 use rbc_line::Line;
 use std::alloc::{AllocError, Global};
+use text_script::print::name_of;
 
 /// The name of the file that has the journal of a centre.
 pub fn file_name(alloc: Global, line: &Line, centre: u8) -> Result<String, AllocError>

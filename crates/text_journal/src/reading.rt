@@ -8,9 +8,9 @@ use crate::entry::Entry;
 use crate::fault::JournalFault;
 use crate::row::entry_in;
 use crate::writing::first_line;
-use text_script::script::EntryFault;
 use rbc_line::Line;
 use std::alloc::Global;
+use text_script::script::EntryFault;
 
 /// The entries of a centre's journal, which may end anywhere: a last line that no line feed ends is left out. Of the
 /// text of the line file the first line has the digest.

@@ -5,10 +5,10 @@ ghost use Rattle.text_journal.specs.Reading.{ArePartsOf, Finds, Guesses, IsAt, T
 
 use crate::entry::Entry;
 use crate::writing::entry_line;
-use text_script::script::{self, EntryFault, entry_of};
 use rbc_line::Line;
-use text_script::WorldEvent;
 use std::alloc::Global;
+use text_script::WorldEvent;
+use text_script::script::{self, EntryFault, entry_of};
 
 /// The entry of the centre's journal that has this line, which is given without its line feed.
 pub(crate) fn entry_in(

@@ -3,10 +3,10 @@ ghost use Rattle.text_journal.specs.Journal.{entry_line, first_line, told};
 
 use crate::digest::{checksum, digest};
 use crate::entry::Entry;
-use text_script::print::{name_of, print_event};
 use rbc_line::Line;
 use std::alloc::{AllocError, Global};
 use std::io::Write;
+use text_script::print::{name_of, print_event};
 
 /// The first line of the journal of a centre, without the line feed that ends it, by the text of the line file.
 pub fn first_line(alloc: Global, line: &Line, centre: u8, file: &str) -> Result<String, AllocError>

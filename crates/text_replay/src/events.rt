@@ -5,10 +5,11 @@ ghost use Rattle.rbc_spec.specs.World.{centre_of};
 ghost use Rattle.text_script.specs.rbc_world.Views.{event_of};
 
 use crate::cut::Cut;
-use text_script::script::{Entry, ScriptFault, script_of};
-use text_script::{WorldEvent, status::Fault};
 use rbc_line::Line;
 use std::alloc::Global;
+use text_script::WorldEvent;
+use text_script::script::{Entry, ScriptFault, script_of};
+use text_script::status::Fault;
 
 /// What an event's line begins with in a print.
 const EVENT: &str = "> ";

@@ -1,8 +1,8 @@
 //! The handovers that are announced, by what the centres send each other.
 
-use text_script::Body;
 use rbc_line::Line;
 use std::alloc::{AllocError, Global};
+use text_script::Body;
 
 /// The handover of each train that was announced, by the train's place in the line file.
 #[derive(Drop)]

@@ -1,8 +1,8 @@
 //! What does not change of a line.
 
-use text_page::{Layout, Place};
 use rbc_line::Line;
 use std::alloc::{AllocError, Global};
+use text_page::{Layout, Place};
 
 /// What does not change of the line, whose centres listen at these ports.
 pub fn layout_of(alloc: Global, line: &Line, ports: Vec<u16>) -> Result<Layout, AllocError> {

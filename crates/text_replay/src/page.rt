@@ -6,10 +6,11 @@ use crate::layout::layout_of;
 use crate::played::{Played, play};
 use crate::shown::{phase_now, section_now};
 use crate::stretch::stretches_of;
-use text_page::{Changes, Layout, LineNow, MissionNow, Part, Phase, RunSheet, SessionNow};
-use text_script::{LineView, WorldEvent, status::Fault};
 use rbc_line::Line;
 use std::alloc::{AllocError, Global};
+use text_page::{Changes, Layout, LineNow, MissionNow, Part, Phase, RunSheet, SessionNow};
+use text_script::status::Fault;
+use text_script::{LineView, WorldEvent};
 
 /// How many events are shown at most.
 const MOST_EVENTS: usize = 10_000;

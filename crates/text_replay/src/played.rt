@@ -4,10 +4,11 @@ use crate::events::centre_of;
 use crate::handovers::Handovers;
 use crate::shown::mission_now;
 use crate::words::event_in_words;
-use text_page::MissionNow;
-use text_script::{Answer, LineView, MissionView, SectionRun, Supervisor, World, WorldEvent, status::Fault};
 use rbc_line::Line;
 use std::alloc::{AllocError, Global};
+use text_page::MissionNow;
+use text_script::status::Fault;
+use text_script::{Answer, LineView, MissionView, SectionRun, Supervisor, World, WorldEvent};
 
 /// A part of a run. What stands before its first event comes first in each list but `words`.
 #[derive(Drop)]

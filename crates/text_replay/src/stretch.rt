@@ -1,8 +1,8 @@
 ghost use Rattle.std.specs.Prelude.{◌≡◌, ◌<◌, ◌+◌, false, true, length, map, slice_get, IfOk};
 ghost use Rattle.text_replay.specs.Stretches.{seen_in, AreStretchesOf};
 
-use text_script::{LineView, Mark, SectionView};
 use std::alloc::{AllocError, Global};
+use text_script::{LineView, Mark, SectionView};
 
 /// Consecutive events in which a section is seen as the same, by the first event and the one after the last.
 #[derive(Clone, Copy)]

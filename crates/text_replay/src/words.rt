@@ -1,10 +1,11 @@
 //! Events in words.
 
-use text_script::print::{print_answer, print_event};
-use text_script::{Answer, WorldEvent, status::Fault};
-use text_words::{Told, line_in_words};
 use rbc_line::Line;
 use std::alloc::{AllocError, Global};
+use text_script::print::{print_answer, print_event};
+use text_script::status::Fault;
+use text_script::{Answer, WorldEvent};
+use text_words::{Told, line_in_words};
 
 /// An event and what is answered to it, in words.
 pub(crate) fn event_in_words(

@@ -7,4 +7,9 @@ pub mod play;
 pub mod print;
 pub mod script;
 pub mod status;
-pub use rbc_world::{Answer, Body, Centre, Event, Frame, FrameRoom, Frames, LAST_STAMP, LineView, LinkAnswer, Mark, MissionFacts, MissionView, Outcome, Phase, Reply, Saying, SectionRun, SectionView, SentFrame, StepFault, Supervisor, TrainPage, Word, World, WorldEvent};
+
+pub use rbc_world::{
+    Answer, Body, Centre, Event, Frame, FrameRoom, Frames, LAST_STAMP, LineView, LinkAnswer, Mark,
+    MissionFacts, MissionView, Outcome, Phase, Reply, Saying, SectionRun, SectionView, SentFrame,
+    StepFault, Supervisor, TrainPage, Word, World, WorldEvent,
+};

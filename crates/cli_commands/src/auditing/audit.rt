@@ -1,9 +1,10 @@
 use crate::auditing::played::Played;
 use crate::comparing::{Comparison, Verdict};
-use text_script::script::{Entry, ScriptFault, script_of};
-use text_script::{StepFault, status::Fault};
 use rbc_line::Line;
 use std::alloc::Global;
+use text_script::StepFault;
+use text_script::script::{Entry, ScriptFault, script_of};
+use text_script::status::Fault;
 
 /// What an event's line begins with in a print.
 const EVENT: &str = "> ";

@@ -1,7 +1,9 @@
-use text_script::print::{print_answer, print_event, print_line, print_show};
-use text_script::{StepFault, World, WorldEvent, script::Entry, status::Fault};
 use rbc_line::Line;
 use std::alloc::Global;
+use text_script::print::{print_answer, print_event, print_line, print_show};
+use text_script::script::Entry;
+use text_script::status::Fault;
+use text_script::{StepFault, World, WorldEvent};
 
 /// The centres of the line, on which the entries of a print are played again.
 #[derive(Drop)]

@@ -1,7 +1,7 @@
-use text_journal::Entry;
-use text_script::{Answer, StepFault, World};
 use rbc_line::Line;
 use std::alloc::Global;
+use text_journal::Entry;
+use text_script::{Answer, StepFault, World};
 
 /// Entries of which each frame that is delivered was sent, and how many others are left out.
 #[derive(Drop)]

@@ -1,5 +1,6 @@
 use crate::rerunning::place::Place;
-use text_script::{StepFault, status::Fault};
+use text_script::StepFault;
+use text_script::status::Fault;
 
 /// Why the print of journals is not written whole.
 #[derive(Debug, Drop)]

@@ -3,12 +3,14 @@ ghost use Rattle.cli_commands.specs.Rerunning.Printed.{asks, PrintsRun, Reprints
 
 use crate::rerunning::fault::RerunFault;
 use crate::rerunning::rerun::first_unfit;
-use text_journal::Entry;
 use crate::running::print_played;
-use text_script::{StepFault, play::PlayFault, script, status::Fault};
 use rbc_line::Line;
 use std::alloc::{AllocError, Global};
 use std::io::Write;
+use text_journal::Entry;
+use text_script::play::PlayFault;
+use text_script::status::Fault;
+use text_script::{StepFault, script};
 
 /// Writes the print of the events of the entries, which have to be a run of the line, each with the stamp that its
 /// event is answered with. Else nothing is written.

@@ -3,10 +3,10 @@ ghost use Rattle.text_script.specs.rbc_world.Views.{answer_of};
 ghost use Rattle.cli_commands.specs.Rerunning.Rerun.{Finds, stamp_of};
 
 use crate::rerunning::place::{Place, missing_sender, next_row};
-use text_journal::Entry;
-use text_script::{Answer, StepFault, World};
 use rbc_line::Line;
 use std::alloc::Global;
+use text_journal::Entry;
+use text_script::{Answer, StepFault, World};
 
 /// Runs the events of the entries from the line's beginning, and finds the first entry whose stamp is not the one that
 /// its event is answered with; none where they are a run of the line. An event that no centre takes, as a frame that

@@ -1,13 +1,13 @@
 ghost use Rattle.cli_commands.specs.Running.Printed.{LeavesPrint};
 
-use crate::running::underlying::Underlying;
 use crate::running::played::print_played;
-use text_script::play::PlayFault;
-use text_script::script::Entry;
-use text_script::status::Fault;
+use crate::running::underlying::Underlying;
 use rbc_line::Line;
 use std::alloc::{AllocError, Global};
 use std::io::{BufWriter, Write};
+use text_script::play::PlayFault;
+use text_script::script::Entry;
+use text_script::status::Fault;
 
 /// Prints so too, with a buffer in front of the writer, which is empty after it. Where the writer refused a write, it
 /// may have any part of the print.

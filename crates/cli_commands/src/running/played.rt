@@ -1,10 +1,13 @@
 ghost use Rattle.cli_commands.specs.Running.Printed.{LeavesPrint};
 
 use crate::running::printer::Printer;
-use text_script::{World, play::PlayFault, script::Entry, status::Fault};
 use rbc_line::Line;
 use std::alloc::Global;
 use std::io::Write;
+use text_script::World;
+use text_script::play::PlayFault;
+use text_script::script::Entry;
+use text_script::status::Fault;
 
 /// Plays the entries of a script on the line from its beginning, and prints each, what it led to, and at the end the
 /// line. It stops at the first event whose step is refused: all in front of it is printed then, and the event.

@@ -7,12 +7,14 @@ ghost use Rattle.text_script.specs.Print.Shown.{line_text};
 ghost use Rattle.rbc_spec.specs.World.{new_world};
 ghost use Rattle.cli_commands.specs.Running.Printed.{PrintsAll};
 
-use text_script::print::{print_answer, print_event, print_line, print_show};
-use text_script::play::{PlayFault, Teller, play};
-use text_script::{Answer, World, WorldEvent, script::Entry, status::Fault};
 use rbc_line::Line;
 use std::alloc::Global;
 use std::io::Write;
+use text_script::play::{PlayFault, Teller, play};
+use text_script::print::{print_answer, print_event, print_line, print_show};
+use text_script::script::Entry;
+use text_script::status::Fault;
+use text_script::{Answer, World, WorldEvent};
 
 /// Prints each event of a script, and then what it led to.
 #[derive(Drop)]

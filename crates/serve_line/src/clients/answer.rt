@@ -1,9 +1,10 @@
-use text_script::{Event, WorldEvent, status::Fault};
-use rbc_node::Share;
-use serve_control::{Command, print_commit};
 use crate::state::{Server, Slot};
 use crate::status::{MentionOrder, show, write_life};
+use rbc_node::Share;
+use serve_control::{Command, print_commit};
 use std::sync::Wait;
+use text_script::status::Fault;
+use text_script::{Event, WorldEvent};
 
 /// What a line of another form is answered.
 pub(crate) const SCRIPT_FAULT: &str = "script fault\n";
@@ -67,7 +68,14 @@ fn show_written<R: Wait>(
     mention_order: &mut MentionOrder,
     text: &mut Vec<u8>,
 ) -> Result<(), Fault<'static>> {
-    show(rt, server.alloc, server.line, server.nodes, mention_order, text)?;
+    show(
+        rt,
+        server.alloc,
+        server.line,
+        server.nodes,
+        mention_order,
+        text,
+    )?;
     if server.options.shows_life {
         write_life(rt, server.line, server.nodes, text)?;
     }
@@ -90,7 +98,8 @@ fn commit<R: Wait>(
     text: &mut Vec<u8>,
 ) -> Result<(), Fault<'static>> {
     let Served { server, slot } = served;
-    let (Some(committer), Some(share)) = (server.committer(centre), shares.get_mut(centre as usize)) else {
+    let (Some(committer), Some(share)) = (server.committer(centre), shares.get_mut(centre as usize))
+    else {
         return Ok(());
     };
     let is_waiting = slot.is_reserve && committer.sink.queue.is_long();

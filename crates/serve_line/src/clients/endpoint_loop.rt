@@ -2,7 +2,7 @@ use crate::clients::control::serve_control;
 use crate::clients::entrance::{Entrance, is_idle};
 use crate::clients::limits::{DEAF_REST_MS, GRACE_RESTS, LEAVING_RESTS, NEXT_RESTS};
 use crate::clients::sessions::serve_train;
-use crate::state::{Peer, DOOR_REST_MS, Endpoint, Server, Slot, Watch};
+use crate::state::{DOOR_REST_MS, Endpoint, Peer, Server, Slot, Watch};
 use crate::status::{Kind, Life, Notes};
 use std::alloc::Global;
 use std::net::TcpStream;
@@ -30,7 +30,8 @@ pub fn run_endpoint<R: Threads + Wait + Sync + Clock, N: Notes + Sync>(
                 break;
             }
             looks.look(rt, server, notes, endpoint);
-            let Some((stream, slot)) = next_caller(rt, server, notes, endpoint, &mut entrance) else {
+            let Some((stream, slot)) = next_caller(rt, server, notes, endpoint, &mut entrance)
+            else {
                 continue;
             };
             let peer = endpoint.peer;
@@ -76,8 +77,15 @@ impl Looks {
         }
     }
 
-    fn look<R: Wait + Clock, N: Notes>(&mut self, rt: &R, server: &Server<'_>, notes: &N, endpoint: &Endpoint) {
-        let (Some(node), Some(sink)) = (server.node(endpoint.peer), server.sink(endpoint.peer)) else {
+    fn look<R: Wait + Clock, N: Notes>(
+        &mut self,
+        rt: &R,
+        server: &Server<'_>,
+        notes: &N,
+        endpoint: &Endpoint,
+    ) {
+        let (Some(node), Some(sink)) = (server.node(endpoint.peer), server.sink(endpoint.peer))
+        else {
             return;
         };
         self.life.look(rt, server.line, node, notes, sink.name);
@@ -174,13 +182,15 @@ fn rest_after<R: Wait, N: Notes>(
         Kind::Device,
         format_args!("{name}: no connection can be taken now: {error}"),
     );
-    endpoint.waker
+    endpoint
+        .waker
         .park_timeout(rt, Duration::from_millis(DEAF_REST_MS));
 }
 
 // Rests a while at an endpoint.
 fn rest<R: Wait>(rt: &R, endpoint: &Endpoint) {
-    endpoint.waker
+    endpoint
+        .waker
         .park_timeout(rt, Duration::from_millis(DOOR_REST_MS));
 }
 
@@ -212,7 +222,11 @@ fn slot_for<'a, R: Wait>(rt: &R, server: &Server<'_>, endpoint: &'a Endpoint) ->
 }
 
 // The slot whose connection has to leave it for a new one.
-fn dispensable<'a, R: Wait>(rt: &R, server: &Server<'_>, endpoint: &'a Endpoint) -> Option<&'a Slot> {
+fn dispensable<'a, R: Wait>(
+    rt: &R,
+    server: &Server<'_>,
+    endpoint: &'a Endpoint,
+) -> Option<&'a Slot> {
     let mut oldest = None;
     for slot in &endpoint.slots {
         let is_kept = slot.is_reserve || slot.is_leaving();

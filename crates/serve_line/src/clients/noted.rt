@@ -1,11 +1,11 @@
 use crate::clients::limits::UNWRITTEN;
-use text_script::Outcome;
-use serve_workers::connections::ConnectionSink;
 use crate::state::CentreSink;
 use crate::status::{Kind, Notes};
 use serve_workers::AnswerSink;
+use serve_workers::connections::ConnectionSink;
 use std::sync::Wait;
 use std::sync::atomic::{AtomicU32, Ordering};
+use text_script::Outcome;
 
 /// A train's connection as the session over it sees it, which notes each train that opens its session.
 #[derive(Drop)]

@@ -1,5 +1,5 @@
-use rbc_line::Line;
 use crate::state::{Paces, Slot};
+use rbc_line::Line;
 use std::sync::Wait;
 use std::thread;
 use std::time::{Clock, Duration};

@@ -1,15 +1,14 @@
 use crate::clients::limits::{PATIENCE_S, REPLIES, SILENCE_S, set_waits};
 use crate::clients::noted::LoggedSink;
-use crate::clients::rate_limit::RateLimit;
 use crate::clients::paced::Paced;
-use text_script::print::name_of;
+use crate::clients::rate_limit::RateLimit;
+use crate::state::{CentreSink, Server, Slot};
+use crate::status::{Kind, Notes};
 use crossbeam_channel::{Receiver, bounded};
 use rbc_node::{Node, Open};
-use serve_workers::connections::{Connection, Shared, ConnectionSink};
-use crate::state::{Server, Slot, CentreSink};
-use crate::status::{Kind, Notes};
+use serve_workers::connections::{Connection, ConnectionSink, Shared};
+use serve_workers::writing::{Reply, SharedWriter, run_held_writer, run_writer};
 use serve_workers::{SessionEnd, run_session};
-use serve_workers::writing::{SharedWriter, Reply, run_held_writer, run_writer};
 use std::alloc::{AllocError, Global};
 use std::net::{Shutdown, TcpStream};
 use std::sync::atomic::AtomicU32;
@@ -17,6 +16,7 @@ use std::sync::{Arc, Wait};
 use std::thread;
 use std::thread::Threads;
 use std::time::{Clock, Duration};
+use text_script::print::name_of;
 
 /// Serves a train's connection at a centre to its end.
 pub(crate) fn serve_train<R: Threads + Wait + Sync + Clock, N: Notes + Sync>(
@@ -46,7 +46,10 @@ pub(crate) fn serve_train<R: Threads + Wait + Sync + Clock, N: Notes + Sync>(
         format_args!("{name}: train connection {number} begins"),
     );
     let noted = LoggedSink {
-        connection_sink: ConnectionSink { connections, number },
+        connection_sink: ConnectionSink {
+            connections,
+            number,
+        },
         sink,
         events: AtomicU32::new(0),
         notes,
@@ -104,7 +107,11 @@ fn ends_of(
 ) -> Result<(Ends, Connection), AllocError> {
     let shared_writer = Arc::new(alloc, SharedWriter::new(Shared(Arc::try_clone(&stream)?)))?;
     let (sender, replies) = bounded(alloc, REPLIES)?;
-    let connection = Connection::new(sender, Arc::try_clone(&shared_writer)?, Arc::try_clone(&stream)?);
+    let connection = Connection::new(
+        sender,
+        Arc::try_clone(&shared_writer)?,
+        Arc::try_clone(&stream)?,
+    );
     let ends = Ends {
         stream,
         shared_writer,
@@ -125,10 +132,7 @@ fn read_and_write<R: Threads + Wait + Sync + Clock, N: Notes + Sync>(
 ) -> Option<End> {
     thread::scope(thread::scope_env(), rt, |scope| {
         let sink = noted.sink;
-        if scope
-            .spawn(move || write_replies(rt, ends, sink))
-            .is_err()
-        {
+        if scope.spawn(move || write_replies(rt, ends, sink)).is_err() {
             noted.connection_sink.connections.leave(rt, slot.number);
             return None;
         }

@@ -5,13 +5,13 @@ ghost use Rattle.rbc_log.specs.Log.{LogValue};
 ghost use Rattle.rbc_node.specs.Node.{centre_of, IsLogOf};
 ghost use Rattle.serve_line.specs.Journaling.Noting.{AreNotesOf};
 
-use text_journal::{Entry, add_entry};
 use rbc_line::Line;
 use rbc_log::{CentreLog, Entry as Committed};
 use rbc_node::Node;
 use serve_control::world_event;
 use std::alloc::{AllocError, Global};
 use std::sync::Wait;
+use text_journal::{Entry, add_entry};
 
 /// How many events are written at once at most. The centre takes no step while they are copied.
 const MOST_AT_ONCE: usize = 256;

@@ -1,9 +1,9 @@
 use crate::journaling::batch::{lines_of, next_entries};
 use crate::journaling::file::JournalFile;
 use crate::journaling::journal::Journal;
+use crate::status::Notes;
 use rbc_line::Line;
 use rbc_node::Node;
-use crate::status::Notes;
 use std::alloc::Global;
 use std::fs::OpenFile;
 use std::io::{ErrorKind, Seek, Write};

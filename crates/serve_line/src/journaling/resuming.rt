@@ -4,12 +4,12 @@ ghost use Rattle.text_journal.specs.Order.{taken_at};
 ghost use Rattle.serve_control.specs.Events.{IsCommitted};
 ghost use Rattle.serve_line.specs.Journaling.Resuming.{first_share, AreResumed, CommitsAgain, IsResumed};
 
-use text_journal::Entry;
-use text_script::{Event, WorldEvent};
 use rbc_msgs::{MsgFault, decode_train};
 use rbc_node::{Node, Open, Share, ShareFault};
 use std::alloc::{AllocError, AllocFailed, Global};
 use std::sync::Wait;
+use text_journal::Entry;
+use text_script::{Event, WorldEvent};
 
 /// Why centres do not go on from journals.
 #[derive(Clone, Copy, Debug, PartialEq, Eq)]

@@ -1,11 +1,12 @@
-use text_script::print::{name_of, print_event, print_outcome};
-use text_replay::rows_in_words;
-use text_script::{Body, Event, FrameRoom, StepFault, status::Fault};
-use text_words::number_of_train;
 use rbc_line::Line;
 use rbc_log::{CentreLog, Entry};
 use serve_control::world_event;
 use std::alloc::{AllocError, Global};
+use text_replay::rows_in_words;
+use text_script::print::{name_of, print_event, print_outcome};
+use text_script::status::Fault;
+use text_script::{Body, Event, FrameRoom, StepFault};
+use text_words::number_of_train;
 
 /// How many events are told.
 const TOLD: usize = 24;

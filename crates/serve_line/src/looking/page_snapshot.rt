@@ -1,13 +1,13 @@
 use crate::looking::news::News;
 use crate::looking::seen::see_centre;
 use crate::looking::sent::Sent;
-use text_page::{CentreNow, Layout, LineNow, LinkNow, MissionNow, SectionNow, Usage};
-use text_replay::layout_of;
-use text_script::status::Fault;
 use rbc_line::Line;
 use rbc_node::Node;
 use std::alloc::{AllocError, Global};
 use std::sync::Wait;
+use text_page::{CentreNow, Layout, LineNow, LinkNow, MissionNow, SectionNow, Usage};
+use text_replay::layout_of;
+use text_script::status::Fault;
 
 /// The line as the page shows it.
 #[derive(Drop)]

@@ -1,12 +1,12 @@
 //! What one centre shows.
 
-use text_page::{LineNow, SectionNow, SessionNow, Usage};
-use text_replay::{mission_now, phase_now};
 use rbc_book::Entry;
-use text_script::{Centre, TrainPage};
 use rbc_line::Line;
 use rbc_log::CentreLog;
 use std::alloc::AllocError;
+use text_page::{LineNow, SectionNow, SessionNow, Usage};
+use text_replay::{mission_now, phase_now};
+use text_script::{Centre, TrainPage};
 
 /// Adds what a centre has of its own sections, of its trains, and of its life.
 pub(crate) fn see_centre(

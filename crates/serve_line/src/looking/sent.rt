@@ -1,8 +1,8 @@
+use rbc_line::Line;
+use std::alloc::{AllocError, Global};
 use text_page::LineNow;
 use text_replay::Handovers;
 use text_script::Centre;
-use rbc_line::Line;
-use std::alloc::{AllocError, Global};
 
 /// How many frames of a link are read under a centre's lock at most. What is left is read at a later look.
 const MOST_READ: u32 = 256;

@@ -1,21 +1,21 @@
+use crate::journaling::Journal;
 use crate::state::endpoints::Listening;
-use crate::state::server::{Peer, DirectedLink};
 use crate::state::limits::{CONTROLS, SPARE};
 use crate::state::options::ServeOptions;
 use crate::state::paces::Paces;
 use crate::state::queue::Queue;
-use crate::state::slots::{Endpoint, Slot};
+use crate::state::server::{DirectedLink, Peer};
 use crate::state::sink::CentreSink;
-use text_script::print::name_of;
+use crate::state::slots::{Endpoint, Slot};
 use rbc_line::Line;
 use rbc_node::{Node, Share};
-use serve_workers::connections::TrainConnections;
-use crate::journaling::Journal;
 use serve_workers::LinkEnds;
+use serve_workers::connections::TrainConnections;
 use std::alloc::{AllocError, Global};
 use std::sync::atomic::{AtomicBool, AtomicU64};
 use std::sync::{Mutex, Wait};
 use std::thread::Parker;
+use text_script::print::name_of;
 
 // How many connections a centre of the line serves at once.
 fn most_trains(line: &Line) -> usize {

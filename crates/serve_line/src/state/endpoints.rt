@@ -1,11 +1,11 @@
-use text_script::print::name_of;
+use crate::status::Notes;
 use rbc_line::Line;
 use serve_control::ServeFault;
-use crate::status::Notes;
 use std::alloc::Global;
 use std::io;
 use std::io::ErrorKind;
 use std::net::{IpAddr, Ipv4Addr, Net, SocketAddr, TcpListener, TcpStream};
+use text_script::print::name_of;
 
 /// The ports of the centres and that of the interlocking, on which only this host is listened to.
 #[derive(Drop)]

@@ -1,15 +1,15 @@
+use crate::journaling::Journal;
 use crate::state::options::ServeOptions;
-use crate::state::slots::Endpoint;
 use crate::state::sink::CentreSink;
-use text_script::print::name_of;
+use crate::state::slots::Endpoint;
 use rbc_line::Line;
 use rbc_node::{Node, Open, Share};
-use crate::journaling::Journal;
 use serve_workers::{Committer, LinkEnds};
 use std::alloc::Global;
 use std::sync::atomic::{AtomicBool, AtomicU64, Ordering};
 use std::sync::{Mutex, Wait};
 use std::thread::Parker;
+use text_script::print::name_of;
 
 /// Who comes through an endpoint.
 #[derive(Clone, Copy)]

@@ -1,12 +1,12 @@
+use crate::journaling::Journal;
 use crate::state::paces::Paces;
 use crate::state::queue::Queue;
 use crate::state::slots::Endpoint;
-use text_script::{Outcome, Word};
-use serve_workers::connections::TrainConnections;
-use crate::journaling::Journal;
 use serve_workers::AnswerSink;
+use serve_workers::connections::TrainConnections;
 use serve_workers::writing::Release;
 use std::sync::Wait;
+use text_script::{Outcome, Word};
 
 /// Where what a centre answers goes on to: to its trains and links, and, where the interlocking is told of sections, to
 /// its connections. If the centre keeps a journal, nothing leaves it before its event is written there: words to the

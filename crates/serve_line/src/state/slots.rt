@@ -1,5 +1,5 @@
-use crate::state::server::Peer;
 use crate::state::limits::MOST_TOLD;
+use crate::state::server::Peer;
 use rbc_node::Share;
 use std::alloc::Global;
 use std::io::Write;

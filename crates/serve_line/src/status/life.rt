@@ -1,10 +1,12 @@
 use crate::status::notes::Notes;
-use text_script::{LAST_STAMP, print::name_of, status::Fault};
 use rbc_line::Line;
 use rbc_log::{CentreLog, MOST_ENTRIES};
 use rbc_node::Node;
 use std::io::Write;
 use std::sync::Wait;
+use text_script::LAST_STAMP;
+use text_script::print::name_of;
+use text_script::status::Fault;
 
 /// How many frames a directed link carries in all.
 const MOST_FRAMES: u32 = 65_536;

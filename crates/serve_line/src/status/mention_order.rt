@@ -1,7 +1,7 @@
-use text_script::Event;
 use rbc_line::Line;
 use rbc_log::{CentreLog, Entry};
 use std::alloc::{AllocError, Global};
+use text_script::Event;
 
 /// How many entries of a log are looked at in one piece at most. The log's centre takes no step meanwhile.
 const PIECE: usize = 4_096;

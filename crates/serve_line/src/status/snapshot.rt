@@ -1,6 +1,4 @@
 use crate::status::mention_order::MentionOrder;
-use text_script::print::{print_section, print_train};
-use text_script::{Mark, SectionRun, SectionView, status::Fault};
 use rbc_book::{Entry, Page};
 use rbc_line::Line;
 use rbc_log::{CentreLog, MOST_ENTRIES};
@@ -8,6 +6,9 @@ use rbc_node::Node;
 use std::alloc::{AllocError, Global};
 use std::io::Write;
 use std::sync::Wait;
+use text_script::print::{print_section, print_train};
+use text_script::status::Fault;
+use text_script::{Mark, SectionRun, SectionView};
 
 /// The line as the centres showed it, each at its own moment.
 #[derive(Drop)]

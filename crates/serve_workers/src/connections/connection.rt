@@ -1,5 +1,5 @@
+use crate::writing::{Reply, SharedWriter, Turn};
 use crossbeam_channel::{Sender, TrySendError};
-use crate::writing::{SharedWriter, Reply, Turn};
 use std::alloc::Global;
 use std::io::Write;
 use std::net::{Shutdown, TcpStream};

@@ -1,10 +1,10 @@
+use crate::AnswerSink;
 use crate::connections::connection::Connection;
 use crate::connections::route::{Route, route_of};
 use crate::connections::routing_table::RoutingTable;
+use crate::writing::{Order, Reply};
 use rbc_centre::{Outcome, Saying};
 use rbc_line::Line;
-use crate::AnswerSink;
-use crate::writing::{Order, Reply};
 use std::alloc::{AllocError, Global};
 use std::sync::{Arc, Mutex, MutexGuard, Wait};
 use std::thread;

@@ -62,7 +62,10 @@ impl<W: Write + Drop> SharedWriter<W> {
 
     /// The shared_writer's end at which its writer writes the replies that wait.
     pub fn end<'a, R: Wait>(&'a self, rt: &'a R) -> QueueWriter<'a, R, W> {
-        QueueWriter { rt, shared_writer: self }
+        QueueWriter {
+            rt,
+            shared_writer: self,
+        }
     }
 }
 
@@ -80,7 +83,9 @@ impl<R: Wait, W: Write + Drop> Write for QueueWriter<'_, R, W> {
             return Err(io::Error::from(ErrorKind::BrokenPipe));
         };
         let count = out.write(bytes)?;
-        self.shared_writer.waiting.fetch_sub(count as u64, Ordering::SeqCst);
+        self.shared_writer
+            .waiting
+            .fetch_sub(count as u64, Ordering::SeqCst);
         Ok(count)
     }
 

@@ -1,8 +1,8 @@
 ghost use Rattle.std.specs.Prelude.{◌<◌};
 
 use crate::line::{A, B, START, two_centres};
-use rbc_world::{Body, Centre, Event, Frame, LinkAnswer, Outcome};
 use rbc_msgs::decode_train;
+use rbc_world::{Body, Centre, Event, Frame, LinkAnswer, Outcome};
 use std::alloc::Global;
 use std::test::*;
 use test_codec::bytes::bytes_of;

@@ -1,8 +1,8 @@
 ghost use Rattle.std.specs.Prelude.{◌<◌};
 
 use crate::line::{A, B, two_centres};
-use rbc_world::Event;
 use rbc_log::{CentreLog, Entry, merge};
+use rbc_world::Event;
 use std::alloc::Global;
 use std::test::*;
 

@@ -1,8 +1,8 @@
 use crate::centres::held::Held;
 use crate::line::A;
 use crate::nodes::{both, node_of};
-use rbc_world::{Event, Outcome, Word};
 use rbc_node::{Node, Open, Share, ShareFault};
+use rbc_world::{Event, Outcome, Word};
 use std::alloc::Global;
 use std::sync::Wait;
 use std::sync::atomic::Ordering;

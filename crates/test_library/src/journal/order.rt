@@ -1,10 +1,10 @@
 //! Several journals in one order, stamps that fall, and where the whole lines of a text end.
 
 use crate::journal::line::{B, two_centres};
-use text_journal::{Entry, file_name, first_fallen, in_order, whole_length};
 use rbc_world::WorldEvent;
 use std::alloc::Global;
 use std::test::*;
+use text_journal::{Entry, file_name, first_fallen, in_order, whole_length};
 
 // A journal of a centre with these stamps.
 fn journal(alloc: Global, centre: u8, stamps: &[u32]) -> Result<Vec<Entry>, Fail> {

@@ -1,10 +1,10 @@
 //! What is read.
 
 use crate::journal::line::{B, ENTRIES, FILE, FIRST, two_centres};
-use text_journal::{Entry, JournalFault, read_journal};
 use rbc_world::WorldEvent;
 use std::alloc::Global;
 use std::test::*;
+use text_journal::{Entry, JournalFault, read_journal};
 
 // What is read of a journal of B with this first line and these others.
 fn read(

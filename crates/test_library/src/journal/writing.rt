@@ -1,10 +1,10 @@
 //! What is written.
 
 use crate::journal::line::{B, ENTRIES, FILE, FIRST, two_centres};
-use text_journal::{Entry, add_entry, first_line};
 use rbc_world::WorldEvent;
 use std::alloc::Global;
 use std::test::*;
+use text_journal::{Entry, add_entry, first_line};
 
 // The bytes of a message that opens a session.
 fn initiation(alloc: Global) -> Result<Vec<u8>, Fail> {

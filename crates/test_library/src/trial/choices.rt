@@ -3,8 +3,8 @@
 
 use crate::trial::line::home_of;
 use crate::trial::traveller::{Traveller, Words};
-use rbc_world::{MissionView, Phase, TrainView};
 use rbc_line::Line;
+use rbc_world::{MissionView, Phase, TrainView};
 use test_codec::chance::Chance;
 
 /// How many sections the trial's line has.

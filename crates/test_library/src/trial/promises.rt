@@ -3,8 +3,10 @@
 
 use crate::trial::traveller::Words;
 use crate::trial::trial::centre_of;
-use rbc_world::{Answer, LineView, LinkAnswer, Mark, Outcome, SectionRun, TrainView, Word, WorldEvent};
 use rbc_msgs::TrackBody;
+use rbc_world::{
+    Answer, LineView, LinkAnswer, Mark, Outcome, SectionRun, TrainView, Word, WorldEvent,
+};
 
 /// An event, and what a train says in it.
 #[derive(Drop)]

@@ -2,9 +2,9 @@
 
 use crate::trial::line::home_of;
 use crate::trial::promises::is_cut;
-use rbc_world::{Body, LineView, LinkAnswer, Outcome, Supervisor, TrainView};
 use rbc_line::Line;
 use rbc_msgs::TrackBody;
+use rbc_world::{Body, LineView, LinkAnswer, Outcome, Supervisor, TrainView};
 
 /// How often the trial came to what it is for.
 #[derive(Clone, Copy, Debug)]

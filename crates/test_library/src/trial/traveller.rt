@@ -5,13 +5,13 @@ ghost use Rattle.rbc_msgs.specs.TrainView.{HasItsPackets};
 
 use crate::trial::line::group_of;
 use rbc_bits::BitReader;
-use rbc_world::SectionRun;
 use rbc_msgs::{TrainBody, TrainMsg, encode_train};
 use rbc_packets::{Level, Location, Opaque, Packets, Position, TrainLength};
 use rbc_vars::{
     DLrbg, Direction, LDoubtover, LDoubtunder, LTrainint, MMode, NidLrbg, QMarqstreason, QScale,
     QStatus, TTrain, VTrain,
 };
+use rbc_world::SectionRun;
 use std::alloc::Global;
 use std::test::*;
 

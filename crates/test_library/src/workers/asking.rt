@@ -4,7 +4,6 @@
 ghost use Rattle.std.specs.Prelude.{◌<◌, ◌≤◌, length, IfOk};
 ghost use Rattle.rbc_msgs.specs.TrainView.{HasItsPackets};
 
-use rbc_world::{Body, Event, Frame};
 use rbc_line::Line;
 use rbc_msgs::{TrainBody, TrainMsg};
 use rbc_node::{Node, Open, Share};
@@ -12,6 +11,7 @@ use rbc_packets::{Level, Location, Packets, Position, TrainLength};
 use rbc_vars::{
     DLrbg, Direction, LDoubtover, LDoubtunder, LTrainint, MMode, NidLrbg, QScale, QStatus, VTrain,
 };
+use rbc_world::{Body, Event, Frame};
 use std::alloc::Global;
 use std::sync::Wait;
 use std::test::*;

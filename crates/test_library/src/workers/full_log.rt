@@ -1,8 +1,8 @@
 //! A log that is full.
 
 use crate::line::{A, two_centres};
-use rbc_world::Event;
 use rbc_log::{CentreLog, CommitFault};
+use rbc_world::Event;
 use std::alloc::Global;
 use std::test::*;
 

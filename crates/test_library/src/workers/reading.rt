@@ -2,8 +2,8 @@
 
 use crate::line::{ENGINE, ESTABLISHED, INITIATION};
 use crate::nodes::node_of_a;
-use rbc_world::Phase;
 use rbc_node::{Node, Open, Share};
+use rbc_world::Phase;
 use serve_workers::reading::Reads;
 use serve_workers::{Closed, SessionEnd, run_session};
 use std::alloc::Global;

@@ -2,10 +2,10 @@
 
 ghost use Rattle.std.specs.Prelude.{◌<◌, ◌≤◌, length, IfOk};
 
-use rbc_world::Event;
 use rbc_line::Line;
 use rbc_log::{Entry, merge};
 use rbc_node::{Family, Node, Open, Share, gather};
+use rbc_world::Event;
 use std::alloc::Global;
 use std::sync::Wait;
 use std::test::*;

@@ -12,9 +12,9 @@ ghost use Rattle.text_script.specs.Print.Answers.{AreSayingRows, IsLinkRemark, I
 
 use crate::print::print::name_of;
 use crate::status::Fault;
-use rbc_world::{Body, Frames, LinkAnswer, Outcome, Reason, Saying, StepFault, Word};
 use rbc_line::Line;
 use rbc_msgs::encode_track;
+use rbc_world::{Body, Frames, LinkAnswer, Outcome, Reason, Saying, StepFault, Word};
 use std::alloc::Global;
 use std::io::Write;
 

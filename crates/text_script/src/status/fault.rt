@@ -1,8 +1,8 @@
 ghost use Rattle.std.specs.Prelude.{◌≡◌};
 
-use rbc_world::StepFault;
 use rbc_line::LineFault;
 use rbc_msgs::MsgFault;
+use rbc_world::StepFault;
 use std::alloc::{AllocError, AllocFailed};
 use std::io;
 use thiserror::Error;
