@@ -1,7 +1,11 @@
-//! What a train's message or another centre's frame comes to at a radio block centre (SUBSET-026 3.5, 3.6, 3.8, 3.15.1,
-//! 5.4, 5.5): each is one call of what the centre keeps of the train, and its clause is one equation with `rbc_spec`'s
-//! own effect. And what a section comes to that the interlocking takes back: a request to shorten, where it is in use
-//! and one may be made (3.8.6). Nothing here takes memory.
+//! The rules for one train at a radio block centre (SUBSET-026 3.5, 3.6, 3.8, 3.15.1, 5.4, 5.5).
+//!
+//! A [`TrainState`] is all that a centre keeps of a train. `TrainState::take` applies a message of the train, and
+//! `TrainState::receive` a frame of another centre. The effect is a [`Heard`]: the reply to the train, an order after
+//! it, frames to other centres, and sections to report to the interlocking. `TrainState::ask_back` asks the train for a
+//! section that the interlocking takes back (3.8.6). The clause of each is one equation with the effect in `rbc_spec`.
+//!
+//! Nothing here takes memory.
 //!
 //! Bodies and proofs are free. The clauses of public functions stay, since the crates above stand on them.
 #![tactic(auto)]
