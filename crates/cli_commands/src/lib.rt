@@ -1,4 +1,6 @@
-//! The commands of `rbcline`.
+//! The commands of `rbcline`, each a function from its arguments and files to a print and an exit status. [`command`]
+//! reads the arguments and chooses one. Their parts are `running` and `rerunning` (scripts and journals), `auditing`
+//! and `comparing` (prints), `inspecting` and `explaining` (line files).
 //!
 //! Bodies are free. What is printed, and each exit status, is fixed by docs/FORMATS.md.
 #![tactic(auto)]

@@ -1,9 +1,10 @@
 //! One radio block centre (RBC): its state, and the step from an event to an answer.
 //!
-//! A [`Centre`] supervises its part of a line. [`Centre::step`] takes an [`Event`]: a train's message, a section that the
-//! interlocking releases or takes back, or a frame of another centre. The [`Outcome`] has the messages to trains, the
-//! frames to other centres, the words to the interlocking, and the reason if the centre stays silent. A [`StepFault`]
-//! changes nothing. The contract of `Centre::step` is one equation with the step in `rbc_spec.specs.Centre`.
+//! A [`Centre`] supervises its part of a line. [`Centre::step`] takes an [`Event`]: a train's message, a section that
+//! the interlocking releases or takes back, or a frame of another centre. The [`Outcome`] has the messages to trains,
+//! the frames to other centres, the words to the interlocking, and the reason if the centre stays silent. A
+//! [`StepFault`] changes nothing. The contract of `Centre::step` is one equation with the step in
+//! `rbc_spec.specs.Centre`.
 //!
 //! Types of the crates below that an outcome has are passed on from here.
 //!

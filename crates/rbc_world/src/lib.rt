@@ -1,5 +1,23 @@
-//! The centres of a line side by side, and the theorem that together they are one line centre: what they answer and
-//! hold, whatever comes, is a run of it (`World::run`, with the definitions of `rbc_spec.specs.Run`).
+//! The centres of a line side by side, and the theorem that together they are one line centre.
+//!
+//! A [`World`] has each centre of a line, the frames that they have sent, and the trains that messages have named.
+//! [`World::step`] takes one [`WorldEvent`] and answers it. [`World::run`] takes a list of events from the beginning.
+//! Its contract is the headline: the answers and the last state are a run of one line centre (`rbc_spec.specs.Run`).
+//! [`World::view`] reads the line off: the use of each section, and each train with its mission.
+//!
+//! ```
+//! let line = Line::from_toml(alloc, text)?;
+//! let mut world = World::new(alloc, &line)?;
+//! world.step(&WorldEvent::Set { centre: 0, section: 1 })?;
+//! match world.step(&WorldEvent::Train { centre: 0, bytes })? {
+//!     Answer::Outcome(outcome) => send_all(&outcome.sayings)?,
+//!     Answer::Fault(fault) => refuse(fault)?,
+//!     Answer::NoCentre | Answer::NotSent => {}
+//! }
+//! let view = world.view(alloc)?;
+//! ```
+//!
+//! Types of the crates below that an event or an answer has are passed on from here.
 //!
 //! Bodies and proofs are free. The clauses of public functions stay, since the crates above stand on them.
 #![tactic(auto)]

@@ -1,5 +1,5 @@
-//! The journal of a centre: a file of lines, one for each event that the centre took, with its stamp and a checksum.
-//! What is written is read again, and of a file that ends anywhere the lines that are whole.
+//! The journal of a centre: a file of lines, one for each event of its log, with its stamp and a checksum. It is
+//! written line by line. Of a file that is cut at any byte, the whole lines are read.
 //!
 //! Bodies are free. The format is fixed by docs/FORMATS.md.
 #![tactic(auto)]

@@ -1,8 +1,8 @@
-//! The page of a line, running or printed: what is shown of it as types, the tables that say it in JSON and in HTML,
-//! the style, and the script that draws. It is made of what it is handed, and of nothing else: nothing here has a line,
-//! a centre, a socket or a clock.
+//! The page of a line, running or printed: its contents as types, the tables that give them in JSON and in HTML, the
+//! style, and the script that draws. It is a function of its arguments only: nothing here has a line, a centre, a
+//! socket or a clock.
 //!
-//! Bodies are free. What the page has is fixed by docs/FORMATS.md.
+//! Bodies are free. The contents of the page are fixed by docs/FORMATS.md.
 #![tactic(auto)]
 
 mod look;

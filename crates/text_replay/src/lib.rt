@@ -1,6 +1,6 @@
 //! A print played again on the line's centres: its events, the part of them that is shown, in which events a section is
-//! seen as the same, and the page that shows the line after each. What a page is told of a running line by the same
-//! rules stands here too: where the line lies, its handovers, its trains and events in words.
+//! seen as the same, and the page that shows the line after each. The page of a running line uses its layout, its
+//! handovers, and its trains and events in words.
 //!
 //! Bodies are free. What is shown is fixed by docs/FORMATS.md.
 #![tactic(auto)]

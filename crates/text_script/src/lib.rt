@@ -1,4 +1,6 @@
-//! The texts of `rbcline`: scripts and their play, prints (`print`), and exit statuses (`status`).
+//! The texts of `rbcline`: scripts and their play on a line, prints (`print`), and exit statuses (`status`).
+//!
+//! Types of `rbc_world` that a script or a print has are passed on from here.
 //!
 //! Bodies are free. What is printed, and each exit status, is fixed by docs/FORMATS.md.
 #![tactic(auto)]

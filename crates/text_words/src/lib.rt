@@ -1,5 +1,5 @@
-//! Radio messages, and what `run` prints, in words for a person who reads along: a message field by field, and a
-//! printed line with its message's name and its distances in metres of the track. Any text is taken.
+//! Radio messages, and the print of a run, in words for a reader: a message field by field, and a printed line with its
+//! message's name and its distances in metres of the track. Any text is accepted.
 //!
 //! Bodies are free. What is printed, and each exit status, is fixed by docs/FORMATS.md.
 #![tactic(auto)]
