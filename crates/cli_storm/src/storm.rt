@@ -12,7 +12,7 @@ use crate::draws::Draws;
 use crate::links::{Link, count_answer, draw_delivery, links_of};
 use rbc_line::Line;
 use std::alloc::{AllocError, Global};
-use text_script::play::{PlayFault, Teller};
+use text_script::play::{Observer, PlayFault};
 use text_script::script::Entry;
 use text_script::{Answer, StepFault, World, WorldEvent};
 
@@ -51,99 +51,99 @@ impl Storm {
 
     /// Plays a script's entries, one after another, and four drawn deliveries after each event. Each is told as it
     /// comes, as `play` does it, and it stops at the first event that is refused.
-    pub fn play<T: Teller>(
+    pub fn play<T: Observer>(
         &mut self,
         entries: &[Entry],
-        teller: &mut T,
+        observer: &mut T,
     ) -> Result<(), PlayFault<T::Fault>>
         ensures line { line_of self.new.world ≡ line_of self.old.world }
-        ensures told { Leaves T.tells (line_of self.old.world) (state_of self.old.world) teller.old
+        ensures told { Leaves T.tells (line_of self.old.world) (state_of self.old.world) observer.old
             (storm (line_of self.old.world) (state_of self.old.world) self.old.draws.x entries.now) result
-            (state_of self.new.world) teller.new }
+            (state_of self.new.world) observer.new }
     {
         for entry in entries {
-            self.play_one(entry, teller)?;
+            self.play_one(entry, observer)?;
         }
         Ok(())
     }
 
-    fn play_one<T: Teller>(
+    fn play_one<T: Observer>(
         &mut self,
         entry: &Entry,
-        teller: &mut T,
+        observer: &mut T,
     ) -> Result<(), PlayFault<T::Fault>>
         ensures line { line_of self.new.world ≡ line_of self.old.world }
-        ensures told { Continues T.tells (line_of self.old.world) (state_of self.old.world) teller.old
+        ensures told { Continues T.tells (line_of self.old.world) (state_of self.old.world) observer.old
             (played_by (line_of self.old.world) (state_of self.old.world) self.old.draws.x entry.now) result
-            (state_of self.new.world) teller.new self.new.draws.x }
+            (state_of self.new.world) observer.new self.new.draws.x }
     {
         match entry {
-            Entry::Show => self.show(teller),
+            Entry::Show => self.show(observer),
             Entry::Event(event) => {
-                self.take(event, teller)?;
-                self.deliver(teller)
+                self.take(event, observer)?;
+                self.deliver(observer)
             }
         }
     }
 
-    fn show<T: Teller>(&mut self, teller: &mut T) -> Result<(), PlayFault<T::Fault>>
+    fn show<T: Observer>(&mut self, observer: &mut T) -> Result<(), PlayFault<T::Fault>>
         ensures same { self.new ≡ self.old }
-        ensures told { Leaves T.tells (line_of self.old.world) (state_of self.old.world) teller.old
-            (entry.Show ∷ []) result (state_of self.new.world) teller.new }
+        ensures told { Leaves T.tells (line_of self.old.world) (state_of self.old.world) observer.old
+            (entry.Show ∷ []) result (state_of self.new.world) observer.new }
     {
-        match teller.show(&self.world) {
+        match observer.show(&self.world) {
             Ok(()) => Ok(()),
             Err(fault) => Err(PlayFault::Untold(fault)),
         }
     }
 
     // The deliveries that are drawn after an event of the script.
-    fn deliver<T: Teller>(&mut self, teller: &mut T) -> Result<(), PlayFault<T::Fault>>
+    fn deliver<T: Observer>(&mut self, observer: &mut T) -> Result<(), PlayFault<T::Fault>>
         ensures line { line_of self.new.world ≡ line_of self.old.world }
-        ensures told { Continues T.tells (line_of self.old.world) (state_of self.old.world) teller.old
+        ensures told { Continues T.tells (line_of self.old.world) (state_of self.old.world) observer.old
             (deliveries 4 (line_of self.old.world) (state_of self.old.world) self.old.draws.x) result
-            (state_of self.new.world) teller.new self.new.draws.x }
+            (state_of self.new.world) observer.new self.new.draws.x }
     {
         for _ in 0..DELIVERIES {
-            self.deliver_one(teller)?;
+            self.deliver_one(observer)?;
         }
         Ok(())
     }
 
     // A delivery, if one is drawn.
-    fn deliver_one<T: Teller>(&mut self, teller: &mut T) -> Result<(), PlayFault<T::Fault>>
+    fn deliver_one<T: Observer>(&mut self, observer: &mut T) -> Result<(), PlayFault<T::Fault>>
         ensures line { line_of self.new.world ≡ line_of self.old.world }
-        ensures told { Continues T.tells (line_of self.old.world) (state_of self.old.world) teller.old
+        ensures told { Continues T.tells (line_of self.old.world) (state_of self.old.world) observer.old
             (with_delivery (line_of self.old.world) (state_of self.old.world) self.old.draws.x) result
-            (state_of self.new.world) teller.new self.new.draws.x }
+            (state_of self.new.world) observer.new self.new.draws.x }
     {
         match draw_delivery(&mut self.draws, &self.links) {
-            Some(event) => self.take(&event, teller),
+            Some(event) => self.take(&event, observer),
             None => Ok(()),
         }
     }
 
     // An event comes, is taken, and its answer is told.
-    fn take<T: Teller>(
+    fn take<T: Observer>(
         &mut self,
         event: &WorldEvent,
-        teller: &mut T,
+        observer: &mut T,
     ) -> Result<(), PlayFault<T::Fault>>
         ensures line { line_of self.new.world ≡ line_of self.old.world }
         ensures draws { self.new.draws ≡ self.old.draws }
         ensures left { OnOk result
             (state_of self.new.world ≡ after (line_of self.old.world) (state_of self.old.world) event.now) }
-        ensures told { Leaves T.tells (line_of self.old.world) (state_of self.old.world) teller.old
-            (entry.Event event.now ∷ []) result (state_of self.new.world) teller.new }
+        ensures told { Leaves T.tells (line_of self.old.world) (state_of self.old.world) observer.old
+            (entry.Event event.now ∷ []) result (state_of self.new.world) observer.new }
     {
-        if let Err(fault) = teller.comes(event) {
+        if let Err(fault) = observer.comes(event) {
             return Err(PlayFault::Untold(fault));
         }
         let answer = match self.step(event) {
             Ok(answer) => answer,
             Err(fault) => return Err(PlayFault::Refused(fault)),
         };
-        match teller.answered(event, &answer) {
+        match observer.answered(event, &answer) {
             Ok(()) => Ok(()),
             Err(fault) => Err(PlayFault::Untold(fault)),
         }

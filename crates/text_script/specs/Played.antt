@@ -12,16 +12,16 @@ use Rattle.text_script.specs.declared.script.Entry.TheVariants as entry
 use Rattle.text_script.specs.declared.play.PlayFault.{PlayFault}
 use Rattle.text_script.specs.declared.play.PlayFault.TheVariants.{Refused, Untold}
 
--- one thing that is told: the centres of a line as they are, an event that comes next, or what that event was answered
+-- a report to the observer: the centres of a line, an event that comes next, or the answer to that event
 pub data Telling : Type 0 where
   Showing : (line : Line) → (world : World) → Telling
   Coming : (event : WorldEvent) → Telling
   Answering : (event : WorldEvent) → (answer : spec.Answer) → Telling
 
--- Of a teller `tells t telling u` says that it becomes u where it is t and is told something.
+-- `tells t telling u`: a report takes the observer from t to u.
 
--- The entries are played on world w and told to t. All are answered, and told one after another; this leaves world v
--- and the teller u.
+-- The entries are played on world w and reported to t. All are answered, and reported in order. This leaves world v and
+-- the observer u.
 abbrev pub IsPlayed : {T : Type 0} → (T → Telling → T → Type 0) → Line → World → T → List Entry → World → T → Type 0
 IsPlayed tells line w t [] v u = (v ≡ w) × (u ≡ t)
 IsPlayed {T} tells line w t (entry.Show ∷ rest) v u =
@@ -30,8 +30,8 @@ IsPlayed {T} tells line w t (entry.Event event ∷ rest) v u =
     (answer : spec.Answer) × (x : World) × (s r : T) × (world_step line w (event_of event) ≡ Ok (answer, x))
     × tells t (Coming event) s × tells s (Answering event answer) r × IsPlayed tells line x r rest v u
 
--- The entries up to one are played so. Then its event is told to come, and its step is refused; nothing after it is
--- told, and the world is left as it was before the step.
+-- The entries before one are played so. Then its event is reported, and its step is refused. Nothing after it is
+-- reported, and the world is left as it was before the step.
 abbrev pub IsStopped : {T : Type 0} → (T → Telling → T → Type 0) → Line → World → T → List Entry → StepFault → World → T
     → Type 0
 IsStopped {T} tells line w t entries fault v u =
@@ -39,7 +39,7 @@ IsStopped {T} tells line w t entries fault v u =
     × IsPlayed tells line w t front v s × tells s (Coming event) u
     × IsRefusal fault (world_step line v (event_of event))
 
--- what the call leaves; of a teller that did not take what it was told nothing is said
+-- the result of the call; nothing is claimed if the observer failed
 abbrev pub Leaves : {T F : Type 0} → (T → Telling → T → Type 0) → Line → World → T → List Entry
     → Result (Unit {0}) (PlayFault F) → World → T → Type 0
 Leaves tells line w t entries (Ok done) v u = IsPlayed tells line w t entries v u

@@ -1,4 +1,4 @@
-//! A script played on a world, and told as it goes.
+//! The play of a script on a world, reported to an observer as it goes.
 
 ghost use Rattle.std.specs.Prelude.{◌≡◌, ◌∷◌, [], OnOk};
 ghost use Rattle.rbc_world.specs.World.{line_of, state_of};
@@ -9,15 +9,15 @@ ghost use Rattle.text_script.specs.Played.{Telling, Showing, Coming, Answering, 
 use crate::script::Entry;
 use rbc_world::{Answer, StepFault, World, WorldEvent};
 
-/// Who is told what a script comes to.
-pub trait Teller {
-    /// Why it does not take what it is told.
+/// Receives each event of a script, and its answer.
+pub trait Observer {
+    /// Why the observer failed.
     type Fault: Drop;
 
-    // How what it is told changes it.
+    // Its state after an answer.
     ghost tells: { Self → Telling → Self → Type 0 };
 
-    /// The line, as the centres supervise it.
+    /// The script asks for the line, as the centres supervise it.
     fn show(&mut self, world: &World) -> Result<(), Self::Fault>
         ensures { OnOk result (tells self.old (Showing (line_of world.now) (state_of world.now)) self.new) };
 
@@ -25,7 +25,7 @@ pub trait Teller {
     fn comes(&mut self, event: &WorldEvent) -> Result<(), Self::Fault>
         ensures { OnOk result (tells self.old (Coming event.now) self.new) };
 
-    /// What an event was answered.
+    /// The answer to an event.
     fn answered(&mut self, event: &WorldEvent, answer: &Answer) -> Result<(), Self::Fault>
         ensures { OnOk result (tells self.old (Answering event.now (answer_of answer.now)) self.new) };
 }
@@ -35,69 +35,69 @@ pub trait Teller {
 pub enum PlayFault<F> {
     /// The step of an event is refused.
     Refused(StepFault),
-    /// The teller did not take what it was told.
+    /// The observer failed.
     Untold(F),
 }
 
-/// Plays a script's entries on a world, one after another, and tells each as it comes. It stops at the first event that
-/// is refused: all in front of it is told then, and nothing after it.
-pub fn play<T: Teller>(
+/// Plays a script's entries on a world in order, and reports each to the observer. It stops at the first event that is
+/// refused: the entries before it have been reported, and no later one.
+pub fn play<T: Observer>(
     world: &mut World,
     entries: &[Entry],
-    teller: &mut T,
+    observer: &mut T,
 ) -> Result<(), PlayFault<T::Fault>>
     ensures line { line_of world.new ≡ line_of world.old }
-    ensures told { Leaves T.tells (line_of world.old) (state_of world.old) teller.old entries.now result
-        (state_of world.new) teller.new }
+    ensures told { Leaves T.tells (line_of world.old) (state_of world.old) observer.old entries.now result
+        (state_of world.new) observer.new }
 {
     for entry in entries {
-        play_one(world, entry, teller)?;
+        play_one(world, entry, observer)?;
     }
     Ok(())
 }
 
-fn play_one<T: Teller>(
+fn play_one<T: Observer>(
     world: &mut World,
     entry: &Entry,
-    teller: &mut T,
+    observer: &mut T,
 ) -> Result<(), PlayFault<T::Fault>>
     ensures line { line_of world.new ≡ line_of world.old }
-    ensures told { Leaves T.tells (line_of world.old) (state_of world.old) teller.old (entry.now ∷ []) result
-        (state_of world.new) teller.new }
+    ensures told { Leaves T.tells (line_of world.old) (state_of world.old) observer.old (entry.now ∷ []) result
+        (state_of world.new) observer.new }
 {
     match entry {
-        Entry::Show => show(world, teller),
-        Entry::Event(event) => take(world, event, teller),
+        Entry::Show => show(world, observer),
+        Entry::Event(event) => take(world, event, observer),
     }
 }
 
-fn show<T: Teller>(world: &World, teller: &mut T) -> Result<(), PlayFault<T::Fault>>
-    ensures { Leaves T.tells (line_of world.now) (state_of world.now) teller.old (entry.Show ∷ []) result
-        (state_of world.now) teller.new }
+fn show<T: Observer>(world: &World, observer: &mut T) -> Result<(), PlayFault<T::Fault>>
+    ensures { Leaves T.tells (line_of world.now) (state_of world.now) observer.old (entry.Show ∷ []) result
+        (state_of world.now) observer.new }
 {
-    match teller.show(world) {
+    match observer.show(world) {
         Ok(()) => Ok(()),
         Err(fault) => Err(PlayFault::Untold(fault)),
     }
 }
 
-fn take<T: Teller>(
+fn take<T: Observer>(
     world: &mut World,
     event: &WorldEvent,
-    teller: &mut T,
+    observer: &mut T,
 ) -> Result<(), PlayFault<T::Fault>>
     ensures line { line_of world.new ≡ line_of world.old }
-    ensures told { Leaves T.tells (line_of world.old) (state_of world.old) teller.old
-        (entry.Event event.now ∷ []) result (state_of world.new) teller.new }
+    ensures told { Leaves T.tells (line_of world.old) (state_of world.old) observer.old
+        (entry.Event event.now ∷ []) result (state_of world.new) observer.new }
 {
-    if let Err(fault) = teller.comes(event) {
+    if let Err(fault) = observer.comes(event) {
         return Err(PlayFault::Untold(fault));
     }
     let answer = match world.step(event) {
         Ok(answer) => answer,
         Err(fault) => return Err(PlayFault::Refused(fault)),
     };
-    match teller.answered(event, &answer) {
+    match observer.answered(event, &answer) {
         Ok(()) => Ok(()),
         Err(fault) => Err(PlayFault::Untold(fault)),
     }

@@ -10,7 +10,7 @@ ghost use Rattle.cli_commands.specs.Running.Printed.{PrintsAll};
 use rbc_line::Line;
 use std::alloc::Global;
 use std::io::Write;
-use text_script::play::{PlayFault, Teller, play};
+use text_script::play::{Observer, PlayFault, play};
 use text_script::print::{print_answer, print_event, print_line, print_show};
 use text_script::script::Entry;
 use text_script::status::Fault;
@@ -56,7 +56,7 @@ impl<W: Write> Printer<'_, W> {
     }
 }
 
-impl<W: Write> Teller for Printer<'_, W> {
+impl<W: Write> Observer for Printer<'_, W> {
     ghost use Rattle.std.specs.Prelude.{◌≡◌};
     ghost use Rattle.cli_commands.specs.Running.Printed.{IsTold};
 

@@ -6,5 +6,5 @@ use Rattle.text_script.proofs.play.play.Given as goal
 abbrev pub invariant-loop-entry : goal.invariant-loop-entry
 invariant-loop-entry g l = record {
   line : line_of l.world ≡ line_of l.fn.world;
-  goes : Goes g.T.Teller.tells (line_of l.fn.world) (state_of l.fn.world) l.fn.teller l.entries (drop l.entry-index l.entries) (state_of l.world) l.teller;
+  goes : Goes g.T.Observer.tells (line_of l.fn.world) (state_of l.fn.world) l.fn.observer l.entries (drop l.entry-index l.entries) (state_of l.world) l.observer;
 }

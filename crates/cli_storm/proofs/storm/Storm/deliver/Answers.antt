@@ -10,8 +10,8 @@ returns-in_err-deliver_one-clause-told g c =
     let old = c.args.self.now in
     let p = err_from_is_err_and c.from_residual.result c.from_residual.ensures.1 in
     let count : 4 - c.loop.counter ≡ suc (4 - (c.loop.counter + 1)) = omega (arith, c.loop-test.true) in
-    rw (p.1, p.2) (delivery_fails g.T.Teller.tells (line_of old.world) (line_of c.loop.self.world) c.loop.invariant.line (state_of old.world) c.args.teller.now (state_of c.loop.self.world) (state_of c.deliver_one.new.self.world)
-    c.loop.teller c.deliver_one.new.teller c.loop.self.draws.x c.deliver_one.new.self.draws.x (deliveries 4 (line_of old.world) (state_of old.world) old.draws.x) (4 - c.loop.counter) (4 - (c.loop.counter + 1)) count
+    rw (p.1, p.2) (delivery_fails g.T.Observer.tells (line_of old.world) (line_of c.loop.self.world) c.loop.invariant.line (state_of old.world) c.args.observer.now (state_of c.loop.self.world) (state_of c.deliver_one.new.self.world)
+    c.loop.observer c.deliver_one.new.observer c.loop.self.draws.x c.deliver_one.new.self.draws.x (deliveries 4 (line_of old.world) (state_of old.world) old.draws.x) (4 - c.loop.counter) (4 - (c.loop.counter + 1)) count
     c.loop.invariant.goes c.in_err-deliver_one.field-0.0 c.in_err-deliver_one.ensures.told)
 
 pub loop-preserved : goal.loop-preserved
@@ -20,8 +20,8 @@ loop-preserved g c =
     let count : 4 - c.loop.counter ≡ suc (4 - (c.loop.counter + 1)) = omega (arith, c.loop-test.true) in
     record {
       line = c.in_ok-deliver_one.ensures.line ∙ c.loop.invariant.line;
-      goes = one_delivered g.T.Teller.tells (line_of old.world) (line_of c.loop.self.world) c.loop.invariant.line (state_of old.world) c.args.teller.now (state_of c.loop.self.world) (state_of c.deliver_one.new.self.world)
-          c.loop.teller c.deliver_one.new.teller c.loop.self.draws.x c.deliver_one.new.self.draws.x (deliveries 4 (line_of old.world) (state_of old.world) old.draws.x) (4 - c.loop.counter) (4 - (c.loop.counter + 1)) count
+      goes = one_delivered g.T.Observer.tells (line_of old.world) (line_of c.loop.self.world) c.loop.invariant.line (state_of old.world) c.args.observer.now (state_of c.loop.self.world) (state_of c.deliver_one.new.self.world)
+          c.loop.observer c.deliver_one.new.observer c.loop.self.draws.x c.deliver_one.new.self.draws.x (deliveries 4 (line_of old.world) (state_of old.world) old.draws.x) (4 - c.loop.counter) (4 - (c.loop.counter + 1)) count
           c.loop.invariant.goes c.in_ok-deliver_one.ensures.told;
     }
 
@@ -29,5 +29,5 @@ pub returns-clause-told : goal.returns-clause-told
 returns-clause-told g c =
     let old = c.args.self.now in
     let none : 4 - c.loop.counter ≡ 0 = omega (arith, c.loop-test.false) in
-    all_delivered g.T.Teller.tells (line_of old.world) (state_of old.world) (state_of c.loop.self.world) c.args.teller.now c.loop.teller c.loop.self.draws.x (deliveries 4 (line_of old.world) (state_of old.world) old.draws.x)
+    all_delivered g.T.Observer.tells (line_of old.world) (state_of old.world) (state_of c.loop.self.world) c.args.observer.now c.loop.observer c.loop.self.draws.x (deliveries 4 (line_of old.world) (state_of old.world) old.draws.x)
     (4 - c.loop.counter) none c.loop.invariant.goes
