@@ -1,11 +1,11 @@
 //! The audit of what `run` or `serve` printed, or of journals.
 
 use crate::auditing::Audit;
-use crate::comparing::Verdict;
 use crate::files::{Files, Rows};
 use crate::journal::{Part, journals_in, unfit};
 use crate::line_file::{LineFile, line_file_in};
 use crate::rerunning::first_unfit;
+use cli_compare::Verdict;
 use rbc_line::Line;
 use std::alloc::Global;
 use std::io::Write;

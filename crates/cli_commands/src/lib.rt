@@ -1,6 +1,6 @@
 //! The commands of `rbcline`, each a function from its arguments and files to a print and an exit status. [`command`]
 //! reads the arguments and chooses one. Their parts are `running` and `rerunning` (scripts and journals), `auditing`
-//! and `comparing` (prints), `inspecting` and `explaining` (line files).
+//! (prints), `inspecting` and `explaining` (line files).
 //!
 //! Bodies are free. What is printed, and each exit status, is fixed by docs/FORMATS.md.
 #![tactic(auto)]
@@ -8,7 +8,6 @@
 mod audit;
 pub mod auditing;
 pub mod command;
-pub mod comparing;
 mod diagram;
 pub mod disk;
 mod explain;

@@ -1,7 +1,7 @@
 -- The first line of a text ends at its first line feed.
 use Rattle.std.proofs.Common.{◌≡◌, ℕ, ◌+◌, ◌<◌, ◌==◌, Bool, true, false, cond, List, [], ◌∷◌, length, take, drop, Option, Some, None, refl, ap, sym, subst, ◌∙◌, arith, rules}
 use Rattle.std.specs.List.{position_from}
-use Rattle.cli_commands.specs.Comparing.Lines.{Ends, lines_of, with_byte}
+use Rattle.cli_compare.specs.Lines.{Ends, lines_of, with_byte}
 
 -- the lines of a text, of which the first ends where a count from n says
 abbrev pub EndsFrom : ℕ → List ℕ → List (List ℕ) → Option ℕ → Type 0

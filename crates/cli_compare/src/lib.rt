@@ -2,6 +2,7 @@
 //! differs is found.
 //!
 //! Bodies are free. What is printed, and each exit status, is fixed by docs/FORMATS.md.
+#![tactic(auto)]
 
 mod comparison;
 mod due;

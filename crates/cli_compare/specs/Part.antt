@@ -1,8 +1,8 @@
 -- A part of a print that is held against the lines that have to stand there.
 use Rattle.std.specs.Prelude.{ℕ, if◌then◌else◌, List, [], ◌∷◌, Option, Some, None}
 use Rattle.std.specs.Str.{bytes_eq}
-use Rattle.cli_commands.specs.declared.comparing.part.Part.{Part}
-use Rattle.cli_commands.specs.Comparing.Lines.{first_difference, left_after}
+use Rattle.cli_compare.specs.declared.part.Part.{Part}
+use Rattle.cli_compare.specs.Lines.{first_difference, left_after}
 
 -- The first difference, if what was found is none: the lines that are left to come begin with number n, and are these.
 abbrev pub found_after : Option ℕ → List (List ℕ) → ℕ → List (List ℕ) → Option ℕ

@@ -1,9 +1,9 @@
 ghost use Rattle.std.specs.Prelude.{◌≡◌, ℕ, ◌+◌, ◌<◌, ◌^◌, List, [], ◌∷◌, true, false};
-ghost use Rattle.cli_commands.specs.Comparing.Lines.{lines_of};
-ghost use Rattle.cli_commands.specs.Comparing.Blocks.{Block, blocks_from, differs_in};
-ghost use Rattle.cli_commands.specs.Comparing.Told.{told, wants_ending};
+ghost use Rattle.cli_compare.specs.Lines.{lines_of};
+ghost use Rattle.cli_compare.specs.Blocks.{Block, blocks_from, differs_in};
+ghost use Rattle.cli_compare.specs.Told.{told, wants_ending};
 
-use crate::comparing::part::Part;
+use crate::part::Part;
 use std::alloc::Global;
 
 /// A print that is held against the lines that have to stand in it, while both come. It is held part by part: a part

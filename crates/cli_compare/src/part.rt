@@ -1,8 +1,8 @@
 ghost use Rattle.std.specs.Prelude.{◌≡◌, ℕ, ◌+◌, ◌&&◌, List, [], ◌∷◌, is_none};
-ghost use Rattle.cli_commands.specs.Comparing.Lines.{is_over, lines_of};
-ghost use Rattle.cli_commands.specs.Comparing.Part.{differs_after, due_after, found, fresh};
+ghost use Rattle.cli_compare.specs.Lines.{is_over, lines_of};
+ghost use Rattle.cli_compare.specs.Part.{differs_after, due_after, found, fresh};
 
-use crate::comparing::due::Due;
+use crate::due::Due;
 
 /// A part of a print that is held against the lines that have to stand there, line by line.
 #[derive(Drop)]

@@ -1,7 +1,7 @@
 -- A print in parts, each held against the lines that have to stand in it.
 use Rattle.std.specs.Prelude.{ℕ, ◌+◌, List, [], ◌∷◌, ◌++◌, length, Option, None}
 use Rattle.std.specs.Option.{option_or}
-use Rattle.cli_commands.specs.Comparing.Lines.{first_difference}
+use Rattle.cli_compare.specs.Lines.{first_difference}
 
 -- the lines that have to stand in a part, and those that stand in it
 pub record Block : Type 0 where
