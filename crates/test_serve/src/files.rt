@@ -1,7 +1,6 @@
 //! Journals as files: the lock on them, what is written between the lock and the reading, and what is done to a file
 //! while it is written.
 
-use crate::journal::line::{ENTRIES, FIRST};
 use serve_line::journaling::{JournalFile, OpenFault, make_journal, open_journal, read_whole};
 use std::fs::OpenOptions;
 use std::io::Write;
@@ -9,6 +8,16 @@ use std::os::unix::fs::PermissionsExt;
 use std::rt::{Env, Files};
 use std::test::*;
 use std::{env, fs, process};
+
+// The first line of a journal of centre B, and an entry.
+const EARLY: &str = "journal 1 B ba35c55526b8ee737edcb0f3cc29d5304c156d9964d7e8ca30cc4d3f91642eea
+3a1cc061 1 > set B 1
+";
+
+// Its next two entries.
+const LATE: &str = "44a52c2b 7 > deliver A B 1
+5000362a 8 > train B 9B028000000040000040
+";
 
 // The name of a file of this test alone, which is not there.
 fn name_of(rt: &HostRuntime, test: &str) -> Result<String, Fail> {
@@ -31,14 +40,10 @@ fn write_after(rt: &HostRuntime, name: &str, text: &str) -> Result<(), Fail> {
 #[test]
 fn a_line_that_comes_after_the_lock_is_kept(rt: HostRuntime) -> Result<(), Fail> {
     let name = name_of(&rt, "late")?;
-    let whole = format!(in rt.alloc(); "{FIRST}{ENTRIES}")?;
-    let late = "44a52c2b 7 > deliver A B 1\n5000362a 8 > train B 9B028000000040000040\n";
-    let Some(early) = whole.as_str().strip_suffix(late) else {
-        return Err("these are its last lines".into());
-    };
-    fs::write(&rt, name.as_str(), early)?;
+    let whole = format!(in rt.alloc(); "{EARLY}{LATE}")?;
+    fs::write(&rt, name.as_str(), EARLY)?;
     let file = open_journal(&rt, name.as_str())?;
-    write_after(&rt, name.as_str(), late)?;
+    write_after(&rt, name.as_str(), LATE)?;
     let bytes = read_whole(&rt, &file)?;
     assert!(rt; bytes.as_slice() == whole.as_bytes());
     let mut journal = JournalFile::new(file, bytes.len() as u64, true);
