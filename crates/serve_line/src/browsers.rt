@@ -1,5 +1,5 @@
 use crate::looking::PageSnapshot;
-use crate::state::{DOOR_REST_MS, Endpoint, Listening};
+use crate::state::{ENDPOINT_REST_MS, Endpoint, Listening};
 use rbc_line::Line;
 use rbc_node::Node;
 use std::alloc::Global;
@@ -81,10 +81,10 @@ impl PageEndpoint {
         })
     }
 
-    /// Rests for at most `DOOR_REST_MS`.
+    /// Rests for at most `ENDPOINT_REST_MS`.
     pub fn rest<R: Wait>(&self, rt: &R) {
         self.waker
-            .park_timeout(rt, Duration::from_millis(DOOR_REST_MS));
+            .park_timeout(rt, Duration::from_millis(ENDPOINT_REST_MS));
     }
 
     /// A place for a new connection. If all are taken, the earliest connection ends. Only the thread of the endpoint

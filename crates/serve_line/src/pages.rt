@@ -189,7 +189,7 @@ fn refresh<R: Wait + Clock>(
         let before = std::mem::replace(shown, now);
         copy_marks(&before, shown);
     }
-    if mark_doors(rt, server, shown) || has_changed {
+    if mark_endpoints(rt, server, shown) || has_changed {
         seen.version = seen.version.saturating_add(1);
     }
     Ok(())
@@ -207,7 +207,7 @@ fn copy_marks(before: &LineNow, now: &mut LineNow) {
 
 // Marks whether connections are accepted, the number of connections, and the journals that can't be written. The result
 // is whether any of these has changed.
-fn mark_doors<R: Wait>(rt: &R, server: &Server<'_>, now: &mut LineNow) -> bool {
+fn mark_endpoints<R: Wait>(rt: &R, server: &Server<'_>, now: &mut LineNow) -> bool {
     let is_stopped = server.state.is_stopped();
     let mut has_changed = is_stopped != now.is_stopped;
     now.is_stopped = is_stopped;

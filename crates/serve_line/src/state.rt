@@ -17,7 +17,7 @@ pub use build::{
     connections_of, endpoints_of, journals_of, links_of, nodes_of, sinks_of, wakers_of,
 };
 pub use endpoints::{Endpoints, Listening};
-pub use limits::DOOR_REST_MS;
+pub use limits::ENDPOINT_REST_MS;
 pub use options::ServeOptions;
 pub use paces::Paces;
 pub use queue::{Queue, Watch};

@@ -42,7 +42,7 @@ pub fn play<R: Net<Stream = TcpStream>>(
 ) -> Done<Vec<TcpStream>> {
     let mut streams = Vec::new(alloc);
     for (number, act) in steps {
-        match door_of(addresses, *act) {
+        match endpoint_of(addresses, *act) {
             Some(endpoint) => come(rt, &mut streams, endpoint)?,
             None => done(alloc, &streams, *number, *act)?,
         }
@@ -51,7 +51,7 @@ pub fn play<R: Net<Stream = TcpStream>>(
 }
 
 // The endpoint to which a connection comes, if it does.
-fn door_of(addresses: Addresses, act: Act<'_>) -> Option<SocketAddr> {
+fn endpoint_of(addresses: Addresses, act: Act<'_>) -> Option<SocketAddr> {
     match act {
         Act::Train => Some(addresses.centre),
         Act::Control => Some(addresses.control),

@@ -2,7 +2,7 @@ use crate::clients::control::serve_control;
 use crate::clients::entrance::{Entrance, is_idle};
 use crate::clients::limits::{DEAF_REST_MS, GRACE_RESTS, LEAVING_RESTS, NEXT_RESTS};
 use crate::clients::sessions::serve_train;
-use crate::state::{DOOR_REST_MS, Endpoint, Peer, Server, Slot, Watch};
+use crate::state::{ENDPOINT_REST_MS, Endpoint, Peer, Server, Slot, Watch};
 use crate::status::{Kind, Life, Notes};
 use std::alloc::Global;
 use std::net::TcpStream;
@@ -30,8 +30,7 @@ pub fn run_endpoint<R: Threads + Wait + Sync + Clock, N: Notes + Sync>(
                 break;
             }
             looks.look(rt, server, notes, endpoint);
-            let Some((stream, slot)) = next_caller(rt, server, notes, endpoint, &mut entrance)
-            else {
+            let Some((stream, slot)) = next_peer(rt, server, notes, endpoint, &mut entrance) else {
                 continue;
             };
             let peer = endpoint.peer;
@@ -120,14 +119,14 @@ fn reserve_for<'a, R: Wait>(
 ) -> Option<(Arc<TcpStream, Global>, &'a Slot)> {
     let stream = stream?;
     let shared = Arc::try_clone(&stream).ok()?;
-    let slot = endpoint.reserve_seat(rt)?;
+    let slot = endpoint.reserve_slot(rt)?;
     *slot.stream.lock(rt) = Some(shared);
     Some((stream, slot))
 }
 
 // The next connection of an endpoint, with its slot. It rests if no connection waits. A connection is refused if no
 // slot is free.
-fn next_caller<'a, R: Wait, N: Notes>(
+fn next_peer<'a, R: Wait, N: Notes>(
     rt: &R,
     server: &Server<'_>,
     notes: &N,
@@ -188,11 +187,11 @@ fn rest_after<R: Wait, N: Notes>(
         .park_timeout(rt, Duration::from_millis(DEAF_REST_MS));
 }
 
-// Rests at an endpoint for at most `DOOR_REST_MS`, or until its waker is rung.
+// Rests at an endpoint for at most `ENDPOINT_REST_MS`, or until its waker is rung.
 fn rest<R: Wait>(rt: &R, endpoint: &Endpoint) {
     endpoint
         .waker
-        .park_timeout(rt, Duration::from_millis(DOOR_REST_MS));
+        .park_timeout(rt, Duration::from_millis(ENDPOINT_REST_MS));
 }
 
 // A slot for a new connection. If all are taken, another connection has to leave its slot. At a centre, this is the
@@ -219,7 +218,7 @@ fn slot_for<'a, R: Wait>(rt: &R, server: &Server<'_>, endpoint: &'a Endpoint) ->
     }
     match endpoint.free_slot(rt) {
         Some(slot) => Some(slot),
-        None => endpoint.reserve_seat(rt),
+        None => endpoint.reserve_slot(rt),
     }
 }
 

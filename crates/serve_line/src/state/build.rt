@@ -40,13 +40,13 @@ pub fn endpoints_of(
 ) -> Result<Vec<Endpoint>, AllocError> {
     let mut endpoints = Vec::new(alloc);
     for (number, listening) in listening.into_iter().enumerate() {
-        endpoints.push(door_of(alloc, line, nodes, number, listening)?)?;
+        endpoints.push(endpoint_of(alloc, line, nodes, number, listening)?)?;
     }
     Ok(endpoints)
 }
 
 // The endpoint of this number: a centre's, or after those the control endpoint.
-fn door_of(
+fn endpoint_of(
     alloc: Global,
     line: &Line,
     nodes: &[Node],
@@ -57,9 +57,9 @@ fn door_of(
         Some(node) => {
             let reached = &nodes[number..=number];
             let peer = Peer::Trains(node.share().centre());
-            (peer, seats_of(alloc, most_trains(line), reached)?)
+            (peer, slots_of(alloc, most_trains(line), reached)?)
         }
-        None => (Peer::Interlocking, control_seats(alloc, nodes)?),
+        None => (Peer::Interlocking, control_slots(alloc, nodes)?),
     };
     Ok(Endpoint {
         listener: Mutex::new(Some(listening.listener)),
@@ -71,14 +71,14 @@ fn door_of(
 }
 
 // The slots of the control endpoint; the last is the reserve slot.
-fn control_seats(alloc: Global, nodes: &[Node]) -> Result<Vec<Slot>, AllocError> {
-    let mut slots = seats_of(alloc, CONTROLS, nodes)?;
+fn control_slots(alloc: Global, nodes: &[Node]) -> Result<Vec<Slot>, AllocError> {
+    let mut slots = slots_of(alloc, CONTROLS, nodes)?;
     slots.push(seat_of(alloc, CONTROLS, true, nodes)?)?;
     Ok(slots)
 }
 
 // This many free slots, each with a share of each of these nodes.
-fn seats_of(alloc: Global, count: usize, nodes: &[Node]) -> Result<Vec<Slot>, AllocError> {
+fn slots_of(alloc: Global, count: usize, nodes: &[Node]) -> Result<Vec<Slot>, AllocError> {
     let mut slots = Vec::with_capacity(alloc, count)?;
     for number in 0..count {
         slots.push(seat_of(alloc, number, false, nodes)?)?;
@@ -141,13 +141,13 @@ fn link_of(from: u8, share: Share) -> DirectedLink {
 pub fn wakers_of(alloc: Global, line: &Line) -> Result<Vec<Vec<Parker>>, AllocError> {
     let mut wakers = Vec::new(alloc);
     for _ in 0..line.centre_count() {
-        wakers.push(bells_from(alloc, line)?)?;
+        wakers.push(wakers_from(alloc, line)?)?;
     }
     Ok(wakers)
 }
 
 // The wakers of the outgoing links of one centre.
-fn bells_from(alloc: Global, line: &Line) -> Result<Vec<Parker>, AllocError> {
+fn wakers_from(alloc: Global, line: &Line) -> Result<Vec<Parker>, AllocError> {
     let mut wakers = Vec::new(alloc);
     for _ in 0..line.centre_count() {
         wakers.push(Parker::new())?;

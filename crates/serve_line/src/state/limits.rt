@@ -17,4 +17,4 @@ pub(crate) const BURST: u32 = 100;
 pub(crate) const MOST_TOLD: usize = 65_536;
 
 /// The longest rest of an endpoint before it looks for a connection again, in milliseconds.
-pub const DOOR_REST_MS: u64 = 20;
+pub const ENDPOINT_REST_MS: u64 = 20;

@@ -95,15 +95,15 @@ pub struct Endpoint {
 impl Endpoint {
     /// Takes a free slot, if there is one. Only the thread of the endpoint calls it.
     pub fn free_slot<R: Wait>(&self, rt: &R) -> Option<&Slot> {
-        self.free_seat_of(rt, false)
+        self.free_slot_of(rt, false)
     }
 
     /// Takes the reserve slot, if the endpoint has one and it is free. Only the thread of the endpoint calls it.
-    pub fn reserve_seat<R: Wait>(&self, rt: &R) -> Option<&Slot> {
-        self.free_seat_of(rt, true)
+    pub fn reserve_slot<R: Wait>(&self, rt: &R) -> Option<&Slot> {
+        self.free_slot_of(rt, true)
     }
 
-    fn free_seat_of<R: Wait>(&self, rt: &R, is_reserve: bool) -> Option<&Slot> {
+    fn free_slot_of<R: Wait>(&self, rt: &R, is_reserve: bool) -> Option<&Slot> {
         for slot in &self.slots {
             if slot.is_reserve == is_reserve && !slot.is_taken.load(Ordering::SeqCst) {
                 slot.told.lock(rt).clear();

@@ -37,8 +37,7 @@ impl<C: Drop> RoutingTable<C> {
         })
     }
 
-    /// Takes a connection in under its number. It serves no train yet. It is handed back where there is no place of
-    /// that number.
+    /// Enters a connection under its number. It serves no train yet. It is dropped if there is no place of that number.
     pub fn enter(&mut self, number: usize, connection: C)
         ensures connections { self.new.connections.items
             ≡ slice_set self.old.connections.items number (Some connection) }
