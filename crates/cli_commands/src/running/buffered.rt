@@ -9,8 +9,8 @@ use text_script::play::PlayFault;
 use text_script::script::Entry;
 use text_script::status::Fault;
 
-/// Prints so too, with a buffer in front of the writer, which is empty after it. Where the writer refused a write, it
-/// may have any part of the print.
+/// Prints like `print_played`, through a buffer that is empty afterwards. If the writer refused a write, it may have
+/// any part of the print.
 pub fn print_buffered<O: Write>(
     alloc: Global,
     line: &Line,

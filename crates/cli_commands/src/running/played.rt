@@ -9,8 +9,8 @@ use text_script::play::PlayFault;
 use text_script::script::Entry;
 use text_script::status::Fault;
 
-/// Plays the entries of a script on the line from its beginning, and prints each, what it led to, and at the end the
-/// line. It stops at the first event whose step is refused: all in front of it is printed then, and the event.
+/// Plays the entries of a script on the line from its beginning. Prints each entry, its answer, and at the end the
+/// line. It stops at the first event whose step is refused: the print then ends with this event.
 pub fn print_played<W: Write>(
     alloc: Global,
     line: &Line,
