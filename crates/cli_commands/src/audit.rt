@@ -12,8 +12,8 @@ use std::io::Write;
 use text_script::status::Fault;
 
 /// Runs the events of a print again. Reports whether the print is that of its events, or the first line that differs.
-/// If the name is a folder's, it does the same with the folder's journals and their stamps. It returns the part of
-/// the journals that it read while a program writes them.
+/// If the name is a folder's, it does the same with the folder's journals and their stamps. If a program writes these
+/// meanwhile, it returns the part that it read.
 pub fn audit_printed<'a, F: Files, O: Write>(
     alloc: Global,
     file: &'a str,

@@ -16,9 +16,10 @@ use std::convert::AsStr;
 use std::io::Write;
 use text_script::status::{Fault, ended};
 
-/// Runs the command of the arguments after the program's name, and gives the exit status: 0 success; 1 an audit found
-/// a difference; 2 refused arguments, or help; 3 an unreadable file, a script fault, or journals; 4 a line fault; 5 a
-/// refused step; 6 a refused write, or a command that needs sockets; 7 a message fault.
+/// Runs the command of the arguments after the program's name, and returns the exit status. It is 0 for success, and 1
+/// if an audit found a difference. It is 2 for refused arguments (help too), and 3 for an unreadable file, a script
+/// fault or journals. It is 4 for a line fault, 5 for a refused step, and 7 for a message fault. It is 6 for a refused
+/// write, or for a command that needs sockets.
 pub fn command<S: AsStr, F: Files, O: Write, E: Write>(
     alloc: Global,
     words: &[S],
@@ -66,7 +67,7 @@ fn obey<'a, S: AsStr, F: Files, O: Write, E: Write>(
     }
 }
 
-// Reports the part of the journals that was read while a program writes them.
+// Reports the part of the journals that was read, if a program writes them meanwhile.
 fn tell_part<E: Write>(part: Option<Part>, err: &mut E) -> Result<(), Fault<'static>> {
     if let Some(part) = part {
         writeln!(err, "{part}")?;

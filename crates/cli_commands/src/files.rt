@@ -4,8 +4,8 @@ use std::alloc::Global;
 
 /// The source of the program's files.
 pub trait Files {
-    /// Holds for a name and each answer that `text` may give for it. Files that others may change, such as those of
-    /// the system, are not known: for each name they may give any text, or none.
+    /// Holds for a name and each answer that `text` may give for it. Nothing is known of files that others may change,
+    /// such as those of the system: for each name they may give any text, or none.
     ghost may_give: { Self → List ℕ → Option (List ℕ) → Type 0 } = { λ _ _ _. Unit {0} };
 
     /// The text of the file of this name. None if it can't be read: the file does not exist, is not UTF-8, or memory

@@ -9,7 +9,7 @@ use std::io::{BufWriter, Write};
 use text_script::status::Fault;
 
 /// Prints the run of a line whose journals are in a folder. If these are not a run of the line, nothing is printed.
-/// It returns the part of the journals that was read while a program writes them.
+/// If a program writes the journals meanwhile, it returns the part that it read.
 pub fn print_journals<'a, F: Files, O: Write>(
     alloc: Global,
     file: &'a str,

@@ -12,8 +12,8 @@ abbrev pub lines_of : List ℕ → List (List ℕ)
 lines_of [] = []
 lines_of (b ∷ bs) = if b == 10 then [] ∷ lines_of bs else with_byte b (lines_of bs)
 
--- the number of the first line in which two texts differ, if their first lines have number n; if one text ends first,
--- it is the first line that only the other has
+-- The number of the first line in which two texts differ, if their first lines have number n. If one text ends first,
+-- it is the first line that only the other has.
 abbrev pub first_difference : ℕ → List (List ℕ) → List (List ℕ) → Option ℕ
 first_difference n [] [] = None
 first_difference n [] (row ∷ rows) = Some n

@@ -97,8 +97,8 @@ fn draw_events(svg: &mut String, run: &Run<'_>, stretch: &Stretch) -> Result<(),
     Ok(())
 }
 
-/// Draws the number of a train at the start of its authority, where its mission begins. In the first drawn event, it
-/// marks a mission that continues.
+/// Draws the number of a train at the start of its authority, where its mission begins. The first drawn event has the
+/// number of each train with a mission.
 fn draw_names(
     svg: &mut String,
     scale: &Scale<'_>,

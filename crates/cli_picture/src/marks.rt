@@ -144,7 +144,7 @@ fn draw_request(
     draw_sign(svg, scale, sign, point)
 }
 
-/// Draws a square where a train ends its mission, or its last section leaves it.
+/// Draws a square where a train ends its mission, or its last section leaves.
 fn draw_end(
     svg: &mut String,
     scale: &Scale<'_>,

@@ -41,8 +41,8 @@ fn way_in(mission: Option<MissionView>) -> Option<Place> {
     }
 }
 
-/// Draws a ring with a centre's name where the centre begins to supervise the train. In the first drawn event, it
-/// marks the centre that supervises it already.
+/// Draws a ring with a centre's name where the centre begins to supervise the train. The first drawn event has a ring
+/// for the centre that supervises the train then.
 fn draw_rings(
     svg: &mut String,
     scale: &Scale<'_>,

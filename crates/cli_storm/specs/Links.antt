@@ -25,8 +25,8 @@ has_sent l = nat_lt 0 l.sent
 abbrev pub sending : Line → World → List Link
 sending line w = filter has_sent (all_links line w)
 
--- the delivery drawn from links that have sent a frame, and the state after the draws: none if there is no such link;
--- otherwise one of the links, and the number of one of its frames or the next number
+-- The delivery drawn from links that have sent a frame, and the state after the draws. Nothing is drawn if there is no
+-- such link. Otherwise one of the links is drawn, and the number of one of its frames or the next number.
 abbrev pub delivery : List Link → ℕ → Option WorldEvent × ℕ
 delivery from x =
     if length from == 0 then (None, x)

@@ -1,6 +1,6 @@
-//! The page of a line, for a running line or for a print: the types of its contents, their tables in JSON and in
-//! HTML, the style, and the drawing script. It is a function of its arguments only: it uses no line, no centre, no
-//! socket and no clock.
+//! The page of a line, for a running line or for a print. Its parts are the types of its contents, their tables in JSON
+//! and in HTML, the style, and the drawing script. The page is a function of its arguments only: it uses no line, no
+//! centre, no socket and no clock.
 //!
 //! Bodies are free. docs/FORMATS.md fixes the contents of the page.
 #![tactic(auto)]

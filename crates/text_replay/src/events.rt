@@ -25,7 +25,7 @@ pub fn train_in(line: &Line, cut: Cut) -> Result<Option<u8>, Fault<'static>> {
     }
 }
 
-/// The events of a print, in order. An error names its first line without a form of a script.
+/// The events of a print, in order. An error names the first line that has no form of a script.
 pub fn events_in(
     alloc: Global,
     line: &Line,

@@ -28,7 +28,7 @@ pub fn print_buffered<O: Write>(
     }
     let (underlying, _) = held.into_parts();
     let Underlying { out } = underlying;
-    // No effect at run time. The proof reads what the writer holds from this use of it.
+    // No effect at run time. The proof reads the content of the writer from this use of it.
     let _ = &*out;
     done
 }

@@ -26,7 +26,7 @@ pub fn print_played<W: Write>(
     let mut printer = Printer { alloc, line, out };
     let done = printer.print_all(&mut world, entries);
     let Printer { out, .. } = printer;
-    // No effect at run time. The proof reads what the writer holds from this use of it.
+    // No effect at run time. The proof reads the content of the writer from this use of it.
     let _ = &*out;
     done
 }
