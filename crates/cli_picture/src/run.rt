@@ -40,7 +40,7 @@ pub struct Event {
     /// Whether it changes nothing: a message without an answer, bytes that are not a message, or a frame that was
     /// never sent.
     pub is_silent: bool,
-    /// The report in a message with an answer, of a train that does not ask for a start of mission.
+    /// The report in a message that is not silent, of a train that does not ask for a start of mission.
     pub report: Option<Report>,
     /// Message 24 with packet 131.
     pub border: Option<Border>,
