@@ -115,7 +115,7 @@ fn end_of(mission: Option<MissionView>) -> u32 {
     }
 }
 
-/// Draws a sign at the proposed end, and a line from the authority's end to the sign if the authority is shortened.
+/// Draws a sign at the proposed end, and a line to it from the authority's end unless the request is dropped.
 fn draw_request(
     svg: &mut String,
     scale: &Scale<'_>,
@@ -144,7 +144,7 @@ fn draw_request(
     draw_sign(svg, scale, sign, point)
 }
 
-/// Draws a square where a train ends its mission, or its last section leaves.
+/// Draws a square where a train's mission ends.
 fn draw_end(
     svg: &mut String,
     scale: &Scale<'_>,
