@@ -27,8 +27,6 @@ module _ {T : Type 0} (tells : T → Telling → T → Type 0) (line : Line) whe
   pub passes_both : (all mid left : List Entry) (w v x : World) (t u s : T) → Passes tells line w t all v u mid → Passes tells line v u mid x s left → Passes tells line w t all x s left
   passes_both all mid left w v x t u s one two = (λ z r it. one.0 z r (two.0 z r it), λ fault z r it. one.1 fault z r (two.1 fault z r it))
 
-  -- all entries are played
-
   -- the remaining entries fail
   pub then_fails : {F : Type 0} (all left : List Entry) (w v x : World) (t u s : T) (fault : PlayFault F) → Passes tells line w t all v u left
       → Leaves {F = F} tells line v u left (Err fault) x s → Leaves {F = F} tells line w t all (Err fault) x s
@@ -40,8 +38,6 @@ module _ {T : Type 0} (tells : T → Telling → T → Type 0) (line : Line) whe
       → Leaves {F = F} tells line w t (e ∷ left) (Err fault) v u
   one_fails e left w v t u (Refused fault) stopped = stops tells line w t (e ∷ left) e left w v t u fault (itself w t (e ∷ left)) stopped
   one_fails e left w v t u (Untold why) stopped = tt
-
-  -- the world after a played event
 
   -- ## One delivery, and all of them
 
