@@ -44,7 +44,7 @@ class Edit:
             text = text.removeprefix(" ")
             if key == "file":
                 file = text.strip()
-            elif key == "old":
+            elif key == "old" and old is None:
                 old = text
             elif key == "new" and file and old:
                 self.pairs.append((file, old, text))
