@@ -92,8 +92,8 @@ fn ended<R: Wait>(rt: &R, alloc: Global, count: usize, fails: bool) -> Result<En
 fn half_a_message_leaves_nothing(rt: HostRuntime) -> Result<(), Fail> {
     let failed = ended(&rt, rt.alloc(), 5, true)?;
     let over = ended(&rt, rt.alloc(), 5, false)?;
-    assert!(rt; failed == (SessionEnd::Device, 0, (0, Phase::NoSink)));
-    assert!(rt; over == (SessionEnd::EndOfStream, 0, (0, Phase::NoSink)));
+    assert!(rt; failed == (SessionEnd::Device, 0, (0, Phase::Closed)));
+    assert!(rt; over == (SessionEnd::EndOfStream, 0, (0, Phase::Closed)));
     Ok(())
 }
 
