@@ -10,8 +10,6 @@ mod driving;
 #[cfg(test)]
 mod files;
 #[cfg(test)]
-mod initiations;
-#[cfg(test)]
 mod interlocking;
 #[cfg(test)]
 mod journals;
