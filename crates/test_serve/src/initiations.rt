@@ -81,6 +81,17 @@ fn answer<R: Wait>(
     Ok(taken.ok().ok_or("the message is taken")?)
 }
 
+// The two ends of a connection: the train's, and the other.
+fn pair<R: Net<Stream = TcpStream, Listener = TcpListener>>(
+    rt: &R,
+) -> Result<(TcpStream, TcpStream), Fail> {
+    let loopback = SocketAddr::new(IpAddr::V4(Ipv4Addr::LOCALHOST), 0);
+    let listener = TcpListener::bind(rt, loopback)?;
+    let train = connect(rt, listener.local_addr()?)?;
+    let (stream, _) = listener.accept()?;
+    Ok((train, stream))
+}
+
 // A connection of this number at the connections.
 fn entered<R: Net<Stream = TcpStream, Listener = TcpListener> + Wait>(
     rt: &R,
@@ -88,10 +99,7 @@ fn entered<R: Net<Stream = TcpStream, Listener = TcpListener> + Wait>(
     connections: &TrainConnections<'_>,
     number: usize,
 ) -> Result<Ends, Fail> {
-    let loopback = SocketAddr::new(IpAddr::V4(Ipv4Addr::LOCALHOST), 0);
-    let listener = TcpListener::bind(rt, loopback)?;
-    let train = connect(rt, listener.local_addr()?)?;
-    let (stream, _) = listener.accept()?;
+    let (train, stream) = pair(rt)?;
     let stream = Arc::new(alloc, stream)?;
     let shared_writer = Arc::new(alloc, SharedWriter::new(Shared(Arc::try_clone(&stream)?)))?;
     let (sender, replies) = bounded(alloc, 8)?;
@@ -113,21 +121,40 @@ fn entered<R: Net<Stream = TcpStream, Listener = TcpListener> + Wait>(
 fn played<R: Net<Stream = TcpStream, Listener = TcpListener> + Wait>(
     rt: &R,
     alloc: Global,
-    said: &[&str],
+    case: &Case<'_>,
+) -> Result<(Vec<u8>, Vec<u8>), Fail> {
+    let outcomes = answered(rt, alloc, case.said)?;
+    let line = two_centres(alloc)?;
+    let connections = TrainConnections::new(alloc, &line, 2, &[])?;
+    brought_by_two(rt, alloc, &connections, &outcomes, case.turns)
+}
+
+fn brought_by_two<R: Net<Stream = TcpStream, Listener = TcpListener> + Wait>(
+    rt: &R,
+    alloc: Global,
+    connections: &TrainConnections<'_>,
+    outcomes: &[Outcome],
     turns: &[Turn],
 ) -> Result<(Vec<u8>, Vec<u8>), Fail> {
-    let line = two_centres(alloc)?;
-    let outcomes = answered(rt, alloc, said)?;
-    let connections = TrainConnections::new(alloc, &line, 2, &[])?;
-    let first = entered(rt, alloc, &connections, 0)?;
-    let second = entered(rt, alloc, &connections, 1)?;
+    let first = entered(rt, alloc, connections, 0)?;
+    let second = entered(rt, alloc, connections, 1)?;
+    hand_in(rt, connections, outcomes, turns)?;
+    let first = brought(rt, alloc, connections, 0, first);
+    let second = brought(rt, alloc, connections, 1, second);
+    Ok((first?, second?))
+}
+
+fn hand_in<R: Wait>(
+    rt: &R,
+    connections: &TrainConnections<'_>,
+    outcomes: &[Outcome],
+    turns: &[Turn],
+) -> Result<(), &'static str> {
     for (own, number) in turns {
         let outcome = outcomes.get(*number).ok_or("it is answered")?;
-        submit(rt, &connections, *own, outcome);
+        submit(rt, connections, *own, outcome);
     }
-    let first = brought(rt, alloc, &connections, 0, first)?;
-    let second = brought(rt, alloc, &connections, 1, second)?;
-    Ok((first, second))
+    Ok(())
 }
 
 fn submit<R: Wait>(
@@ -163,74 +190,91 @@ fn brought<R: Wait>(
     heard_to_the_end(alloc, &ends.train)
 }
 
-// The bytes that these digits spell, in order.
-fn row_of(alloc: Global, messages: &[&str]) -> Done<Vec<u8>> {
+// Whether these are the bytes that these digits spell, in order.
+fn is_row(alloc: Global, bytes: &[u8], messages: &[&str]) -> Done<bool> {
     let mut row = Vec::new(alloc);
     for digits in messages {
         let bytes = bytes_of(alloc, digits)?;
         row.extend_from_slice(&bytes).ok().ok_or(Missed::Memory)?;
     }
-    Ok(row)
+    Ok(row.as_slice() == bytes)
 }
 
-// The train initiates its session over the first connection, and then over the second, over which it ends the session.
-static OVER_TWO: [&str; 4] = [
-    INITIATION_OF_ONE,
-    SECOND_INITIATION,
-    THIRD_ESTABLISHED,
-    FOURTH_TERMINATION,
+/// What a train says, who hands in the answers, and what the two connections bring to it.
+struct Case<'a> {
+    name: &'a str,
+    said: &'a [&'a str],
+    turns: &'a [Turn],
+    first: &'a [&'a str],
+    second: &'a [&'a str],
+}
+
+static CASES: [Case<'_>; 4] = [
+    // The train initiates its session over the first connection, and then over the second, over which it ends the
+    // session.
+    Case {
+        name: "the_later_initiation_serves_the_train",
+        said: &[
+            INITIATION_OF_ONE,
+            SECOND_INITIATION,
+            THIRD_ESTABLISHED,
+            FOURTH_TERMINATION,
+        ],
+        turns: &[(Some(0), 0), (Some(1), 1), (Some(1), 3)],
+        first: &[VERSION],
+        second: &[SECOND_VERSION, THIRD_TERMINATED, LAST],
+    },
+    Case {
+        name: "an_overtaken_initiation_ends_its_own_connection",
+        said: &[
+            INITIATION_OF_ONE,
+            SECOND_INITIATION,
+            THIRD_ESTABLISHED,
+            FOURTH_TERMINATION,
+        ],
+        turns: &[(Some(1), 1), (Some(0), 0), (Some(1), 3)],
+        first: &[],
+        second: &[SECOND_VERSION, THIRD_TERMINATED, LAST],
+    },
+    // The train initiates its session, ends it, and initiates it again over the same connection. The thread that reads
+    // the connection hands in the last answer before another thread hands in the one before.
+    Case {
+        name: "a_second_initiation_over_one_connection_leaves_nothing_out",
+        said: &[
+            INITIATION_OF_ONE,
+            SECOND_ESTABLISHED,
+            THIRD_TERMINATION,
+            FOURTH_INITIATION,
+        ],
+        turns: &[(Some(0), 0), (Some(0), 3), (None, 2)],
+        first: &[VERSION, SECOND_TERMINATED, THIRD_VERSION, LAST],
+        second: &[LAST],
+    },
+    // The second connection has ended the first one, over which a further initiation came before it ended.
+    Case {
+        name: "a_connection_that_was_ended_serves_no_train_again",
+        said: &[INITIATION_OF_ONE, SECOND_INITIATION, THIRD_INITIATION],
+        turns: &[(Some(0), 0), (Some(1), 1), (Some(0), 2)],
+        first: &[VERSION],
+        second: &[SECOND_VERSION, THIRD_VERSION, LAST],
+    },
 ];
 
 #[test]
-fn the_later_initiation_serves_the_train(rt: HostRuntime) -> Result<(), Fail> {
-    let turns = [(Some(0), 0), (Some(1), 1), (Some(1), 3)];
-    let (first, second) = played(&rt, rt.alloc(), &OVER_TWO, &turns)?;
-    let opened = row_of(rt.alloc(), &[VERSION])?;
-    let served = row_of(rt.alloc(), &[SECOND_VERSION, THIRD_TERMINATED, LAST])?;
-    assert!(rt; (first.as_slice(), second.as_slice()) == (opened.as_slice(), served.as_slice()));
+fn each_train_hears_what_it_should(rt: HostRuntime) -> Result<(), Fail> {
+    for case in &CASES {
+        let is_so = is_heard(&rt, rt.alloc(), case)?;
+        let name = case.name;
+        assert!(rt; is_so, "{name}");
+    }
     Ok(())
 }
 
-#[test]
-fn an_overtaken_initiation_ends_its_own_connection(rt: HostRuntime) -> Result<(), Fail> {
-    let turns = [(Some(1), 1), (Some(0), 0), (Some(1), 3)];
-    let (first, second) = played(&rt, rt.alloc(), &OVER_TWO, &turns)?;
-    let served = row_of(rt.alloc(), &[SECOND_VERSION, THIRD_TERMINATED, LAST])?;
-    assert!(rt; (first.as_slice(), second.as_slice()) == (&[], served.as_slice()));
-    Ok(())
-}
-
-// The train initiates its session, ends it, and initiates it again over the same connection. The thread that reads the
-// connection hands in the last answer before another thread hands in the one before.
-static OVER_ONE: [&str; 4] = [
-    INITIATION_OF_ONE,
-    SECOND_ESTABLISHED,
-    THIRD_TERMINATION,
-    FOURTH_INITIATION,
-];
-
-#[test]
-fn a_second_initiation_over_one_connection_leaves_nothing_out(rt: HostRuntime) -> Result<(), Fail> {
-    let turns = [(Some(0), 0), (Some(0), 3), (None, 2)];
-    let (first, second) = played(&rt, rt.alloc(), &OVER_ONE, &turns)?;
-    let served = row_of(
-        rt.alloc(),
-        &[VERSION, SECOND_TERMINATED, THIRD_VERSION, LAST],
-    )?;
-    let other = row_of(rt.alloc(), &[LAST])?;
-    assert!(rt; (first.as_slice(), second.as_slice()) == (served.as_slice(), other.as_slice()));
-    Ok(())
-}
-
-// The second connection has ended the first one, over which a further initiation came before it ended.
-static OVER_AN_ENDED_ONE: [&str; 3] = [INITIATION_OF_ONE, SECOND_INITIATION, THIRD_INITIATION];
-
-#[test]
-fn a_connection_that_was_ended_serves_no_train_again(rt: HostRuntime) -> Result<(), Fail> {
-    let turns = [(Some(0), 0), (Some(1), 1), (Some(0), 2)];
-    let (first, second) = played(&rt, rt.alloc(), &OVER_AN_ENDED_ONE, &turns)?;
-    let opened = row_of(rt.alloc(), &[VERSION])?;
-    let served = row_of(rt.alloc(), &[SECOND_VERSION, THIRD_VERSION, LAST])?;
-    assert!(rt; (first.as_slice(), second.as_slice()) == (opened.as_slice(), served.as_slice()));
-    Ok(())
+fn is_heard<R: Net<Stream = TcpStream, Listener = TcpListener> + Wait>(
+    rt: &R,
+    alloc: Global,
+    case: &Case<'_>,
+) -> Result<bool, Fail> {
+    let (first, second) = played(rt, alloc, case)?;
+    Ok(is_row(alloc, &first, case.first)? && is_row(alloc, &second, case.second)?)
 }

@@ -21,6 +21,8 @@ mod order;
 #[cfg(test)]
 mod play;
 #[cfg(test)]
+mod plays;
+#[cfg(test)]
 mod railway;
 #[cfg(test)]
 mod refusing;

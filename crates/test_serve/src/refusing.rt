@@ -6,7 +6,9 @@ use rbc_line::Line;
 use rbc_node::{Node, Open};
 use rbc_world::{Body, Event, Frame};
 use serve_line::clients::run_endpoint;
-use serve_line::state::{Server, State, bells_of, doors_of, exchanges_of, nodes_of, tellers_of};
+use serve_line::state::{
+    Server, State, connections_of, endpoints_of, nodes_of, sinks_of, wakers_of,
+};
 use serve_line::{Endpoints, NoNotes, ServeOptions};
 use std::alloc::Global;
 use std::net::{Net, SocketAddr, TcpListener, TcpStream};
@@ -80,10 +82,10 @@ fn asked<R: Threads + Wait + Sync + Net<Stream = TcpStream, Listener = TcpListen
         .ok()
         .ok_or(Missed::Endpoint)?;
     let (listening, _) = endpoints.all();
-    let endpoints = doors_of(alloc, line, nodes, listening)?;
-    let wakers = bells_of(alloc, line)?;
-    let connections = exchanges_of(alloc, line, &wakers)?;
-    let sinks = tellers_of(
+    let endpoints = endpoints_of(alloc, line, nodes, listening)?;
+    let wakers = wakers_of(alloc, line)?;
+    let connections = connections_of(alloc, line, &wakers)?;
+    let sinks = sinks_of(
         alloc,
         line,
         &connections,
