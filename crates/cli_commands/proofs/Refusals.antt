@@ -1,4 +1,4 @@
--- What `run` leaves where a step is refused.
+-- The effect of `run` if a step is refused.
 use Rattle.std.proofs.Common.{◌≡◌, ℕ, List, Option, Err, subst}
 use Rattle.rbc_spec.specs.Line.{Line}
 use Rattle.text_script.specs.rbc_centre.declared.fault.StepFault.{StepFault}

@@ -1,4 +1,4 @@
--- What the commands that read a line file leave: the print of a run, and what their files gave for it.
+-- The effects of the commands that read a line file: the print of a run, and the contents of their files for it.
 use Rattle.std.specs.Prelude.{◌≡◌, ◌≢◌, ◌⊎◌, ℕ, List, Option, Some, None, Result, Ok, Err}
 use Rattle.rbc_spec.specs.Line.{Line}
 use Rattle.rbc_line.specs.Faults.{Names, Applies, IsLowest}
@@ -13,27 +13,27 @@ use Rattle.text_script.specs.declared.script.ScriptFault.TheVariants.{Form}
 use Rattle.text_script.specs.declared.play.PlayFault.TheVariants.{Refused}
 use Rattle.cli_commands.specs.Running.Printed.{LeavesPrint}
 
--- Of files `gives name text` says that for this name they may give this text, or none.
+-- For files, `gives name text` means that they may give this text, or none, for this name.
 
--- the files gave a line file that no fault applies to, and it names this line
+-- the files gave a line file without faults, and it names this line
 abbrev pub GivesLine : (List ℕ → Option (List ℕ) → Type 0) → List ℕ → Line → Type 0
 GivesLine gives name line = (text : List ℕ) × gives name (Some text) × Names text line
 
--- no line was read: the files gave no text, or one whose lowest fault is this one; nothing is said of a text for which
--- memory ran out
+-- no line was read: the files gave no text, or a text whose lowest fault is this one; nothing is claimed of a text
+-- for which memory ran out
 abbrev pub GivesNoLine : (List ℕ → Option (List ℕ) → Type 0) → List ℕ → Fault → Type 0
 GivesNoLine gives name (fault.CannotRead other) = (other.now ≡ name) × gives name None
 GivesNoLine gives name (fault.Line why) =
     (text : List ℕ) × gives name (Some text) × (why ≢ bad.Memory → IsLowest (Applies text) why)
 GivesNoLine gives name other = ⊥
 
--- the files gave a script of the line, and these entries are what it asks for
+-- the files gave a script of the line, and these entries are its requests
 abbrev pub GivesEntries : (List ℕ → Option (List ℕ) → Type 0) → Line → List ℕ → List Entry → Type 0
 GivesEntries gives line name entries =
     (text : List ℕ) × gives name (Some text) × AreAsked line (rows text) entries
 
--- no script was read: the files gave no text, or one whose first line of no form is this one; nothing is said of a text
--- for which memory ran out
+-- no script was read: the files gave no text, or a text whose first line without a form is this one; nothing is
+-- claimed of a text for which memory ran out
 abbrev pub GivesNoEntries : (List ℕ → Option (List ℕ) → Type 0) → Line → List ℕ → Fault → Type 0
 GivesNoEntries gives line name (fault.CannotRead other) = (other.now ≡ name) × gives name None
 GivesNoEntries gives line name (fault.Script row) =
@@ -45,14 +45,14 @@ GivesNoEntries gives line name other = ⊥
 abbrev pub GivesRun : (List ℕ → Option (List ℕ) → Type 0) → List ℕ → List ℕ → Line → List Entry → Type 0
 GivesRun gives file script line entries = GivesLine gives file line × GivesEntries gives line script entries
 
--- they gave no line, or a line and no script of it
+-- the files gave no line, or a line and no script of it
 abbrev pub GivesNoRun : (List ℕ → Option (List ℕ) → Type 0) → List ℕ → List ℕ → Fault → Type 0
 GivesNoRun gives file script why =
     GivesNoLine gives file why ⊎ ((line : Line) × GivesLine gives file line × GivesNoEntries gives line script why)
 
--- What `run` leaves. After what the writer had stands the print of the line and the entries that the files gave, whole
--- or up to the event whose step is refused. Where they gave none, nothing is written. Nothing is said of what is
--- written where the writer refuses a write or memory runs out.
+-- The effect of `run`. It appends the print of the line and the given entries, complete or up to the event whose step
+-- is refused. If the files gave no entries, nothing is written. Nothing is claimed of the output if the writer
+-- refuses a write or memory runs out.
 abbrev pub LeavesRun : (List ℕ → Option (List ℕ) → Type 0) → List ℕ → List ℕ → Result (Unit {0}) Fault
     → Option (List ℕ) → Option (List ℕ) → Type 0
 LeavesRun gives file script (Ok done) before after =
@@ -66,7 +66,7 @@ LeavesRun gives file script (Err fault.Write) before after =
     (line : Line) × (entries : List Entry) × GivesRun gives file script line entries
 LeavesRun gives file script (Err why) before after = (after ≡ before) × GivesNoRun gives file script why
 
--- What `check` leaves: a line was given, or nothing is written. What is written of a line is not said.
+-- The effect of `check`: a line was given, or nothing is written. The printed text of a line is not specified.
 abbrev pub LeavesCheck : (List ℕ → Option (List ℕ) → Type 0) → List ℕ → Result (Unit {0}) Fault
     → Option (List ℕ) → Option (List ℕ) → Type 0
 LeavesCheck gives file (Ok done) before after = (line : Line) × GivesLine gives file line

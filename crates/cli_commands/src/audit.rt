@@ -1,4 +1,4 @@
-//! The audit of what `run` or `serve` printed, or of journals.
+//! The audit of a print of `run` or `serve`, or of journals.
 
 use crate::auditing::Audit;
 use crate::files::{Files, Rows};
@@ -11,9 +11,9 @@ use std::alloc::Global;
 use std::io::Write;
 use text_script::status::Fault;
 
-/// Runs the events of a print again, and says whether the print is that of its events, or the first line that differs.
-/// If the name is that of a folder, it does so with the journals in it, and their stamps; and it says what was read of
-/// journals that a program writes meanwhile.
+/// Runs the events of a print again. Reports whether the print is that of its events, or the first line that differs.
+/// If the name is a folder's, it does the same with the folder's journals and their stamps. If a program writes these
+/// meanwhile, it returns the part that it read.
 pub fn audit_printed<'a, F: Files, O: Write>(
     alloc: Global,
     file: &'a str,
@@ -47,7 +47,7 @@ fn verdict_of<'a, F: Files>(
     rows.0.end()
 }
 
-// Says whether the journals in a folder are a run of the line, or the first line of theirs that differs from one.
+// Reports whether the journals in a folder are a run of the line, or the first line that differs from one.
 fn audit_journals<F: Files, O: Write>(
     alloc: Global,
     given: &LineFile,
@@ -70,7 +70,7 @@ fn audit_journals<F: Files, O: Write>(
     }
 }
 
-// Runs the events of the journals in a folder, holds each stamp against what the run answers, and counts them.
+// Runs the events of the journals in a folder, compares each stamp with the run's answer, and counts them.
 fn events_of_run<F: Files>(
     alloc: Global,
     given: &LineFile,
@@ -85,7 +85,7 @@ fn events_of_run<F: Files>(
     }
 }
 
-/// An audit to which the lines of a file come.
+/// An audit that receives the lines of a file.
 #[derive(Drop)]
 struct Audited<'a>(Audit<'a>);
 

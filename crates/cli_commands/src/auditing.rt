@@ -1,7 +1,6 @@
-//! The audit of a print: the events in it are run again, and its lines are held against those of the run, one by one as
-//! they come.
+//! Audits a print: runs its events again, and compares its lines with those of the run, one by one as they arrive.
 //!
-//! Bodies are free. What is printed, and each exit status, is fixed by docs/FORMATS.md.
+//! Bodies are free. docs/FORMATS.md fixes the printed text and each exit status.
 
 mod audit;
 mod played;

@@ -16,9 +16,10 @@ use std::convert::AsStr;
 use std::io::Write;
 use text_script::status::{Fault, ended};
 
-/// Does what the words after the program's name ask for, and gives the exit status: 0 done, 1 an audit that found a
-/// difference, 2 words refused (help too), 3 a file that can't be read, a script fault or journals, 4 a line fault, 5 a
-/// refused step, 6 a refused write, or a command that wants sockets, 7 a fault of a message.
+/// Runs the command of the arguments after the program's name, and returns the exit status. It is 0 for success, and 1
+/// if an audit found a difference. It is 2 for refused arguments (help too), and 3 for an unreadable file, a script
+/// fault or journals. It is 4 for a line fault, 5 for a refused step, and 7 for a message fault. It is 6 for a refused
+/// write, or for a command that needs sockets.
 pub fn command<S: AsStr, F: Files, O: Write, E: Write>(
     alloc: Global,
     words: &[S],
@@ -47,7 +48,7 @@ fn obey<'a, S: AsStr, F: Files, O: Write, E: Write>(
         Request::Storm { file, script, seed } => {
             run_storm(alloc, file, script, seed, files, out)
         }
-        // Here are files, and no sockets: the program itself does these two.
+        // This crate has files, but no sockets: the program itself runs these two.
         Request::Serve { .. } | Request::Drive { .. } => Err(Fault::Socket),
         Request::Print { file, folder } => {
             tell_part(print_journals(alloc, file, folder, files, out)?, err)
@@ -66,7 +67,7 @@ fn obey<'a, S: AsStr, F: Files, O: Write, E: Write>(
     }
 }
 
-// Says what was read of journals that a program writes meanwhile.
+// Reports the part of the journals that was read, if a program writes them meanwhile.
 fn tell_part<E: Write>(part: Option<Part>, err: &mut E) -> Result<(), Fault<'static>> {
     if let Some(part) = part {
         writeln!(err, "{part}")?;

@@ -1,4 +1,4 @@
-//! The diagram of what `run` printed.
+//! The diagram of a print of `run`.
 
 use crate::files::Files;
 use crate::line_file::line_file_in;
@@ -9,7 +9,7 @@ use std::io::Write;
 use text_replay::{Cut, page_of};
 use text_script::status::Fault;
 
-/// Draws what `run` or `serve` has printed for a line, or what its journals hold, as far as the cut says: the
+/// Draws the part of a run that the cut names, from a print of `run` or `serve` or from journals. The result is the
 /// time-distance diagram as an SVG document, or an HTML page with the line after each event.
 pub fn draw_printed<'a, F: Files, O: Write>(
     alloc: Global,

@@ -7,7 +7,7 @@ use std::str::from_utf8;
 use std::{env, fs, rt};
 use text_script::status::Fault;
 
-/// The files that the system has.
+/// The files of the operating system.
 #[derive(Clone, Copy)]
 pub struct Disk<'a, R>(pub &'a R);
 
@@ -25,7 +25,7 @@ impl<R: rt::Files<File = File> + AllocGlobal> Files for Disk<'_, R> {
         }
     }
 
-    // Centres lock a journal for as long as they write it. Here it is locked for a moment only.
+    // Centres lock a journal for as long as they write it. Here it is locked only for a moment.
     fn is_written(&self, name: &str) -> bool {
         is_plain(self.0, name)
             && match File::open(self.0, name) {
@@ -60,7 +60,7 @@ impl<R: rt::Files<File = File> + AllocGlobal> Files for Disk<'_, R> {
     }
 }
 
-// Whether it is a file that has an end.
+// Whether the file has an end.
 fn is_plain<R: rt::Files>(rt: &R, name: &str) -> bool {
     match fs::metadata(rt, name) {
         Ok(found) => found.is_file(),
@@ -68,15 +68,15 @@ fn is_plain<R: rt::Files>(rt: &R, name: &str) -> bool {
     }
 }
 
-/// The name of standard input, which `-` is short for.
+/// The name of standard input; `-` is short for it.
 const STANDARD_INPUT: &str = "/dev/stdin";
 
-// The path that a name stands for.
+// The path for a name.
 fn path_of(name: &str) -> &str {
     if name == "-" { STANDARD_INPUT } else { name }
 }
 
-/// The words after the program's name.
+/// The arguments after the program's name.
 pub fn words_of<R: Env + AllocGlobal>(rt: &R) -> Result<Vec<String>, Fault<'static>> {
     match env::args(rt) {
         Ok(words) => Ok(words.skip(1).collect(rt.alloc())?),

@@ -8,7 +8,7 @@ use std::io;
 use std::io::{BufWriter, Write};
 use text_script::status::Fault;
 
-/// Reads a line file, and prints a picture of the line; of a file with faults all that is wrong, each case in a line.
+/// Reads a line file, and prints a picture of the line. For a file with faults it prints each case on a line.
 pub fn explain<'a, F: Files, O: Write>(
     alloc: Global,
     file: &'a str,

@@ -1,7 +1,7 @@
-//! All that is wrong in a line file, the lowest fault first. `LineText` never says otherwise than `rbc_line`, which
-//! refuses the file; `cli_commands::inspecting` finds the cases.
+//! Finds all faults of a line file, the lowest first. `LineText` always agrees with `rbc_line`, which refuses the
+//! file; `cli_commands::inspecting` finds the cases.
 //!
-//! Bodies are free. What is printed, and each exit status, is fixed by docs/FORMATS.md.
+//! Bodies are free. docs/FORMATS.md fixes the printed text and each exit status.
 
 mod order;
 mod text;

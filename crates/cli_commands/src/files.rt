@@ -2,18 +2,18 @@ ghost use Rattle.std.specs.Prelude.{ℕ, List, Option, option_map, string_bytes}
 
 use std::alloc::Global;
 
-/// Where the program reads its files.
+/// The source of the program's files.
 pub trait Files {
-    /// Holds of a name and each answer that `text` may give for it. Of files that others may change, as those of the
-    /// system, nothing is known: for each name they may give any text, or none.
+    /// Holds for a name and each answer that `text` may give for it. Nothing is known of files that others may change,
+    /// such as those of the system: for each name they may give any text, or none.
     ghost may_give: { Self → List ℕ → Option (List ℕ) → Type 0 } = { λ _ _ _. Unit {0} };
 
-    /// The text of the file of this name; none where it can't be read: it is not there, it is not UTF-8, or there is no
-    /// memory for its text.
+    /// The text of the file of this name. None if it can't be read: the file does not exist, is not UTF-8, or memory
+    /// runs out.
     fn text(&self, name: &str) -> Option<String>
         ensures { may_give self.now name.now (option_map string_bytes result) };
 
-    /// The bytes of the file of this name; none if it can't be read, as `text` says, or is not a plain file.
+    /// The bytes of the file of this name. None if it can't be read (see `text`), or is not a plain file.
     fn contents(&self, name: &str) -> Option<Vec<u8>> {
         Some(self.text(name)?.into_bytes())
     }
@@ -23,11 +23,11 @@ pub trait Files {
         false
     }
 
-    /// Whether a folder has this name.
+    /// Whether the name is a folder's.
     fn is_folder(&self, name: &str) -> bool;
 
-    /// Gives each line of the file of this name, without the line feed that ends it; a last line needs none. None if
-    /// the file can't be read, though some lines were given then.
+    /// Gives each line of the file of this name, without its line feed; the last line needs none. None if the file
+    /// can't be read. Some lines may have been given before that.
     fn each_row<T: Rows>(&self, _alloc: Global, name: &str, rows: &mut T) -> Option<()> {
         let text = self.text(name)?;
         let text = text.as_str();
@@ -42,7 +42,7 @@ pub trait Files {
     }
 }
 
-/// Who takes the lines of a text.
+/// Receives the lines of a text.
 pub trait Rows {
     fn row(&mut self, row: &str);
 }

@@ -1,9 +1,9 @@
-//! The commands of `rbcline`, and the words after each.
+//! The commands of `rbcline`, and the arguments of each.
 
 use clap::{Arg, ArgAction, Command};
 use std::alloc::{AllocError, Global};
 
-/// A command: what it does, and the words after it, each with what it is.
+/// A command: its name, its purpose, and its arguments with the meaning of each.
 struct Form {
     name: &'static str,
     about: &'static str,
@@ -103,7 +103,7 @@ pub fn rbcline<'a>(alloc: Global) -> Result<Command<'a>, AllocError> {
 /// The version of the program.
 pub(crate) const VERSION: &str = "0.1.0";
 
-// How it ends, and where to begin.
+// The exit statuses, and a first command to try.
 const ENDS: &str =
     "Exit status: 0 done, 1 a print differs, 2 these words, 3 a file or script, 4 the line file, 5 a refused step, \
 6 a socket or the output, 7 bytes that spell no message\n\nTo begin: rbcline run line.toml script.txt";
@@ -136,7 +136,7 @@ fn command_of<'a>(alloc: Global, form: &Form) -> Result<Command<'a>, AllocError>
     Ok(command)
 }
 
-// What `picture` takes besides its words: the part of the run that is drawn.
+// The options of `picture`: the part of the run that is drawn.
 static CUT: [(&str, &str, &str); 3] = [
     ("from", "N", "The first event that is drawn, from 1"),
     ("to", "N", "The last event that is drawn"),
@@ -154,7 +154,7 @@ fn part<'a>(alloc: Global, name: &'static str, value: &'static str, help: &'stat
         .help(help)
 }
 
-// The options of `serve` with a value: the page's port, how fast messages may come, and where the journals are.
+// The options of `serve` with a value: the page's port, the rates of messages, and the folders of the journals.
 static DOORS: [(&str, &str, &str); 5] = [
     (
         "page",
@@ -179,14 +179,14 @@ static DOORS: [(&str, &str, &str); 5] = [
     ),
 ];
 
-// What `drive` takes besides its words.
+// The options of `drive`.
 static DRIVE: [(&str, &str, &str); 1] = [(
     "timeout",
     "SECONDS",
     "How long to wait for the centre at most [default: no limit]",
 )];
 
-// The options of a command with a value, each with what it is.
+// The options of a command with a value, and the meaning of each.
 fn parts_of(command: &str) -> &'static [(&'static str, &'static str, &'static str)] {
     match command {
         "picture" => &CUT,

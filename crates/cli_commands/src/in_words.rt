@@ -1,4 +1,4 @@
-//! Messages, and what `run` prints, in words.
+//! Puts messages, and prints of `run`, into words.
 
 use crate::files::Files;
 use crate::line_file::line_file_in;
@@ -11,7 +11,7 @@ use std::io::{BufWriter, Write};
 use text_script::status::Fault;
 use text_words::{Field, fields_of, line_in_words, name_of, words_of_fault};
 
-/// Shows a message field by field, or its first fault.
+/// Prints a message field by field, or its first fault.
 pub fn show_message<O: Write>(
     alloc: Global,
     digits: &str,
@@ -42,7 +42,7 @@ fn print_fields<O: Write>(out: &mut O, fields: &[Field]) -> io::Result<()> {
     out.flush()
 }
 
-/// Says what `run` has printed for a line in words, each line for itself, or so the print of the line's journals.
+/// Puts a print of `run` into words, line by line. It does the same with the print of the line's journals.
 pub fn tell_printed<'a, F: Files, O: Write>(
     alloc: Global,
     file: &'a str,

@@ -1,6 +1,6 @@
-//! What is wrong in a line file, and where, case by case: one walk through its tables finds each.
+//! Finds the faults of a line file and their places, case by case, in one walk through its tables.
 //!
-//! Bodies are free. What is printed, and each exit status, is fixed by docs/FORMATS.md.
+//! Bodies are free. docs/FORMATS.md fixes the printed text and each exit status.
 
 mod finding;
 mod inspect;

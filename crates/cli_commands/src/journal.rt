@@ -1,4 +1,4 @@
-//! The journals of a line's centres, which are in one folder.
+//! Reads the journals of a line's centres from one folder.
 
 ghost use Rattle.std.specs.Prelude.{◌<◌, length};
 
@@ -14,23 +14,24 @@ use text_journal::{
 };
 use text_script::status::Fault;
 
-/// What the journal of a centre holds.
+/// The content of a centre's journal.
 #[derive(Drop)]
 pub struct Journal {
     pub entries: Vec<Entry>,
-    /// How many bytes its whole lines take.
+    /// The length of its whole lines in bytes.
     pub length: usize,
 }
 
-/// The events of journals, by their stamps, and those of one stamp by their centres.
+/// The events of journals, ordered by stamp, and events of one stamp by centre.
 #[derive(Drop)]
 pub struct Events {
     pub entries: Vec<Entry>,
-    /// How many others are left out, if a program writes the journals: other journals did not have their causes yet.
+    /// The number of events that are left out, if a program writes the journals: their causes were not yet in other
+    /// journals.
     pub left_out: Option<usize>,
 }
 
-/// What was read of journals that a program writes meanwhile.
+/// The part of the journals that was read while a program wrote them.
 #[derive(Clone, Copy)]
 pub struct Part {
     events: usize,
@@ -48,7 +49,7 @@ impl fmt::Display for Part {
 }
 
 impl Events {
-    /// What was read, if a program writes the journals.
+    /// The part that was read, if a program writes the journals.
     pub(crate) fn part(&self) -> Option<Part> {
         Some(Part {
             events: self.entries.len(),
@@ -57,8 +58,8 @@ impl Events {
     }
 }
 
-/// Reads the journals of all centres of a line in a folder. Of journals that a program writes meanwhile, those events
-/// are left out whose causes other journals did not have yet.
+/// Reads the journals of all centres of a line in a folder. If a program writes the journals meanwhile, events are
+/// left out whose causes are not yet in other journals.
 pub fn journals_in<F: Files>(
     alloc: Global,
     given: &LineFile,
@@ -97,8 +98,8 @@ fn events_of(
     })
 }
 
-/// Reads the journal of a centre. If it is of another centre, line or version, or has a line that is damaged or whose
-/// stamp is not above that of the line before, that is the fault. Bytes after its last line feed are left out.
+/// Reads the journal of a centre. Bytes after its last line feed are left out. Errors: the journal is of another
+/// centre, line or version; a line is damaged; the stamp of a line is not above the one before it.
 pub fn journal_of(
     alloc: Global,
     given: &LineFile,
@@ -128,7 +129,7 @@ pub fn journal_of(
     }
 }
 
-/// The name of the file that has the journal of a centre, with its folder.
+/// The name of the file with the journal of a centre, with its folder.
 pub fn journal_name(
     alloc: Global,
     line: &Line,
@@ -139,8 +140,8 @@ pub fn journal_name(
     format!(in alloc; "{folder}/{file}")
 }
 
-/// The fault of journals of which the entry at this place is the first that does not fit. If its frame was not sent, it
-/// names the journal that lacks the event by which it is sent.
+/// The fault of journals whose first unfit entry is at this place. If its frame was not sent, the fault names the
+/// journal that lacks the sending event.
 pub(crate) fn unfit_at(
     alloc: Global,
     line: &Line,
@@ -160,7 +161,7 @@ pub(crate) fn unfit_at(
     Ok(Fault::Unfit { journal, row })
 }
 
-/// The fault of journals of which this line of this centre's is the first that does not fit.
+/// The fault of journals whose first unfit line is this line of this centre's journal.
 pub(crate) fn unfit(
     alloc: Global,
     line: &Line,
@@ -171,7 +172,7 @@ pub(crate) fn unfit(
     Ok(Fault::Unfit { journal, row })
 }
 
-// A journal without a line feed: it may end in its first line.
+// Reads a journal without a line feed: it may end in its first line.
 fn first_in(
     alloc: Global,
     given: &LineFile,
@@ -186,7 +187,7 @@ fn first_in(
     }
 }
 
-// The entries of whole lines. A line that is not UTF-8 is damaged, if no line before it is.
+// Reads the entries of whole lines. A line that is not UTF-8 is damaged, if no line before it is.
 fn lines_in(
     alloc: Global,
     given: &LineFile,
@@ -218,7 +219,7 @@ fn text_before(bytes: &[u8], at: usize) -> &str {
     from_utf8(lines).unwrap_or("")
 }
 
-// The fault as it is reported of the journal of this name, which has these bytes.
+// The fault of the journal with this name and these bytes, as it is reported.
 fn fault_of(
     alloc: Global,
     journal: String,

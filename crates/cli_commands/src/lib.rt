@@ -1,8 +1,8 @@
-//! The commands of `rbcline`, each a function from its arguments and files to a print and an exit status. [`command`]
-//! reads the arguments and chooses one. Their parts are `running` and `rerunning` (scripts and journals), `auditing`
-//! (prints), `inspecting` and `explaining` (line files).
+//! The commands of `rbcline`. Each is a function from its arguments and files to a print and an exit status.
+//! [`command`] reads the arguments and chooses one. Their parts are `running` and `rerunning` (scripts and journals),
+//! `auditing` (prints), `inspecting` and `explaining` (line files).
 //!
-//! Bodies are free. What is printed, and each exit status, is fixed by docs/FORMATS.md.
+//! Bodies are free. docs/FORMATS.md fixes the printed text and each exit status.
 #![tactic(auto)]
 
 mod audit;

@@ -10,7 +10,7 @@ pub struct LineFile {
     pub line: Line,
 }
 
-/// The line file of this name.
+/// Reads the line file of this name.
 pub fn line_file_in<'a, F: Files>(
     alloc: Global,
     file: &'a str,

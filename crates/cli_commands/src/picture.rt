@@ -1,11 +1,11 @@
-//! A line as a reader wants to see it: its centres, its tracks with their sections and borders, and its trains.
+//! Prints a line for a reader: its centres, its tracks with their sections and borders, and its trains.
 
 use rbc_line::{Line, Section};
 use std::io;
 use std::io::Write;
 use text_script::print::name_of;
 
-/// Prints all that a line file says.
+/// Prints the whole content of a line file.
 pub fn print_picture<W: Write>(out: &mut W, line: &Line) -> io::Result<()> {
     writeln!(out, "NID_C {}", line.nid_c())?;
     for centre in 0..line.centre_count() {
@@ -41,7 +41,7 @@ fn print_track<W: Write>(out: &mut W, line: &Line, track: u8) -> io::Result<()> 
     print_sections(out, line, track)
 }
 
-/// How long a track is: where its last section ends.
+/// The length of a track in metres: the end of its last section.
 fn metres_of(line: &Line, track: u8) -> u32 {
     let mut metres = 0;
     for number in 0..line.section_count() {
@@ -52,7 +52,7 @@ fn metres_of(line: &Line, track: u8) -> u32 {
     metres
 }
 
-/// The numbers of a track's sections in a row, after the name of their home, with a bar at each border.
+/// Prints the section numbers of a track on one line, after the name of their home, with a bar at each border.
 fn print_row<W: Write>(out: &mut W, line: &Line, track: u8) -> io::Result<()> {
     let mut home = None;
     for number in 0..line.section_count() {
@@ -68,7 +68,7 @@ fn print_row<W: Write>(out: &mut W, line: &Line, track: u8) -> io::Result<()> {
     writeln!(out)
 }
 
-/// The sections of a track, one a line, and the borders between them.
+/// Prints the sections of a track, one on each line, and the borders between them.
 fn print_sections<W: Write>(out: &mut W, line: &Line, track: u8) -> io::Result<()> {
     let mut home = None;
     for number in 0..line.section_count() {
@@ -81,7 +81,7 @@ fn print_sections<W: Write>(out: &mut W, line: &Line, track: u8) -> io::Result<(
     Ok(())
 }
 
-/// The border in front of a section, where the home before it is another.
+/// Prints the border before a section, if the section before it has another home.
 fn print_border<W: Write>(
     out: &mut W,
     line: &Line,

@@ -1,4 +1,4 @@
-//! What is printed of a run that lies in journals, and the text of any print.
+//! Prints the run of journals, and reads the text of any print.
 
 use crate::files::Files;
 use crate::journal::{Part, journals_in, unfit_at};
@@ -8,8 +8,8 @@ use std::alloc::{AllocError, Global};
 use std::io::{BufWriter, Write};
 use text_script::status::Fault;
 
-/// Prints the run of a line whose journals are in a folder. If these are not a run of the line, nothing is printed. It
-/// says what was read of journals that a program writes meanwhile.
+/// Prints the run of a line whose journals are in a folder. If these are not a run of the line, nothing is printed.
+/// If a program writes the journals meanwhile, it returns the part that it read.
 pub fn print_journals<'a, F: Files, O: Write>(
     alloc: Global,
     file: &'a str,
@@ -26,7 +26,7 @@ pub fn print_journals<'a, F: Files, O: Write>(
     done
 }
 
-/// The text of a print: that of the file of this name, or where a folder has it, the print of the journals in it.
+/// The text of a print: the file of this name, or the print of the journals, if the name is a folder's.
 pub(crate) fn printed_in<'a, F: Files>(
     alloc: Global,
     given: &LineFile,

@@ -1,7 +1,7 @@
-//! The journals of a line run again: whether their entries, in order, are one run of the line, in which each event is
-//! answered with the stamp that its entry has, and the print of that run.
+//! Runs the journals of a line again. It checks whether their entries, in order, are one run of the line: the answer
+//! to each event has the stamp of its entry. It prints that run.
 //!
-//! Bodies are free. What is printed is fixed by docs/FORMATS.md.
+//! Bodies are free. docs/FORMATS.md fixes the printed text.
 
 mod causes;
 mod fault;

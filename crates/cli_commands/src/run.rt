@@ -12,7 +12,7 @@ use text_script::print::print_counts;
 use text_script::script::{Entry, ScriptFault, script_of};
 use text_script::status::Fault;
 
-/// Runs a script on a line: prints each event and what it leads to, and at the end the line.
+/// Runs a script on a line. Prints each event with its answer, and at the end the line.
 pub fn run<'a, F: Files, O: Write>(
     alloc: Global,
     file: &'a str,
@@ -28,12 +28,12 @@ pub fn run<'a, F: Files, O: Write>(
         Ok(()) => Ok(()),
         Err(PlayFault::Refused(fault)) => Err(Fault::Step(fault)),
         Err(PlayFault::Untold(Fault::Write)) => Err(Fault::Write),
-        // What is printed is kept back by a write that is refused, or by want of memory.
+        // Only a refused write or a failed allocation can stop the print.
         Err(PlayFault::Untold(_)) => Err(Fault::Step(StepFault::Memory)),
     }
 }
 
-/// Reads a line file, and prints how many centres, tracks, sections and trains the line has.
+/// Reads a line file, and prints the numbers of centres, tracks, sections and trains of the line.
 pub fn check<'a, F: Files, O: Write>(
     alloc: Global,
     file: &'a str,
@@ -49,7 +49,7 @@ pub fn check<'a, F: Files, O: Write>(
     Ok(())
 }
 
-/// The line of a line file.
+/// Reads the line of a line file.
 pub fn line_in<'a, F: Files>(alloc: Global, file: &'a str, files: &F) -> Result<Line, Fault<'a>>
     ensures line { IfOk result (GivesLine (F.may_give files.now) file.now) }
     ensures fault { IfErr result (GivesNoLine (F.may_give files.now) file.now) }
@@ -63,7 +63,7 @@ pub fn line_in<'a, F: Files>(alloc: Global, file: &'a str, files: &F) -> Result<
     }
 }
 
-/// What the script of this name asks for.
+/// Reads the entries of the script of this name.
 pub(crate) fn entries_in<'a, F: Files>(
     alloc: Global,
     line: &Line,

@@ -1,7 +1,6 @@
-//! What `rbcline` prints of a script that is played on a line: each event, what it led to, and the line where that is
-//! asked for and at the end.
+//! Prints a script that is played on a line: each event, its answer, and the line, at each `show` and at the end.
 //!
-//! Bodies are free. What is printed is fixed by docs/FORMATS.md.
+//! Bodies are free. docs/FORMATS.md fixes the printed text.
 
 mod buffered;
 mod played;

@@ -1,4 +1,4 @@
-//! A storm over a script.
+//! Runs a storm over a script.
 
 use crate::files::Files;
 use crate::run::{entries_in, line_in};

@@ -6,16 +6,16 @@ use std::convert::AsStr;
 use text_replay::Cut;
 use text_script::status::Fault;
 
-/// What the words ask for.
+/// The request of the arguments.
 #[derive(Clone, Copy)]
 pub enum Request<'a> {
     /// Print the version of the program.
     Version,
-    /// Read the line, and say how much of each thing it has.
+    /// Read the line, and print its counts.
     Check {
         file: &'a str,
     },
-    /// Say all that is wrong in the line file, or show the line.
+    /// Print all faults of the line file, or show the line.
     Explain {
         file: &'a str,
     },
@@ -30,39 +30,39 @@ pub enum Request<'a> {
         script: &'a str,
         seed: u64,
     },
-    /// Print the run whose journals lie in the folder.
+    /// Print the run of the journals in the folder.
     Print {
         file: &'a str,
         folder: &'a str,
     },
-    /// Run the events of a print or of the journals in a folder again, and hold its lines or their stamps against that.
+    /// Run the events of a print or of journals again, and compare its lines or their stamps with the run.
     Audit {
         file: &'a str,
         printed: &'a str,
     },
-    /// Let the centres of the line run: the first listens at this port, the others after it.
+    /// Run the centres of the line: the first listens at this port, the others at the ports after it.
     Serve {
         file: &'a str,
         port: u16,
         words: ServeWords<'a>,
     },
-    /// Be a train: send the lines of the file to the centre at this port.
+    /// Act as a train: send the lines of the file to the centre at this port.
     Drive {
         port: u16,
         file: &'a str,
-        /// How many seconds the train waits for the centre at most, if that is named.
+        /// The longest time in seconds that the train waits for the centre, if it is given.
         timeout_s: Option<u32>,
     },
     /// Show the message of these hexadecimal digits field by field.
     Message {
         digits: &'a str,
     },
-    /// Say what `run` printed, or the journals in a folder, in words.
+    /// Put a print of `run`, or the journals in a folder, into words.
     Printed {
         file: &'a str,
         printed: &'a str,
     },
-    /// Draw this part of what `run` printed, or of the journals in a folder.
+    /// Draw this part of a print of `run`, or of the journals in a folder.
     Picture {
         file: &'a str,
         printed: &'a str,
@@ -71,37 +71,37 @@ pub enum Request<'a> {
     },
 }
 
-/// What `serve` is asked for beside the line and the port.
+/// The options of `serve` besides the line and the port.
 #[derive(Clone, Copy, Debug)]
 pub struct ServeWords<'a> {
     /// No notes are written.
     pub is_quiet: bool,
-    /// The port at which browsers are shown the line, if they are.
+    /// The port at which browsers see the line, if there is one.
     pub page: Option<u16>,
-    /// Control connections are told of sections that are shut.
+    /// Control connections receive the sections that are shut.
     pub is_telling: bool,
-    /// `show` says how much of each log, clock and link is used up.
+    /// `show` prints the used part of each log, clock and link.
     pub shows_life: bool,
-    /// How many messages a train's connection may say in a second, if that is named.
+    /// The number of messages that a train's connection may send in a second, if it is given.
     pub per_second: Option<u32>,
-    /// How many it may say at once, if that is named.
+    /// The number of messages that it may send at once, if it is given.
     pub burst: Option<u32>,
-    /// The journals that the centres write, if they do.
+    /// The journals that the centres write, if they write any.
     pub journal: Option<JournalWords<'a>>,
 }
 
-/// What `serve` is asked for of journals.
+/// The options of `serve` for journals.
 #[derive(Clone, Copy, Debug)]
 pub struct JournalWords<'a> {
     /// The folder in which each centre has its journal.
     pub folder: &'a str,
-    /// The centres go on from the journals that lie in the folder; else these are begun.
+    /// The centres continue from the journals in the folder. Otherwise they begin new journals.
     pub is_resumed: bool,
-    /// What is written is waited for until the disk has it.
+    /// Each write is awaited until the disk has it.
     pub is_synced: bool,
 }
 
-/// Reads the words after the program's name.
+/// Reads the arguments after the program's name.
 pub fn requested<'a, S: AsStr>(alloc: Global, words: &'a [S]) -> Result<Request<'a>, Fault<'a>> {
     let matches = match matched(alloc, words) {
         Ok(matches) => matches,
@@ -196,7 +196,7 @@ fn serve_words<'a>(words: &ArgMatches<'a>) -> Option<ServeWords<'a>> {
     })
 }
 
-// What is asked for of journals. None where both folders are named, or where none is and still no write is waited for.
+// The options of journals. None if both folders are named, or if none is named and `--no-sync` is given.
 fn journal_words<'a>(words: &ArgMatches<'a>) -> Option<Option<JournalWords<'a>>> {
     let is_synced = !words.get_flag("no-sync");
     let (folder, is_resumed) = match (words.get_str("journal"), words.get_str("resume")) {
@@ -212,7 +212,7 @@ fn journal_words<'a>(words: &ArgMatches<'a>) -> Option<Option<JournalWords<'a>>>
     }))
 }
 
-// The same as `named_number`, where none is 0.
+// Like `named_number`, but 0 is refused.
 fn named_count(words: &ArgMatches<'_>, option: &str) -> Option<Option<u32>> {
     match named_number(words, option)? {
         Some(0) => None,
@@ -237,8 +237,7 @@ fn cut_of(words: &ArgMatches<'_>) -> Option<Cut> {
     })
 }
 
-// The number that an option names, where it is there. None where it names no number that 32 bits hold, or one with a
-// sign.
+// The number of an option, if the option is given. None if the value has a sign or does not fit in 32 bits.
 fn named_number(words: &ArgMatches<'_>, option: &str) -> Option<Option<u32>> {
     match words.get_str(option) {
         Some(word) if word.starts_with('+') => None,
@@ -247,7 +246,7 @@ fn named_number(words: &ArgMatches<'_>, option: &str) -> Option<Option<u32>> {
     }
 }
 
-// A port: a number from 1 to 65 535, without a sign.
+// Reads a port: a number from 1 to 65 535, without a sign.
 fn port_of(word: &str) -> Option<u16> {
     if word.starts_with('+') {
         return None;
@@ -259,7 +258,7 @@ fn port_of(word: &str) -> Option<u16> {
     }
 }
 
-// A seed: a number that 64 bits hold, without a sign.
+// Reads a seed: a number of at most 64 bits, without a sign.
 fn seed_of(word: &str) -> Option<u64> {
     if word.starts_with('+') {
         return None;

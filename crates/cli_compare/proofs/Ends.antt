@@ -3,12 +3,12 @@ use Rattle.std.proofs.Common.{◌≡◌, ℕ, ◌+◌, ◌<◌, ◌==◌, Bool, 
 use Rattle.std.specs.List.{position_from}
 use Rattle.cli_compare.specs.Lines.{Ends, lines_of, with_byte}
 
--- the lines of a text, of which the first ends where a count from n says
+-- the lines of a text; the first ends at this count from n
 abbrev pub EndsFrom : ℕ → List ℕ → List (List ℕ) → Option ℕ → Type 0
 EndsFrom n text rows None = rows ≡ []
 EndsFrom n text rows (Some k) = (j : ℕ) × (k ≡ n + j) × (j < length text) × (rows ≡ take j text ∷ lines_of (drop (j + 1) text))
 
--- a byte more that is no line feed
+-- one more byte that is not a line feed
 pub ends_later : (n b : ℕ) (bs : List ℕ) (found : Option ℕ) → EndsFrom (n + 1) bs (lines_of bs) found → EndsFrom n (b ∷ bs) (with_byte b (lines_of bs)) found
 ends_later n b bs None ends = ap (with_byte b) ends
 ends_later n b bs (Some k) ends = (ends.0 + 1, omega (ends.1, arith), omega (ends.2, arith), ap (with_byte b) ends.3 ∙ search rules)

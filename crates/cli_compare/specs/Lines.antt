@@ -2,18 +2,18 @@
 use Rattle.std.specs.Prelude.{◌≡◌, ℕ, ◌+◌, ◌<◌, ◌==◌, Bool, true, false, if◌then◌else◌, List, [], ◌∷◌, length, take, drop, Option, Some, None}
 use Rattle.std.specs.Str.{bytes_eq}
 
--- a byte more at the front of the first line, if there is one
+-- one more byte at the front of the first line, if there is one
 abbrev pub with_byte : ℕ → List (List ℕ) → List (List ℕ)
 with_byte b [] = []
 with_byte b (row ∷ rows) = (b ∷ row) ∷ rows
 
--- the lines of a text, each without the line feed that ends it; what follows the last line feed is no line
+-- the lines of a text, each without its line feed; the bytes after the last line feed are not a line
 abbrev pub lines_of : List ℕ → List (List ℕ)
 lines_of [] = []
 lines_of (b ∷ bs) = if b == 10 then [] ∷ lines_of bs else with_byte b (lines_of bs)
 
--- the number of the first line in which two texts differ, if their first lines have number n; where one text ends
--- first, it is the first line that only one has
+-- The number of the first line in which two texts differ, if their first lines have number n. If one text ends first,
+-- it is the first line that only the other has.
 abbrev pub first_difference : ℕ → List (List ℕ) → List (List ℕ) → Option ℕ
 first_difference n [] [] = None
 first_difference n [] (row ∷ rows) = Some n
@@ -25,17 +25,17 @@ abbrev pub is_over : List (List ℕ) → Bool
 is_over [] = true
 is_over (due ∷ dues) = false
 
--- whether a line is the one that has to come next
+-- whether a line is the due one
 abbrev pub is_next : List ℕ → List (List ℕ) → Bool
 is_next row [] = false
 is_next row (due ∷ dues) = bytes_eq due row
 
--- the lines that have to come after a line that came
+-- the due lines after a line that came
 abbrev pub left_after : List ℕ → List (List ℕ) → List (List ℕ)
 left_after row [] = []
 left_after row (due ∷ dues) = if bytes_eq due row then dues else due ∷ dues
 
--- the first line of a text ends there, where the text has one
+-- the place where the first line of a text ends, if the text has a line
 abbrev pub Ends : List ℕ → Option ℕ → Type 0
 Ends text None = lines_of text ≡ []
 Ends text (Some end) = (end < length text) × (lines_of text ≡ take end text ∷ lines_of (drop (end + 1) text))

@@ -6,21 +6,21 @@ ghost use Rattle.cli_compare.specs.Told.{told, wants_ending};
 use crate::part::Part;
 use std::alloc::Global;
 
-/// A print that is held against the lines that have to stand in it, while both come. It is held part by part: a part
-/// begins with the line of an event. After the lines of the last event stand those that end a print.
+/// Compares a print with its due lines, while both arrive, part by part. A part begins with the line of an event. The
+/// lines that end a print follow those of the last event.
 #[derive(Drop)]
 pub struct Comparison {
     /// The number of the next line.
     next: u64,
     part: Part,
-    /// What follows all lines of the part, held against the lines that end a print.
+    /// Compares the lines after the part with the lines that end a print.
     ending: Option<Part>,
-    /// The number of the first line that differs in the parts before.
+    /// The number of the first line that differs in earlier parts.
     differs: Option<u64>,
 }
 
 impl Comparison {
-    /// A print of which nothing has come. No line has to stand in front of the first event.
+    /// Starts a comparison without lines. No line is due before the first event.
     pub fn new(alloc: Global) -> Comparison
         ensures { (rows ending : List (List ℕ)) (blocks : List Block)
             → told result rows ending blocks ≡ differs_in 1 (blocks_from [] rows ending blocks) }
@@ -33,7 +33,7 @@ impl Comparison {
         }
     }
 
-    /// An event comes: here begins a part in which the lines of a text have to stand.
+    /// Begins the part of an event, in which the lines of this text are due.
     pub fn begin(&mut self, text: Vec<u8>)
         ensures { (last rows ending : List (List ℕ)) (blocks : List Block)
             → told self.old [] last (blocks_from (lines_of text.items) rows ending blocks)
@@ -44,15 +44,14 @@ impl Comparison {
         self.ending = None;
     }
 
-    /// Whether all lines of the part have come, and it is not known yet which lines end the print if no event comes any
-    /// more.
+    /// Whether all lines of the part have come, and the lines that end the print are not known yet.
     pub fn wants_ending(&self) -> bool
         ensures { result ≡ wants_ending self.now }
     {
         self.differs.is_none() && self.ending.is_none() && self.part.is_over()
     }
 
-    /// The lines of a text end the print if no event comes any more.
+    /// Gives the lines that end the print if no more events come.
     pub fn end_with(&mut self, text: Vec<u8>)
         ensures ending { (rows other : List (List ℕ)) (blocks : List Block) → wants_ending self.old ≡ true
             → told self.old rows (lines_of text.items) blocks ≡ told self.new rows other blocks }
@@ -61,8 +60,8 @@ impl Comparison {
         self.ending = Some(Part::of(text));
     }
 
-    /// Takes the next line of the print. It has to be known which lines end the print, where all lines of the part have
-    /// come.
+    /// Takes the next line of the print. If all lines of the part have come, the lines that end the print must be
+    /// known.
     pub fn row(&mut self, row: &str)
         ensures { (rows ending : List (List ℕ)) (blocks : List Block) → wants_ending self.old ≡ false
             → self.old.next + 1 < 2 ^ 64
@@ -75,7 +74,7 @@ impl Comparison {
         self.next = self.next.saturating_add(1);
     }
 
-    /// The number of the first line that differs, where no line comes any more.
+    /// The number of the first line that differs, if no more lines come.
     pub fn verdict(&self) -> Option<u64>
         ensures { (ending : List (List ℕ)) → wants_ending self.now ≡ false → result ≡ told self.now [] ending [] }
     {

@@ -3,11 +3,11 @@ ghost use Rattle.cli_compare.specs.Lines.{Ends, is_next, is_over, left_after, li
 
 use std::marker::Model;
 
-/// The lines that have to come next in a print.
+/// The lines that a print must contain next.
 #[derive(Drop)]
 pub struct Due {
     text: Vec<u8>,
-    /// How many bytes of the text have come.
+    /// The number of bytes of the text that have come.
     come: usize,
 }
 
@@ -20,14 +20,14 @@ impl Model for Due {
 }
 
 impl Due {
-    /// All lines of a text, each ended by a line feed.
+    /// All lines of a text; a line feed ends each.
     pub fn of(text: Vec<u8>) -> Due
         ensures { result ≡ lines_of text.items }
     {
         Due { text, come: 0 }
     }
 
-    /// Whether no line has to come any more.
+    /// Whether no more lines are due.
     pub fn is_over(&self) -> bool
         ensures { result ≡ is_over self.now }
     {
@@ -35,8 +35,8 @@ impl Due {
         line_end(rest).is_none()
     }
 
-    /// Takes the next line of a print, and says whether it is the one that has to come. Another line leaves what has to
-    /// come as it is.
+    /// Takes the next line of a print, and returns whether it is the due one. After another line the due lines are as
+    /// before.
     pub fn takes(&mut self, row: &str) -> bool
         ensures answer { result ≡ is_next row.now self.old }
         ensures left { self.new ≡ left_after row.now self.old }
@@ -53,7 +53,7 @@ impl Due {
     }
 }
 
-// Where the first line of a text ends, if one does.
+// The end of the first line of a text, if a line feed ends it.
 fn line_end(text: &[u8]) -> Option<usize>
     ensures { Ends text.now result }
 {

@@ -1,7 +1,6 @@
-//! The verdict of an audit: the lines of a print are held against those that have to stand there, and the first that
-//! differs is found.
+//! The verdict of an audit: compares the lines of a print with the due lines, and finds the first that differs.
 //!
-//! Bodies are free. What is printed, and each exit status, is fixed by docs/FORMATS.md.
+//! Bodies are free. docs/FORMATS.md fixes the printed text and each exit status.
 #![tactic(auto)]
 
 mod comparison;

@@ -4,7 +4,7 @@ ghost use Rattle.cli_compare.specs.Part.{differs_after, due_after, found, fresh}
 
 use crate::due::Due;
 
-/// A part of a print that is held against the lines that have to stand there, line by line.
+/// Compares a part of a print with its due lines, line by line.
 #[derive(Drop)]
 pub struct Part {
     due: Due,
@@ -13,7 +13,7 @@ pub struct Part {
 }
 
 impl Part {
-    /// A part of which no line has come, and in which the lines of a text have to stand.
+    /// Starts a part without lines, in which the lines of this text are due.
     pub fn of(text: Vec<u8>) -> Part
         ensures { result ≡ fresh (lines_of text.items) }
     {
@@ -23,14 +23,14 @@ impl Part {
         }
     }
 
-    /// Whether all lines have come, and no other.
+    /// Whether all due lines have come, and no other line.
     pub fn is_over(&self) -> bool
         ensures { result ≡ is_none self.now.differs && is_over self.now.due }
     {
         self.differs.is_none() && self.due.is_over()
     }
 
-    /// Takes the next line of the print, by its number.
+    /// Takes the next line of the print; `number` is the line's number.
     pub fn row(&mut self, number: u64, row: &str)
         ensures told { (rows : List (List ℕ))
             → found self.old number (row.now ∷ rows) ≡ found self.new (number + 1) rows }
@@ -42,8 +42,8 @@ impl Part {
         }
     }
 
-    /// The number of the first line that differs, where no further line comes, by the number that such a line would
-    /// have.
+    /// The number of the first line that differs, if no more lines come. `number` is the number that the next line
+    /// would have.
     pub fn end(&self, number: u64) -> Option<u64>
         ensures { result ≡ found self.now number [] }
     {

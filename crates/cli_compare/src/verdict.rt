@@ -1,12 +1,12 @@
 use std::fmt;
 
-/// What an audit found.
+/// The result of an audit.
 #[derive(Clone, Copy, Debug, PartialEq, Eq)]
 pub enum Verdict {
     /// The print is that of its events.
     Equal { events: u64 },
-    /// The first line that differs, by its number from 1. Where one text ends first, it is the first line that only one
-    /// has.
+    /// The number of the first line that differs, from 1. If one text ends first, it is the first line that only the
+    /// other has.
     Differs { line: u64 },
 }
 

@@ -1,4 +1,4 @@
--- How the steps of a train's file grow with the lines read, and numbers.
+-- The steps of a train's file grow with the lines read. Numbers are read.
 use Rattle.std.proofs.Common.{◌≡◌, ℕ, suc, Bor, ◌+◌, ◌<◌, ◌^◌, ◌==◌, ◌&&◌, Bool, true, false, cond, List, [], ◌∷◌, ◌++◌, length, get_or, take, map, Some, None, Ok, Err, refl, ap, sym, ◌∙◌, rules, arith, tests, below_more, nat_lt}
 use Rattle.std.specs.Cmp.Derive.{both_true}
 use Rattle.std.specs.List.{position_or_len}
@@ -13,7 +13,7 @@ use Rattle.cli_drive.specs.declared.steps.StepsFault.TheVariants.{Form}
 use Rattle.cli_drive.specs.Lines.{is_faulty, number_of, row_asks, whole_rows}
 use Rattle.cli_drive.specs.Steps.{AreAsked, IsFirstFault, step_asks}
 
--- the steps are what the first i lines ask for, and none of these is faulty
+-- the steps are the requests of the first i lines, and none of these lines is faulty
 pub record Reads (rows : List (List ℕ)) (i : ℕ) (steps : List Step) : Type 0 where
   pub asked : AreAsked (take i rows) steps
   pub sound : (k : ℕ) → k < i → is_faulty (get_or rows k []) ≡ false
@@ -23,7 +23,7 @@ by_length : (row : List ℕ) (front : List (List ℕ)) (last : List ℕ) (t : Bo
 by_length row front last true = refl
 by_length row front last false = refl
 
--- what follows the last line feed is a line where something stands there
+-- the bytes after the last line feed are a line, if there are any
 pub whole_rows-append : (front : List (List ℕ)) (last : List ℕ) → whole_rows (front ++ last ∷ []) ≡ cond (length last == 0) front (front ++ last ∷ [])
 whole_rows-append [] last = refl
 whole_rows-append (row ∷ []) last = by_length row [] last (length last == 0)
@@ -38,7 +38,7 @@ whole_rows_split rows front last is =
     ap whole_rows all ∙ whole_rows-append (map (λ row. row.now) front) last.now
     ∙ ap (λ rows. cond (length last.now == 0) (map (λ row. row.now) front) rows) (sym all)
 
--- one line more
+-- one more line
 take_more : (rows : List (List ℕ)) (i : ℕ) → i < length rows → take (i + 1) rows ≡ take i rows ++ get_or rows i [] ∷ []
 take_more rows i h = let more : i + 1 ≡ suc i = omega arith in ap (λ n. take n rows) more ∙ take-suc rows i [] h
 

@@ -6,14 +6,13 @@ use rbc_msgs::decode_track;
 use std::alloc::Global;
 use std::io::{ErrorKind, Read, Write};
 
-/// How many bytes a message has at most.
+/// The greatest length of a message in bytes.
 const MOST_BYTES: usize = 1023;
 
-/// How many bytes hold NID_MESSAGE and L_MESSAGE.
+/// The number of bytes with NID_MESSAGE and L_MESSAGE.
 const HEAD: usize = 3;
 
-/// Takes the steps one after another over a connection to a centre, and prints each message that it reads in
-/// hexadecimal.
+/// Takes the steps in order over a connection to a centre. Prints each message that it reads in hexadecimal.
 pub fn drive<C: Read + Write, O: Write>(
     alloc: Global,
     steps: &[Step],
@@ -31,8 +30,8 @@ pub fn drive<C: Read + Write, O: Write>(
     Ok(())
 }
 
-/// Reads on to the end of a connection over which nothing more is sent: then the centre has taken all that was. What it
-/// says meanwhile is let go.
+/// Reads to the end of a connection over which nothing more is sent. At the end the centre has taken all bytes. The
+/// bytes that it sends meanwhile are dropped.
 pub fn see_off<C: Read>(connection: &mut C) -> Result<(), DriveFault> {
     let mut piece = [0u8; MOST_BYTES];
     for _ in 0..u64::MAX {
@@ -45,7 +44,7 @@ pub fn see_off<C: Read>(connection: &mut C) -> Result<(), DriveFault> {
     Err(DriveFault::Socket)
 }
 
-/// Reads so many messages, and prints each. It gives how many were read.
+/// Reads and prints `count` messages. Returns the number of messages that were read.
 fn wait<C: Read, O: Write>(
     alloc: Global,
     count: u16,

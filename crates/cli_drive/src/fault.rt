@@ -2,16 +2,16 @@ use crate::steps::StepsFault;
 use std::alloc::AllocError;
 use std::io;
 
-/// Why a train did not come to the end of its lines.
+/// Why a train did not finish its lines.
 #[derive(Clone, Copy, Debug, PartialEq, Eq)]
 pub enum DriveFault {
     /// Memory ran out.
     Memory,
-    /// A line has no form that it may have: the number of the first such line, from 1.
+    /// A line has no valid form: the number of the first such line, from 1.
     Form(usize),
-    /// The connection failed or ended early, or what came is no message of a centre.
+    /// The connection failed or ended early, or brought bytes that are not a message of a centre.
     Socket,
-    /// What the program wrote was refused.
+    /// The output was refused.
     Write,
 }
 
@@ -30,7 +30,7 @@ impl From<AllocError> for DriveFault {
     }
 }
 
-// What fails in a `?` is the connection.
+// A fault in a `?` is one of the connection.
 impl From<io::Error> for DriveFault {
     fn from(_error: io::Error) -> DriveFault {
         DriveFault::Socket

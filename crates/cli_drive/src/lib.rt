@@ -1,6 +1,6 @@
-//! A train by hand: lines of bytes that are sent to a centre, and the messages that it answers.
+//! Drives a train by hand: sends lines of bytes to a centre, and prints the messages of its answers.
 //!
-//! Bodies are free. What is printed, and each exit status, is fixed by docs/FORMATS.md.
+//! Bodies are free. docs/FORMATS.md fixes the printed text and each exit status.
 #![tactic(auto)]
 
 mod connection;

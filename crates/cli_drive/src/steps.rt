@@ -1,4 +1,4 @@
-//! A train's file: what its lines ask for.
+//! A train's file, and the steps of its lines.
 
 ghost use Rattle.std.specs.Prelude.{◌≡◌, ◌<◌, ◌==◌, IfOk, IfErr, map};
 ghost use Rattle.std.specs.List.{slice_split};
@@ -8,12 +8,12 @@ ghost use Rattle.cli_drive.specs.Steps.{AreAsked, Finds, IsFirstFault, step_asks
 use hex::FromHexError;
 use std::alloc::{AllocError, AllocFailed, Global};
 
-/// What a line of a train's file asks for.
+/// The step of one line of a train's file.
 #[derive(Debug, Drop)]
 pub enum Step {
     /// Send these bytes.
     Send(Vec<u8>),
-    /// Read so many messages.
+    /// Read this many messages.
     Wait(u16),
 }
 
@@ -22,7 +22,7 @@ pub enum Step {
 pub enum StepsFault {
     /// Memory ran out.
     Memory,
-    /// A line has no form that it may have: the number of the first such line, from 1.
+    /// A line has no valid form: the number of the first such line, from 1.
     Form(usize),
 }
 
@@ -63,8 +63,8 @@ impl From<AllocError> for StepFault {
     }
 }
 
-/// What the lines of a train's file ask for, in order: pairs of hexadecimal digits are sent, and `wait` with a number
-/// of at most 65 535 reads so many messages. A last line needs no line feed.
+/// Reads the steps of a train's file, in order. Pairs of hexadecimal digits are sent. `wait` with a number of at most
+/// 65 535 reads this many messages. A last line needs no line feed.
 pub fn steps_of(alloc: Global, text: &str) -> Result<Vec<Step>, StepsFault>
     ensures asked { IfOk result (λ steps. AreAsked (whole_rows (rows text.now)) steps.items) }
     ensures fault { IfErr result (IsFirstFault (whole_rows (rows text.now))) }
@@ -73,7 +73,7 @@ pub fn steps_of(alloc: Global, text: &str) -> Result<Vec<Step>, StepsFault>
     steps_in(alloc, whole_rows_of(&rows))
 }
 
-/// The lines: after the last line feed there is one only where something stands there.
+/// The lines of a file. Bytes after the last line feed are a line; an empty rest is not.
 fn whole_rows_of<'a, 't>(rows: &'a [&'t str]) -> &'a [&'t str]
     ensures { map (λ row. row.now) result.now ≡ whole_rows (map (λ row. row.now) rows.now) }
 {
@@ -119,7 +119,7 @@ fn step_in(alloc: Global, words: &[&str]) -> Result<Step, StepFault>
     }
 }
 
-/// The parts of a text between single separators.
+/// Splits a text at each separator.
 fn parts<'a>(alloc: Global, text: &'a str, separator: char) -> Result<Vec<&'a str>, AllocError>
     requires { separator < 128 }
     ensures { IfOk result
@@ -128,7 +128,7 @@ fn parts<'a>(alloc: Global, text: &'a str, separator: char) -> Result<Vec<&'a st
     text.split(separator).collect(alloc)
 }
 
-/// The bytes that pairs of hexadecimal digits stand for, at least one.
+/// Reads bytes from pairs of hexadecimal digits: at least one byte.
 fn bytes_in(alloc: Global, word: &str) -> Result<Vec<u8>, StepFault>
     ensures { Finds (λ bytes. bytes.items) result (bytes_of word.now) }
 {
@@ -142,7 +142,7 @@ fn bytes_in(alloc: Global, word: &str) -> Result<Vec<u8>, StepFault>
     }
 }
 
-/// How many messages: what decimal digits without a sign stand for, where 16 bits hold it.
+/// Reads the number of messages: decimal digits without a sign, if the value fits in 16 bits.
 fn count_in(word: &str) -> Result<u16, StepFault>
     ensures { Finds (λ n. n) result (number_of word.now) }
 {

@@ -1,4 +1,4 @@
-//! The sections that trains have, and the trains' numbers where their missions begin.
+//! Draws the sections that trains have, and the trains' numbers where their missions begin.
 
 use crate::run::{Run, nid_engine_of, track_of};
 use crate::scale::Scale;
@@ -27,7 +27,7 @@ pub fn draw_bars(
     Ok(())
 }
 
-/// How a use of a section looks, what it is called, and whose it is. None where it is in no use.
+/// The look of a section's use, its description, and its train. None if the section is unused.
 fn use_of(mark: Mark) -> Option<(&'static str, &'static str, u32)> {
     match mark {
         Mark::Given { nid_engine } => Some(("", "", nid_engine)),
@@ -83,7 +83,7 @@ fn draw_box(
     )
 }
 
-/// The events in which a stretch begins and ends.
+/// Writes the events in which a stretch begins and ends.
 fn draw_events(svg: &mut String, run: &Run<'_>, stretch: &Stretch) -> Result<(), AllocError> {
     if stretch.seen.is_wished {
         svg.push_str(", wished back")?;
@@ -97,8 +97,8 @@ fn draw_events(svg: &mut String, run: &Run<'_>, stretch: &Stretch) -> Result<(),
     Ok(())
 }
 
-/// The number of a train at the start of its authority, where a mission of it begins, or goes on in the first event
-/// that is drawn.
+/// Draws the number of a train at the start of its authority, where its mission begins. The first drawn event has the
+/// number of each train with a mission.
 fn draw_names(
     svg: &mut String,
     scale: &Scale<'_>,

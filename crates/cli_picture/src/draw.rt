@@ -1,4 +1,4 @@
-//! The page: its layers one above another, and where each part of it lies.
+//! Draws the page: its layers in order, and the place of each part.
 
 use crate::bars::draw_bars;
 use crate::events::draw_events;
@@ -12,14 +12,14 @@ use crate::seats::draw_seats;
 use crate::style::STYLE;
 use std::alloc::{AllocError, Global};
 
-// The upper edge of the legend, the height of a row of it, and of what stands between it and the events.
+// The upper edge of the legend, the height of one of its lines, and the height of the axis between it and the events.
 const LEGEND: u64 = 72;
 
 const ROW: u64 = 18;
 
 const AXIS: u64 = 76;
 
-/// Draws what is to be drawn of a run.
+/// Draws the whole diagram of a run.
 pub fn draw(alloc: Global, run: &Run<'_>) -> Result<String, AllocError> {
     let axis = LEGEND.saturating_add(ROW.saturating_mul(legend_rows(run)));
     let scale = Scale {
@@ -39,7 +39,7 @@ pub fn draw(alloc: Global, run: &Run<'_>) -> Result<String, AllocError> {
     Ok(svg)
 }
 
-/// What the trains did.
+/// Draws the marks of the trains.
 fn draw_trains(
     alloc: Global,
     svg: &mut String,

@@ -1,4 +1,4 @@
-//! The events, with their numbers and what they are, as far as there is room.
+//! Draws the events, with their numbers and descriptions, as far as there is room.
 
 use crate::run::{Event, Kind, Run};
 use crate::scale::{LEFT, RIGHT, Scale};
@@ -17,7 +17,7 @@ pub fn draw_events(svg: &mut String, scale: &Scale<'_>, run: &Run<'_>) -> Result
     Ok(())
 }
 
-/// The number of an event, from 1, and a line through all tracks.
+/// Draws the number of an event, from 1, and a line through all tracks.
 fn draw_number(
     svg: &mut String,
     scale: &Scale<'_>,
@@ -33,7 +33,7 @@ fn draw_number(
     )
 }
 
-/// What an event is, pale where it is left without an answer.
+/// Draws the description of an event. It is pale if the event has no answer.
 fn draw_words(
     svg: &mut String,
     scale: &Scale<'_>,

@@ -1,4 +1,4 @@
-//! The safe fronts that trains reported.
+//! Draws the safe fronts that trains reported.
 
 use crate::run::Run;
 use crate::scale::Scale;
@@ -6,7 +6,7 @@ use crate::style::{colour_of, dashes_of};
 use rbc_place::Place;
 use std::alloc::{AllocError, Global};
 
-/// Where the front of a train is in an event, and whether a mission begins there.
+/// The place of a train's front in an event, and whether a mission begins there.
 #[derive(Clone, Copy)]
 struct Front {
     place: Place,
@@ -14,7 +14,7 @@ struct Front {
     is_start: bool,
 }
 
-/// The fronts of each train as one path, which begins anew at each mission.
+/// Draws the fronts of each train as one path, which begins again at each mission.
 pub fn draw_fronts(
     alloc: Global,
     svg: &mut String,
@@ -44,7 +44,7 @@ fn fronts_of(alloc: Global, run: &Run<'_>, train: u8) -> Result<Vec<Front>, Allo
     Ok(fronts)
 }
 
-/// What a train reports, or else where the line has it from now on.
+/// The reported place of a train in an event, or else its new place in the line's state.
 fn front_in(run: &Run<'_>, event: usize, train: u8) -> Option<Front> {
     let (before, after) = run.missions(event, train);
     let place = match run.report(event, train) {

@@ -1,18 +1,18 @@
-//! The line: its tracks, sections, homes, and the borders between them.
+//! Draws the line: its tracks, sections, homes, and the borders between them.
 
 use crate::scale::Scale;
 use rbc_line::{Line, Section};
 use rbc_place::{section_end, track_end};
 use std::alloc::AllocError;
 
-// How far numbers of sections, metres, and lines between sections have to lie apart.
+// The least distances of section numbers, of metres, and of lines between sections.
 const NUMBER_ROOM: u64 = 26;
 
 const METRES_ROOM: u64 = 46;
 
 const LINE_ROOM: u64 = 4;
 
-/// The stretch of each home on each track, tinted in turn, with the names of the track and the home above it.
+/// Draws the stretch of each home on each track, tinted in turn, with the names of the track and the home above it.
 pub fn draw_homes(svg: &mut String, scale: &Scale<'_>, axis: u64) -> Result<(), AllocError> {
     for track in 0..scale.line.track_count() {
         draw_track(svg, scale, track, axis)?;
@@ -62,7 +62,7 @@ fn draw_home(
     )
 }
 
-/// Where the sections of a home on a track start and end, in metres.
+/// The start and the end of a home's sections on a track, in metres.
 fn stretch_of(line: &Line, track: u8, home: u8) -> Option<(u32, u32)> {
     let mut stretch = None;
     for s in 0..line.section_count() {
@@ -80,8 +80,8 @@ fn stretch_of(line: &Line, track: u8, home: u8) -> Option<(u32, u32)> {
     stretch
 }
 
-/// The sections of each track: lines where they start, their numbers, and metres, as far as there is room; and the
-/// borders.
+/// Draws the sections of each track, as far as there is room: lines where they start, their numbers, and metres. It
+/// draws the borders too.
 pub fn draw_grid(svg: &mut String, scale: &Scale<'_>, axis: u64) -> Result<(), AllocError> {
     draw_units(svg, axis)?;
     for track in 0..scale.line.track_count() {
@@ -93,7 +93,7 @@ pub fn draw_grid(svg: &mut String, scale: &Scale<'_>, axis: u64) -> Result<(), A
     Ok(())
 }
 
-/// What the numbers above the events are.
+/// Writes the units of the numbers above the events.
 fn draw_units(svg: &mut String, axis: u64) -> Result<(), AllocError> {
     let y = axis.saturating_add(52);
     writeln!(
@@ -161,7 +161,7 @@ fn draw_metre(svg: &mut String, x: u64, y: u64, metres: u32) -> Result<(), Alloc
     )
 }
 
-/// A line where each section starts that lies far enough from the one before, and one at the track's end.
+/// Draws a line at the start of each section that is far enough from the one before, and one at the track's end.
 fn draw_lines(svg: &mut String, scale: &Scale<'_>, track: u8) -> Result<(), AllocError> {
     let top = scale.top;
     let bottom = scale.bottom();
@@ -179,7 +179,7 @@ fn draw_lines(svg: &mut String, scale: &Scale<'_>, track: u8) -> Result<(), Allo
     writeln!(svg, "<path class=\"section\" d=\"M{x} {top}V{bottom}\"/>")
 }
 
-/// A line where the home of a section is another than that of the section before it.
+/// Draws a line where the home of a section differs from that of the section before it.
 fn draw_borders(svg: &mut String, scale: &Scale<'_>, track: u8) -> Result<(), AllocError> {
     let top = scale.top;
     let bottom = scale.bottom();

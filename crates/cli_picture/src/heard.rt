@@ -1,4 +1,4 @@
-//! What an event is, and what is heard of trains and told to them in it.
+//! Describes an event, with the messages of trains in it and the messages to trains.
 
 use crate::run::{Border, Event, Kind, Report, track_of};
 use rbc_line::Line;
@@ -9,7 +9,7 @@ use std::alloc::{AllocError, Global};
 use text_script::{Answer, Outcome, Saying, WorldEvent};
 use text_words::number_of_train;
 
-/// An event of a run, by what is answered to it.
+/// Describes an event of a run by its answer.
 pub fn event_of(
     alloc: Global,
     line: &Line,
@@ -64,7 +64,7 @@ fn report_in(line: &Line, message: &TrainMsg) -> Option<Report> {
     Some(Report { train, place })
 }
 
-// Where a train says that it is. A start of mission counts by what the line has then, since it may be rejected.
+// The place that a train reports. A start of mission counts by the line's state, since it may be rejected.
 fn position_in(body: &TrainBody) -> Option<&Position> {
     match body {
         TrainBody::TrainData { position, .. }

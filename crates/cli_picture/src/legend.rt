@@ -1,4 +1,4 @@
-//! What the colours and signs mean.
+//! Explains the colours and signs.
 
 use crate::marks::{Sign, shape_of};
 use crate::run::{Run, mission_in, nid_engine_of};
@@ -7,7 +7,7 @@ use rbc_line::Line;
 use std::alloc::AllocError;
 use text_script::{LineView, Mark};
 
-// The signs, each with where it lies and what it means.
+// The signs, each with its place and its meaning.
 static SIGNS: [(Sign, u64, &str); 5] = [
     (Sign::Asked, 338, "9: asked to end earlier"),
     (Sign::Granted, 492, "137: does so"),
@@ -16,7 +16,7 @@ static SIGNS: [(Sign, u64, &str); 5] = [
     (Sign::Ended, 912, "mission ends"),
 ];
 
-// What has a box of its own look, each with where it lies and what it means.
+// The looks with a box of their own, each with its place and its meaning.
 static LOOKS: [(&str, u64, &str); 4] = [
     ("bar kept", 20, "kept for it"),
     ("bar wished", 130, "wished back"),
@@ -24,15 +24,15 @@ static LOOKS: [(&str, u64, &str); 4] = [
     ("way", 370, "on the way: nobody supervises it"),
 ];
 
-// How far entries lie apart, and how many stand in a row.
+// The distance of entries, and the number of entries on a line.
 const STEP: u64 = 145;
 
 const IN_ROW: u64 = 8;
 
-// The rows of signs.
+// The lines of signs.
 const SIGN_ROWS: u64 = 2;
 
-/// How many rows the legend has: those of signs, and of the trains of which something is drawn.
+/// The number of lines of the legend: those of the signs, and those of the drawn trains.
 pub fn legend_rows(run: &Run<'_>) -> u64 {
     let mut count: u64 = 0;
     for train in 0..run.line.train_count() {
@@ -59,7 +59,7 @@ pub fn draw_legend(svg: &mut String, run: &Run<'_>, top: u64, row: u64) -> Resul
     Ok(())
 }
 
-/// Whether something is drawn of a train.
+/// Whether the diagram shows a train.
 fn shows(run: &Run<'_>, train: u8) -> bool {
     if !run.wants(train) {
         return false;
@@ -89,7 +89,7 @@ fn names(view: &LineView, train: u32) -> bool {
     false
 }
 
-/// A train's number, beside a bar and a front in its colour.
+/// Draws a train's number, beside a bar and a front in its colour.
 fn draw_train(svg: &mut String, line: &Line, train: u8, x: u64, y: u64) -> Result<(), AllocError> {
     let colour = colour_of(train);
     let dashes = dashes_of(train);
@@ -123,7 +123,7 @@ fn draw_signs(svg: &mut String, y: u64) -> Result<(), AllocError> {
     )
 }
 
-/// How sections look that are kept or wished back, starts that wait, and who supervises a train.
+/// Draws the looks of kept or wished sections, of waiting starts, and of supervision.
 fn draw_looks(svg: &mut String, y: u64) -> Result<(), AllocError> {
     for (class, x, words) in &LOOKS {
         write!(

@@ -1,8 +1,8 @@
 //! The time-distance diagram of a run, as railways draw it: the line from left to right, the events downward. The
-//! events of a print are played again on the line's centres, and what is drawn after each is what the line has then:
-//! sections in authorities and kept ones, fronts, who supervises each train, and what was asked of it.
+//! events of a print are replayed on the line's centres. The diagram shows the state of the line after each event:
+//! sections in authorities and kept ones, fronts, the supervisor of each train, and the requests to it.
 //!
-//! Bodies are free. What is printed, and each exit status, is fixed by docs/FORMATS.md.
+//! Bodies are free. docs/FORMATS.md fixes the printed text and each exit status.
 #![tactic(auto)]
 
 mod bars;
@@ -26,9 +26,9 @@ use std::alloc::Global;
 use text_replay::Cut;
 use text_script::status::Fault;
 
-/// The diagram, as an SVG document, of the events of a print, as far as the cut says. Only the lines that begin with
-/// `> ` are read. Errors:
-/// the cut names a train that is not of the line, or no event; a line has no form of a script; a step is refused.
+/// Draws the events of a print that the cut names, as an SVG document. Only the lines that begin with `> ` are read.
+/// Errors: the cut names a train that is not of the line, or no event; a line has no form of a script; a step is
+/// refused.
 pub fn picture(
     alloc: Global,
     line: &Line,

@@ -1,4 +1,4 @@
-//! What was asked of a train, and what became of it, as signs.
+//! Draws the requests to a train, and their results, as signs.
 
 use crate::run::{Run, track_of};
 use crate::scale::Scale;
@@ -11,13 +11,13 @@ use text_script::MissionView;
 pub enum Sign {
     /// Message 9: the train is asked to end its authority earlier.
     Asked,
-    /// Message 137: it does so.
+    /// Message 137: the train accepts the request.
     Granted,
-    /// The request ends without that.
+    /// The request ends without acceptance.
     Dropped,
     /// Message 24 with packet 131: the train is ordered to change to the next centre.
     Handover,
-    /// Its mission ends.
+    /// The train's mission ends.
     Ended,
 }
 
@@ -32,7 +32,7 @@ pub fn shape_of(sign: Sign) -> (&'static str, &'static str) {
     }
 }
 
-/// A point of a track, in metres from its start, and the event that something is drawn at.
+/// A point of a track, in metres from its start, and the event of the drawing.
 #[derive(Clone, Copy)]
 struct Point {
     train: u8,
@@ -64,7 +64,7 @@ pub fn draw_marks(svg: &mut String, scale: &Scale<'_>, run: &Run<'_>) -> Result<
     Ok(())
 }
 
-/// The request to shorten that ends in an event, and the one that is made in it.
+/// Draws the request to shorten that ends in an event, and the one that begins in it.
 fn draw_requests(
     svg: &mut String,
     scale: &Scale<'_>,
@@ -100,14 +100,14 @@ fn draw_requests(
     Ok(())
 }
 
-/// The request that stands: its stamp, and the last section that is to be kept.
+/// The pending request: its stamp, and the last section to keep.
 fn last_kept_in(mission: Option<MissionView>) -> Option<(u32, u16)> {
     let proposal = mission?.facts.proposal?;
     Some((proposal.stamp, proposal.last_kept))
 }
 
-/// The number of the section in advance of a hand: the end of a train's authority. A train without a mission has no end
-/// that counts.
+/// The number of the section in advance of a hand: the end of a train's authority. The end of a train without a
+/// mission is the highest number.
 fn end_of(mission: Option<MissionView>) -> u32 {
     match mission {
         Some(mission) => mission.hand.next_after(),
@@ -115,7 +115,7 @@ fn end_of(mission: Option<MissionView>) -> u32 {
     }
 }
 
-/// A sign at the end that is proposed, and where the authority is shortened a line from its end to the sign.
+/// Draws a sign at the proposed end, and a line to it from the authority's end unless the request is dropped.
 fn draw_request(
     svg: &mut String,
     scale: &Scale<'_>,
@@ -144,7 +144,7 @@ fn draw_request(
     draw_sign(svg, scale, sign, point)
 }
 
-/// A square where a train ends its mission, or its last section leaves.
+/// Draws a square where a train's mission ends.
 fn draw_end(
     svg: &mut String,
     scale: &Scale<'_>,

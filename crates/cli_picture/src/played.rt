@@ -1,4 +1,4 @@
-//! A print is played again.
+//! Replays a print.
 
 use crate::heard::event_of;
 use crate::run::{Event, Run};
@@ -33,7 +33,7 @@ fn part_of<'a>(
     run_from(alloc, line, &mut world, events, (first, after), only)
 }
 
-// The run from where the centres are.
+// The run from the current state of the centres.
 fn run_from<'a>(
     alloc: Global,
     line: &'a Line,
@@ -55,7 +55,7 @@ fn run_from<'a>(
     Ok(run)
 }
 
-// The centres of the line as they are before the first event that is drawn.
+// The centres of the line before the first event that is drawn.
 fn world_at(
     alloc: Global,
     line: &Line,
@@ -74,7 +74,7 @@ fn pass(world: &mut World, events: &[WorldEvent], first: usize) -> Result<(), Fa
     Ok(())
 }
 
-// Plays the events that are drawn.
+// Plays the drawn events.
 fn play(
     alloc: Global,
     world: &mut World,
@@ -91,7 +91,7 @@ fn play(
     Ok(())
 }
 
-// Plays an event, and tells it by what is answered to it.
+// Plays an event, and describes it by its answer.
 fn told(
     alloc: Global,
     world: &mut World,

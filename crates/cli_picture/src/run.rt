@@ -1,21 +1,20 @@
-//! What a diagram shows of a run. Events are numbered from 0, beginning with the first that is drawn; sections and
-//! tracks as in the line,
-//! trains by their place in the line file.
+//! The data of a run in a diagram. Events are numbered from 0, from the first drawn one. Sections and tracks have the
+//! numbers of the line, and trains their place in the line file.
 
 use rbc_line::Line;
 use rbc_place::Place;
 use text_script::{LineView, MissionView};
 
-/// What an event is.
+/// The kind of an event.
 #[derive(Clone, Copy)]
 pub enum Kind {
     Set { section: u16 },
     Unset { section: u16 },
     /// A message of a train, by its NID_MESSAGE.
     Message { number: u64, nid_engine: u32 },
-    /// Bytes that are no message.
+    /// Bytes that are not a message.
     NoMessage,
-    /// A frame comes to a centre.
+    /// A frame reaches a centre.
     Delivery { number: u32 },
 }
 
@@ -26,7 +25,7 @@ pub struct Report {
     pub place: Place,
 }
 
-/// A border that a train is told to change its centre at, in metres from the start of the track.
+/// A border at which a train is ordered to change its centre, in metres from the start of the track.
 #[derive(Clone, Copy)]
 pub struct Border {
     pub train: u8,
@@ -34,11 +33,12 @@ pub struct Border {
     pub metres: u32,
 }
 
-/// An event, and what is heard of trains and told to them in it.
+/// An event, with the messages of trains in it and the messages to trains.
 #[derive(Clone, Copy)]
 pub struct Event {
     pub kind: Kind,
-    /// Whether it changes nothing: a message without an answer, bytes that are none, a frame that was never sent.
+    /// Whether it changes nothing: a message without an answer, bytes that are not a message, or a frame that was
+    /// never sent.
     pub is_silent: bool,
     /// The report in a message that is not silent, of a train that does not ask for a start of mission.
     pub report: Option<Report>,
@@ -46,19 +46,19 @@ pub struct Event {
     pub border: Option<Border>,
 }
 
-/// The events that are drawn, and the line as it is after each.
+/// The drawn events, and the state of the line after each.
 #[derive(Drop)]
 pub struct Run<'a> {
     pub line: &'a Line,
-    /// How many events the run has, and how many of them come before those that are drawn.
+    /// The number of events of the run, and the number of events before the drawn ones.
     pub event_count: usize,
     pub skipped: usize,
-    /// The one train that is drawn, where one is named.
+    /// The only drawn train, if the cut names one.
     pub only: Option<u8>,
     pub events: Vec<Event>,
-    /// The line before the first event that is drawn.
+    /// The line before the first drawn event.
     pub before: LineView,
-    /// The line after each of them.
+    /// The line after each drawn event.
     pub views: Vec<LineView>,
 }
 
@@ -76,7 +76,7 @@ impl Run<'_> {
         event.saturating_add(self.skipped).saturating_add(1)
     }
 
-    /// Where a train reports to be in an event.
+    /// The reported place of a train in an event.
     pub fn report(&self, event: usize, train: u8) -> Option<Place> {
         let report = self.events.get(event)?.report?;
         if report.train == train {
@@ -94,7 +94,7 @@ impl Run<'_> {
         }
     }
 
-    /// The mission of a train before each event and after it.
+    /// The mission of a train before an event and after it.
     pub fn missions(&self, event: usize, train: u8) -> (Option<MissionView>, Option<MissionView>) {
         let after = match self.views.get(event) {
             Some(view) => mission_in(view, train),
@@ -112,7 +112,7 @@ pub fn mission_in(view: &LineView, train: u8) -> Option<MissionView> {
     }
 }
 
-/// Where a train is whose start of mission waits at a centre.
+/// The place of a train whose start of mission waits at a centre.
 pub fn waiting_in(view: &LineView, train: u8, centre: u8) -> Option<Place> {
     let train = view.trains.get(usize::from(train))?;
     train.sessions.get(usize::from(centre))?.waiting

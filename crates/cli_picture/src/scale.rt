@@ -1,4 +1,4 @@
-//! From metres and events to places on the page, in pixels from its left and its upper edge.
+//! Maps metres and events to places on the page, in pixels from its left and its upper edge.
 
 ghost use Rattle.std.specs.Prelude.{◌≤◌};
 
@@ -7,13 +7,13 @@ use rbc_place::{Place, track_end};
 
 /// The width of the page.
 pub const WIDTH: u64 = 1200;
-/// Where the line ends on it.
+/// The right end of the line on the page.
 pub const RIGHT: u64 = 1180;
-/// Where the line begins, right of the words beside the events.
+/// The left end of the line, right of the words beside the events.
 pub const LEFT: u64 = 180;
 /// The space between two tracks.
 pub const GAP: u64 = 30;
-/// The height of an event where there are few, and of all events where there are many.
+/// The height of an event if there are few, and of all events if there are many.
 const ROW: u64 = 24;
 
 const MOST_HEIGHT: u64 = 3400;
@@ -28,8 +28,8 @@ pub struct Scale<'a> {
 }
 
 impl<'a> Scale<'a> {
-    /// The place of a point of a track, in metres from the start of the track. What lies past the track's end is
-    /// shown there.
+    /// The place of a point of a track, in metres from the start of the track. A point past the track's end is shown
+    /// at the end.
     pub fn x(&self, track: u8, metres: u32) -> u64
         ensures { result ≤ 1180 }
     {
@@ -50,7 +50,7 @@ impl<'a> Scale<'a> {
         self.x(place.track, place.front / 10)
     }
 
-    /// The place of its safe rear end, or of its front where that is not known.
+    /// The place of a train's safe rear end, or of its front if the rear end is not known.
     pub fn rear(&self, place: &Place) -> u64 {
         match place.rear {
             Some(rear) => self.x(place.track, u32::try_from(rear / 10).unwrap_or(0)),
@@ -58,7 +58,7 @@ impl<'a> Scale<'a> {
         }
     }
 
-    /// How long the tracks in front of this one are, in metres.
+    /// The length of the tracks before this one, in metres.
     fn metres_before(&self, track: u8) -> u64 {
         let mut metres: u64 = 0;
         for t in 0..track {
@@ -88,7 +88,7 @@ impl<'a> Scale<'a> {
         self.top.saturating_add(place)
     }
 
-    /// Where something ends: in an event, or after the last at the lower edge.
+    /// The place where a mark ends: at an event, or after the last one at the lower edge.
     pub fn until(&self, event: usize) -> u64 {
         if event < self.event_count {
             self.y(event)
@@ -97,7 +97,7 @@ impl<'a> Scale<'a> {
         }
     }
 
-    /// Each which event has its number and words written, so that there is room for it: 1, 2, 5, 10 and so on.
+    /// The step from one labelled event to the next, so that there is room for each label: 1, 2, 5, 10 and so on.
     pub fn stride(&self) -> usize {
         let mut stride: usize = 1;
         for factor in [2, 5, 10, 20, 50, 100, 200, 500, 1000, 2000, 5000, 10_000] {
@@ -111,7 +111,7 @@ impl<'a> Scale<'a> {
     }
 }
 
-/// The share of a room that a part has in a whole, to the nearest; all of it in a whole of nothing.
+/// The share of `part` of `whole` in a room, rounded to the nearest. If the whole is 0, the share is the whole room.
 fn share(room: u64, part: u64, whole: u64) -> u64 {
     let doubled = room
         .saturating_mul(part)

@@ -1,4 +1,4 @@
-//! Who supervises each train, and the starts of mission that wait for the right to do so.
+//! Draws the supervisor of each train, and the starts of mission that wait for the right to supervise it.
 
 use crate::run::{Run, waiting_in};
 use crate::scale::Scale;
@@ -20,7 +20,7 @@ pub fn draw_seats(svg: &mut String, scale: &Scale<'_>, run: &Run<'_>) -> Result<
     Ok(())
 }
 
-/// The centre that supervises a mission. None while it is on the way from one to the next.
+/// The centre that supervises a mission. None while the mission is on the way to the next centre.
 fn centre_of(mission: &MissionView) -> Option<u8> {
     match mission.supervisor {
         Supervisor::At { centre } => Some(centre),
@@ -41,8 +41,8 @@ fn way_in(mission: Option<MissionView>) -> Option<Place> {
     }
 }
 
-/// A ring with the name of a centre where it begins to supervise the train, or does so in the first event that is
-/// drawn.
+/// Draws a ring with a centre's name where the centre begins to supervise the train. The first drawn event has a ring
+/// for the centre that supervises the train then.
 fn draw_rings(
     svg: &mut String,
     scale: &Scale<'_>,
@@ -82,7 +82,7 @@ fn draw_ring(
     )
 }
 
-/// A thick line while a mission is on the way from one centre to the next.
+/// Draws a thick line while a mission is on the way from one centre to the next.
 fn draw_ways(
     svg: &mut String,
     scale: &Scale<'_>,
@@ -99,7 +99,7 @@ fn draw_ways(
     Ok(())
 }
 
-/// A dashed box while a start of mission waits at a centre.
+/// Draws a dashed box while a start of mission waits at a centre.
 fn draw_waits(
     svg: &mut String,
     scale: &Scale<'_>,
@@ -123,12 +123,13 @@ fn draw_waits(
     Ok(())
 }
 
-// How the two look, and what they are called.
+// The classes and the descriptions of the two.
 const WAY: (&str, &str) = ("way", "on the way from one centre to the next");
 
 const WAIT: (&str, &str) = ("wait", "a start of mission that waits");
 
-/// Something at a place that lasted since an event goes on in this one, or ends in it and is drawn.
+/// Follows a mark that has lasted at a place since an event. It continues in this event, or it ends here and is
+/// drawn.
 fn follow(
     svg: &mut String,
     scale: &Scale<'_>,

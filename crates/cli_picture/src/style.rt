@@ -1,4 +1,4 @@
-//! How things look: each kind of thing has a class of its own, each train one for its colour and one for its dashes.
+//! The looks of the diagram: a class for each kind of mark, and two for each train, for its colour and its dashes.
 
 ghost use Rattle.std.specs.Prelude.{◌≡◌, ◌%◌, ◌/◌};
 
@@ -35,7 +35,7 @@ pub fn colour_of(train: u8) -> u8
     train % 8
 }
 
-/// The dashes of a train, one of eight: trains of one colour have other dashes.
+/// The dashes of a train, one of eight. Trains of one colour differ in their dashes.
 pub fn dashes_of(train: u8) -> u8
     ensures { result ≡ train / 8 % 8 }
 {

@@ -1,4 +1,4 @@
--- What a step of the world adds to what its links have sent.
+-- A step of the world adds to the frames that its links have sent.
 use Rattle.std.proofs.Common.{◌≡◌, ℕ, suc, ◌+◌, ◌*◌, ◌/◌, ◌%◌, Bool, true, false, List, [], ◌∷◌, length, map, Option, Some, None, Result, Ok, Err, if◌then◌else◌, slice_get, refl, sym, ap, subst, ◌∙◌, arith, inl, inr, length-append}
 use Rattle.std.specs.Option.{option_map_or}
 use Rattle.std.specs.List.{range_with_len}
@@ -15,12 +15,12 @@ use Rattle.law_logs.proofs.Stamps.{stamped}
 use Rattle.cli_storm.specs.declared.links.Link.{Link}
 use Rattle.cli_storm.specs.Links.{all_links, counted, counted_by, last_number, link_at}
 
--- a new line has sent nothing
+-- a new line has sent no frame
 pub begins : (line : Line) (n k : ℕ) → link_at n (new_world line) k ≡ record { from = k / n; to = k % n; sent = 0 }
 unfolding new_world beginning
 begins line n k = refl
 
--- frames that are numbered on from m end with the number of them all
+-- the last frame of a list that is numbered from m + 1 has the number of all frames
 last_grown : (m : ℕ) (frames : List Frame) → ((i : ℕ) (f : Frame) → slice_get frames i ≡ Some f → f.number ≡ m + i + 1) → last_number m frames ≡ m + length frames
 last_grown m [] numbers = omega arith
 last_grown m (f ∷ frames) numbers =
@@ -80,7 +80,7 @@ module _ (line : Line) (w : World) where
   delivered_adds a b (Some f) = takes_adds b w.trains (centre.Deliver a f)
   delivered_adds a b None = answered b (NotSent, w) refl
 
-  -- what is answered says what was sent
+  -- the answer contains the frames that were sent
   pub adds : (e : Event) → Adds (centre_of e) (world_step line w e)
   unfolding world_step
   adds (Bytes c (Ok m)) = at_adds c _ (takes_adds c (mention line m.nid_engine w.trains) (centre.Train m))

@@ -1,4 +1,4 @@
--- Parts that are played one after another.
+-- Parts that are played in order.
 use Rattle.std.proofs.Common.{◌≡◌, ℕ, ◌<◌, ◌+◌, suc, List, [], ◌∷◌, Option, Some, Result, Ok, Err, length, get_or, drop, sym, ap, subst, ◌∙◌}
 use Rattle.std.specs.Result.{OnOk}
 use Rattle.std.proofs.lemmas.List.{drop_more}
@@ -14,38 +14,34 @@ use Rattle.text_script.proofs.Playing.{Goes, goes_on, stops}
 use Rattle.cli_storm.specs.Storm.{Passes, Continues, Rest, after, with_drawn, with_delivery, deliveries, played_by, storm}
 
 module _ {T : Type 0} (tells : T → Telling → T → Type 0) (line : Line) where
-  -- nothing was played
+  -- nothing is played yet
 
   itself : (w : World) (t : T) (all : List Entry) → Goes tells line w t all all w t
   itself w t all = record { played = λ v u it. it; stopped = λ fault v u it. it }
 
-  -- one entry was
+  -- one entry is played
   pub passes_one : (e : Entry) (left : List Entry) (w v : World) (t u : T) → IsPlayed tells line w t (e ∷ []) v u → Passes tells line w t (e ∷ left) v u left
   passes_one e left w v t u is = let more = goes_on tells line w t (e ∷ left) e left w v t u (itself w t (e ∷ left)) is in (more.played, more.stopped)
 
-  -- one part was, and then another
+  -- one part is played, and then another
   pub passes_both : (all mid left : List Entry) (w v x : World) (t u s : T) → Passes tells line w t all v u mid → Passes tells line v u mid x s left → Passes tells line w t all x s left
   passes_both all mid left w v x t u s one two = (λ z r it. one.0 z r (two.0 z r it), λ fault z r it. one.1 fault z r (two.1 fault z r it))
 
-  -- all was
-
-  -- what is left fails
+  -- the remaining entries fail
   pub then_fails : {F : Type 0} (all left : List Entry) (w v x : World) (t u s : T) (fault : PlayFault F) → Passes tells line w t all v u left
       → Leaves {F = F} tells line v u left (Err fault) x s → Leaves {F = F} tells line w t all (Err fault) x s
   then_fails all left w v x t u s (Refused fault) it stopped = it.1 fault x s stopped
   then_fails all left w v x t u s (Untold why) it stopped = tt
 
-  -- an entry fails, whatever was to follow
+  -- an entry fails, for all entries after it
   pub one_fails : {F : Type 0} (e : Entry) (left : List Entry) (w v : World) (t u : T) (fault : PlayFault F) → Leaves {F = F} tells line w t (e ∷ []) (Err fault) v u
       → Leaves {F = F} tells line w t (e ∷ left) (Err fault) v u
   one_fails e left w v t u (Refused fault) stopped = stops tells line w t (e ∷ left) e left w v t u fault (itself w t (e ∷ left)) stopped
   one_fails e left w v t u (Untold why) stopped = tt
 
-  -- the world that is left where an event was played
+  -- ## One delivery, and all of them
 
-  -- ## A delivery, and all of them
-
-  -- what was drawn is played, whatever was to follow
+  -- the drawn delivery is played, for all entries after it
   pub delivered : {F : Type 0} (event : WorldEvent) (w v : World) (t u : T) (y z : ℕ) (d : Option WorldEvent × ℕ) → (Some event, y) ≡ d → z ≡ y
       → (result : Result (Unit {0}) (PlayFault F)) → OnOk result (v ≡ after line w event) → Leaves {F = F} tells line w t (entry.Event event ∷ []) result v u
       → Continues {F = F} tells line w t (with_drawn line w d) result v u z
@@ -58,14 +54,14 @@ module _ {T : Type 0} (tells : T → Telling → T → Type 0) (line : Line) whe
       subst (λ (q : Option WorldEvent × ℕ). Leaves {F = F} tells line w t (with_drawn line w q rest) (Err fault) v u) is
       (one_fails {F = F} (entry.Event event) (rest (after line w event) y) w v t u fault told)
 
-  -- none is left to come
+  -- no delivery is left
   pub all_delivered : (first w : World) (begun t : T) (x : ℕ) (all : Rest → List Entry) (n : ℕ) → n ≡ 0 → ((rest : Rest) → Passes tells line first begun (all rest) w t (deliveries n line w x rest))
       → (rest : Rest) → Passes tells line first begun (all rest) w t (rest w x)
   all_delivered first w begun t x all n none so_far rest = subst (λ k. Passes tells line first begun (all rest) w t (deliveries k line w x rest)) none (so_far rest)
 
-  -- whatever was played so far, from the beginning, one more part is played
+  -- after the entries played from the beginning, one more part is played
   module _ (l : Line) (same : l ≡ line) (first : World) (begun : T) (w v : World) (t u : T) (x y : ℕ) where
-    -- of the deliveries that are left
+    -- a part of the remaining deliveries
     module _ (all : Rest → List Entry) (n m : ℕ) (count : n ≡ suc m) (so_far : (rest : Rest) → Passes tells line first begun (all rest) w t (deliveries n line w x rest)) where
       pub one_delivered : ((rest : Rest) → Passes tells l w t (with_delivery l w x rest) v u (rest v y)) → (rest : Rest) → Passes tells line first begun (all rest) v u (deliveries m line v y rest)
       one_delivered one rest =
@@ -80,7 +76,7 @@ module _ {T : Type 0} (tells : T → Telling → T → Type 0) (line : Line) whe
           (subst (λ k. Leaves {F = F} tells line w t (deliveries k line w x rest) (Err fault) v u) (sym count)
           (subst (λ (k : Line). (others : Rest) → Leaves {F = F} tells k w t (with_delivery k w x others) (Err fault) v u) same fails (λ z j. deliveries m line z j rest)))
 
-    -- of the entries of a script
+    -- a part of the entries of a script
     module _ (entries all : List Entry) (i : ℕ) (e : Entry) (some : i < length entries) (is : e ≡ get_or entries i e)
         (so_far : Passes tells line first begun all w t (storm line w x (drop i entries))) where
       next_entry : Passes tells line first begun all w t (storm line w x (e ∷ drop (i + 1) entries))

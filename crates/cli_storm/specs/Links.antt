@@ -1,4 +1,4 @@
--- What the links of a line have sent, and the delivery that is drawn by that.
+-- The sent frames of a line's links, and the delivery that is drawn by them.
 use Rattle.std.specs.Prelude.{ℕ, ◌+◌, ◌*◌, ◌/◌, ◌%◌, ◌==◌, Bool, List, [], ◌∷◌, length, map, if◌then◌else◌, nat_lt, slice_get, Option, None, option_map}
 use Rattle.std.specs.List.{filter, range_with_len}
 use Rattle.rbc_spec.specs.Line.{Line}
@@ -9,24 +9,24 @@ use Rattle.text_script.specs.rbc_world.declared.event.WorldEvent.TheVariants.{De
 use Rattle.cli_storm.specs.declared.links.Link.{Link}
 use Rattle.cli_storm.specs.Draws.{next, drawn}
 
--- the link at a place, of so many centres
+-- the link at a place, for this many centres
 abbrev pub link_at : ℕ → World → ℕ → Link
 link_at centres w k =
     record { from = k / centres; to = k % centres; sent = length ((w.at (k / centres)).sent (k % centres)) }
 
--- from each centre of the line to each, by sender and then by receiver, with how many frames were sent
+-- the links from each centre of the line to each, by sender and then by receiver, with the number of sent frames
 abbrev pub all_links : Line → World → List Link
 all_links line w = map (link_at (length line.centres) w) (range_with_len 0 (length line.centres * length line.centres))
 
 abbrev pub has_sent : Link → Bool
 has_sent l = nat_lt 0 l.sent
 
--- those that have sent a frame
+-- the links that have sent a frame
 abbrev pub sending : Line → World → List Link
 sending line w = filter has_sent (all_links line w)
 
--- the delivery that is drawn of links that have sent a frame, and what the draws leave: nothing is drawn where there is
--- no such link, else one of them, and the number of one of its frames or one more
+-- The delivery drawn from links that have sent a frame, and the state after the draws. Nothing is drawn if there is no
+-- such link. Otherwise one of the links is drawn, and the number of one of its frames or the next number.
 abbrev pub delivery : List Link → ℕ → Option WorldEvent × ℕ
 delivery from x =
     if length from == 0 then (None, x)
@@ -36,7 +36,7 @@ delivery from x =
       next (next x),
     )
 
--- the number of the last frame, or the number before where there is none
+-- the number of the last frame, or n if there is none
 abbrev pub last_number : ℕ → List Frame → ℕ
 last_number n [] = n
 last_number n (f ∷ frames) = last_number f.number frames

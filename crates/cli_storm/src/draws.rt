@@ -1,15 +1,15 @@
 ghost use Rattle.std.specs.Prelude.{◌≡◌, ◌<◌, ◌^◌};
 ghost use Rattle.cli_storm.specs.Draws.{next, drawn};
 
-// Of a linear congruential generator with 64 bits (Knuth's MMIX).
+// The constants of a linear congruential generator with 64 bits (Knuth's MMIX).
 const MULTIPLIER: u64 = 6_364_136_223_846_793_005;
 
 const INCREMENT: u64 = 1_442_695_040_888_963_407;
 
-/// The numbers that a storm draws: the same for the same seed.
+/// Draws the numbers of a storm: the same numbers for the same seed.
 #[derive(Clone, Copy)]
 pub struct Draws {
-    /// The seed, and after a draw what it left.
+    /// The state: the seed, or the number that the last draw left.
     pub x: u64,
 }
 

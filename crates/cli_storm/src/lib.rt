@@ -1,7 +1,7 @@
-//! A storm over a script: after each event of the script come four deliveries that are drawn by lot, old, early and
-//! repeated ones among them.
+//! Runs a storm over a script: after each event of the script, four deliveries are drawn by lot. Old, early and
+//! repeated frames are among them.
 //!
-//! Bodies are free. What is drawn, and what is printed of it, is fixed by docs/FORMATS.md.
+//! Bodies are free. docs/FORMATS.md fixes the draws and the printed text.
 #![tactic(auto)]
 
 mod draws;

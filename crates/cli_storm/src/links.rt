@@ -1,4 +1,4 @@
-//! What each link has sent, and the delivery that is drawn by that.
+//! Counts the frames of each link, and draws a delivery by these counts.
 
 ghost use Rattle.std.specs.Prelude.{◌≡◌, ◌<◌, IfOk, length, map, slice_get, Some};
 ghost use Rattle.std.specs.List.{filter};
@@ -12,18 +12,18 @@ use rbc_line::Line;
 use std::alloc::{AllocError, Global};
 use text_script::{Answer, Frame, Frames, WorldEvent};
 
-/// From one centre of a line to another.
+/// A link from one centre of a line to another.
 #[derive(Clone, Copy)]
 pub struct Link {
     /// The number of the sender.
     pub from: u8,
     /// The number of the receiver.
     pub to: u8,
-    /// How many frames it has sent.
+    /// The number of frames that it has sent.
     pub sent: u32,
 }
 
-/// The links of a line on which nothing was sent, by sender, and then by receiver.
+/// The links of a line before any frame is sent, by sender, and then by receiver.
 pub fn links_of(alloc: Global, line: &Line) -> Result<Vec<Link>, AllocError>
     ensures { IfOk result (λ ls. ls.items ≡ all_links line.now (new_world line.now)) }
 {
@@ -39,7 +39,7 @@ pub fn links_of(alloc: Global, line: &Line) -> Result<Vec<Link>, AllocError>
     Ok(links)
 }
 
-// What the links have sent after an event at centre `from` that was answered so.
+// Counts the frames of an event's answer at centre `from`.
 pub(crate) fn count_answer(links: &mut Vec<Link>, from: u8, answer: &Answer)
     ensures { links.new.items ≡ counted_by from (answer_of answer.now) links.old.items }
 {
@@ -49,7 +49,7 @@ pub(crate) fn count_answer(links: &mut Vec<Link>, from: u8, answer: &Answer)
     }
 }
 
-// What the links have sent after a step of centre `from` that sent these frames.
+// Counts the frames that a step of centre `from` has sent.
 fn count_frames(links: &mut Vec<Link>, from: u8, frames: &Frames)
     ensures { links.new.items ≡ map (counted from (frames_to frames.now)) links.old.items }
 {
@@ -72,7 +72,7 @@ fn counted(link: Link, from: u8, frames: &Frames) -> Link
     }
 }
 
-// The number of the last frame, or the number before where there is none.
+// The number of the last frame, or `before` if there is none.
 fn last_number(before: u32, frames: &[Frame]) -> u32
     ensures { result ≡ last_number before frames.now }
 {
@@ -83,8 +83,8 @@ fn last_number(before: u32, frames: &[Frame]) -> u32
     number
 }
 
-/// Draws a delivery: one of the links that have sent a frame, and the number of one of its frames or one more. None is
-/// drawn where no link has sent any.
+/// Draws a delivery: one of the links that have sent a frame, and the number of one of its frames or the next number.
+/// None if no link has sent a frame.
 pub fn draw_delivery(draws: &mut Draws, links: &[Link]) -> Option<WorldEvent>
     ensures { (result, draws.new.x) ≡ delivery (filter has_sent links.now) draws.old.x }
 {
@@ -101,7 +101,7 @@ pub fn draw_delivery(draws: &mut Draws, links: &[Link]) -> Option<WorldEvent>
     })
 }
 
-// How many links have sent a frame.
+// The number of links that have sent a frame.
 fn sending_count(links: &[Link]) -> usize
     ensures { result ≡ length (filter has_sent links.now) }
 {

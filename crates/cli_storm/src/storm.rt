@@ -16,7 +16,7 @@ use text_script::play::{Observer, PlayFault};
 use text_script::script::Entry;
 use text_script::{Answer, StepFault, World, WorldEvent};
 
-/// How many deliveries are drawn after an event of the script.
+/// The number of deliveries that are drawn after an event of the script.
 const DELIVERIES: u8 = 4;
 
 /// The centres of a line in a storm.
@@ -29,7 +29,7 @@ pub struct Storm {
 }
 
 impl Storm {
-    /// The centres at their beginning, and the draws at this seed.
+    /// Starts with new centres, and with draws from this seed.
     pub fn new(alloc: Global, line: &Line, seed: u64) -> Result<Storm, AllocError>
         ensures line { IfOk result (λ s. line_of s.world ≡ line.now) }
         ensures beginning { IfOk result (λ s. state_of s.world ≡ new_world line.now) }
@@ -42,15 +42,15 @@ impl Storm {
         })
     }
 
-    /// The centres.
+    /// The centres of the line.
     pub fn world(&self) -> &World
         ensures { result.now ≡ self.now.world }
     {
         &self.world
     }
 
-    /// Plays a script's entries, one after another, and four drawn deliveries after each event. Each is told as it
-    /// comes, as `play` does it, and it stops at the first event that is refused.
+    /// Plays a script's entries in order, and four drawn deliveries after each event. It reports each to the
+    /// observer, as `play` does, and stops at the first event that is refused.
     pub fn play<T: Observer>(
         &mut self,
         entries: &[Entry],
@@ -97,7 +97,7 @@ impl Storm {
         }
     }
 
-    // The deliveries that are drawn after an event of the script.
+    // Plays the deliveries that are drawn after an event of the script.
     fn deliver<T: Observer>(&mut self, observer: &mut T) -> Result<(), PlayFault<T::Fault>>
         ensures line { line_of self.new.world ≡ line_of self.old.world }
         ensures told { Continues T.tells (line_of self.old.world) (state_of self.old.world) observer.old
@@ -110,7 +110,7 @@ impl Storm {
         Ok(())
     }
 
-    // A delivery, if one is drawn.
+    // Plays one delivery, if one is drawn.
     fn deliver_one<T: Observer>(&mut self, observer: &mut T) -> Result<(), PlayFault<T::Fault>>
         ensures line { line_of self.new.world ≡ line_of self.old.world }
         ensures told { Continues T.tells (line_of self.old.world) (state_of self.old.world) observer.old
@@ -123,7 +123,7 @@ impl Storm {
         }
     }
 
-    // An event comes, is taken, and its answer is told.
+    // Reports an event, lets the centres take it, and reports its answer.
     fn take<T: Observer>(
         &mut self,
         event: &WorldEvent,
@@ -149,7 +149,7 @@ impl Storm {
         }
     }
 
-    // The centres take an event, and the frames that they send are counted.
+    // The centres take an event. The frames that they send are counted.
     fn step(&mut self, event: &WorldEvent) -> Result<Answer, StepFault>
         ensures line { line_of self.new.world ≡ line_of self.old.world }
         ensures draws { self.new.draws ≡ self.old.draws }

@@ -1,4 +1,4 @@
-//! The centres of a line that run.
+//! Runs the centres of a line.
 
 use crate::record::lock_journals;
 use cli_commands::disk::Disk;
@@ -14,7 +14,7 @@ use std::thread::Threads;
 use std::time::Clock;
 use text_script::status::report;
 
-/// Lets the centres of a line run, and gives the exit status.
+/// Runs the centres of a line, and returns the exit status.
 pub fn run_centres<
     R: Threads
         + Wait
@@ -46,8 +46,8 @@ pub fn run_centres<
     }
 }
 
-// Locks and reads the journals, opens the ports, begins the journals, and serves. What is refused before it serves
-// leaves the journals as they were.
+// Locks and reads the journals, opens the ports, begins the journals, and serves. A refusal before it serves leaves
+// the journals as they were.
 fn run_noted<
     R: Threads
         + Wait
@@ -90,7 +90,7 @@ fn run_noted<
     )
 }
 
-// What the words ask for.
+// The options of the arguments.
 fn manner_of(words: &ServeWords<'_>) -> ServeOptions {
     let mut options = ServeOptions {
         is_telling: words.is_telling,

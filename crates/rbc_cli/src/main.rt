@@ -1,7 +1,7 @@
-//! `rbcline`, the program of the radio block centres: it runs a script of events on a line, or lets the centres of the
-//! line run for trains that connect to them, and prints what comes out.
+//! `rbcline`, the program of the radio block centres (RBCs). It runs a script of events on a line, or runs the
+//! centres of the line for trains that connect to them. It prints the results.
 //!
-//! Bodies are free. What is printed, and each exit status, is fixed by docs/FORMATS.md.
+//! Bodies are free. docs/FORMATS.md fixes the printed text and each exit status.
 #![tactic(auto)]
 
 mod centres;

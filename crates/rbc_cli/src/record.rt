@@ -1,4 +1,4 @@
-//! The journals of a line's centres, as files in a folder.
+//! Locks and begins the journals of a line's centres, as files in a folder.
 
 use cli_commands::journal::{Journal, journal_name, journal_of};
 use cli_commands::line_file::LineFile;
@@ -19,13 +19,13 @@ use text_script::status::Fault;
 #[derive(Drop)]
 struct Place {
     name: String,
-    /// Open and locked, if it is there.
+    /// The file, open and locked, if it exists.
     file: Option<File>,
-    /// How many bytes of it stay.
+    /// The number of its bytes that are kept.
     length: usize,
 }
 
-/// The journals of all centres, locked, and the events that they have.
+/// The journals of all centres, locked, and their events.
 #[derive(Drop)]
 pub struct Locked<'a> {
     words: JournalWords<'a>,
@@ -33,8 +33,8 @@ pub struct Locked<'a> {
     entries: Vec<Entry>,
 }
 
-/// Opens and locks the journals that are there, and then reads them. To go on, all of them have to be there. To begin,
-/// none of them may have an event. Nothing is changed. A note names the journal that is refused.
+/// Opens and locks the existing journals, and then reads them. To resume, all of them must exist. To begin, none of
+/// them may have an event. Nothing is changed. A note names the journal that is refused.
 pub fn lock_journals<'a, R: Files<File = File> + Clock + AllocGlobal, N: Notes>(
     rt: &R,
     given: &LineFile,
@@ -55,7 +55,7 @@ pub fn lock_journals<'a, R: Files<File = File> + Clock + AllocGlobal, N: Notes>(
 }
 
 impl Locked<'_> {
-    /// Begins the journals that have no first line, and makes those that are missing. A note names one that can't be
+    /// Begins the journals without a first line, and makes the missing ones. A note names a journal that can't be
     /// made or written.
     pub fn begun<R: Files<File = File> + Clock + AllocGlobal, N: Notes>(
         self,
@@ -87,7 +87,7 @@ impl Locked<'_> {
     }
 }
 
-// Opens and locks the journal of this name. One to go on from has to be there.
+// Opens and locks the journal of this name. A journal to resume must exist.
 fn place_of<R: Files<File = File> + Clock, N: Notes>(
     rt: &R,
     name: String,
@@ -112,7 +112,7 @@ fn place_of<R: Files<File = File> + Clock, N: Notes>(
     })
 }
 
-// The events of the journals, in the order in which they happened. Those of a journal that is begun are none.
+// The events of the journals, in the order in which they happened. A journal to begin has none.
 fn entries_of<R: AllocGlobal, N: Notes>(
     rt: &R,
     given: &LineFile,
@@ -142,7 +142,7 @@ fn entries_of<R: AllocGlobal, N: Notes>(
     Ok(in_order(rt.alloc(), journals)?)
 }
 
-// The bytes of a journal; none if it is not there.
+// The bytes of a journal; none if it does not exist.
 fn bytes_of<R: AllocGlobal, N: Notes>(
     rt: &R,
     place: &Place,
@@ -169,7 +169,7 @@ fn note_torn<N: Notes>(place: &Place, count: usize, notes: &N) {
     }
 }
 
-// Makes the folder, if it is not there. The disk has its name then.
+// Makes the folder, if it does not exist. The disk then has its name.
 fn make_folder<R: Files<File = File>, N: Notes>(
     rt: &R,
     words: &JournalWords<'_>,
@@ -187,7 +187,7 @@ fn make_folder<R: Files<File = File>, N: Notes>(
     }
 }
 
-// The folder that has this one.
+// The parent of this folder.
 fn parent_of(folder: &str) -> &str {
     match Path::new(folder).parent() {
         Some(parent) if parent.as_str().is_empty() => ".",
@@ -212,7 +212,7 @@ fn sync<R: Files<File = File>, N: Notes>(
     })
 }
 
-// Makes the journal of a centre, if it is not there, and writes its first line, if it has none.
+// Makes the journal of a centre, if it does not exist. Writes its first line, if it has none.
 fn begun_one<R: Files<File = File> + Clock, N: Notes>(
     rt: &R,
     mut place: Place,

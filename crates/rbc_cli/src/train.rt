@@ -1,4 +1,4 @@
-//! A train by hand.
+//! Drives a train by hand.
 
 use cli_commands::disk::Disk;
 use cli_commands::files::Files as _;
@@ -11,13 +11,13 @@ use std::rt::Files;
 use std::time::Duration;
 use text_script::status::Fault;
 
-/// How long a centre may send nothing after the last line, in seconds. Then the train ends, whether the centre has
-/// ended the connection or not.
+/// The longest time in seconds that a centre may send nothing after the last line. The train then ends, even if the
+/// centre has not ended the connection.
 const QUIET_S: u64 = 2;
 
-/// Sends the lines of a file to the centre at this port of this host, and prints what it reads. It waits for the centre
-/// as long as is named, or without a limit. After the last line it reads on until the centre, which has taken all then,
-/// ends the connection, or sends nothing for a while.
+/// Sends the lines of a file to the centre at this port of this host, and prints the messages that it reads. It waits
+/// for the centre for the given time, or without a limit. After the last line it reads on until the centre ends the
+/// connection, or sends nothing for `QUIET_S`. A centre that ends it has taken all lines.
 pub fn run_train<'a, R: Net<Stream = TcpStream> + Files<File = File> + AllocGlobal, O: Write>(
     rt: &R,
     port: u16,
@@ -57,7 +57,7 @@ fn run_text<R: Net<Stream = TcpStream> + AllocGlobal, O: Write>(
     Ok(())
 }
 
-// Sends nothing more, and reads on. The lines are done: how the connection ends is the centre's affair.
+// Sends nothing more, and reads on. The lines are done: the centre decides how the connection ends.
 fn finish(stream: &mut TcpStream) {
     let _ = stream.shutdown(Shutdown::Write);
     let _ = stream.set_read_timeout(Some(Duration::from_secs(QUIET_S)));

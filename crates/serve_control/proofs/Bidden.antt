@@ -1,4 +1,4 @@
--- What a line at the control endpoint asks for is what the entries of its script ask for.
+-- The command of a line at the control endpoint is the command of its script's entries.
 use Rattle.std.proofs.Common.{◌≡◌, ◌≢◌, Bool, true, false, ℕ, List, [], ◌∷◌, map, codes, Option, Some, None, IfOk, IfErr, ok_or, refl, ap, sym, ◌∙◌, inr}
 use Rattle.rbc_spec.specs.Line.{Line}
 use Rattle.text_script.specs.Script as script

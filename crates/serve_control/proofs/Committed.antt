@@ -1,4 +1,4 @@
--- What is printed at the control endpoint after an event: its row, and what it led to.
+-- The print at the control endpoint after an event: its line, and its effects.
 use Rattle.std.proofs.Common.{◌≡◌, ℕ, List, ◌++◌, Option, Some, None, Result, Ok, Err, OnOk, refl, sym, ap, subst, ◌∙◌, append_assoc}
 use Rattle.std.specs.Io.KnownBytes.{Appends}
 use Rattle.rbc_spec.specs.Line.{Line}

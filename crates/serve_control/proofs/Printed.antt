@@ -1,4 +1,4 @@
--- The event that is printed of a train's message is the one that happened.
+-- The event printed for a train's message is the event that happened.
 use Rattle.std.proofs.Common.{◌≡◌, ℕ, Vec, Global, ap, sym, subst, refl, ◌∙◌}
 use Rattle.rbc_spec.specs.World.{Bytes}
 use Rattle.rbc_msgs.specs.TrainText.{TrainText}

@@ -1,4 +1,4 @@
--- What a line at the control endpoint asks for.
+-- The commands of the control endpoint.
 use Rattle.std.specs.Prelude.{◌≡◌, ◌≢◌, ℕ, List, [], ◌∷◌, map, filter, codes, Option, Some, None, ◌⊎◌}
 use Rattle.rbc_spec.specs.Line.{Line}
 use Rattle.text_script.specs.Script as script
@@ -10,29 +10,30 @@ use Rattle.serve_control.specs.declared.command.Command.TheVariants as command
 use Rattle.serve_control.specs.declared.command.CommandFault.{CommandFault}
 use Rattle.serve_control.specs.declared.command.CommandFault.TheVariants as fault
 
--- what one line of a script asks for, as far as the interlocking may ask for it: nothing of a train or of a link
+-- the command of one line of a script, if the interlocking may give it: no event of a train or of a link
 abbrev pub bidden_once : Asked → Option Command
 bidden_once script.Show = Some command.Show
 bidden_once (script.Set centre section) = Some (command.Set centre section)
 bidden_once (script.Unset centre section) = Some (command.Unset centre section)
 bidden_once asked = None
 
--- what the lines of a script ask for, where that is one thing at most
+-- the command of the lines of a script, if there is at most one
 abbrev pub bidden : List Asked → Option Command
 bidden [] = Some command.Nothing
 bidden (one ∷ []) = bidden_once one
 bidden (one ∷ next ∷ others) = None
 
--- the lines of the text, as far as they are not skipped, ask for this, in order
+-- the lines of the text that are not skipped ask for this, in order
 abbrev pub AskFor : Line → List ℕ → List Asked → Type 0
 AskFor line text asked = map Some asked ≡ map (row_asks line) (filter is_kept (rows text))
 
--- the text is `stop`, or asks for this by the words of a script
+-- the text is `stop`, or asks for this in the form of a script
 abbrev pub Bids : Line → List ℕ → Command → Type 0
 Bids line text command.Stop = text ≡ codes "stop"
 Bids line text other = (asked : List Asked) × AskFor line text asked × (bidden asked ≡ Some other)
 
--- memory ran out; or the text is not `stop`, and is no script, or asks for what the interlocking may not ask for
+-- memory ran out; or the text is not `stop`, and is not a script, or asks for something that the interlocking may not
+-- ask for
 abbrev pub IsNoCommand : Line → List ℕ → CommandFault → Type 0
 IsNoCommand line text fault.Memory = Unit {0}
 IsNoCommand line text fault.Form =

@@ -10,8 +10,8 @@ use text_script::print::{name_of, print_event, print_outcome};
 use text_script::status::Fault;
 use text_script::{Outcome, WorldEvent};
 
-/// Prints what the interlocking is answered after its event at a centre: the event and what it led to, as a run prints
-/// them; or, where the commit was refused, the number of the fault.
+/// Prints the answer to the interlocking after its event at a centre. This is the event and its effects, as a run
+/// prints them. If the commit was refused, it is the number of the fault.
 pub fn print_commit<W: Write>(
     alloc: Global,
     out: &mut W,

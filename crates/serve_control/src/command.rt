@@ -7,30 +7,30 @@ use std::alloc::Global;
 use text_script::WorldEvent;
 use text_script::script::{Entry, ScriptFault, script_of};
 
-/// What a line at the control endpoint asks for.
+/// The command of a line at the control endpoint.
 #[derive(Clone, Copy, Debug, PartialEq, Eq)]
 pub enum Command {
     /// The line is skipped.
     Nothing,
     /// The interlocking releases a section.
     Set { centre: u8, section: u16 },
-    /// It takes a section back.
+    /// The interlocking takes a section back.
     Unset { centre: u8, section: u16 },
     /// Show the line that the centres supervise.
     Show,
-    /// No connection is taken any more, and the centres end with the last session.
+    /// No further connection is accepted, and the centres end with the last session.
     Stop,
 }
 
-/// Why a line at the control endpoint is refused.
+/// The reason why a line at the control endpoint is refused.
 #[derive(Clone, Copy, Debug, PartialEq, Eq)]
 pub enum CommandFault {
     Memory,
-    /// The line has no form that a line at the control endpoint may have.
+    /// The line does not have the form of a line at the control endpoint.
     Form,
 }
 
-/// What a line asks for. It has the form of a script's line `set`, `unset` or `show`, or is `stop`.
+/// The command of a line. The line has the form of a script's line `set`, `unset` or `show`, or is `stop`.
 pub fn command_of(alloc: Global, line: &Line, row: &str) -> Result<Command, CommandFault>
     ensures ok { IfOk result (Bids line.now row.now) }
     ensures err { IfErr result (IsNoCommand line.now row.now) }
@@ -45,7 +45,7 @@ pub fn command_of(alloc: Global, line: &Line, row: &str) -> Result<Command, Comm
     }
 }
 
-// What one entry asks for, or none.
+// The command of at most one entry; `None` for several entries, or for one that is not a command.
 fn command_in(entries: &[Entry]) -> Option<Command>
     ensures { result ≡ bidden (map asked_of entries.now) }
 {
@@ -57,7 +57,7 @@ fn command_in(entries: &[Entry]) -> Option<Command>
     }
 }
 
-// What comes from a train or over a link does not come through the control endpoint.
+// Events of a train or of a link are not accepted at the control endpoint.
 fn command_by(event: &WorldEvent) -> Option<Command>
     ensures { result ≡ bidden_once (event_of event.now) }
 {

@@ -5,7 +5,7 @@ use std::io;
 use text_script::status::Fault;
 use thiserror::Error;
 
-/// Why the running centres end without a print.
+/// The reason why the running centres end without a print.
 #[derive(Debug, Drop, Error)]
 pub enum ServeFault {
     /// A port can't be listened on.
@@ -15,10 +15,10 @@ pub enum ServeFault {
     Gather(GatherFault),
     #[error("rbcline: merge refused {number}", number = .0.number())]
     Merge(MergeFault),
-    /// A journal was given up: it lacks what was committed last, or it can't be begun.
+    /// A journal was given up: it lacks the last committed events, or it can't be begun.
     #[error("rbcline: journal")]
     Journal,
-    /// As for a run.
+    /// The fault of a run.
     #[error(transparent)]
     Run(Fault<'static>),
 }

@@ -1,7 +1,7 @@
-//! What running centres are told at their control endpoint, and how they end: what a line from the interlocking asks
-//! for, the print of all that happened, and the exit status where there is none.
+//! The commands and the end of running centres: the command of a line from the interlocking, and the print of all
+//! events. If nothing is printed, they end with an exit status.
 //!
-//! Bodies are free. What goes over a connection is fixed by docs/FORMATS.md.
+//! Bodies are free. docs/FORMATS.md fixes the bytes of each connection.
 #![tactic(auto)]
 
 mod answering;

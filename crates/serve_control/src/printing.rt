@@ -15,7 +15,8 @@ use text_script::print::{name_of, print_event, print_line, print_outcome};
 use text_script::status::Fault;
 use text_script::{Event, StepFault, World, WorldEvent};
 
-/// Prints the events of all logs by their stamps, each with what it led to as its log has it, and the line at the end.
+/// Prints the events of all logs in the order of their stamps, each with its effects from its log, and the line at the
+/// end.
 pub fn print_family<O: Write>(
     alloc: Global,
     line: &Line,
@@ -54,7 +55,7 @@ fn print_entries<O: Write>(
     print_line(alloc, out, line, &world)
 }
 
-/// The event of an entry as it came to its centre: the bytes of a train's message spell it whole.
+/// The event of an entry as its centre received it. The bytes of a train's message spell the whole message.
 pub fn world_event(alloc: Global, entry: &Entry) -> Result<WorldEvent, Fault<'static>>
     ensures happened { IfOk result (λ event. event_of event ≡ happened (entry_of entry.now)) }
     ensures whole { IfOk result (IsCommitted entry.now.centre entry.now.event) }

@@ -1,5 +1,5 @@
 use crate::looking::PageSnapshot;
-use crate::state::{DOOR_REST_MS, Endpoint, Listening};
+use crate::state::{ENDPOINT_REST_MS, Endpoint, Listening};
 use rbc_line::Line;
 use rbc_node::Node;
 use std::alloc::Global;
@@ -10,19 +10,19 @@ use std::thread::Parker;
 use std::time::{Clock, Duration, Instant, SystemTime, UNIX_EPOCH};
 use text_script::status::Fault;
 
-/// How many browsers are answered at once.
+/// The most browsers that are answered at the same time.
 const BROWSERS: usize = 8;
 
-/// How long a connection has to leave its place for another, in rests of the endpoint.
+/// The time for a connection to leave its place for another, in rests of the endpoint: 0.2 seconds.
 const LEAVING_RESTS: u32 = 10;
 
-/// The port at which browsers ask for the page of the line.
+/// The port at which browsers request the page of the line.
 #[derive(Drop)]
 pub(crate) struct PageEndpoint {
     pub listener: TcpListener,
     pub address: SocketAddr,
     places: Vec<Place>,
-    // How many connections came.
+    // The number of connections so far.
     came: AtomicU64,
     waker: Parker,
     pub seen: Mutex<Seen>,
@@ -32,22 +32,23 @@ pub(crate) struct PageEndpoint {
 #[derive(Drop)]
 pub(crate) struct Place {
     is_taken: AtomicBool,
-    // Which of all connections has it, or had it last.
+    // The number of the connection that has the place, or had it last, in order of arrival.
     number: AtomicU64,
     stream: Mutex<Option<Arc<TcpStream, Global>>>,
 }
 
-/// The line as it was seen last, and when.
+/// The last view of the line, and its time.
 #[derive(Drop)]
 pub(crate) struct Seen {
     pub at: Option<Instant>,
-    /// Another one each time that anything changes which is shown.
+    /// The version of the view: it changes whenever anything that is shown changes.
     pub version: u64,
     pub page_snapshot: PageSnapshot,
 }
 
 impl PageEndpoint {
-    /// The centres have taken no event yet that their journals lack.
+    /// A page endpoint with a first view of the centres. At the call, the centres' journals have all events that the
+    /// centres have taken.
     pub fn new<R: Wait + Clock>(
         rt: &R,
         alloc: Global,
@@ -80,14 +81,14 @@ impl PageEndpoint {
         })
     }
 
-    /// Rests a while.
+    /// Rests for at most `ENDPOINT_REST_MS`.
     pub fn rest<R: Wait>(&self, rt: &R) {
         self.waker
-            .park_timeout(rt, Duration::from_millis(DOOR_REST_MS));
+            .park_timeout(rt, Duration::from_millis(ENDPOINT_REST_MS));
     }
 
-    /// A place for a new connection. If all are taken, the connection that came first ends. Only the thread at the
-    /// endpoint calls it.
+    /// A place for a new connection. If all are taken, the earliest connection ends. Only the thread of the endpoint
+    /// calls it.
     pub fn place_for<R: Wait>(&self, rt: &R, stream: &Arc<TcpStream, Global>) -> Option<&Place> {
         let shared = Arc::try_clone(stream).ok()?;
         let place = self.free_place(rt)?;
@@ -127,20 +128,20 @@ impl Place {
         }
     }
 
-    // Ends the connection that has the place.
+    // Shuts the connection that has the place.
     fn shut<R: Wait>(&self, rt: &R) {
         if let Some(stream) = &*self.stream.lock(rt) {
             let _ = stream.shutdown(Shutdown::Both);
         }
     }
 
-    /// Its connection is gone: the place is free.
+    /// Frees the place: its connection has ended.
     pub fn leave<R: Wait>(&self, rt: &R) {
         *self.stream.lock(rt) = None;
         self.is_taken.store(false, Ordering::SeqCst);
     }
 
-    // The one of both places whose connection came first.
+    // The place whose connection arrived earlier.
     fn first<'a>(one: Option<&'a Place>, other: &'a Place) -> &'a Place {
         let number = other.number.load(Ordering::SeqCst);
         match one {
@@ -150,7 +151,8 @@ impl Place {
     }
 }
 
-// The version in which the line is shown first: another one each time that centres begin, as far as the clock tells it.
+// The version of the first view: the milliseconds of the clock, so that it differs after each start. It is 0 if the
+// clock fails.
 fn first_version<R: Clock>(rt: &R) -> u64 {
     let Ok(now) = SystemTime::now(rt) else {
         return 0;

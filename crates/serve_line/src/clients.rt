@@ -1,7 +1,7 @@
-//! Who comes through the endpoints of a running line: trains, whose messages are committed and answered, and the
-//! interlocking, whose lines are answered as a run prints them.
+//! The clients of a running line. Trains send messages, which are committed and answered. The interlocking sends lines,
+//! which are answered as a run prints them.
 //!
-//! Bodies are free. What goes over a connection is fixed by docs/FORMATS.md.
+//! Bodies are free. docs/FORMATS.md fixes the bytes of each connection.
 
 mod answer;
 mod control;

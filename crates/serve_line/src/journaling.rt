@@ -1,7 +1,7 @@
-//! The journals of running centres: what each centre commits is written down in the order of its log, what it answers
-//! waits until it is written, and centres go on from what was written.
+//! The journals of running centres. Each centre's events are written in the order of its log, and its answers wait
+//! until their events are written. Centres resume from their journals.
 //!
-//! Bodies are free. The format of a journal is fixed by docs/FORMATS.md.
+//! Bodies are free. docs/FORMATS.md fixes the format of a journal.
 
 mod batch;
 mod file;

@@ -12,17 +12,17 @@ use std::time::Clock;
 use text_journal::Entry;
 use text_script::print::name_of;
 
-/// What the centres write down, and what they go on from.
+/// The journals that the centres write, and the events that they resume from.
 #[derive(Drop)]
 pub struct Record<F: Drop> {
-    /// The journals, by the centres' numbers; none where none is kept.
+    /// The journals, in the order of the centres' numbers; empty if the centres keep none.
     pub files: Vec<JournalFile<F>>,
-    /// The events of the journals that the centres go on from, in the order in which they happened.
+    /// The events of the journals that the centres resume from, in the order in which they happened.
     pub entries: Vec<Entry>,
 }
 
 impl<F: Drop> Record<F> {
-    /// Nothing is written down, and the line begins again.
+    /// No journal is written, and the line begins again.
     pub fn none(alloc: Global) -> Record<F> {
         Record {
             files: Vec::new(alloc),
@@ -31,7 +31,7 @@ impl<F: Drop> Record<F> {
     }
 }
 
-/// Lets the centres go on from what their journals have, and says so.
+/// Resumes the centres from the events of their journals, and notes the count of each centre.
 pub(crate) fn resume_noted<R: Wait, N: Notes>(
     rt: &R,
     alloc: Global,
@@ -60,7 +60,7 @@ pub(crate) fn resume_noted<R: Wait, N: Notes>(
     }
 }
 
-/// Writes the journal of a centre, until nothing more is committed.
+/// Writes the journal of a centre until no further event can be committed.
 pub(crate) fn keep<R: Wait + Clock, N: Notes, F: Write + Seek + OpenFile + Drop>(
     rt: &R,
     server: &Server<'_>,

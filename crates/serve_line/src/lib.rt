@@ -1,8 +1,8 @@
-//! A running line of centres: its threads (here), their shared state (`state`), the clients of its endpoints
-//! (`clients`), its status and notes (`status`), the page's look at its centres (`looking`), and its journals
+//! A running line of centres: its threads (here) and their shared state (`state`). Its parts are the clients of its
+//! endpoints (`clients`), its status and notes (`status`), the page's view of its centres (`looking`), and its journals
 //! (`journaling`).
 //!
-//! Bodies are free. What goes over a connection is fixed by docs/FORMATS.md.
+//! Bodies are free. docs/FORMATS.md fixes the bytes of each connection.
 #![tactic(auto)]
 
 mod browsers;

@@ -7,8 +7,8 @@ use std::sync::Wait;
 use std::thread;
 use std::thread::Threads;
 
-/// Carries the frames of a link in a bounded queue, until nothing new comes: a worker sends them, and another receives
-/// them.
+/// Carries the frames of a link in a bounded queue until nothing new arrives. One worker sends the frames, another
+/// receives them.
 pub(crate) fn carry<R: Threads + Wait + Sync>(rt: &R, server: &Server<'_>, link: &DirectedLink) {
     if try_carry(rt, server, link).is_err() {
         server.fail();
@@ -31,8 +31,8 @@ fn try_carry<R: Threads + Wait + Sync>(
     Ok(())
 }
 
-// Carries the frames by a carrier: they are sent in a thread of its own, and received in this one. Where no thread can
-// be made, the line ends.
+// Carries the frames by a carrier. They are sent in a thread of their own, and received in this one. If no thread can
+// be made, the line of centres stops.
 fn carry_by<R: Threads + Wait + Sync, C: Carrier + Sync>(
     rt: &R,
     server: &Server<'_>,
@@ -63,7 +63,7 @@ fn carry_by<R: Threads + Wait + Sync, C: Carrier + Sync>(
     );
 }
 
-// Sends the frames of a link, until nothing new comes.
+// Sends the frames of a link until nothing new arrives.
 fn send<R: Wait, C: Carrier>(
     rt: &R,
     server: &Server<'_>,
@@ -86,8 +86,8 @@ fn send<R: Wait, C: Carrier>(
     send_frames(rt, node, link.to, carrier, seen, signals);
 }
 
-// Receives the frames of a link, until nothing new comes. A centre that goes on from its journal has taken some
-// already.
+// Receives the frames of a link until nothing new arrives. A centre that resumed from its journal skips the frames that
+// it has taken.
 fn receive<R: Wait, C: Carrier>(
     rt: &R,
     server: &Server<'_>,

@@ -1,8 +1,8 @@
-//! What the page shows of the running centres. They are looked at one after another, each at a moment of its own, as
-//! `show` does it: under a centre's lock its pages are copied, and a bounded part of what came to its log since.
-//! Nothing is committed.
+//! The page's view of the running centres. They are read one after another, each at its own moment, as `show` does. The
+//! lock of a centre is held while its pages are copied, and a bounded part of its new log entries. Nothing is
+//! committed.
 //!
-//! Bodies are free. What is shown is fixed by docs/FORMATS.md.
+//! Bodies are free. docs/FORMATS.md fixes the shown data.
 
 mod news;
 mod page_snapshot;

@@ -12,14 +12,14 @@ use std::thread::Threads;
 use std::time::{Clock, Duration, Instant};
 use text_script::status::Fault;
 
-/// How long a read or a write of a browser's connection waits, in milliseconds.
+/// The longest wait of a read or a write of a browser's connection, in milliseconds.
 const PAGE_REST_MS: u64 = 250;
 
-/// How many reads and writes there are at most in one connection.
+/// The most reads of a request, writes of an answer, and reads after the answer, each.
 const TURNS: u32 = 16;
 
-/// How long the line counts as seen, in milliseconds: however many ask, the centres are looked at four times a second
-/// at most.
+/// The lifetime of a view, in milliseconds. The centres are read at most four times a second, whatever the number of
+/// requests.
 const FRESH_MS: u64 = 250;
 
 /// Answers browsers until all sessions have ended.
@@ -55,7 +55,7 @@ pub(crate) fn run_pages<R: Threads + Wait + Sync + Clock, N: Notes + Sync>(
     });
 }
 
-// A connection that waits to be taken. It rests a while if there is none.
+// The next connection that waits. It rests if there is none.
 fn next_browser<R: Wait>(
     rt: &R,
     server: &Server<'_>,
@@ -70,7 +70,7 @@ fn next_browser<R: Wait>(
     }
 }
 
-// Says that too many ask. It never waits: the connection is new, so that it has room for this.
+// Answers that too many browsers ask. It never waits: a new connection has room for this answer.
 fn refuse(stream: &TcpStream) {
     let _ = stream.set_nonblocking(true);
     let mut out = stream;
@@ -98,7 +98,7 @@ fn serve_browser<R: Wait + Clock>(
     drain(stream);
 }
 
-// The answer, or its head with the empty line.
+// The whole answer, or only its head with the empty line.
 fn part_of(text: &str, has_body: bool) -> &str {
     if has_body {
         return text;
@@ -109,8 +109,8 @@ fn part_of(text: &str, has_body: bool) -> &str {
     }
 }
 
-// What is asked for, as soon as it has come whole, and whether the answer has a body: to HEAD it has none. `None` if
-// the connection ends before.
+// The request, as soon as it is complete, and whether its answer has a body: the answer to HEAD has none. `None` if the
+// connection ends first.
 fn read_request(server: &Server<'_>, stream: &TcpStream) -> Option<(Asked, bool)> {
     let mut bytes: Vec<u8> = Vec::new(server.alloc);
     let mut source = stream;
@@ -133,7 +133,7 @@ fn read_request(server: &Server<'_>, stream: &TcpStream) -> Option<(Asked, bool)
     Some((Asked::Refused(Refusal::Time), has_body))
 }
 
-// Whether a device only says that nothing could be done now.
+// Whether an error only means that nothing could be done now.
 fn is_rest(kind: ErrorKind) -> bool {
     matches!(
         kind,
@@ -141,7 +141,7 @@ fn is_rest(kind: ErrorKind) -> bool {
     )
 }
 
-// The bytes of the answer. The centres are looked at only where it needs them, and by one thread at a time.
+// The bytes of the answer. The centres are read only if the answer needs them, and by one thread at a time.
 fn answer_to<R: Wait + Clock>(
     rt: &R,
     server: &Server<'_>,
@@ -163,8 +163,8 @@ fn answer_to<R: Wait + Clock>(
     )?)
 }
 
-// Looks at the centres again if the last look is old. The page goes on showing that one while a journal can't be
-// written: nobody is shown an event that no journal has.
+// Reads the centres again if the last view is old. While a journal can't be written, the page shows the old view. So
+// nobody is shown an event that no journal has.
 fn refresh<R: Wait + Clock>(
     rt: &R,
     server: &Server<'_>,
@@ -189,13 +189,13 @@ fn refresh<R: Wait + Clock>(
         let before = std::mem::replace(shown, now);
         copy_marks(&before, shown);
     }
-    if mark_doors(rt, server, shown) || has_changed {
+    if mark_endpoints(rt, server, shown) || has_changed {
         seen.version = seen.version.saturating_add(1);
     }
     Ok(())
 }
 
-// Copies what the endpoints showed before.
+// Copies the marks of the endpoints from the earlier view.
 fn copy_marks(before: &LineNow, now: &mut LineNow) {
     now.is_stopped = before.is_stopped;
     for (place, old) in now.centres.iter_mut().zip(before.centres.iter()) {
@@ -205,9 +205,9 @@ fn copy_marks(before: &LineNow, now: &mut LineNow) {
     }
 }
 
-// Marks whether connections are taken, how many there are, and which journals can't be written. The result is whether
-// anything of that has changed.
-fn mark_doors<R: Wait>(rt: &R, server: &Server<'_>, now: &mut LineNow) -> bool {
+// Marks whether connections are accepted, the number of connections, and the journals that can't be written. The result
+// is whether any of these has changed.
+fn mark_endpoints<R: Wait>(rt: &R, server: &Server<'_>, now: &mut LineNow) -> bool {
     let is_stopped = server.state.is_stopped();
     let mut has_changed = is_stopped != now.is_stopped;
     now.is_stopped = is_stopped;
@@ -226,7 +226,7 @@ fn mark_doors<R: Wait>(rt: &R, server: &Server<'_>, now: &mut LineNow) -> bool {
     has_changed
 }
 
-// How many of an endpoint's slots are taken.
+// The number of taken slots of an endpoint.
 fn taken_in(endpoint: &Endpoint) -> u64 {
     let mut taken = 0u64;
     for slot in &endpoint.slots {
@@ -237,7 +237,7 @@ fn taken_in(endpoint: &Endpoint) -> u64 {
     taken
 }
 
-// Writes what a browser takes in so many turns.
+// Writes as much of the text as a browser takes in `TURNS` writes.
 fn write_bounded(stream: &TcpStream, text: &[u8]) {
     let mut out = stream;
     let mut rest = text;
@@ -256,7 +256,7 @@ fn write_bounded(stream: &TcpStream, text: &[u8]) {
     }
 }
 
-// Takes what a browser said after its request, so that the system does not cut the answer off.
+// Reads the bytes after a browser's request, so that the system does not cut the answer off.
 fn drain(stream: &TcpStream) {
     let mut source = stream;
     let mut piece = [0u8; 2_048];

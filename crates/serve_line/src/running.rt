@@ -22,12 +22,12 @@ use std::thread;
 use std::thread::Threads;
 use std::time::Clock;
 
-/// How many notes wait for standard error at most.
+/// The most notes that wait for standard error.
 const NOTES: usize = 1_024;
 
-/// Runs the centres of the line until the interlocking says `stop` and all sessions have ended. Then it gathers their
-/// logs, merges them, and prints all events with what they led to, and the line, as a run does. A thread of its own
-/// writes the notes, and one for each journal what its centre commits.
+/// Runs the centres of the line until the interlocking sends `stop` and all sessions have ended. Then it gathers and
+/// merges their logs. It prints all events with their effects, and the line, as a run does. One thread writes the
+/// notes, and one thread for each journal writes the events of its centre.
 pub fn serve<
     R: Threads + Wait + Sync + Clock,
     N: Notes + Sync,
@@ -63,7 +63,7 @@ pub fn serve<
     })
 }
 
-// The same, where no note has to wait to be written.
+// The same, with notes that never wait to be written.
 fn serve_noted<
     R: Threads + Wait + Sync + Clock,
     N: Notes + Sync,
@@ -118,7 +118,7 @@ fn serve_noted<
     }
 }
 
-// Prints all events, and notes how many are missing where a write fails.
+// Prints all events. If a write fails, a note reports the number of missing events.
 fn print_noted<N: Notes, O: Write>(
     alloc: Global,
     line: &Line,
@@ -141,7 +141,7 @@ fn print_noted<N: Notes, O: Write>(
     done
 }
 
-// Runs all workers to their ends, and says whether the journals have all that was committed.
+// Runs all workers to their ends. The result is whether the journals have all committed events.
 fn run_centres<
     R: Threads + Wait + Sync + Clock,
     N: Notes + Sync,
@@ -186,7 +186,7 @@ fn run_centres<
     Ok(!state.has_lost())
 }
 
-// Runs the links and the endpoints, and beside them the page and the journals.
+// Runs the links and the endpoints, and concurrently the page and the journals.
 fn run_beside<
     R: Threads + Wait + Sync + Clock,
     N: Notes + Sync,
@@ -220,7 +220,7 @@ fn run_beside<
     });
 }
 
-// Carries frames for as long as the endpoints are open: a thread a link, and in it two workers.
+// Carries frames while the endpoints are open. Each link has a thread, with two workers.
 fn run_links<R: Threads + Wait + Sync + Clock, N: Notes + Sync>(
     rt: &R,
     server: &Server<'_>,
@@ -237,7 +237,7 @@ fn run_links<R: Threads + Wait + Sync + Clock, N: Notes + Sync>(
     });
 }
 
-// Lets peers in at each endpoint, until the interlocking says `stop` and the last of them is gone.
+// Accepts connections at each endpoint until the interlocking sends `stop` and the last connection has ended.
 fn run_endpoints<R: Threads + Wait + Sync + Clock, N: Notes + Sync>(
     rt: &R,
     server: &Server<'_>,
@@ -258,7 +258,7 @@ fn run_endpoints<R: Threads + Wait + Sync + Clock, N: Notes + Sync>(
     });
 }
 
-// The receipts of all that was committed: those with which the centres began, and those of the workers.
+// The receipts of all committed events: those of the start, and those of the workers.
 fn shares_of(
     begun: Vec<Share>,
     endpoints: Vec<Endpoint>,
@@ -274,7 +274,7 @@ fn shares_of(
     Ok(all)
 }
 
-// Adds the receipts of what was committed from these slots.
+// Adds the receipts of these slots.
 fn add_shares(all: &mut Vec<Share>, slots: Vec<Slot>) -> Result<(), AllocError> {
     for slot in slots {
         let mut shares = slot.shares.into_inner();

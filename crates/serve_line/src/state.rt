@@ -1,7 +1,7 @@
-//! What the threads of a running line share: the endpoints, with a slot for each connection; the links; where a
-//! centre's answers go on to; and whether the line still runs.
+//! The shared state of the threads of a running line: the endpoints, with a slot for each connection, and the links. It
+//! also has the sinks of the centres' answers, and the flags of the line's end.
 //!
-//! Bodies are free. What goes over a connection is fixed by docs/FORMATS.md.
+//! Bodies are free. docs/FORMATS.md fixes the bytes of each connection.
 
 mod build;
 mod endpoints;
@@ -17,7 +17,7 @@ pub use build::{
     connections_of, endpoints_of, journals_of, links_of, nodes_of, sinks_of, wakers_of,
 };
 pub use endpoints::{Endpoints, Listening};
-pub use limits::DOOR_REST_MS;
+pub use limits::ENDPOINT_REST_MS;
 pub use options::ServeOptions;
 pub use paces::Paces;
 pub use queue::{Queue, Watch};

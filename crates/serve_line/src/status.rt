@@ -1,7 +1,7 @@
-//! What a running line says of itself: to the interlocking the sections and trains, as their centres show them one
-//! after another; how much of each log, clock and link is used up; and notes of what happens.
+//! The status of a running line, and its notes. `show` lists the sections and trains, as the centres show them one
+//! after another, and the usage of each log, clock and link. Notes report events as they happen.
 //!
-//! Bodies are free. What is shown is fixed by docs/FORMATS.md.
+//! Bodies are free. docs/FORMATS.md fixes the shown data.
 
 mod kinds;
 mod life;

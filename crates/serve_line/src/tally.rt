@@ -1,13 +1,13 @@
 use std::io;
 use std::io::Write;
 
-/// A print on its way out, of which the lines are counted that begin an event.
+/// A print that counts the lines that begin an event.
 #[derive(Drop)]
 pub(crate) struct Tally<'a, O> {
     out: &'a mut O,
-    // How many lines that begin an event went out, whole or in part.
+    // The number of lines that begin an event and were sent, completely or in part.
     events: u64,
-    // Whether a new line begins.
+    // Whether the next byte begins a line.
     is_new: bool,
 }
 
@@ -20,12 +20,12 @@ impl<'a, O: Write> Tally<'a, O> {
         }
     }
 
-    /// How many events went out, the last perhaps in part.
+    /// The number of events sent, the last perhaps in part.
     pub fn events(&self) -> u64 {
         self.events
     }
 
-    // These bytes went out.
+    // Counts the events among these sent bytes.
     fn count(&mut self, bytes: &[u8]) {
         for byte in bytes {
             if self.is_new && *byte == b'>' {

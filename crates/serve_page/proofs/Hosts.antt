@@ -1,4 +1,4 @@
--- The fields of a head that name a host, by the spans that lie in its bytes.
+-- The fields of a head that name a host, by their spans in its bytes.
 use Rattle.std.proofs.Common.{◌≡◌, ◌≤◌, ℕ, Bool, true, false, cond, List, [], ◌∷◌, length, take, map, refl, sym, ◌∙◌, ap, subst}
 use Rattle.std.proofs.lemmas.List.{length-map}
 use Rattle.httparse.specs.Spans.{span_bytes, header_bytes, AreFieldsAt}
@@ -8,7 +8,7 @@ use Rattle.serve_page.specs.Requests.{names_host, hosts_of, hosts_in, named_in, 
 use Rattle.serve_page.specs.declared.request.Hosts.{Hosts}
 use Rattle.serve_page.specs.declared.request.Hosts.TheVariants as hosts
 
--- the hosts of what spans cover are what the spans cover that name a host
+-- the hosts among the covered bytes are the covered bytes of the spans that name a host
 pub hosts_covered : (bytes : List ℕ) (spans : List HeaderSpan) → hosts_of (map (header_bytes bytes) spans) ≡ map (header_bytes bytes) (named_in bytes spans)
 hosts_covered bytes [] = refl
 hosts_covered bytes (span ∷ spans) = covered_by (names_host (span_bytes bytes span.name)) (header_bytes bytes) span (named_in bytes spans) (hosts_of (map (header_bytes bytes) spans)) (hosts_covered bytes spans)
@@ -18,12 +18,12 @@ hosts_covered bytes (span ∷ spans) = covered_by (names_host (span_bytes bytes 
     covered_by true f x xs ys e = ap (λ t. f x ∷ t) e
     covered_by false f x xs ys e = e
 
--- the same, of a head whose fields those spans cover
+-- the same, for a head whose fields these spans cover
 as_listed : (bytes : List ℕ) (headers : List HeaderSpan) (count : ℕ) (h : RequestHead) → AreFieldsAt bytes headers count h.fields
     → hosts_in h ≡ map (header_bytes bytes) (named_in bytes (take count headers))
 as_listed bytes headers count h at = ap hosts_of (sym at) ∙ hosts_covered bytes (take count headers)
 
--- the hosts of a head whose fields those spans cover
+-- the hosts of a head whose fields these spans cover
 pub hosts_at : (bytes : List ℕ) (headers : List HeaderSpan) (count : ℕ) (h : RequestHead) (it : Hosts) → AreFieldsAt bytes headers count h.fields
     → AreHosts (named_in bytes (take count headers)) it → AreHostsOf bytes h it
 hosts_at bytes headers count h hosts.Nothing at are = as_listed bytes headers count h at ∙ ap (λ t. map (header_bytes bytes) t) are

@@ -7,7 +7,7 @@ use Rattle.serve_page.specs.declared.request.Refusal.{Refusal}
 use Rattle.serve_page.specs.declared.request.Refusal.TheVariants as refusal
 use Rattle.serve_page.specs.declared.reply.TheConstants as constants
 
--- what a refused request is answered, whatever the line does
+-- the answer to a refused request, in any state of the line
 abbrev pub refusal_text : Refusal → List ℕ
 refusal_text refusal.Form = constants.FORM.now
 refusal_text refusal.Host = constants.HOST.now
@@ -25,8 +25,9 @@ answer_of head body = head ++ decimal (length body) ++ constants.END.now ++ body
 abbrev pub HasBody : List ℕ → List ℕ → Type 0
 HasBody head text = (body : List ℕ) × (text ≡ answer_of head body)
 
--- the answer to a request if the line is shown in this version: a refused one has a fixed text, and one for what is so
--- now says that nothing is new if it names this version. Any other answer has the length of its body in its head
+-- The answer to a request if the line is shown in this version. The answer to a refused request is a fixed text. The
+-- answer for the current state reports no change if the request names this version. Any other answer has the length of
+-- its body in its head.
 abbrev pub IsAnswer : ℕ → Asked → List ℕ → Type 0
 IsAnswer version asked.More text = text ≡ []
 IsAnswer version (asked.Refused why) text = text ≡ refusal_text why

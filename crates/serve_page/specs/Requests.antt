@@ -1,4 +1,4 @@
--- What a request asks for.
+-- The meaning of a request.
 use Rattle.std.specs.Prelude.{◌≡◌, ◌≢◌, ◌<◌, ◌≤◌, ℕ, Bool, true, false, ◌&&◌, ◌||◌, ◌==◌, List, [], ◌∷◌, length, take, drop, map, filter, codes, ⊤}
 use Rattle.std.specs.Char.{to_ascii_lowercase}
 use Rattle.std.specs.Str.{bytes_eq}
@@ -28,7 +28,7 @@ is_port_part (b ∷ bytes) = b == 58
 abbrev pub has_name : List ℕ → List ℕ → Bool
 has_name name host = bytes_eq (take (length name) host) name && is_port_part (drop (length name) host)
 
--- a host goes by a name that means this host everywhere
+-- a host is one of the names that mean this host everywhere
 abbrev pub is_loopback : List ℕ → Bool
 is_loopback host = has_name (codes "localhost") host || has_name (codes "127.0.0.1") host
 
@@ -36,11 +36,11 @@ is_loopback host = has_name (codes "localhost") host || has_name (codes "127.0.0
 abbrev pub is_reading : List ℕ → Bool
 is_reading method = bytes_eq method (codes "GET") || bytes_eq method (codes "HEAD")
 
--- a target that asks for what is so now
+-- a target that asks for the current state
 abbrev pub is_now : List ℕ → Bool
 is_now target = bytes_eq target (codes "/now") || bytes_eq (take 11 target) (codes "/now?since=")
 
--- what a target asks for: three addresses are known
+-- the meaning of a target: three addresses are known
 abbrev pub IsAskedAt : List ℕ → Asked → Type 0
 IsAskedAt target asked.Page = target ≡ codes "/"
 IsAskedAt target asked.Line = target ≡ codes "/line.json"
@@ -53,35 +53,35 @@ IsAskedAt target other = ⊥
 abbrev pub hosts_in : RequestHead → List (List ℕ × List ℕ)
 hosts_in h = hosts_of (map name_and_value h.fields)
 
--- exactly one field names a host, and it goes by such a name or not
+-- exactly one field names a host; whether the host has such a name
 abbrev pub HasHost : RequestHead → Bool → Type 0
 HasHost h is_ours = (host : List ℕ × List ℕ) × (hosts_in h ≡ host ∷ []) × (is_loopback host.1 ≡ is_ours)
 
--- what a whole head asks for: one host, which is this one, before the method, and the method before the target
+-- the meaning of a complete head: the host is checked before the method, and the method before the target
 abbrev pub IsAskedBy : RequestHead → Asked → Type 0
 IsAskedBy h (asked.Refused refusal.Form) = length (hosts_in h) ≢ 1
 IsAskedBy h (asked.Refused refusal.Host) = HasHost h false
 IsAskedBy h (asked.Refused refusal.Method) = HasHost h true × (is_reading h.method ≡ false)
 IsAskedBy h other = HasHost h true × (is_reading h.method ≡ true) × IsAskedAt h.target other
 
--- more is waited for only where a head may come yet and few bytes have come; and nothing is given but to a whole head
--- that asks for it
+-- More bytes are awaited only if they may still become a head, and are fewer than 8192. Any other result but a refusal
+-- needs a complete head that asks for it.
 abbrev pub IsAsked : List ℕ → Asked → Type 0
 IsAsked bytes asked.More = MayBecomeRequest bytes × (length bytes < 8192)
 IsAsked bytes (asked.Refused why) = ⊤
 IsAsked bytes other = (h : RequestHead) × (rest : List ℕ) × ReadsRequest bytes h rest × IsAskedBy h other
 
--- the fields that name a host, where the spans lie in the bytes
+-- the fields that name a host, by their spans in the bytes
 abbrev pub named_in : List ℕ → List HeaderSpan → List HeaderSpan
 named_in bytes fields = filter (λ f. names_host (span_bytes bytes f.name)) fields
 
--- how many of them there are
+-- these fields are none, this one, or several
 abbrev pub AreHosts : List HeaderSpan → Hosts → Type 0
 AreHosts fields hosts.Nothing = fields ≡ []
 AreHosts fields (hosts.One field) = fields ≡ field ∷ []
 AreHosts fields hosts.Several = 2 ≤ length fields
 
--- of a head whose spans those are, what is known of the fields that name a host
+-- the fields of the head that name a host are none, the one at these spans, or several
 abbrev pub AreHostsOf : List ℕ → RequestHead → Hosts → Type 0
 AreHostsOf bytes h hosts.Nothing = hosts_in h ≡ []
 AreHostsOf bytes h (hosts.One field) = hosts_in h ≡ (span_bytes bytes field.name, span_bytes bytes field.value) ∷ []

@@ -1,8 +1,8 @@
-//! The running line for a person at a browser: what a request asks for, and the bytes of the answer. They are made of
-//! the request and of what the centres showed, and of nothing else: nothing here has a centre, a socket or a clock, so
-//! nothing here changes the line.
+//! The running line for a person at a browser: the meaning of a request, and the bytes of the answer. They depend only
+//! on the request and on the state that the centres showed. Nothing here has a centre, a socket or a clock, so nothing
+//! here changes the line.
 //!
-//! Bodies are free. What is answered is fixed by docs/FORMATS.md.
+//! Bodies are free. docs/FORMATS.md fixes the answers.
 #![tactic(auto)]
 
 mod reply;

@@ -39,7 +39,7 @@ const SIZE: &str =
 const CROWD: &str =
     "HTTP/1.1 503 Service Unavailable\r\nContent-Type: text/plain\r\nConnection: close\r\nContent-Length: 22\r\n\r\ntoo many ask at once \n";
 
-/// The answer to a request that is refused.
+/// The answer to a refused request.
 pub fn refusal(why: Refusal) -> &'static str
     ensures { result.now ≡ refusal_text why }
 {
@@ -54,7 +54,7 @@ pub fn refusal(why: Refusal) -> &'static str
     }
 }
 
-/// The answer to a request, if the line is shown in this version. It is empty if the request has not come whole.
+/// The answer to a request, if the line is shown in this version. It is empty if the request is not complete.
 pub fn answer(
     alloc: Global,
     layout: &Layout,
@@ -74,7 +74,7 @@ pub fn answer(
     }
 }
 
-// The answer with this body.
+// The answer with this head and this body.
 fn found(alloc: Global, head: &str, body: &str) -> Result<String, AllocError>
     ensures exact { IfOk result (λ text. string_bytes text ≡ answer_of head.now body.now) }
     ensures whole { IfOk result (λ text. HasBody head.now (string_bytes text)) }

@@ -1,4 +1,4 @@
-//! What a browser asks for.
+//! The meaning of a browser's request.
 
 ghost use Rattle.std.specs.Prelude.{◌≡◌, ◌≤◌, ℕ, List, ◌∷◌, ◌++◌, [], length};
 ghost use Rattle.httparse.specs.declared.spans.HeaderSpan.{HeaderSpan};
@@ -9,47 +9,47 @@ ghost use Rattle.serve_page.specs.Requests.{names_host, has_name, is_loopback, i
 use httparse::Status;
 use httparse::spans::{EMPTY_HEADER_SPAN, HeaderSpan, RequestSpans, Span, parse_request};
 
-/// How many bytes of a request are waited for at most.
+/// The most bytes of a request that are awaited.
 pub const MOST_REQUEST: usize = 8_192;
 
-/// How many header fields a request has at most.
+/// The most header fields of a request.
 const MOST_FIELDS: usize = 64;
 
-/// What a request asks for.
+/// The meaning of a request.
 #[derive(Clone, Copy)]
 pub enum Asked {
-    /// The head of the request has not come whole yet.
+    /// The head of the request is not complete yet.
     More,
     /// The page.
     Page,
     /// The layout of the line.
     Line,
-    /// What is so now; nothing, if it is shown in this version still.
+    /// The current state; nothing, if version `since` is still shown.
     Now { since: Option<u64> },
-    /// Nothing that there is.
+    /// The request is refused.
     Refused(Refusal),
 }
 
-/// Why a request is refused.
+/// The reason why a request is refused.
 #[derive(Clone, Copy)]
 pub enum Refusal {
-    /// It is no request of HTTP/1.0 or HTTP/1.1, or has not exactly one field for the host.
+    /// It is not a request of HTTP/1.0 or HTTP/1.1, or does not have exactly one field for the host.
     Form,
     /// It is for another host than this one.
     Host,
-    /// It is for another method than GET or HEAD.
+    /// It has another method than GET or HEAD.
     Method,
-    /// It is for another address.
+    /// It is for an unknown address.
     Address,
     /// It is too long, or has too many fields.
     Size,
-    /// It takes too long to come.
+    /// It arrives too slowly.
     Time,
-    /// Too many ask at once.
+    /// Too many requests are pending.
     Crowd,
 }
 
-/// What the bytes that have come so far ask for.
+/// The meaning of the bytes received so far.
 pub fn asked_of(bytes: &[u8]) -> Asked
     ensures whole { (h : RequestHead) (rest : List ℕ) → ReadsRequest bytes.now h rest → length h.fields ≤ 64
         → IsAskedBy h result }
@@ -64,7 +64,7 @@ pub fn asked_of(bytes: &[u8]) -> Asked
     }
 }
 
-// What the request with this head asks for.
+// The meaning of the request with this head.
 fn asked_by(bytes: &[u8], head: &RequestSpans, fields: &[HeaderSpan]) -> Asked
     ensures { (h : RequestHead) → IsRequestAt bytes.now fields.now head.now h → IsAskedBy h result }
 {
@@ -81,7 +81,7 @@ fn asked_by(bytes: &[u8], head: &RequestSpans, fields: &[HeaderSpan]) -> Asked
     asked_at(part(bytes, head.path))
 }
 
-// What is asked for at an address.
+// The meaning of a target.
 fn asked_at(target: &[u8]) -> Asked
     ensures { IsAskedAt target.now result }
 {
@@ -102,7 +102,7 @@ fn asked_at(target: &[u8]) -> Asked
     }
 }
 
-// The number that these digits write, if 64 bits hold it. A sign is no digit.
+// The number in decimal digits, if it fits in 64 bits. A sign is not a digit.
 fn number_of(digits: &[u8]) -> Option<u64> {
     if digits.first() == Some(&b'+') {
         return None;
@@ -128,7 +128,7 @@ fn hosts_of(bytes: &[u8], head: &RequestSpans, fields: &[HeaderSpan]) -> Hosts
     }
 }
 
-// Those of these fields that name a host.
+// The fields that name a host, of these fields.
 fn hosts_in(bytes: &[u8], fields: &[HeaderSpan]) -> Hosts
     ensures { AreHosts (named_in bytes.now fields.now) result }
 {
@@ -167,7 +167,7 @@ fn is_reading(method: &[u8]) -> bool
     method == b"GET".as_slice() || method == b"HEAD".as_slice()
 }
 
-// Whether a host goes by a name that means this host everywhere, with a port or without.
+// Whether a host is one of the names that mean this host everywhere, with a port or without.
 fn is_loopback(host: &[u8]) -> bool
     ensures { result ≡ is_loopback host.now }
 {

@@ -1,4 +1,4 @@
--- What a link carries, frame by frame and turn by turn.
+-- The frames that a link carries, frame by frame and turn by turn.
 use Rattle.std.proofs.Common.{◌≡◌, ℕ, ◌+◌, List, [], ◌∷◌, ◌++◌, Bool, true, false, Option, Some, None, refl, sym, subst, arith, ⊎_elim}
 use Rattle.std.proofs.Math.Nat.{eq-or-lt_of_le}
 use Rattle.rbc_spec.specs.Frame.{Frame}
@@ -6,11 +6,11 @@ use Rattle.rbc_node.specs.Receipts.{ShareValue}
 use Rattle.rbc_node.specs.Node.{IsFrameOf}
 use Rattle.serve_workers.specs.Carried.{IsPut, PutsInOrder, TakesTurn, TakesTurns}
 
--- the second notes know what the first knew
+-- the second notes know each frame that the first knew
 abbrev pub Keeps : (ℕ → Option Frame) → (ℕ → Option Frame) → Type 0
 Keeps old new = (n : ℕ) (f : Frame) → old n ≡ Some f → new n ≡ Some f
 
--- ## What is sent
+-- ## Sent frames
 
 pub puts-keeps : (old new : ℕ → Option Frame) (c to count : ℕ) → PutsInOrder old c to count → Keeps old new → PutsInOrder new c to count
 puts-keeps old new c to count before keeps = record { each = λ n least most. let it = before.each n least most in (it.0, keeps n it.0 it.1, it.2) }
@@ -25,10 +25,10 @@ puts-one old new c to count number f next before keeps known sent = record {
       (eq-or-lt_of_le most);
 }
 
--- ## What is received
+-- ## Received frames
 
 module _ {N : Type 0} (asks : N → ℕ) (follows : N → Bool → ℕ → Type 0) (c from : ℕ) where
-  -- a turn by notes that know more
+  -- a turn under notes that know more
   pub turn-keeps : (old new : ℕ → Option Frame) (o p : N) (s t : ShareValue) (came : Option Bool) → Keeps old new
       → TakesTurn asks follows old c from o p s t came → TakesTurn asks follows new c from o p s t came
   turn-keeps old new o p s t (Some true) keeps (f, outcome, known, commits, goes) = (f, outcome, keeps (asks o) f known, commits, goes)

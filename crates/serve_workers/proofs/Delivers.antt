@@ -1,4 +1,4 @@
--- Turns in which the numbers are asked for in their order.
+-- Turns that ask for the numbers in their order.
 use Rattle.std.proofs.Common.{◌≡◌, ℕ, ◌+◌, ◌-◌, ◌^◌, min, List, [], ◌∷◌, Bool, true, false, Option, Some, None, subst}
 use Rattle.std.specs.Prelude.{MatchBool}
 use Rattle.rbc_spec.specs.Frame.{Frame}
@@ -6,7 +6,7 @@ use Rattle.rbc_node.specs.Receipts.{ShareValue}
 use Rattle.serve_workers.specs.declared.order.InOrder.{InOrder}
 use Rattle.serve_workers.specs.Carried.{TakesTurns, Delivers}
 
--- what an order in the order of the numbers asks for, and what follows
+-- the number that the order asks for, and the next number
 abbrev asks : InOrder → ℕ
 asks o = o.number
 

@@ -1,4 +1,4 @@
--- One turn of a session: a piece that came, the messages that are whole with it, and what is left.
+-- One turn of a session: a received piece, the messages that are complete with it, and the rest.
 use Rattle.std.proofs.Common.{◌≡◌, ℕ, List, [], ◌∷◌, ◌++◌, Option, Some, None, Result, Ok, Err, refl, sym, ap, ◌∙◌, subst, append_assoc, append-nil}
 use Rattle.std.proofs.lemmas.Option.{none-some, same_Some}
 use Rattle.std.specs.Io.KnownBytes.{Consumes}
@@ -17,23 +17,23 @@ use Rattle.serve_workers.specs.Ends.{end_of_intake}
 use Rattle.serve_workers.specs.Session.{Joins, CommitsAll, Shows, LeavesSo, Serves}
 use Rattle.serve_workers.proofs.Joins.{joins-then}
 
--- the messages that were added to none
+-- messages that were added to an empty list
 of_adds : (ms : List TrainText) (bytes rest : List ℕ) → Adds [] ms bytes rest → Spell bytes ms rest
 of_adds ms bytes rest h = subst (λ xs. Spell bytes xs rest) (sym h.added) h.spelled
 
--- where a row of messages is cut
+-- a list of messages, split in two
 pub spell-split : (ms ns : List TrainText) (a s : List ℕ) → Spell a (ms ++ ns) s → (r : List ℕ) × Spell a ms r × Spell r ns s
 spell-split [] ns a s h = (a, refl, h)
 spell-split (m ∷ ms) ns a s h = let rest = spell-split ms ns h.1 s h.4 in (rest.0, (h.0, h.1, h.2, h.3, rest.1), rest.2)
 
--- what is left after the messages of one read
+-- the bytes left after the messages of one read
 abbrev pub Leaves : List ℕ → Option (List ℕ) → Result (Unit {0}) IntakeEnd → Type 0
 Leaves rest after (Ok _) = (after ≡ Some rest) × IsRest rest
 Leaves rest after (Err end.EndOfStream) = IsRest rest
 Leaves rest after (Err end.Device) = IsRest rest
 Leaves rest after (Err (end.Fault fault)) = Shows rest fault
 
--- one read: the messages, and what they leave of the bytes that were kept and the piece
+-- one read: its messages, and the rest of the kept bytes and the piece
 pub record IsTurn (kept piece : List ℕ) (messages : List TrainText) (after : Option (List ℕ)) (result : Result (Unit {0}) IntakeEnd) : Type 0 where
   pub rest : List ℕ
   pub adds : Adds [] messages (kept ++ piece) rest
@@ -68,7 +68,7 @@ adds-turn read kept piece rest done messages before now =
     let added : Adds done (done ++ messages) (kept ++ piece) rest = record { messages = messages; added = refl; spelled = of_adds messages (kept ++ piece) rest now } in
     adds-then [] done (done ++ messages) (read ++ piece) (kept ++ piece) rest (adds-after [] done read kept piece before) added
 
--- the session ends as the reading did
+-- the session ends as its reading did
 leaves-end : (c : ℕ) (share : ShareValue) (rest : List ℕ) (after : Option (List ℕ)) (e : IntakeEnd) → Leaves rest after (Err e) → LeavesSo c share rest (end_of_intake e)
 leaves-end c share rest after end.EndOfStream h = h
 leaves-end c share rest after end.Device h = h
@@ -104,7 +104,7 @@ serves-refused c old mid new read kept piece done messages after result fault be
       leaves = (refused.0, refused.1, next, refused.2, refused.3, h.5);
     }
 
--- bytes that were read one after another
+-- bytes of consecutive reads
 pub consumes-then : (a b c : Option (List ℕ)) (xs ys : List ℕ) → Consumes a b xs → Consumes b c ys → Consumes a c (xs ++ ys)
 consumes-then None b c xs ys h k = tt
 consumes-then (Some p) None c xs ys h k = absurd h

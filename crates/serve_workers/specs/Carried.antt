@@ -1,4 +1,4 @@
--- What the two workers of a link carry.
+-- The frames that the two workers of a link carry.
 use Rattle.std.specs.Prelude.{◌≡◌, ℕ, ◌≤◌, ◌+◌, ◌-◌, ◌^◌, min, List, [], ◌∷◌, Bool, true, false, Option, Some, None}
 use Rattle.rbc_spec.specs.Frame.{Frame}
 use Rattle.rbc_spec.specs.Outcome.{Outcome}
@@ -6,21 +6,21 @@ use Rattle.rbc_centre.specs.declared.event.Event.TheVariants.{Deliver}
 use Rattle.rbc_node.specs.Receipts.{ShareValue}
 use Rattle.rbc_node.specs.Node.{CommitsAt, IsFrameOf}
 
--- ## What is sent
+-- ## Sent frames
 
--- the notes know a frame under this number, and it is the one that centre c has sent to another under that number
+-- the notes know a frame under this number, and centre c has sent that frame to the other centre under this number
 abbrev pub IsPut : (ℕ → Option Frame) → ℕ → ℕ → ℕ → Type 0
 IsPut known c to n = (f : Frame) × (known n ≡ Some f) × IsFrameOf c to n (Some f)
 
--- so it is with each number from 1 to the count
+-- this holds for each number from 1 to the count
 pub record PutsInOrder (known : ℕ → Option Frame) (c to count : ℕ) : Type 0 where
   pub each : (n : ℕ) → 1 ≤ n → n ≤ count → IsPut known c to n
 
--- ## What is received
+-- ## Received frames
 
--- One turn at centre c, after which the order goes on. The notes know a frame under the number that was asked for, and
--- its delivery from another centre was committed with the outcome of its step; or nothing was committed, and the share
--- stays.
+-- One turn at centre c, after which the order goes on. It may commit the delivery of the frame that the notes know
+-- under the number that was asked for. Then the commit has the outcome of its step. Or it commits nothing, and the
+-- share stays.
 abbrev pub TakesTurn : {N : Type 0} → (N → ℕ) → (N → Bool → ℕ → Type 0) → (ℕ → Option Frame) → ℕ → ℕ
     → N → N → ShareValue → ShareValue → Option Bool → Type 0
 TakesTurn asks follows known c from o p old new (Some true) =
@@ -29,8 +29,7 @@ TakesTurn asks follows known c from o p old new (Some true) =
 TakesTurn asks follows known c from o p old new (Some false) = (new ≡ old) × follows o false (asks p)
 TakesTurn asks follows known c from o p old new None = (new ≡ old) × follows o false (asks p)
 
--- so it is turn by turn: after what it had the share has the receipts of what was committed, in their order, and no
--- others
+-- turn by turn: to its earlier receipts the share adds those of the committed deliveries, in their order, and no others
 abbrev pub TakesTurns : {N : Type 0} → (N → ℕ) → (N → Bool → ℕ → Type 0) → (ℕ → Option Frame) → ℕ → ℕ
     → N → N → ShareValue → ShareValue → List (Option Bool) → Type 0
 TakesTurns asks follows known c from o p old new [] = (p ≡ o) × (new ≡ old)
@@ -38,9 +37,9 @@ TakesTurns {N} asks follows known c from o p old new (came ∷ turns) =
     (q : N) × (mid : ShareValue) × TakesTurn asks follows known c from o q old mid came
     × TakesTurns asks follows known c from q p mid new turns
 
--- The frames are those that the notes know under the number n and the numbers after it, one after another; the
--- greatest is its own next. Their deliveries from a centre are committed at centre c in that order, each with the
--- outcome of its step, and nothing else.
+-- The frames are those that the notes know under n and the numbers after it, in order; the greatest number is followed
+-- by itself. Their deliveries from a centre are committed at centre c in that order, each with the outcome of its step.
+-- Nothing else is committed.
 abbrev pub Delivers : (ℕ → Option Frame) → ℕ → ℕ → ℕ → ShareValue → ShareValue → List Frame → Type 0
 Delivers known c from n old new [] = new ≡ old
 Delivers known c from n old new (f ∷ frames) =

@@ -1,4 +1,4 @@
--- How a session ends.
+-- The end of a session.
 use Rattle.std.specs.Prelude.{◌≡◌, ℕ, ◌+◌, List, Option}
 use Rattle.std.specs.Io.KnownBytes.{IsAtEnd}
 use Rattle.serve_workers.specs.declared.reading.reading.IntakeEnd.{IntakeEnd}
@@ -18,7 +18,7 @@ end_of_intake intake.EndOfStream = EndOfStream
 end_of_intake (intake.Fault fault) = Fault fault
 end_of_intake intake.Device = Device
 
--- it ends with the source only where no byte is left, and with a failed read only where one more read has failed
+-- it ends with the source only if no byte is left, and with a failed read only if one more read has failed
 abbrev pub EndsSo : Option (List ℕ) → ℕ → ℕ → SessionEnd → Type 0
 EndsSo left old new EndOfStream = (new ≡ old) × IsAtEnd left
 EndsSo left old new (Fault fault) = new ≡ old

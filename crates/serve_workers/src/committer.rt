@@ -7,7 +7,7 @@ use rbc_centre::{Event, Outcome};
 use rbc_node::{Gate, Node, Share, ShareFault};
 use std::sync::Wait;
 
-/// A centre as its workers see it: its node, who is told of each commit, and where answers go on to.
+/// A centre as its workers see it: its node, its gate, which is notified of each commit, and the sink of its answers.
 #[derive(Drop)]
 pub struct Committer<'a, G, O> {
     pub node: &'a Node,
@@ -16,7 +16,7 @@ pub struct Committer<'a, G, O> {
 }
 
 impl<G: Gate, O: AnswerSink> Committer<'_, G, O> {
-    /// Commits an event with the share as the node does, and lets the answer go on.
+    /// Commits an event with the share as the node does, and passes the answer to the sink.
     pub fn commit<R: Wait>(
         &self,
         rt: &R,

@@ -1,7 +1,7 @@
-//! The connections of trains at a centre: each serves the engine that last opened a session over it, and what the
-//! centre says to an engine goes to the connection that serves it.
+//! The connections of trains at a centre. Each serves the engine that last opened a session over it. The centre's
+//! messages to an engine go to the connection that serves it.
 //!
-//! Bodies are free. What goes over a connection is fixed by docs/FORMATS.md.
+//! Bodies are free. docs/FORMATS.md fixes the bytes of each connection.
 
 mod connection;
 mod connections;

@@ -5,7 +5,7 @@ use crate::reading::IntakeEnd;
 use rbc_msgs::StreamFault;
 use rbc_node::ShareFault;
 
-/// How the session of a connection ended. None of the ends closes the train's session at the centre.
+/// The end of a connection's session. None of the ends closes the train's session at the centre.
 #[derive(Clone, Copy, Debug, PartialEq, Eq)]
 pub enum SessionEnd {
     /// No bytes are left.
@@ -19,8 +19,8 @@ pub enum SessionEnd {
 }
 
 impl SessionEnd {
-    /// The number by which a program names the end: 1 for the end of the stream, 2 for a fault, 3 for a read that
-    /// failed, 4 for a refusal.
+    /// The number by which a program names the end. It is 1 for the end of the stream, 2 for a fault, 3 for a failed
+    /// read, 4 for a refusal.
     pub fn number(self) -> u8
         ensures { result ≡ number_of_end self }
     {

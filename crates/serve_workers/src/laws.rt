@@ -5,9 +5,9 @@ ghost use Rattle.serve_workers.specs.Carried.{TakesTurns, Delivers};
 
 use crate::order::{InOrder, Order};
 
-/// What a worker receives that asks for frames in the order of their numbers, of what `receive_frames` says of its
-/// turns: the frames that its notes know are committed one number after another, from the number on that was asked for
-/// first. No number between is left out, and nothing else is committed.
+/// A worker that asks for frames in the order of their numbers, with the turns that `receive_frames` guarantees. It
+/// commits the frames that its notes know in the order of their numbers, from the first number that was asked for. No
+/// number between is left out, and nothing else is committed.
 pub fn frames_are_committed_in_their_order()
     ensures { (known : ℕ → Option Frame) (c from : ℕ) (o p : InOrder) (old new : ShareValue)
         (turns : List (Option Bool))

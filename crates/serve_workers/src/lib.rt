@@ -1,7 +1,7 @@
-//! The connections of trains at a centre: reading (`reading`), writing (`writing`), which connection serves which
-//! engine (`connections`), and the workers that commit messages and carry frames.
+//! The connections of trains at a centre: reading (`reading`), writing (`writing`), and the connection that serves each
+//! engine (`connections`). Workers commit messages and carry frames.
 //!
-//! Bodies are free. What goes over a connection is fixed by docs/FORMATS.md.
+//! Bodies are free. docs/FORMATS.md fixes the bytes of each connection.
 #![tactic(auto)]
 
 mod committer;

@@ -12,19 +12,20 @@ use rbc_centre::Event;
 use rbc_node::{Gate, Node, Share};
 use std::sync::Wait;
 
-/// What a worker leaves that sent the frames of a link.
+/// The result of a worker that sent the frames of a link.
 #[derive(Drop)]
 pub struct Sent<S> {
-    /// What it knows of the link.
+    /// Its knowledge of the link.
     pub seen: S,
-    /// How many frames it put: those of the numbers from 1 to this one.
+    /// The number of frames that it put: those with the numbers from 1 to this one.
     pub frames: u32,
 }
 
-/// Puts the frames that a centre sends to another on their link, in the order of their numbers from 1 on: none is left
-/// out, and each is what the centre has sent to the other under its number. A frame that the link does not take is put
-/// again on the next turn. Once no session is left it ends where the centre has no further frame for the link, where
-/// the receiving worker has ended, or where that takes nothing for five seconds; what is not put stays with the centre.
+/// Puts the frames that a centre sends to another on their link, in the order of their numbers from 1 on. None is left
+/// out, and each is the frame that the centre has sent under its number. A frame that the link does not take is put
+/// again on the next turn. When no session is left, it ends if the centre has no further frame for the link, or the
+/// receiving worker has ended. It also ends then if the link takes nothing for five seconds. Frames that were not put
+/// stay with the centre.
 pub fn send_frames<R: Wait, C: Carrier>(
     rt: &R,
     node: &Node,
@@ -60,10 +61,10 @@ pub fn send_frames<R: Wait, C: Carrier>(
     Sent { seen, frames }
 }
 
-/// Gets the frames that come from a centre, under the numbers of the order, and commits each that it gets at this
-/// centre: after what it had the share has the receipts of these deliveries, in their order, and no others. Once no
-/// session is left it ends where a commit is refused, and where no frame is there and the sending worker has ended, or
-/// puts nothing for five seconds.
+/// Gets the frames from a centre, under the numbers of the order, and commits each at this centre. To its earlier
+/// receipts the share adds those of these deliveries, in their order, and no others. When no session is left, it ends
+/// if a commit is refused. It also ends then if no frame is there and the sending worker has ended, or puts nothing for
+/// five seconds.
 pub fn receive_frames<R: Wait, C: Carrier, G: Gate, O: AnswerSink, N: Order>(
     rt: &R,
     committer: &Committer<'_, G, O>,
@@ -99,8 +100,8 @@ pub fn receive_frames<R: Wait, C: Carrier, G: Gate, O: AnswerSink, N: Order>(
     seen
 }
 
-// Gets the frame under the number that the order asks for, commits it, and lets the order go on: whether the commit was
-// taken. None where no frame came.
+// Gets the frame under the number that the order asks for, commits it, and lets the order go on. The result is whether
+// the commit was taken; `None` if no frame was there.
 fn take_turn<R: Wait, C: Carrier, G: Gate, O: AnswerSink, N: Order>(
     rt: &R,
     committer: &Committer<'_, G, O>,

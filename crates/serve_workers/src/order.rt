@@ -5,19 +5,19 @@ pub trait Order {
     /// The number that is asked for now.
     ghost asks: { Self → ℕ };
 
-    /// The number that may be asked for next, where a frame came and was committed, and where it was not so.
+    /// The number that may be asked for next, after a turn that committed a frame or after one that did not.
     ghost follows: { Self → Bool → ℕ → Type 0 };
 
     /// The number that is asked for now.
     fn number(&self) -> u32
         ensures { result ≡ asks self.now };
 
-    /// Goes on to the next number, after a turn in which a frame came and was committed, or in which it was not so.
+    /// Goes on to the next number, after a turn that committed a frame or after one that did not.
     fn go_on(&mut self, is_committed: bool)
         ensures { follows self.old is_committed (asks self.new) };
 }
 
-/// The order of the numbers: 1, 2, 3 and so on, each again until its frame came and was committed.
+/// The order of the numbers: 1, 2, 3 and so on. Each is repeated until its frame was received and committed.
 #[derive(Debug, Drop)]
 pub struct InOrder {
     number: u32,
@@ -31,8 +31,8 @@ impl InOrder {
         InOrder { number: 1 }
     }
 
-    /// Asks first for the frame after this number, which is that of the last frame that was committed. There is no
-    /// number after the greatest: that is asked for again.
+    /// Asks first for the frame after this number, which is that of the last committed frame. There is no number after
+    /// the greatest: that is asked for again.
     pub fn after(number: u32) -> InOrder
         ensures { result.number ≡ min (number + 1) (2 ^ 32 - 1) }
     {

@@ -2,7 +2,7 @@ use crate::signals::{Patience, Signals};
 use rbc_board::Carrier;
 use std::sync::Wait;
 
-/// Takes the first frames off a link, so many, which the receiving centre has taken before: no event is committed for
+/// Takes the first `count` frames off a link. The receiving centre has taken them before, so no event is committed for
 /// them. It ends as the receiving worker does.
 pub fn pass_over<R: Wait, C: Carrier>(
     rt: &R,

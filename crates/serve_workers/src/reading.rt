@@ -1,7 +1,7 @@
-//! What comes from a train over one connection: bytes in whatever pieces a source gives them, cut into the train's
-//! messages; and how fast they may come.
+//! The input from a train over one connection: bytes in pieces of any size, which are cut into the train's messages. A
+//! bucket limits the rate of the messages.
 //!
-//! Bodies are free. What goes over a connection is fixed by docs/FORMATS.md.
+//! Bodies are free. docs/FORMATS.md fixes the bytes of each connection.
 
 mod bucket;
 mod reading;

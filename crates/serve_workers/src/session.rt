@@ -15,8 +15,8 @@ use std::alloc::Global;
 use std::sync::Wait;
 
 /// Reads the messages of a train from a source, and commits each to the centre's log, in order. It ends with the
-/// source, at a fault of the bytes, at a read that fails and at a commit that is refused; the messages in front of a
-/// fault are committed first. A rest that is no whole message commits nothing.
+/// source, at a fault of the bytes, at a failed read, or at a refused commit. The messages before a fault are committed
+/// first. An incomplete message at the end commits nothing.
 pub fn run_session<R: Wait, S: Source, G: Gate, O: AnswerSink>(
     rt: &R,
     alloc: Global,
@@ -45,7 +45,7 @@ pub fn run_session<R: Wait, S: Source, G: Gate, O: AnswerSink>(
     unreachable!()
 }
 
-// Commits the messages in their order, and leaves none, or stops at the first whose commit is refused.
+// Commits the messages in their order, and leaves none, or stops at the first refused commit.
 fn commit_all<R: Wait, G: Gate, O: AnswerSink>(
     rt: &R,
     node: &Node,
@@ -64,7 +64,7 @@ fn commit_all<R: Wait, G: Gate, O: AnswerSink>(
     Ok(())
 }
 
-// Commits one message. Where it opened a session, the connection serves its engine from then on.
+// Commits one message. If it opened a session, the connection serves its engine from then on.
 fn commit_one<R: Wait, G: Gate, O: AnswerSink>(
     rt: &R,
     node: &Node,

@@ -3,24 +3,24 @@ use std::sync::atomic::{AtomicBool, Ordering};
 use std::thread::Parker;
 use std::time::Duration;
 
-/// How long a worker rests at most before it looks again, in milliseconds.
+/// The longest rest of a worker before it looks again, in milliseconds.
 const REST_MS: u64 = 50;
 
-/// How often a worker rests at the end, one time after another, while the worker at the other end of its link does
-/// nothing.
+/// The most consecutive rests of a worker at the end, while the worker at the other end of its link does nothing: 5
+/// seconds.
 const LAST_RESTS: u32 = 100;
 
-/// What the two workers of a directed link tell each other.
+/// The signals between the two workers of a directed link.
 #[derive(Drop)]
 pub struct LinkEnds {
-    /// Rung where a frame was put on the link.
+    /// Rung when a frame was put on the link.
     put: Parker,
     has_sender_ended: AtomicBool,
     has_receiver_ended: AtomicBool,
 }
 
 impl LinkEnds {
-    /// Of a link whose workers have not ended.
+    /// The signals of a link whose workers have not ended.
     pub fn new() -> LinkEnds {
         LinkEnds {
             put: Parker::new(),
@@ -29,7 +29,7 @@ impl LinkEnds {
         }
     }
 
-    /// What the sending worker is told: its waker is rung where its centre has a frame for the link, and where there is
+    /// The signals of the sending worker. Its waker is rung when its centre has a frame for the link, and when there is
     /// room again.
     pub fn of_sender<'a>(&'a self, waker: &'a Parker, is_over: &'a AtomicBool) -> Signals<'a> {
         Signals {
@@ -41,7 +41,7 @@ impl LinkEnds {
         }
     }
 
-    /// What the receiving worker is told. It rings the waker of the sending worker.
+    /// The signals of the receiving worker. It rings the waker of the sending worker.
     pub fn of_receiver<'a>(&'a self, waker: &'a Parker, is_over: &'a AtomicBool) -> Signals<'a> {
         Signals {
             own: &self.put,
@@ -53,33 +53,33 @@ impl LinkEnds {
     }
 }
 
-/// What a worker of a link is told by others: that there may be something to do, and that the centres are to end.
+/// The signals to a worker of a link: there may be something to do, or the centres are to end.
 #[derive(Clone, Copy)]
 pub struct Signals<'a> {
-    /// Rung where there may be something for this worker to do.
+    /// Rung when there may be something for this worker to do.
     own: &'a Parker,
-    /// Rung by this worker, for the one at the other end of the link.
+    /// Rung by this worker, for the worker at the other end of the link.
     next: &'a Parker,
-    /// No session is left: nothing new comes.
+    /// No session is left: nothing new arrives.
     is_over: &'a AtomicBool,
     has_ended: &'a AtomicBool,
     has_other_ended: &'a AtomicBool,
 }
 
-/// How far the end of a worker is.
+/// The stage of a worker's end.
 #[derive(Clone, Copy, PartialEq, Eq)]
 pub(crate) enum Stage {
-    /// Sessions are left: something new may come.
+    /// Sessions are left: something new may arrive.
     Running,
-    /// No session is left, and the worker at the other end of the link goes on.
+    /// No session is left, and the worker at the other end of the link continues.
     Ending,
     /// No session is left, and the worker at the other end of the link has ended.
     Alone,
 }
 
 impl Signals<'_> {
-    /// How far the end is. A worker asks before it looks at the link: what it then does not find does not come any
-    /// more.
+    /// The stage of the end. A worker reads it before it looks at the link. If the other worker has ended, a frame that
+    /// is not found then will not arrive.
     pub(crate) fn stage(&self) -> Stage {
         if !self.is_over.load(Ordering::SeqCst) {
             Stage::Running
@@ -90,7 +90,7 @@ impl Signals<'_> {
         }
     }
 
-    /// Rests until the worker is rung, or for a while.
+    /// Rests until the worker is rung, or for `REST_MS`.
     fn rest<R: Wait>(&self, rt: &R) {
         self.own.park_timeout(rt, Duration::from_millis(REST_MS));
     }
@@ -100,14 +100,14 @@ impl Signals<'_> {
         self.next.unpark();
     }
 
-    /// Tells the worker at the other end of the link that this one has ended.
+    /// Notifies the worker at the other end of the link that this one has ended.
     pub(crate) fn end(&self) {
         self.has_ended.store(true, Ordering::SeqCst);
         self.pass_on();
     }
 }
 
-/// How long a worker waits still for the other end of its link.
+/// The remaining patience of a worker with the other end of its link.
 #[derive(Drop)]
 pub(crate) struct Patience {
     rests: u32,
@@ -118,8 +118,8 @@ impl Patience {
         Patience { rests: LAST_RESTS }
     }
 
-    /// Rests until the worker is rung, or for a while, and says whether it did: at the end only while the other end of
-    /// the link goes on, and so often.
+    /// Rests until the worker is rung, or for `REST_MS`, and returns whether it did. At the end it rests only while the
+    /// other worker continues, and at most `LAST_RESTS` times.
     pub(crate) fn rests<R: Wait>(&mut self, rt: &R, signals: &Signals<'_>, stage: Stage) -> bool {
         match stage {
             Stage::Running => {}

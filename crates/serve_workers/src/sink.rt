@@ -1,17 +1,17 @@
 use rbc_centre::Outcome;
 use std::sync::Wait;
 
-/// Where what a centre answers goes on to: its messages to trains and its frames to links. What becomes of them there
-/// is not claimed.
+/// The sink of a centre's answers: its messages to trains and its frames to links. Nothing is claimed of their
+/// delivery.
 pub trait AnswerSink {
-    /// The connection that a message came over serves this engine from now on, by its NID_ENGINE.
+    /// The connection of the message serves this engine from now on, by its NID_ENGINE.
     fn opened<R: Wait>(&self, rt: &R, nid_engine: u32);
 
-    /// A commit was answered so.
+    /// Takes the outcome of a commit.
     fn answered<R: Wait>(&self, rt: &R, outcome: &Outcome);
 }
 
-/// The sink that lets all go.
+/// The sink that drops all answers.
 #[derive(Clone, Copy, Debug)]
 pub struct NoSink;
 

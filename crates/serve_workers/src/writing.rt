@@ -1,7 +1,7 @@
-//! What goes to a train over one connection: replies that come over a channel, and the writer that writes them one
-//! after another; and the order in which a centre's replies to a train go out.
+//! The output to a train over one connection: the replies of a channel, and the writer that writes them in order. An
+//! order keeps a centre's replies to a train in sequence.
 //!
-//! Bodies are free. What goes over a connection is fixed by docs/FORMATS.md.
+//! Bodies are free. docs/FORMATS.md fixes the bytes of each connection.
 
 mod laws;
 mod order;

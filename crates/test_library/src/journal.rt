@@ -1,10 +1,7 @@
 //! Tests of journals, over texts in memory: what is written, what is read of a text that ends anywhere, or is damaged,
-//! and several journals in one order. Some are of files: locks, and files that are removed or cut while they are
-//! written.
+//! and several journals in one order. Those of journal files are in `test_serve`.
 //!
 //! Digests and checksums are those that `sha256sum` gives of the line file and of what follows the checksum.
-#[cfg(test)]
-mod files;
 pub mod line;
 #[cfg(test)]
 mod order;

@@ -1,4 +1,4 @@
-//! Tests of what no clause says and no row of `test_rows` reaches, over values in memory, threads and files. They try
+//! Tests of what no clause says and no row of `test_rows` reaches, over values in memory and threads. They try
 //! centres, their nodes and logs; workers and connections of running centres; ten trains over the borders of three
 //! centres; and journals. What the program prints is data of `test_rows`. Tests of bytes stand in `test_codec`, and of
 //! running centres in `test_serve`.

@@ -2,13 +2,13 @@
 
 use crate::line::INITIATION_OF_ONE;
 use crate::play::Act;
-use crate::plays::{Manner, OPENED_FIRST, Play, Seen};
+use crate::plays::{OPENED_FIRST, Play, Seen, ServeMode};
 
 pub static PLAYS: [Play<'_>; 2] = [
     // Lines of the control endpoint, and what each is answered; and how it ends.
     Play {
         name: "each_line_is_answered_as_a_run_prints_it",
-        manner: Manner::Usual,
+        mode: ServeMode::Usual,
         journals: None,
         rounds: &[(
             1,
@@ -40,7 +40,7 @@ pub static PLAYS: [Play<'_>; 2] = [
     // Connection 1 says bytes with a fault, and ends; a train on connection 0 is answered after that.
     Play {
         name: "bytes_with_a_fault_end_their_connection_alone",
-        manner: Manner::Usual,
+        mode: ServeMode::Usual,
         journals: None,
         rounds: &[(
             1,

@@ -3,7 +3,7 @@
 
 use crate::line::{INITIATION_OF_ONE, VERSION};
 use crate::play::Act;
-use crate::plays::{Before, Journals, Manner, Play, Seen, Taken};
+use crate::plays::{Before, Journals, Play, Seen, ServeMode, Taken};
 
 const SET_1: &str = "c4ee5feb 1 > set A 1\n";
 
@@ -37,7 +37,7 @@ pub static PLAYS: [Play<'_>; 6] = [
     // The interlocking releases a section, and train 1 opens its session. After each answer its event is written.
     Play {
         name: "what_is_answered_is_written_before",
-        manner: Manner::Usual,
+        mode: ServeMode::Usual,
         journals: Some(EMPTY),
         rounds: &[(
             1,
@@ -62,7 +62,7 @@ pub static PLAYS: [Play<'_>; 6] = [
     // be. Meanwhile no other event of centre A is taken, and no train.
     Play {
         name: "nothing_is_answered_while_the_disk_is_full",
-        manner: Manner::Usual,
+        mode: ServeMode::Usual,
         journals: Some(Journals {
             rooms: (5, 256),
             before: &[],
@@ -90,7 +90,7 @@ pub static PLAYS: [Play<'_>; 6] = [
     },
     Play {
         name: "a_journal_that_stays_full_is_given_up",
-        manner: Manner::Usual,
+        mode: ServeMode::Usual,
         journals: Some(Journals {
             rooms: (5, 5),
             before: &[],
@@ -109,7 +109,7 @@ pub static PLAYS: [Play<'_>; 6] = [
     // The frames go over their links once more, and come to nobody twice.
     Play {
         name: "centres_go_on_where_they_were",
-        manner: Manner::Usual,
+        mode: ServeMode::Usual,
         journals: Some(Journals {
             rooms: (256, 256),
             before: &[SET, INITIATED, ESTABLISHED, STARTED, ASKED, GIVEN],
@@ -139,7 +139,7 @@ pub static PLAYS: [Play<'_>; 6] = [
     // Without the event by which the first frame is sent.
     Play {
         name: "journals_of_another_run_are_refused, without a start",
-        manner: Manner::Usual,
+        mode: ServeMode::Usual,
         journals: Some(Journals {
             rooms: (256, 256),
             before: &[SET, INITIATED, ESTABLISHED, ASKED, GIVEN],
@@ -151,7 +151,7 @@ pub static PLAYS: [Play<'_>; 6] = [
     // Without its delivery.
     Play {
         name: "journals_of_another_run_are_refused, without a delivery",
-        manner: Manner::Usual,
+        mode: ServeMode::Usual,
         journals: Some(Journals {
             rooms: (256, 256),
             before: &[SET, INITIATED, ESTABLISHED, STARTED, GIVEN],

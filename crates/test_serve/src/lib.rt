@@ -1,4 +1,5 @@
-//! Tests of the running centres: trains and the interlocking as threads of one process, over loopback.
+//! Tests of the running centres: trains and the interlocking as threads of one process, over loopback; and the files of
+//! their journals.
 //!
 //! What is expected comes from the standard or from the rules in words, never from the program's own output.
 #![tactic(auto)]
@@ -6,6 +7,8 @@
 pub mod client;
 #[cfg(test)]
 mod driving;
+#[cfg(test)]
+mod files;
 #[cfg(test)]
 mod initiations;
 #[cfg(test)]

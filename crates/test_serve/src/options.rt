@@ -2,7 +2,7 @@
 
 use crate::line::{MISSION_OF_ONE, REQUEST_OF_ONE};
 use crate::play::Act;
-use crate::plays::{Manner, Play, Seen};
+use crate::plays::{Play, Seen, ServeMode};
 
 // Train 1 has left section 0.
 const REPORT: &str = "880680000001C0000040010280A0328190500140051019001060";
@@ -12,7 +12,7 @@ pub static PLAYS: [Play<'_>; 2] = [
     // 50 milliseconds after them. The clock's milliseconds may be cut off at both ends.
     Play {
         name: "a_train_that_is_too_fast_is_held_back_and_loses_nothing",
-        manner: Manner::Slow,
+        mode: ServeMode::Slow,
         journals: None,
         rounds: &[(
             1,
@@ -30,7 +30,7 @@ pub static PLAYS: [Play<'_>; 2] = [
     // interlocking only listens.
     Play {
         name: "the_interlocking_is_told_of_a_section_that_is_shut",
-        manner: Manner::Telling,
+        mode: ServeMode::Reporting,
         journals: None,
         rounds: &[(
             1,

@@ -3,7 +3,7 @@
 use crate::client::{Done, Missed, TURNS, connect, say};
 use crate::line::{INITIATION_OF_ONE, VERSION, bytes_of};
 use crate::play::{Act, hear, send};
-use crate::plays::{Manner, OPENED_FIRST, Play};
+use crate::plays::{OPENED_FIRST, Play, ServeMode};
 use crate::railway::Addresses;
 use rbc_msgs::decode_track;
 use std::alloc::Global;
@@ -28,7 +28,7 @@ struct Told {
 
 pub static PLAYS: [Play<'_>; 1] = [Play {
     name: "a_train_hears_all_in_order_though_two_threads_commit",
-    manner: Manner::Usual,
+    mode: ServeMode::Usual,
     journals: None,
     rounds: &[(1, &[(0, Act::StartsOverTwo)])],
     status: 0,

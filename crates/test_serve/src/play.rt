@@ -1,4 +1,4 @@
-//! What peers do at the endpoints of running centres, one step after another.
+//! The steps of peers at the endpoints of running centres, in order.
 
 use crate::client::{Done, Missed, answers, connect, heard, is_ended, say};
 use crate::line::bytes_of;
@@ -11,46 +11,46 @@ use std::net::{Net, SocketAddr, TcpStream};
 use std::thread::Threads;
 use std::time::Clock;
 
-/// What one connection does, or what is seen beside the connections.
+/// A step of one connection, or a comparison beside the connections.
 #[derive(Clone, Copy)]
 pub enum Act<'a> {
     /// It comes to centre A.
     Train,
     /// It comes to the control endpoint.
     Control,
-    /// It says this text, and is answered so.
+    /// It sends this text, and gets this answer.
     Asks(&'a str, &'a str),
-    /// It says the bytes that these digits spell.
+    /// It sends the bytes of these digits.
     Sends(&'a str),
-    /// It opens train 1's session so often, all at once. T_TRAIN goes on from turn to turn, and begins with 1.
+    /// It opens train 1's session this many times, all at once. T_TRAIN begins with 1, and goes on from turn to turn.
     Opens(u32),
     /// It asks for train 1's authority until it reaches over the border.
     Crosses,
-    /// The bytes come that these digits spell.
+    /// It receives the bytes of these digits.
     Hears(&'a str),
-    /// So many bytes come.
+    /// It receives this many bytes.
     Takes(usize),
     /// The other side ends it.
     Ends,
-    /// Two connections that come for it start train 1's missions at once.
+    /// Two connections start train 1's missions at once.
     StartsOverTwo,
-    /// So many milliseconds at least have gone since the play began.
+    /// At least this many milliseconds have passed since the play began.
     Lasts(u64),
-    /// The journal of centre A has this text and no more.
+    /// The journal of centre A is this text.
     Written(&'a str),
-    /// It comes to have this text and no more, and the centre comes to know that it is full.
+    /// It becomes this text, and the centre notices that it is full.
     Fills(&'a str),
-    /// It may have so many bytes from now on.
+    /// It may have this many bytes from now on.
     HasRoom(usize),
 }
 
-/// The number of a connection, in the order in which they come, and what it does.
+/// The number of a connection, in the order in which they connect, and its step.
 pub type Step<'a> = (usize, Act<'a>);
 
-/// How often these steps are played, each time over connections of their own.
+/// The number of times that these steps are played, each time over connections of their own.
 pub type Round<'a> = (u32, &'a [Step<'a>]);
 
-/// Where steps are played.
+/// The centres at which steps are played.
 #[derive(Clone, Copy)]
 pub struct Stage<'a> {
     pub alloc: Global,
@@ -94,7 +94,7 @@ fn play_once<R: Threads + Sync + Net<Stream = TcpStream> + Clock>(
     Ok(())
 }
 
-// The endpoint to which a connection comes, if it does.
+// The endpoint to which a step connects.
 fn endpoint_of(addresses: Addresses, act: Act<'_>) -> Option<SocketAddr> {
     match act {
         Act::Train => Some(addresses.centre),
@@ -134,7 +134,7 @@ fn done<R: Threads + Sync + Net<Stream = TcpStream> + Clock>(
     }
 }
 
-// What no connection that came before does.
+// A step of no connection, or a comparison.
 fn done_beside<R: Threads + Sync + Net<Stream = TcpStream> + Clock>(
     rt: &R,
     stage: Stage<'_>,
@@ -171,7 +171,7 @@ pub fn now<R: Clock>(rt: &R) -> Done<u64> {
     )
 }
 
-/// Says the bytes that these digits spell.
+/// Sends the bytes of these digits.
 pub fn send(alloc: Global, stream: &TcpStream, digits: &str) -> Done<()> {
     say(stream, &bytes_of(alloc, digits)?)
 }
@@ -193,7 +193,7 @@ fn opening(alloc: Global, t_train: u32) -> Done<Vec<u8>> {
     bytes_of(alloc, &digits)
 }
 
-/// The bytes come that these digits spell.
+/// Receives the bytes of these digits.
 pub fn hear(alloc: Global, stream: &TcpStream, digits: &str) -> Done<()> {
     let wanted = bytes_of(alloc, digits)?;
     if heard(alloc, stream, wanted.len())?.as_slice() != wanted.as_slice() {

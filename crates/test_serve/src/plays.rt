@@ -1,4 +1,4 @@
-//! Plays at running centres: what peers do, and what is seen of it when the centres have ended.
+//! Plays at running centres: the steps of peers, and what is compared when the centres have ended.
 
 use crate::client::{Done, Missed};
 use crate::line::two_centres;
@@ -16,35 +16,35 @@ use std::test::*;
 use std::thread::Threads;
 use std::time::Clock;
 
-/// What peers do at the endpoints of running centres, and what is seen of it.
+/// The steps of peers at the endpoints of running centres, and what is compared at the end.
 pub struct Play<'a> {
     pub name: &'a str,
-    pub manner: Manner,
-    /// None where no journal is kept.
+    pub mode: ServeMode,
+    /// `None` if no journal is kept.
     pub journals: Option<Journals<'a>>,
     pub rounds: &'a [Round<'a>],
-    /// The status by which the centres end.
+    /// The exit status.
     pub status: u8,
     pub seen: &'a [Seen<'a>],
 }
 
-/// How the centres are served.
+/// The options of a serve.
 #[derive(Clone, Copy)]
-pub enum Manner {
-    /// As where nothing else is asked for.
+pub enum ServeMode {
+    /// The defaults.
     Usual,
-    /// As where each train may say two messages at once, and twenty a second after them.
+    /// Each train may send two messages at once, and twenty a second after them.
     Slow,
-    /// The interlocking is told of sections that are shut, and `show` says how much is used up.
-    Telling,
+    /// Sections that are shut are reported to the interlocking, and `show` prints the use of each log and link.
+    Reporting,
 }
 
 /// The journals of the two centres.
 #[derive(Clone, Copy)]
 pub struct Journals<'a> {
-    /// How many bytes each may have.
+    /// The most bytes of each.
     pub rooms: (usize, usize),
-    /// What the centres took before.
+    /// The events that the centres took before.
     pub before: &'a [Before<'a>],
 }
 
@@ -62,16 +62,16 @@ pub enum Taken<'a> {
     Delivered(u8, u8),
 }
 
-/// What is seen when the centres have ended.
+/// A comparison when the centres have ended.
 #[derive(Clone, Copy)]
 pub enum Seen<'a> {
-    /// The print is this.
+    /// The print is this text.
     Prints(&'a str),
-    /// It begins so.
+    /// It begins with this text.
     Begins(&'a str),
-    /// It has this.
+    /// It has this text.
     Has(&'a str),
-    /// It has this so many times.
+    /// It has this text this many times.
     Counts(&'a str, usize),
     /// An audit finds it equal, with as many events at least and at most.
     Audits(u64, u64),
@@ -81,7 +81,7 @@ pub enum Seen<'a> {
     OfB(&'a str),
 }
 
-/// That centre A took train 1's first message, which is the first event of the print.
+/// Centre A took train 1's first message: it is the first event of the print.
 pub const OPENED_FIRST: Seen<'_> = Seen::Begins("> train A 9B028000000040000040\n");
 
 #[test]
@@ -100,7 +100,7 @@ fn each_play_with_journals_ends_as_it_should(rt: HostRuntime) -> Result<(), Fail
     end_as_they_should(&rt, rt.alloc(), &journals::PLAYS)
 }
 
-// The first play that ends otherwise is told, by its name and by what was missed.
+// The first play that ends otherwise is reported, by its name and its fault.
 fn end_as_they_should<
     R: Threads + Wait + Sync + Net<Stream = TcpStream, Listener = TcpListener> + Clock,
 >(rt: &R, alloc: Global, plays: &[Play<'_>]) -> Result<(), Fail> {
@@ -162,7 +162,7 @@ pub struct Papers<'a> {
     pub b: Paper<'a>,
 }
 
-/// A play, and what it is played at.
+/// A play, its line and its journals.
 #[derive(Clone, Copy)]
 pub struct Scene<'a> {
     pub alloc: Global,

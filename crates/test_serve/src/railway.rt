@@ -3,7 +3,7 @@
 use crate::client::{Done, Missed, connect, say};
 use crate::line::{CONTROL, bytes_of};
 use crate::play::{Stage, now, play_rounds};
-use crate::plays::{Before, Manner, Papers, Play, Scene, Taken};
+use crate::plays::{Before, Papers, Play, Scene, ServeMode, Taken};
 use crate::sheet::Sheet;
 use cli_commands::auditing::{Audit, Verdict};
 use rbc_line::Line;
@@ -86,7 +86,7 @@ fn ended<R: Threads + Wait + Sync + Clock>(
     endpoints: Endpoints,
 ) -> Done<(u8, Vec<u8>)> {
     let record = record_of(scene.alloc, scene.play, scene.papers)?;
-    let options = options_of(scene.play.manner);
+    let options = options_of(scene.play.mode);
     let mut out = Vec::new(scene.alloc);
     match serve(
         rt,
@@ -103,18 +103,18 @@ fn ended<R: Threads + Wait + Sync + Clock>(
     }
 }
 
-fn options_of(manner: Manner) -> ServeOptions {
+fn options_of(mode: ServeMode) -> ServeOptions {
     let usual = ServeOptions::default();
-    match manner {
-        Manner::Usual => usual,
-        Manner::Slow => ServeOptions {
+    match mode {
+        ServeMode::Usual => usual,
+        ServeMode::Slow => ServeOptions {
             rate: Rate {
                 per_second: 20,
                 burst: 2,
             },
             ..usual
         },
-        Manner::Telling => ServeOptions {
+        ServeMode::Reporting => ServeOptions {
             is_telling: true,
             shows_life: true,
             ..usual

@@ -3,7 +3,7 @@
 use crate::client::{Done, Missed, heard, say};
 use crate::line::{INITIATION_OF_ONE, MISSION_OF_ONE, REQUEST_OF_ONE, VERSION, bytes_of};
 use crate::play::Act;
-use crate::plays::{Manner, Play, Seen};
+use crate::plays::{Play, Seen, ServeMode};
 use rbc_msgs::{TrackBody, TrackMsg, decode_track};
 use std::alloc::Global;
 use std::net::TcpStream;
@@ -17,7 +17,7 @@ pub static PLAYS: [Play<'_>; 3] = [
     // Train 1 opens its session, and starts its mission. Sections 0 and 1 are released, and these too.
     Play {
         name: "a_train_hears_both_messages_of_one_step",
-        manner: Manner::Usual,
+        mode: ServeMode::Usual,
         journals: None,
         rounds: &[(
             1,
@@ -39,7 +39,7 @@ pub static PLAYS: [Play<'_>; 3] = [
     // 9 with T_TRAIN 5.
     Play {
         name: "a_train_hears_what_the_interlocking_wishes",
-        manner: Manner::Usual,
+        mode: ServeMode::Usual,
         journals: None,
         rounds: &[(
             1,
@@ -70,7 +70,7 @@ pub static PLAYS: [Play<'_>; 3] = [
     // unanswered. What is said to the train comes over the first one.
     Play {
         name: "a_session_that_is_not_heard_moves_no_train",
-        manner: Manner::Usual,
+        mode: ServeMode::Usual,
         journals: None,
         rounds: &[(
             1,

@@ -2,7 +2,7 @@
 
 use crate::line::{INITIATION_OF_ONE, VERSION};
 use crate::play::Act;
-use crate::plays::{Manner, OPENED_FIRST, Play, Seen};
+use crate::plays::{OPENED_FIRST, Play, Seen, ServeMode};
 
 // How many connections the control endpoint serves at once.
 const CONTROLS: usize = 4;
@@ -17,7 +17,7 @@ pub static PLAYS: [Play<'_>; 3] = [
     // All four connections speak, and the first of them again; where a fifth comes, the second has to leave.
     Play {
         name: "the_control_connection_that_is_silent_longest_makes_room",
-        manner: Manner::Usual,
+        mode: ServeMode::Usual,
         journals: None,
         rounds: &[(
             1,
@@ -44,7 +44,7 @@ pub static PLAYS: [Play<'_>; 3] = [
     // first ends.
     Play {
         name: "a_connection_that_serves_no_train_makes_room",
-        manner: Manner::Usual,
+        mode: ServeMode::Usual,
         journals: None,
         rounds: &[(
             1,
@@ -75,7 +75,7 @@ pub static PLAYS: [Play<'_>; 3] = [
     // endpoint. Each to the centre opens train 1's session, is answered, and ends with a fault.
     Play {
         name: "a_seat_is_free_after_each_connection",
-        manner: Manner::Usual,
+        mode: ServeMode::Usual,
         journals: None,
         rounds: &[
             (

@@ -2,7 +2,7 @@
 
 use crate::line::{ACCEPTED, INITIATION_OF_ONE, VERSION};
 use crate::play::Act;
-use crate::plays::{Manner, Play, Seen};
+use crate::plays::{Play, Seen, ServeMode};
 
 pub static PLAYS: [Play<'_>; 1] = [
     // The interlocking releases section 1, and is answered. Then train 2 opens its session and starts a mission in
@@ -10,7 +10,7 @@ pub static PLAYS: [Play<'_>; 1] = [
     // train 1 was answered.
     Play {
         name: "two_trains_are_served_and_the_print_is_audited",
-        manner: Manner::Usual,
+        mode: ServeMode::Usual,
         journals: None,
         rounds: &[
             (

@@ -1,4 +1,4 @@
--- What is written of an event is a line of a script that asks for it.
+-- The written event is a line of a script that asks for it.
 use Rattle.std.proofs.Common.{◌≡◌, ◌≢◌, ℕ, ◌<◌, ◌*◌, ◌^◌, Bool, true, false, cond, List, [], ◌∷◌, ◌++◌, length, get_or, refl, ap, sym, ◌∙◌, arith, rules, tests, Some, None, subst}
 use Rattle.std.specs.Prelude.{codes, slice_index, ◌==◌, ◌&&◌, nat_lt, option_map, option_and_then}
 use Rattle.std.specs.List.{slice_split, position, position_or_len}
@@ -93,7 +93,7 @@ three_cut a b r h k l =
 pub four_cut : (a b c r : List ℕ) → IsWord a → IsWord b → IsWord c → IsWord r → slice_split (λ x. x == 32) (a ++ 32 ∷ three b c r) ≡ a ∷ b ∷ c ∷ r ∷ []
 four_cut a b c r g h k l = cut_once 32 a (three b c r) g.blank ∙ ap (λ (xs : List (List ℕ)). a ∷ xs) (three_cut b c r h k l)
 
--- the words of what a line of a script asks for
+-- the words of a script line that asks for this
 abbrev pub words_of : Line → Asked → List ℕ
 words_of line Show = codes "show"
 words_of line (Train c bytes) = three (codes "train") (name_at line c) (encode_upper bytes)

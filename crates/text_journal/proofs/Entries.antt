@@ -1,4 +1,4 @@
--- What holds of notes, for entries in memory.
+-- Properties of notes, for entries in memory.
 use Rattle.std.proofs.Common.{◌≡◌, ◌≢◌, true, ℕ, zero, suc, List, [], ◌∷◌, ◌++◌, inl, inr, length, refl, ap, sym, subst, ◌∙◌, arith, rules, map, take, append_assoc, Option, Some, None, Bor, Bool, false, Result, Ok, Err, Vec, Global}
 use Rattle.std.specs.Prelude.{codes, MatchOption, IfOk, IfErr, IsTrue}
 use Rattle.std.specs.Str.{bytes_eq}
@@ -73,7 +73,7 @@ one_following line good c text es fs h k =
 start_feed : Lacks 10 (codes "journal 1 ")
 start_feed = (λ e. omega arith, (λ e. omega arith, (λ e. omega arith, (λ e. omega arith, (λ e. omega arith, (λ e. omega arith, (λ e. omega arith, (λ e. omega arith, (λ e. omega arith, (λ e. omega arith, tt))))))))))
 
--- the first line is not ended where it is cut
+-- the first line contains no line feed
 pub first_feed : (line : Line) → IsLine line → (c : ℕ) (file : List ℕ) → is_centre line c ≡ true → Lacks 10 (first_line line c file)
 first_feed line good c file it =
     lacks_append 10 (codes "journal 1 ") (name_at line c ++ 32 ∷ digest file) (start_feed)
@@ -131,7 +131,7 @@ never : (line : Line) (c : ℕ) (row : List ℕ) (fs : List Entry) → ((e : Ent
 never line c row [] bad h = tt
 never line c row (e ∷ fs) bad h = (λ same. bad e h.0 (entry_line_is line e ∙ ap (λ (t : List ℕ). t ++ 10 ∷ []) same), never line c row fs bad h.1)
 
--- where a line is no entry's, the text is that of no entries
+-- if no entry has a line, the text has no entries
 pub stuck : (line : Line) → IsLine line → (c : ℕ) (text : List ℕ) (es : List Entry) (rest row others : List ℕ) → Reads line c text es rest →
     rest ≡ row ++ 10 ∷ others → Lacks 10 row → ((e : Entry) → IsNote line c (noted_of e) → entry_line line e ≡ row ++ 10 ∷ [] → ⊥) →
     (fs : List Entry) → Follows line c text fs → ⊥
@@ -193,7 +193,7 @@ pub refused_torn : (line : Line) → IsLine line → (c : ℕ) (file text rest :
 refused_torn line good c file text rest (Ok read) it e h = tt
 refused_torn line good c file text rest (Err why) it e h = λ other es k. h other es (torn_rest line good c file text rest es it e k)
 
--- a first line that is another is no beginning
+-- a different first line begins no journal of this centre
 pub foreign_row : (line : Line) → IsLine line → (c : ℕ) (file text row rest : List ℕ) → is_centre line c ≡ true → text ≡ row ++ 10 ∷ rest → Lacks 10 row →
     row ≢ first_line line c file → (es : List Entry) → Begins line c file text es → ⊥
 foreign_row line good c file text row rest it e clean other es (torn more f k) =
@@ -206,7 +206,7 @@ take_again zero xs = refl
 take_again (suc n) [] = refl
 take_again (suc n) (x ∷ xs) = ap (λ (t : List ℕ). x ∷ t) (take_again n xs)
 
--- a text that ends in the first line is the first of it
+-- a text that ends within the first line is a front of it
 pub early_text : (line : Line) (c : ℕ) (file text : List ℕ) → starts_with eqb (first_line line c file) text ≡ true → Begins line c file text []
 early_text line c file text h = early (length text) ((bytes_eq-Decides text (take (length text) (first_line line c file))).0 h) refl
 

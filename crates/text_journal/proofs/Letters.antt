@@ -1,4 +1,4 @@
--- Which bytes do not stand in the parts of a line.
+-- The bytes that the parts of a line do not contain.
 use Rattle.std.proofs.Common.{◌≡◌, ◌≢◌, ℕ, zero, suc, ◌<◌, ◌/◌, ◌%◌, ◌^◌, Bool, true, false, cond, List, [], ◌∷◌, ◌++◌, inl, inr, length, get_or, refl, ap, sym, ◌∙◌, arith, rules}
 use Rattle.std.specs.List.{All, slice_split}
 use Rattle.std.specs.Prelude.{slice_index, ◌==◌, IsTrue}
@@ -44,7 +44,7 @@ cut_last c a h = slice_split_none (λ x. x == c) a (none_passes c a h)
 clash : (b : Bool) → IsTrue b → b ≡ false → ⊥
 clash b h e = search rules
 
--- a blank and a line feed
+-- the text contains no blank and no line feed
 pub record IsWord (text : List ℕ) : Type 0 where
   pub blank : Lacks 32 text
   pub feed : Lacks 10 text
@@ -60,7 +60,7 @@ decimal_words = decimal_by_steps (λ n ds. IsWord ds)
 pub word_of_number : (n : ℕ) → n < 2 ^ 64 → IsWord (decimal n)
 word_of_number n h = decimal_words n h
 
--- what is looked up in a table of such digits
+-- a byte that is looked up in a table of such digits
 looked_up : (c : ℕ) (t : List ℕ) (k : ℕ) → 0 ≢ c → Lacks c t → slice_index t k ≢ c
 looked_up c [] k z h = z
 looked_up c (x ∷ t) zero z h = h.0
@@ -75,7 +75,7 @@ hex_lacks c t (b ∷ bytes) z h = (looked_up c t (b / 16) z h, (looked_up c t (b
 pub name_lacks : (c : ℕ) (name : List ℕ) → is_ascii_alphanumeric c ≡ false → All (λ x. IsTrue (is_ascii_alphanumeric x)) name → Lacks c name
 name_lacks c name other h = lacks_from c name (λ i l e. clash _ (h i 0 l) (ap is_ascii_alphanumeric e ∙ other))
 
--- each is a letter or a digit
+-- each byte is a letter or a digit
 abbrev pub alphanumeric : List ℕ → Bool
 alphanumeric [] = true
 alphanumeric (x ∷ xs) = cond (is_ascii_alphanumeric x) (alphanumeric xs) false

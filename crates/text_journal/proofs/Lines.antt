@@ -1,4 +1,4 @@
--- The lines of a journal: what a line notes, and where a text of lines may end.
+-- The lines of a journal: the note of a line, and the ends that a text of lines may have.
 use Rattle.std.proofs.Common.{◌≡◌, ◌⊎◌, ℕ, zero, suc, ◌<◌, ◌^◌, true, List, [], ◌∷◌, ◌++◌, inl, inr, refl, ap, sym, subst, ◌∙◌, arith, Some, take, drop, append_assoc}
 use Rattle.std.specs.Prelude.{codes}
 use Rattle.std.specs.List.{AllByRecursion, flat_map}
@@ -15,7 +15,7 @@ use Rattle.text_journal.proofs.Asking.{own, words_of, name_is_word, three, train
 
 -- ## One line
 
--- what is told of an entry, and its line; neither has its line feed
+-- the text of an entry and its line, both without the line feed
 abbrev pub told_of : Line → Noted → List ℕ
 told_of line x = decimal x.stamp ++ 32 ∷ 62 ∷ 32 ∷ words_of line x.event
 
@@ -77,7 +77,7 @@ pub no_cut : (c : ℕ) (a x : List ℕ) → Lacks c (a ++ c ∷ x) → ⊥
 no_cut c [] x h = h.0 refl
 no_cut c (p ∷ a) x h = no_cut c a x h.1
 
--- ## A line notes one thing
+-- ## A line has one note
 
 same_number : (m n : ℕ) → m < 2 ^ 64 → n < 2 ^ 64 → decimal m ≡ decimal n → m ≡ n
 same_number m n h k e = sym (digits_value-decimal own m h) ∙ ap (digits_value 10) e ∙ digits_value-decimal own n k
@@ -99,7 +99,7 @@ same_note line good c x y m n e =
 abbrev pub lines_of : Line → List Noted → List ℕ
 lines_of line xs = flat_map (λ x. line_of line x ++ 10 ∷ []) xs
 
--- a line, and what follows it
+-- a line, and the text after it
 pub joined : (a x : List ℕ) → (a ++ 10 ∷ []) ++ x ≡ a ++ 10 ∷ x
 joined a x = append_assoc a (10 ∷ []) x
 
@@ -119,7 +119,7 @@ one_reading line good c (x ∷ xs) (y ∷ ys) r s m n h k e =
     let more = one_reading line good c xs ys r s m.1 n.1 h k cut.1 in
     λ i. first i ∷ more i
 
--- where a line is no line of a note, there is no reading
+-- if a line is not the line of a note, there is no reading
 pub no_reading : (line : Line) → IsLine line → (c : ℕ) (xs ys : List Noted) (r row others : List ℕ) →
     AllByRecursion (IsNote line c) xs → AllByRecursion (IsNote line c) ys → Lacks 10 r → Lacks 10 row →
     AllByRecursion (λ x. line_of line x ≡ row → ⊥) xs →
@@ -141,7 +141,7 @@ lacks_take c zero xs h = tt
 lacks_take c (suc n) [] h = tt
 lacks_take c (suc n) (x ∷ xs) h = (h.0, lacks_take c n xs h.1)
 
--- a text that is cut at n is all of a front with a line feed, and something of the rest, or something of the front
+-- a text cut at n: a front with its line feed and a part of the rest, or a part of the front
 pub cut_after : (a x : List ℕ) (n : ℕ) → (take n (a ++ 10 ∷ x) ≡ take n a) ⊎ ((m : ℕ) × (take n (a ++ 10 ∷ x) ≡ a ++ 10 ∷ take m x))
 cut_after [] x zero = inl refl
 cut_after [] x (suc n) = inr (n, refl)

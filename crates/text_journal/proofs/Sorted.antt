@@ -1,4 +1,4 @@
--- A list that is sorted by stamp and centre is in order; and stamps that rise.
+-- A list that is sorted by stamp and centre is in order. Rising stamps.
 use Rattle.std.proofs.Common.{◌≡◌, ℕ, ◌+◌, ◌-◌, ◌<◌, ◌≤◌, List, Bool, false, arith, inl, inr, subst}
 use Rattle.std.specs.Prelude.{slice_index}
 use Rattle.std.proofs.lemmas.Bool.{cases_lt}

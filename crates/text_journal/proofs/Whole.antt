@@ -1,4 +1,4 @@
--- The whole lines of a text, and of what is left of a journal.
+-- The whole lines of a text, and of a cut journal.
 use Rattle.std.proofs.Common.{◌≡◌, ◌≢◌, ℕ, suc, ◌+◌, ◌-◌, ◌<◌, ◌≤◌, true, List, [], ◌∷◌, ◌++◌, length, get_or, take, drop, inl, inr, refl, ap, sym, subst, ◌∙◌, arith, append_assoc}
 use Rattle.std.specs.List.{flat_map}
 use Rattle.std.proofs.lemmas.Bool.{cases_lt}
@@ -16,7 +16,7 @@ use Rattle.text_journal.proofs.Entries.{entry_line_is, first_feed}
 get_after : (n : ℕ) (xs : List ℕ) (i : ℕ) → get_or (drop n xs) i 0 ≡ get_or xs (n + i) 0
 get_after n xs i = get_or-drop n xs i 0
 
--- ## What is left of a journal
+-- ## A cut journal
 
 last_at : (front rest : List ℕ) → get_or (front ++ 10 ∷ rest) (length front) 0 ≡ 10
 last_at [] rest = refl

@@ -1,4 +1,4 @@
--- The format of a journal: after a first line one for each event that a centre took.
+-- The format of a journal: a first line, and then one line for each event that a centre took.
 use Rattle.std.specs.Prelude.{ℕ, List, ◌∷◌, ◌++◌, codes, take}
 use Rattle.std.specs.List.{flat_map}
 use Rattle.std.specs.Fmt.{decimal}
@@ -12,20 +12,19 @@ use Rattle.text_journal.specs.declared.entry.Entry.{Entry}
 unfoldable pub digest : List ℕ → List ℕ
 digest text = encode_lower (sha256 text)
 
--- its first four bytes
+-- the first four bytes of the SHA-256 of a text, in hexadecimal digits
 unfoldable pub checksum : List ℕ → List ℕ
 checksum text = encode_lower (take 4 (sha256 text))
 
--- the first line, without the line feed that ends it: the version of the format, the centre, and the digest of the line
--- file
+-- the first line, without its line feed: the version of the format, the centre, and the digest of the line file
 abbrev pub first_line : Line → ℕ → List ℕ → List ℕ
 first_line line c file = codes "journal 1 " ++ (name_at line c ++ (codes " " ++ digest file))
 
--- what is told of an entry: its stamp, and its event as a print has it, up to the line feed
+-- the text of an entry: its stamp, and its event as a print has it, with the line feed
 abbrev pub told : Line → Entry → List ℕ
 told line e = decimal e.stamp ++ (codes " " ++ event_row line e.event)
 
--- the line of an entry, up to the line feed: the checksum of what is told, and that
+-- the line of an entry, with the line feed: the checksum of the entry's text, and that text
 abbrev pub entry_line : Line → Entry → List ℕ
 entry_line line e = checksum (told line e) ++ (codes " " ++ told line e)
 

@@ -1,4 +1,4 @@
--- The entries of a line's journals as one list, and stamps that rise.
+-- The entries of a line's journals as one list, and rising stamps.
 use Rattle.std.specs.Prelude.{◌≡◌, ℕ, ◌+◌, ◌-◌, ◌<◌, ◌≤◌, List, map, length, slice_index, Option, Some, None}
 use Rattle.std.specs.List.{AllPairs}
 use Rattle.rbc_spec.specs.World.{centre_of}
@@ -9,7 +9,7 @@ use Rattle.text_journal.specs.declared.entry.Entry.{Entry}
 abbrev pub taken_at : Entry → ℕ
 taken_at e = centre_of (event_of e.event)
 
--- one entry may stand before another: by stamp, and those of one stamp by centre
+-- one entry may precede another: by stamp, and entries of one stamp by centre
 abbrev pub ComesBefore : Entry → Entry → Type 0
 ComesBefore d e = (d.stamp ≤ e.stamp) × (d.stamp ≡ e.stamp → taken_at d ≤ taken_at e)
 
@@ -23,7 +23,7 @@ stamps_of es = map (λ e. e.stamp) es
 abbrev pub RiseTo : ℕ → List ℕ → Type 0
 RiseTo n stamps = (i : ℕ) → i + 1 < n → slice_index stamps i < slice_index stamps (i + 1)
 
--- the first stamp that is not above the one before it has this place; or all rise
+-- the place of the first stamp that is not above the one before it; none if all rise
 abbrev pub IsFirstFallen : List ℕ → Option ℕ → Type 0
 IsFirstFallen stamps None = RiseTo (length stamps) stamps
 IsFirstFallen stamps (Some at) =

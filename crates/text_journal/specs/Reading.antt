@@ -1,4 +1,4 @@
--- What it is to read a journal that may end anywhere.
+-- The reading of a journal that may end anywhere.
 use Rattle.std.specs.Prelude.{◌≡◌, ◌≢◌, ℕ, ◌<◌, ◌^◌, List, [], ◌∷◌, ◌++◌, length, take, true, slice_index, Option, MatchOption, Result, Ok, Err}
 use Rattle.std.specs.List.{AllByRecursion, flat_map}
 use denote.Ref.{Bor}
@@ -10,13 +10,13 @@ use Rattle.text_script.specs.declared.script.EntryFault.TheVariants as refused
 use Rattle.text_journal.specs.Journal.{first_line, entry_line}
 use Rattle.text_journal.specs.declared.entry.Entry.{Entry}
 
--- the byte does not stand in the text
+-- the text does not contain the byte
 abbrev pub Lacks : ℕ → List ℕ → Type 0
 Lacks c text = AllByRecursion (λ b. b ≢ c) text
 
 -- ## Entries
 
--- what an entry in memory says: a stamp, and the event as a line of a script asks for it
+-- the content of an entry in memory: a stamp, and the event as a line of a script asks for it
 pub record Noted : Type 0 where
   pub stamp : ℕ
   pub event : Asked
@@ -24,7 +24,7 @@ pub record Noted : Type 0 where
 abbrev pub noted_of : Entry → Noted
 noted_of e = record { stamp = e.stamp; event = event_of e.event }
 
--- an event that comes to centre c, and that a line of a script can ask for
+-- an event that reaches centre c, and that a line of a script can ask for
 abbrev pub IsAt : Line → ℕ → Asked → Type 0
 IsAt line c Show = ⊥
 IsAt line c (Train d bytes) = (d ≡ c) × (0 < length bytes) × ((i : ℕ) → slice_index bytes i < 256)
@@ -32,7 +32,7 @@ IsAt line c (Set d s) = (d ≡ c) × (s < 2 ^ 16)
 IsAt line c (Unset d s) = (d ≡ c) × (s < 2 ^ 16)
 IsAt line c (Deliver from d number) = (d ≡ c) × (is_centre line from ≡ true) × (number < 2 ^ 32)
 
--- what the journal of centre c may note
+-- an entry that the journal of centre c may contain
 pub record IsNote (line : Line) (c : ℕ) (x : Noted) : Type 0 where
   pub stamp : x.stamp < 2 ^ 32
   pub centre : is_centre line c ≡ true
@@ -40,7 +40,7 @@ pub record IsNote (line : Line) (c : ℕ) (x : Noted) : Type 0 where
 
 -- ## Texts
 
--- The text is the lines of these entries, and after them what is not ended by a line feed
+-- The text is the lines of these entries, and then bytes without a line feed
 pub record Follows (line : Line) (c : ℕ) (text : List ℕ) (es : List Entry) : Type 0 where
   pub rest : List ℕ
   pub each : AllByRecursion (λ e. IsNote line c (noted_of e)) es
@@ -55,27 +55,27 @@ pub data Begins (line : Line) (c : ℕ) (file text : List ℕ) (es : List Entry)
 
 -- ## A line
 
--- a line that is parted so: a checksum, a stamp, the sign of an event and its words
+-- the parts of such a line: a checksum, a stamp, the sign of an event and its words
 abbrev pub ArePartsOf : List ℕ → Option (Bor (List ℕ) × Bor (List ℕ)) → Type 0
 ArePartsOf row found =
     (sum stamp words : List ℕ) → Lacks 32 sum → Lacks 32 stamp
     → row ≡ sum ++ 32 ∷ (stamp ++ 32 ∷ 62 ∷ 32 ∷ words)
     → MatchOption found ⊥ (λ x. (x.0.now ≡ stamp) × (x.1.now ≡ words))
 
--- the entry is one whose line this is; it is refused for its form only where there is none
+-- the entry has this line; a refusal for the form means that no entry has it
 abbrev pub Finds : Line → ℕ → List ℕ → Result Entry EntryFault → Type 0
 Finds line c row (Ok e) = IsNote line c (noted_of e) × (entry_line line e ≡ row ++ 10 ∷ [])
 Finds line c row (Err why) =
     why ≡ refused.Form → (e : Entry) → IsNote line c (noted_of e) → entry_line line e ≡ row ++ 10 ∷ [] → ⊥
 
--- where there is an entry whose line this is, it is guessed, or memory ran out
+-- if an entry has this line, it is guessed, or memory ran out
 abbrev pub Guesses : Line → List ℕ → Result Entry EntryFault → Type 0
 Guesses line row (Ok found) =
     (c : ℕ) (e : Entry) → IsNote line c (noted_of e) → entry_line line e ≡ row ++ 10 ∷ [] → noted_of found ≡ noted_of e
 Guesses line row (Err why) =
     why ≡ refused.Form → (c : ℕ) (e : Entry) → IsNote line c (noted_of e) → entry_line line e ≡ row ++ 10 ∷ [] → ⊥
 
--- it is the given entry whose line this is, or that is none
+-- the result has this line; a refusal for the form means that the given entry does not have it
 abbrev pub Tells : Line → ℕ → List ℕ → Entry → Result Entry EntryFault → Type 0
 Tells line c row given (Ok e) = IsNote line c (noted_of e) × (entry_line line e ≡ row ++ 10 ∷ [])
 Tells line c row given (Err why) =

@@ -2,7 +2,7 @@
 use Rattle.std.specs.Prelude.{◌≡◌, ◌⊎◌, ℕ, ◌-◌, ◌≤◌, List, length, drop, slice_index}
 use Rattle.text_journal.specs.Reading.{Lacks}
 
--- the first n bytes of a text are its whole lines: no byte, or all up to the last line feed
+-- the first n bytes of a text are its whole lines: no byte, or all up to and with the last line feed
 pub record AreWhole (text : List ℕ) (n : ℕ) : Type 0 where
   pub within : n ≤ length text
   pub ended : (n ≡ 0) ⊎ (slice_index text (n - 1) ≡ 10)

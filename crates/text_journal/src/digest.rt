@@ -12,7 +12,7 @@ pub(crate) fn digest(alloc: Global, text: &[u8]) -> Result<String, AllocError>
     hex::encode(alloc, Sha256::digest(text))
 }
 
-/// Its first four bytes, in hexadecimal digits.
+/// The first four bytes of the SHA-256 of a text, in hexadecimal digits.
 #[tactic(auto, unfolding(crate::specs::Journal::checksum))]
 pub(crate) fn checksum(alloc: Global, text: &[u8]) -> Result<String, AllocError>
     ensures { IfOk result (λ digits. string_bytes digits ≡ checksum text.now) }

@@ -3,7 +3,7 @@ ghost use Rattle.text_journal.specs.Order.{taken_at};
 
 use text_script::WorldEvent;
 
-/// An event that a centre took, and the stamp of what it answered.
+/// An event that a centre took, and the stamp of the answer.
 #[derive(Debug, Drop)]
 pub struct Entry {
     pub stamp: u32,

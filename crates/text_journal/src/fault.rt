@@ -3,14 +3,14 @@ ghost use Rattle.text_journal.specs.declared.fault.JournalFault.TheVariants.{Mem
 
 use std::alloc::{AllocError, AllocFailed};
 
-/// Why a journal is not read.
+/// Why a journal can't be read.
 #[derive(Clone, Copy, Debug, PartialEq, Eq)]
 pub enum JournalFault {
     /// Memory ran out.
     Memory,
-    /// It is no journal of this centre of this line: its first line is another.
+    /// It is not a journal of this centre of this line: its first line differs.
     Foreign,
-    /// A line is damaged: the number of the first one, from 1, the journal's first line counted.
+    /// A line is damaged: the number of the first such line, from 1. The journal's first line counts.
     Damaged(usize),
 }
 

@@ -2,7 +2,7 @@ ghost use Rattle.text_journal.specs.Whole.{AreWhole};
 
 use memchr::memrchr;
 
-/// How many bytes the whole lines of a text take: all up to its last line feed, which is the last of them.
+/// The length of the whole lines of a text in bytes: up to and with its last line feed.
 pub fn whole_length(text: &[u8]) -> usize
     ensures { AreWhole text.now result }
 {

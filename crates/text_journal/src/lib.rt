@@ -1,7 +1,8 @@
-//! The journal of a centre: a file of lines, one for each event of its log, with its stamp and a checksum. It is
-//! written line by line. Of a file that is cut at any byte, the whole lines are read.
+//! The journal of a centre: a file with one line for each event of the centre's log. A line has the stamp of its
+//! event and a checksum. Lines are written one at a time. If a file is cut at any byte, its whole lines can still be
+//! read.
 //!
-//! Bodies are free. The format is fixed by docs/FORMATS.md.
+//! Bodies are free. docs/FORMATS.md fixes the format.
 #![tactic(auto)]
 
 mod digest;

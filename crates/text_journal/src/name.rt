@@ -5,7 +5,7 @@ use rbc_line::Line;
 use std::alloc::{AllocError, Global};
 use text_script::print::name_of;
 
-/// The name of the file that has the journal of a centre.
+/// The name of the file with the journal of a centre.
 pub fn file_name(alloc: Global, line: &Line, centre: u8) -> Result<String, AllocError>
     ensures { IfOk result (λ name. string_bytes name ≡ name_at line.now centre ++ codes ".journal") }
 {

@@ -6,8 +6,8 @@ ghost use Rattle.text_journal.specs.Order.{AreInOrder};
 use crate::entry::Entry;
 use std::alloc::{AllocError, Global};
 
-/// The entries of the centres' journals, which are given by the centres' numbers, as one list: by their stamps, and
-/// those of one stamp by their centres. So a journal whose stamps rise keeps its order.
+/// Merges the centres' journals, given by the centres' numbers, into one list. It is ordered by stamp, and entries of
+/// one stamp by centre. So a journal whose stamps rise keeps its order.
 pub fn in_order(alloc: Global, journals: Vec<Vec<Entry>>) -> Result<Vec<Entry>, AllocError>
     ensures once { IfOk result (λ es. IsPermutation (flat_map (λ j. j.items) journals.items) es.items) }
     ensures in_order { IfOk result (λ es. AreInOrder es.items) }

@@ -12,8 +12,8 @@ use rbc_line::Line;
 use std::alloc::Global;
 use text_script::script::EntryFault;
 
-/// The entries of a centre's journal, which may end anywhere: a last line that no line feed ends is left out. Of the
-/// text of the line file the first line has the digest.
+/// Reads the entries of a centre's journal, which may end anywhere. A last line without a line feed is left out. The
+/// first line has the digest of the line file's text.
 pub fn read_journal(
     alloc: Global,
     line: &Line,
@@ -48,7 +48,7 @@ pub fn read_journal(
     }
 }
 
-// The entries after the first line.
+// Reads the entries after the first line.
 fn entries_in(
     alloc: Global,
     line: &Line,
@@ -74,7 +74,7 @@ fn entries_in(
     Ok(entries)
 }
 
-// Each line keeps the rules of a line.
+// States that each line keeps the rules of a line.
 fn known_line(line: &Line)
     ensures { IsLine line.now }
 {

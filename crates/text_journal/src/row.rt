@@ -10,7 +10,7 @@ use std::alloc::Global;
 use text_script::WorldEvent;
 use text_script::script::{self, EntryFault, entry_of};
 
-/// The entry of the centre's journal that has this line, which is given without its line feed.
+/// Reads the entry of this line of the centre's journal. The line is given without its line feed.
 pub(crate) fn entry_in(
     alloc: Global,
     line: &Line,
@@ -27,7 +27,7 @@ pub(crate) fn entry_in(
     }
 }
 
-// The entry, where it may stand in the centre's journal and this is its line.
+// Reads the entry, if the centre's journal may contain it and this is its line.
 fn told(
     alloc: Global,
     line: &Line,
@@ -53,7 +53,7 @@ fn told(
     }
 }
 
-// The entry that a line has where it has one, whatever its checksum.
+// Reads the entry that a line has, if it has one. The checksum is not compared.
 fn guessed(alloc: Global, line: &Line, row: &str) -> Result<Entry, EntryFault>
     requires { IsLine line.now }
     ensures { Guesses line.now row.now result }
@@ -71,7 +71,7 @@ fn guessed(alloc: Global, line: &Line, row: &str) -> Result<Entry, EntryFault>
     }
 }
 
-// The stamp and the words of the event, after the checksum and the sign of an event.
+// The stamp and the words of the event: they follow the checksum, with the sign of an event between them.
 fn parts(row: &str) -> Option<(&str, &str)>
     ensures { ArePartsOf row.now result }
 {
@@ -81,7 +81,7 @@ fn parts(row: &str) -> Option<(&str, &str)>
     Some((stamp, words))
 }
 
-// Whether the text is the line, and the line feed that ends it.
+// Whether the text is the line with its line feed.
 fn is_ended(text: &[u8], row: &str) -> bool
     ensures { IsTrue result ↔ (text.now ≡ row.now ++ 10 ∷ []) }
 {
@@ -91,7 +91,7 @@ fn is_ended(text: &[u8], row: &str) -> bool
     }
 }
 
-// Whether the event comes to the centre, and a line of a script can ask for it.
+// Whether the event reaches this centre, and a line of a script can ask for it.
 fn is_at(line: &Line, centre: u8, event: &WorldEvent) -> bool
     ensures { IsTrue result ↔ IsAt line.now centre (event_of event.now) }
 {
@@ -118,14 +118,14 @@ fn are_bytes(bytes: &[u8]) -> bool
     !bytes.is_empty()
 }
 
-// Whether a section of this number is set at the centre.
+// Whether the event of this section reaches the centre.
 fn is_section_at(at: u8, section: u16, centre: u8) -> bool
     ensures { IsTrue result ↔ ((at ≡ centre) × (section < 2 ^ 16)) }
 {
     at == centre
 }
 
-// Whether a frame of this number may come from there.
+// Whether a centre of the line may send a frame of this number.
 fn is_frame_from(line: &Line, from: u8, number: u32) -> bool
     ensures { IsTrue result ↔ ((is_centre line.now from ≡ true) × (number < 2 ^ 32)) }
 {

@@ -8,7 +8,7 @@ use std::alloc::{AllocError, Global};
 use std::io::Write;
 use text_script::print::{name_of, print_event};
 
-/// The first line of the journal of a centre, without the line feed that ends it, by the text of the line file.
+/// The first line of a centre's journal, without its line feed. `file` is the text of the line file.
 pub fn first_line(alloc: Global, line: &Line, centre: u8, file: &str) -> Result<String, AllocError>
     ensures { IfOk result (λ row. string_bytes row ≡ first_line line.now centre file.now) }
 {
@@ -17,7 +17,7 @@ pub fn first_line(alloc: Global, line: &Line, centre: u8, file: &str) -> Result<
     format!(in alloc; "journal 1 {name} {digits}")
 }
 
-/// Writes the line of an entry, with the line feed that ends it, after the text. An error leaves the text as it was.
+/// Appends the line of an entry to the text, with its line feed. After an error the text is as it was.
 pub fn add_entry(
     alloc: Global,
     line: &Line,
@@ -31,7 +31,7 @@ pub fn add_entry(
     text.extend_from_slice(&row)
 }
 
-/// The line of an entry, with the line feed that ends it.
+/// The line of an entry, with its line feed.
 pub(crate) fn entry_line(alloc: Global, line: &Line, entry: &Entry) -> Result<Vec<u8>, AllocError>
     ensures { IfOk result (λ row. row.items ≡ entry_line line.now entry.now) }
 {
@@ -44,7 +44,7 @@ pub(crate) fn entry_line(alloc: Global, line: &Line, entry: &Entry) -> Result<Ve
     Ok(row)
 }
 
-// What is told of an entry.
+// The stamp and the event of an entry, as its line has them.
 fn told(alloc: Global, line: &Line, entry: &Entry) -> Result<Vec<u8>, AllocError>
     ensures { IfOk result (λ text. text.items ≡ told line.now entry.now) }
 {

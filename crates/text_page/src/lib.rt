@@ -1,8 +1,8 @@
-//! The page of a line, running or printed: its contents as types, the tables that give them in JSON and in HTML, the
-//! style, and the script that draws. It is a function of its arguments only: nothing here has a line, a centre, a
-//! socket or a clock.
+//! The page of a line, for a running line or for a print. Its parts are the types of its contents, their tables in JSON
+//! and in HTML, the style, and the drawing script. The page is a function of its arguments only: it uses no line, no
+//! centre, no socket and no clock.
 //!
-//! Bodies are free. The contents of the page are fixed by docs/FORMATS.md.
+//! Bodies are free. docs/FORMATS.md fixes the contents of the page.
 #![tactic(auto)]
 
 mod look;

@@ -1,22 +1,22 @@
-//! How the page looks, and how its script draws the line. The running line's page and a print's share the style and the
-//! drawing.
+//! The style of the page, and its scripts that draw the line. A running line's page and a print share the style and
+//! the drawing.
 
-/// What stands before the style.
+/// The text before the style.
 pub(crate) const HEAD: &str = "<!doctype html>
 <html lang='en'><head><meta charset='utf-8'><title>Line of centres</title>
 <meta name='viewport' content='width=device-width'><link rel='icon' href='data:,'>
 ";
 
-/// Without a script the page of a running line asks for itself again.
+/// Without a script, the page of a running line reloads itself.
 pub(crate) const REFRESH: &str = "<noscript><meta http-equiv='refresh' content='2'></noscript>
 ";
 
-/// The page of a print may load nothing, whatever it says.
+/// The page of a print must not load anything, whatever it contains.
 pub(crate) const SEALED: &str =
     "<meta http-equiv='Content-Security-Policy' content='default-src &#39;none&#39;; style-src &#39;unsafe-inline&#39;; script-src &#39;unsafe-inline&#39;; img-src data:'>
 ";
 
-/// The style, and what follows it.
+/// The style, and the text after it.
 pub(crate) const STYLE: &str = "<style>
 *{box-sizing:border-box}
 body{font:14px/1.35 system-ui,sans-serif;color:#1a1f26;background:#f4f5f7;margin:0 auto;padding:10px 16px;max-width:1500px}
@@ -56,7 +56,7 @@ nav{position:sticky;top:0;z-index:1;background:#f4f5f7;padding:4px 0}nav input{w
 pub(crate) const SLIDER: &str =
     "<nav hidden><label>Event <input type='range'> <output></output></label></nav>";
 
-/// How the line is drawn. Each text that is drawn stays a text.
+/// Draws the line. Each text that is drawn stays a text.
 pub(crate) const DRAW: &str =
     "const main=document.querySelector('main'),lost=document.getElementById('lost'),pick=document.getElementById('pick');
 const fill=(e,attributes,parts)=>{for(const a in attributes)e.setAttribute(a,attributes[a]);e.append(...parts.filter(p=>p!=null));return e};
@@ -139,7 +139,7 @@ const mark=t=>{marked=t;pick.textContent=t?`g[data-t]{opacity:.25}g[data-t='${t}
 document.onclick=e=>{const it=e.target.closest('[data-t]');if(it)mark(marked==it.dataset.t?'':it.dataset.t)};
 ";
 
-/// How a running line is followed: its centres are asked once a second.
+/// Follows a running line: requests the state of its centres once a second.
 pub(crate) const FOLLOW: &str = "
 let at='',seen='';
 const part=(used,most)=>{const p=Math.floor(used*100/most);return tag('span',{},used+' ',tag('meter',{max:100,high:80,value:p}),` ${p} %`)};
@@ -178,8 +178,7 @@ async function follow(){
 follow();
 ";
 
-/// How the slider of a print shows the line after an event: of each section, train and session the last row so far
-/// counts.
+/// Shows the line after the event of the slider. For each section, train and session the last line so far counts.
 pub(crate) const REPLAY: &str = "
 const run=JSON.parse(document.getElementById('run').textContent),nav=document.querySelector('nav'),range=nav.querySelector('input');
 for(const name of ['tracks','centres','sections','events','states','missions','phases'])run[name]=rows(run[name]);

@@ -1,4 +1,4 @@
-//! The page of a running line, and what its script asks for.
+//! The page of a running line, and the data that its script requests.
 
 use crate::look::{DRAW, FOLLOW, HEAD, REFRESH, STYLE};
 use crate::rows::{add_now, name_of};
@@ -7,7 +7,7 @@ use crate::sheet::{Form, Sheet};
 use crate::view::{Layout, LineNow};
 use std::alloc::{AllocError, Global};
 
-/// What does not change while the centres run.
+/// Writes the data that do not change while the centres run.
 pub fn line_json(alloc: Global, layout: &Layout) -> Result<String, AllocError> {
     let mut sheet = Sheet::new(alloc, Form::Json);
     add_line(&mut sheet, layout)?;
@@ -16,7 +16,7 @@ pub fn line_json(alloc: Global, layout: &Layout) -> Result<String, AllocError> {
     format!(in alloc; "{{\"nid_c\":{nid_c}{rest}}}\n")
 }
 
-/// Writes what does not change of the line.
+/// Writes the data of the line that do not change.
 pub(crate) fn add_line(sheet: &mut Sheet, layout: &Layout) -> Result<(), AllocError> {
     add_names(sheet, "tracks", "track", &layout.tracks)?;
     add_names(sheet, "centres", "centre", &layout.centres)?;
@@ -36,7 +36,7 @@ fn add_names(
     sheet.end()
 }
 
-/// What is so now, and its version: another one each time that anything of it changes.
+/// Writes the current state and its version. The version changes whenever the state changes.
 pub fn now_json(
     alloc: Global,
     layout: &Layout,
@@ -51,8 +51,8 @@ pub fn now_json(
     format!(in alloc; "{{\"version\":{version},\"events\":{events},\"stopped\":{stopped}{rest}}}\n")
 }
 
-/// The whole page. It loads nothing from elsewhere. Its script draws what it asks for once a second; without it, the
-/// tables stand there, and the page asks for itself again every two seconds.
+/// Writes the whole page, which loads nothing from elsewhere. Once a second its script requests the data and draws
+/// them. Without a script, the page shows the tables and reloads itself every two seconds.
 pub fn live_page(alloc: Global, layout: &Layout, now: &LineNow) -> Result<String, AllocError> {
     let mut sheet = Sheet::new(alloc, Form::Html);
     add_now(&mut sheet, layout, now)?;

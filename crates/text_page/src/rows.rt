@@ -1,11 +1,11 @@
-//! What is so now, as tables.
+//! The current state, as tables.
 
 use crate::sections::add_sections;
 use crate::sheet::{Cell, Sheet};
 use crate::view::{Layout, LineNow, MissionNow, Phase, Run};
 use std::alloc::AllocError;
 
-/// Writes all that is so now.
+/// Writes the whole current state.
 pub(crate) fn add_now(sheet: &mut Sheet, layout: &Layout, now: &LineNow) -> Result<(), AllocError> {
     add_state(sheet, layout, now)?;
     add_centres(sheet, layout, now)?;
@@ -24,7 +24,7 @@ pub(crate) fn add_state(
     add_sessions(sheet, layout, now)
 }
 
-/// The name of this number, or nothing.
+/// The name with this number, or nothing.
 pub(crate) fn name_of(names: &[String], number: usize) -> Cell<'_> {
     match names.get(number) {
         Some(name) => Cell::Text(name.as_str()),
@@ -40,7 +40,7 @@ pub(crate) fn number_of(number: Option<u32>) -> Cell<'static> {
     }
 }
 
-/// What is shown of a mission.
+/// The columns of a mission.
 pub(crate) static MISSION: [&str; 12] = [
     "train",
     "supervisor",
@@ -66,7 +66,7 @@ fn add_missions(sheet: &mut Sheet, layout: &Layout, now: &LineNow) -> Result<(),
     sheet.end()
 }
 
-/// A mission, by the columns of `MISSION`.
+/// The cells of a mission, by the columns of `MISSION`.
 pub(crate) fn cells_of<'a>(layout: &'a Layout, mission: &MissionNow) -> [Cell<'a>; 12] {
     let [first, last] = ends_of(mission.hand);
     let [lent_first, lent_last] = ends_of(mission.pool);
@@ -124,7 +124,7 @@ fn add_sessions(sheet: &mut Sheet, layout: &Layout, now: &LineNow) -> Result<(),
     sheet.end()
 }
 
-/// How far a session has come, in words.
+/// The phase of a session, in words.
 pub(crate) fn words_of(phase: Phase) -> Cell<'static> {
     Cell::Text(match phase {
         Phase::Opened => "opened",

@@ -8,19 +8,20 @@ use crate::sheet::{Cell, Form, Sheet};
 use crate::view::{Layout, LineNow, MissionNow, Phase, SectionNow};
 use std::alloc::{AllocError, Global};
 
-/// Which events a page shows, by their numbers from 1. The line before the first is shown too.
+/// The events that a page shows, by their numbers from 1. The line before the first event is shown too.
 #[derive(Clone, Copy)]
 pub struct Part {
     pub first: u64,
-    /// The last one, which is the one before the first where there is none.
+    /// The last event. If no event is shown, it is `first - 1`.
     pub last: u64,
-    /// How many events the whole run has.
+    /// The number of events of the whole run.
     pub all: u64,
-    /// The NID_ENGINE of the train that is marked, where one is.
+    /// The NID_ENGINE of the marked train, if there is one.
     pub marked: Option<u32>,
 }
 
-/// What changes in a run. A row is so from its event on, until another one of the same section, train or session.
+/// The changes of a run. A line of a table holds from its event on, until the next line of the same section, train or
+/// session.
 #[derive(Clone, Copy)]
 pub enum Changes {
     /// The events themselves.
@@ -37,7 +38,7 @@ pub struct RunSheet {
 }
 
 impl RunSheet {
-    /// Nothing changes yet on this line.
+    /// Starts with the line and no changes.
     pub fn new(alloc: Global, layout: &Layout) -> Result<RunSheet, AllocError> {
         let mut sheet = Sheet::new(alloc, Form::Json);
         add_line(&mut sheet, layout)?;
@@ -62,12 +63,12 @@ impl RunSheet {
         self.sheet.end()
     }
 
-    /// An event, in words.
+    /// Adds an event, in words.
     pub fn add_event(&mut self, event: u64, words: &str) -> Result<(), AllocError> {
         self.sheet.row_at(event, &[Cell::Text(words)])
     }
 
-    /// From an event on a section is so.
+    /// Adds the state of a section from an event on.
     pub fn add_section(
         &mut self,
         event: u64,
@@ -79,7 +80,7 @@ impl RunSheet {
         self.sheet.row_at(event, &[number, state, train, wished])
     }
 
-    /// From an event on a train has this mission, or none.
+    /// Adds the mission of a train from an event on, or that it has none.
     pub fn add_mission(
         &mut self,
         layout: &Layout,
@@ -97,7 +98,7 @@ impl RunSheet {
         }
     }
 
-    /// From an event on a centre's session with a train has come so far, or there is none.
+    /// Adds the phase of a centre's session with a train from an event on, or that there is none.
     pub fn add_session(
         &mut self,
         layout: &Layout,
@@ -115,7 +116,7 @@ impl RunSheet {
             .row_at(event, &[number_of(Some(nid_engine)), centre, state])
     }
 
-    /// The page, which shows the line as it is at last where no script runs.
+    /// Finishes the page. It shows the last state of the line if no script runs.
     pub fn page(
         self,
         alloc: Global,
@@ -137,7 +138,7 @@ impl RunSheet {
     }
 }
 
-// What stands before the tables of a run.
+// The text before the tables of a run.
 fn head_of(alloc: Global, layout: &Layout, part: Part) -> Result<String, AllocError> {
     let nid_c = layout.nid_c;
     let Part {

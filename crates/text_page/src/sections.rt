@@ -1,11 +1,11 @@
-//! The sections. Those that follow each other and have all alike are one row.
+//! The sections. Consecutive sections of the same look are one line of the table.
 
 use crate::rows::{name_of, number_of};
 use crate::sheet::{Cell, Sheet};
 use crate::view::{Layout, LineNow, SectionNow, Usage};
 use std::alloc::AllocError;
 
-/// Sections that follow each other and have all alike.
+/// Consecutive sections of the same look.
 #[derive(Clone, Copy)]
 struct Stretch {
     first: usize,
@@ -15,7 +15,7 @@ struct Stretch {
     look: Look,
 }
 
-/// What sections of one stretch have alike.
+/// The common data of the sections of one stretch.
 #[derive(Clone, Copy, PartialEq, Eq)]
 struct Look {
     track: u8,
@@ -95,7 +95,7 @@ fn add_stretch(
     ])
 }
 
-/// What a section is used for, for which train, and whether it is wished back.
+/// The use of a section, the train that uses it, and whether it is wished back.
 pub(crate) fn state_of(now: SectionNow) -> [Cell<'static>; 3] {
     let (state, train) = match now.usage {
         Usage::Shut => ("shut", None),
@@ -110,7 +110,7 @@ pub(crate) fn state_of(now: SectionNow) -> [Cell<'static>; 3] {
     ]
 }
 
-/// Writes where each section lies.
+/// Writes the place of each section.
 pub(crate) fn add_places(sheet: &mut Sheet, layout: &Layout) -> Result<(), AllocError> {
     sheet.begin("sections", &["section", "track", "from_m", "to_m", "home"])?;
     for (s, place) in layout.sections.iter().enumerate() {

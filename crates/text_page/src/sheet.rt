@@ -1,5 +1,5 @@
-//! Tables, which are written as JSON for a program or as HTML for a person. As JSON a table is a list of rows, the
-//! first of which has the names of the columns.
+//! Writes tables as JSON for a program or as HTML for a person. As JSON a table is a list of lists. The first list
+//! has the names of the columns.
 
 use std::alloc::{AllocError, Global};
 
@@ -9,7 +9,7 @@ pub(crate) enum Form {
     Html,
 }
 
-/// What stands in one place of a table.
+/// The content of one cell of a table.
 #[derive(Clone, Copy)]
 pub(crate) enum Cell<'a> {
     Nothing,
@@ -19,7 +19,7 @@ pub(crate) enum Cell<'a> {
     Text(&'a str),
 }
 
-/// A text to which tables are written.
+/// A text that collects tables.
 #[derive(Drop)]
 pub(crate) struct Sheet {
     form: Form,
@@ -41,7 +41,7 @@ impl Sheet {
         self.end_row()
     }
 
-    /// Begins a table, each row of which follows the number of an event.
+    /// Begins a table whose lines each start with the number of an event.
     pub fn begin_at(&mut self, name: &str, columns: &[&str]) -> Result<(), AllocError> {
         self.name(name)?;
         self.heads(0, &["event"])?;
@@ -49,14 +49,14 @@ impl Sheet {
         self.end_row()
     }
 
-    /// Writes a row.
+    /// Writes a line of a table.
     pub fn row(&mut self, cells: &[Cell<'_>]) -> Result<(), AllocError> {
         self.begin_row()?;
         self.cells(0, cells)?;
         self.end_row()
     }
 
-    /// Writes a row after the number of an event.
+    /// Writes a line of a table that starts with the number of an event.
     pub fn row_at(&mut self, event: u64, cells: &[Cell<'_>]) -> Result<(), AllocError> {
         self.begin_row()?;
         self.cells(0, &[Cell::Number(event)])?;
@@ -72,7 +72,7 @@ impl Sheet {
         })
     }
 
-    /// The text.
+    /// Returns the text.
     pub fn into_text(self) -> String {
         self.text
     }
@@ -84,7 +84,7 @@ impl Sheet {
         }
     }
 
-    // Names of columns, the first of which has this number.
+    // Writes names of columns; the first of them has this number.
     fn heads(&mut self, first: usize, columns: &[&str]) -> Result<(), AllocError> {
         for (number, column) in columns.iter().enumerate() {
             self.between(first.saturating_add(number), "<th>")?;
@@ -100,7 +100,7 @@ impl Sheet {
         })
     }
 
-    // Cells, the first of which has this number in its row.
+    // Writes cells; the first of them has this number in its line.
     fn cells(&mut self, first: usize, cells: &[Cell<'_>]) -> Result<(), AllocError> {
         for (number, cell) in cells.iter().enumerate() {
             self.between(first.saturating_add(number), "<td>")?;
@@ -109,7 +109,7 @@ impl Sheet {
         Ok(())
     }
 
-    // What stands before the cell of this number.
+    // Writes the text before the cell of this number.
     fn between(&mut self, number: usize, mark: &str) -> Result<(), AllocError> {
         match self.form {
             Form::Json if number == 0 => Ok(()),
@@ -143,8 +143,8 @@ impl Sheet {
         }
     }
 
-    // Writes a text. What could end it in JSON is written as a blank: no name has it, and no event in words. JSON has
-    // no `<`, so it ends no element of a page.
+    // Writes a text. A character that could end the text in JSON is written as a blank. No name and no event in words
+    // contains one. JSON contains no `<`, so it ends no element of a page.
     fn put(&mut self, text: &str) -> Result<(), AllocError> {
         for letter in text.chars() {
             match (letter, self.form) {

@@ -1,55 +1,55 @@
-//! The line, and what its centres have of it, each at its own moment.
+//! The line and the state of its centres, each seen at its own moment.
 
 ghost use Rattle.std.specs.Prelude.{◌≤◌, ◌<◌, ◌+◌, ◌↔◌, IsTrue};
 
-/// What does not change while the centres run.
+/// The data that do not change while the centres run.
 #[derive(Drop)]
 pub struct Layout {
     pub nid_c: u16,
-    /// The centres' names, which have letters and digits alone, by their numbers.
+    /// The centres' names, by their numbers. A name has only letters and digits.
     pub centres: Vec<String>,
-    /// The ports at which they listen for trains.
+    /// The ports at which the centres listen for trains.
     pub ports: Vec<u16>,
     /// The tracks' names.
     pub tracks: Vec<String>,
-    /// By section number, which grows along each track.
+    /// The places of the sections, by section number. The numbers grow along each track.
     pub sections: Vec<Place>,
 }
 
-/// Where a section lies.
+/// The place of a section.
 #[derive(Clone, Copy)]
 pub struct Place {
     /// The number of its track.
     pub track: u8,
     /// The number of its home centre.
     pub home: u8,
-    /// Where it starts, in metres from the start of the track.
+    /// The start of the section, in metres from the start of its track.
     pub start: u32,
     pub metres: u32,
 }
 
-/// What the home of a section has of it.
+/// The state of a section at its home.
 #[derive(Clone, Copy, PartialEq, Eq)]
 pub struct SectionNow {
     pub usage: Usage,
-    /// The interlocking wishes it back.
+    /// The interlocking wishes the section back.
     pub is_wished: bool,
 }
 
-/// What a section is used for.
+/// The use of a section.
 #[derive(Clone, Copy, PartialEq, Eq)]
 pub enum Usage {
-    /// It is not released by the interlocking.
+    /// The interlocking has not released the section.
     Shut,
-    /// It is released, and in no use.
+    /// The section is released, and unused.
     Open,
-    /// It is in use for a train that has it in no movement authority.
+    /// The section is in use for a train, and is not in its movement authority.
     Kept { nid_engine: u32 },
-    /// It is in a train's movement authority.
+    /// The section is in a train's movement authority.
     Given { nid_engine: u32 },
 }
 
-/// Sections that follow each other.
+/// Consecutive sections.
 #[derive(Clone, Copy, PartialEq, Eq)]
 pub struct Run {
     pub first: u16,
@@ -57,7 +57,7 @@ pub struct Run {
 }
 
 impl Run {
-    /// Whether a section, by its number, is one of them.
+    /// Whether this section is one of them, by its number.
     pub fn contains(self, section: usize) -> bool
         ensures { IsTrue result ↔ ((self.first ≤ section) × (section < self.first + self.count)) }
     {
@@ -71,29 +71,29 @@ impl Run {
     }
 }
 
-/// A mission, at the centre that supervises it or on the way between two.
+/// A mission, at the centre that supervises it or on the way between two centres.
 #[derive(Clone, Copy, PartialEq, Eq)]
 pub struct MissionNow {
     pub nid_engine: u32,
-    /// The number of the centre. None while it is on the way.
+    /// The number of the centre. None while the mission is on the way.
     pub supervisor: Option<u8>,
-    /// The centre that a handover was announced to.
+    /// The centre to which a handover is announced.
     pub handover: Option<u8>,
     pub track: u8,
     /// The safe front end, in decimetres from the start of the track.
     pub front: u32,
-    /// The safe rear end, where the integrity of the train is confirmed.
+    /// The safe rear end, if the integrity of the train is confirmed.
     pub rear: Option<u32>,
     /// The sections of the movement authority.
     pub hand: Run,
-    /// The lent sections that follow them.
+    /// The lent sections that follow those of the authority.
     pub pool: Run,
-    /// The last section that is to be kept, where a request to shorten the authority stands.
+    /// The last section to keep, if a request to shorten the authority is pending.
     pub asked: Option<u16>,
     pub is_ended: bool,
 }
 
-/// How far a session has come.
+/// The phase of a session.
 #[derive(Clone, Copy, PartialEq, Eq)]
 pub enum Phase {
     Opened,
@@ -110,21 +110,21 @@ pub struct SessionNow {
     pub phase: Phase,
 }
 
-/// How much of a centre's life and of its seats is used.
+/// The used part of a centre's life and of its slots for connections.
 #[derive(Clone, Copy)]
 pub struct CentreNow {
     pub entries: u64,
     /// The stamp of the last entry.
     pub clock: u32,
-    /// How many connections have a seat.
+    /// The number of connections that have a slot.
     pub taken: u64,
-    /// How many seats there are.
+    /// The number of slots.
     pub seats: u64,
-    /// Its journal can't be written now.
+    /// The centre's journal can't be written now.
     pub is_stuck: bool,
 }
 
-/// How much of a link's life is used.
+/// The used part of a link's life.
 #[derive(Clone, Copy)]
 pub struct LinkNow {
     pub from: u8,
@@ -133,12 +133,12 @@ pub struct LinkNow {
     pub taken: u32,
 }
 
-/// The line as its centres showed it.
+/// The line as its centres reported it.
 #[derive(Drop)]
 pub struct LineNow {
     /// The sum of the lengths of the logs: it grows with each event.
     pub events: u64,
-    /// No connection is taken any more.
+    /// No new connection is accepted.
     pub is_stopped: bool,
     /// By section number.
     pub sections: Vec<SectionNow>,

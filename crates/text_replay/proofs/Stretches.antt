@@ -1,4 +1,4 @@
--- How stretches come about, event by event.
+-- Makes the stretches, event by event.
 use Rattle.std.proofs.Common.{◌≡◌, ℕ, zero, suc, ◌+◌, ◌<◌, ◌≤◌, ◌&&◌, Bool, true, false, List, [], ◌∷◌, ◌++◌, length, Option, Some, None, slice_get, refl, sym, ◌∙◌, arith, inl, inr, ap}
 use Rattle.std.specs.Prelude.{nat_lt, nat_le, if◌then◌else◌, All}
 use Rattle.std.proofs.lemmas.Bool.{cases_lt}
@@ -9,7 +9,7 @@ use Rattle.text_script.specs.rbc_world.declared.view.SectionView.{SectionView}
 use Rattle.text_replay.specs.declared.stretch.Stretch.{Stretch}
 use Rattle.text_replay.specs.Stretches.{shown_at, IsSeen, AreStretchesOf}
 
--- the first of two that is there
+-- the first of the two that exists
 abbrev pub first_of_two : Option SectionView → Option SectionView → Option SectionView
 first_of_two (Some v) other = Some v
 first_of_two None other = other
@@ -28,7 +28,7 @@ over since until e v a b = grind (arith, nat_tests)
 past : (since until e : ℕ) (v : SectionView) → until ≤ e → (if nat_le since e && nat_lt e until then Some v else None) ≡ None
 past since until e v a = grind (arith, nat_tests)
 
--- The stretches up to `since` are made, and all events from there to event i are as i is.
+-- The stretches up to `since` are made, and the views from there to event i are equal.
 pub record AreMade (seen : List SectionView) (i since : ℕ) (xs : List Stretch) : Type 0 where
   pub order : since ≤ i
   pub same : (e : ℕ) → since ≤ e → e < i → slice_get seen e ≡ slice_get seen i
@@ -36,7 +36,7 @@ pub record AreMade (seen : List SectionView) (i since : ℕ) (xs : List Stretch)
   pub below : (e : ℕ) → e < since → shown_at e xs ≡ slice_get seen e
   pub after : (e : ℕ) → since ≤ e → shown_at e xs ≡ None
 
--- The stretch from `since` to event i, whose next event is another or none.
+-- The stretch from `since` to event i; the next event has another view, or there is none.
 abbrev pub made_of : ℕ → ℕ → SectionView → Stretch
 made_of since i v = record { seen = v; since = since; until = i + 1 }
 
@@ -70,7 +70,7 @@ made_more seen i since xs v now m = record {
   after = λ e a. after_all xs (made_of since i v ∷ []) e (m.after e (omega (arith, m.order))) ∙ past since (i + 1) e v a;
 }
 
--- After the last event nothing is open.
+-- After the last event no stretch is open.
 pub made_all : (seen : List SectionView) (since : ℕ) (xs : List Stretch) → AreMade seen (length seen) since xs → AreStretchesOf seen xs
 made_all seen since xs m = record {
   sound = m.sound;

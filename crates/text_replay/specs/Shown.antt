@@ -1,4 +1,4 @@
--- What the page shows of a section, in the terms of the one line centre.
+-- The page's view of a section, in the terms of the one line centre.
 use Rattle.rbc_spec.specs.LineCentre as line_centre
 use Rattle.text_page.specs.declared.view.Usage.{Usage}
 use Rattle.text_page.specs.declared.view.Usage.TheVariants as usage

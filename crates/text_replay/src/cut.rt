@@ -1,20 +1,19 @@
 ghost use Rattle.std.specs.Prelude.{◌≡◌, ◌≤◌, Some, None, IfSome};
 
-/// Which part of a run is drawn. Events are numbered from 1.
+/// The part of a run that is drawn. Events are numbered from 1.
 #[derive(Clone, Copy)]
 pub struct Cut {
-    /// The first event that is drawn: the run's first one where none is named.
+    /// The first event that is drawn. Without it, the run's first event is drawn first.
     pub from: Option<u32>,
-    /// The last: the run's last one where none is named, or where that comes earlier.
+    /// The last event that is drawn. Without it, or if the run ends earlier, the run's last event is drawn last.
     pub to: Option<u32>,
-    /// The NID_ENGINE of the one train that is drawn: all where none is named.
+    /// The NID_ENGINE of the only train that is drawn. Without it, all trains are drawn.
     pub train: Option<u32>,
 }
 
 impl Cut {
-    /// The places of the first event that is drawn, and of the one after the last, in a run of so many events. None
-    /// where no event would
-    /// be drawn of those that there are, or an event is named that there is not.
+    /// The places of the first event that is drawn, and of the one after the last, in a run of `events` events. `None`
+    /// if `from` is 0 or no event of the run, or if `to` is before it. A `to` past the run's last event is that event.
     pub fn places(self, events: usize) -> Option<(usize, usize)>
         ensures within { IfSome result (λ p. (p.0 ≤ p.1) × (p.1 ≤ events)) }
         ensures whole { self.from ≡ None → self.to ≡ None → result ≡ Some (0, events) }

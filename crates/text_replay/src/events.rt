@@ -11,10 +11,10 @@ use text_script::WorldEvent;
 use text_script::script::{Entry, ScriptFault, script_of};
 use text_script::status::Fault;
 
-/// What an event's line begins with in a print.
+/// The beginning of an event's line in a print.
 const EVENT: &str = "> ";
 
-/// The place in the line file of the train that a cut names, which has to be of the line.
+/// The place in the line file of the train that a cut names. An error if the train is not of the line.
 pub fn train_in(line: &Line, cut: Cut) -> Result<Option<u8>, Fault<'static>> {
     let Some(nid_engine) = cut.train else {
         return Ok(None);
@@ -25,7 +25,7 @@ pub fn train_in(line: &Line, cut: Cut) -> Result<Option<u8>, Fault<'static>> {
     }
 }
 
-/// The events of a print, in order; or the first of its lines that has no form of a script.
+/// The events of a print, in order. An error names the first line that has no form of a script.
 pub fn events_in(
     alloc: Global,
     line: &Line,
@@ -40,7 +40,7 @@ pub fn events_in(
     Ok(events)
 }
 
-// Adds what a line asks for, by the line's number. `show` is no event.
+// Adds the event of a line; `row` is the line's number. `show` is not an event.
 fn add_event(
     alloc: Global,
     line: &Line,

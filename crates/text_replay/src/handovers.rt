@@ -1,10 +1,10 @@
-//! The handovers that are announced, by what the centres send each other.
+//! The announced handovers, by the frames between centres.
 
 use rbc_line::Line;
 use std::alloc::{AllocError, Global};
 use text_script::Body;
 
-/// The handover of each train that was announced, by the train's place in the line file.
+/// The announced handover of each train, by the train's place in the line file.
 #[derive(Drop)]
 pub struct Handovers {
     announced: Vec<Option<Announced>>,
@@ -18,15 +18,15 @@ struct Announced {
 }
 
 impl Handovers {
-    /// None is announced.
+    /// Starts without announced handovers.
     pub fn new(alloc: Global, line: &Line) -> Result<Handovers, AllocError> {
         Ok(Handovers {
             announced: vec![in alloc; None; line.train_count() as usize]?,
         })
     }
 
-    /// Takes what a frame from one centre to another says of a handover. Frames come in the order in which they were
-    /// sent.
+    /// Records the handover in a frame from one centre to another, if it has one. Frames arrive in the order of
+    /// sending.
     pub fn hear(&mut self, line: &Line, from: u8, to: u8, body: Body) {
         let Some(train) = line.train_number(body.engine()) else {
             return;
@@ -44,7 +44,7 @@ impl Handovers {
         }
     }
 
-    /// The centre to which this one has announced the handover of a train that it supervises.
+    /// The centre to which this supervisor has announced the handover of the train.
     pub fn next_of(&self, train: usize, supervisor: u8) -> Option<u8> {
         match self.announced.get(train) {
             Some(Some(announced)) if announced.from == supervisor => Some(announced.to),

@@ -1,10 +1,10 @@
-//! What does not change of a line.
+//! The data of a line that do not change.
 
 use rbc_line::Line;
 use std::alloc::{AllocError, Global};
 use text_page::{Layout, Place};
 
-/// What does not change of the line, whose centres listen at these ports.
+/// The data of a line that do not change; its centres listen at these ports.
 pub fn layout_of(alloc: Global, line: &Line, ports: Vec<u16>) -> Result<Layout, AllocError> {
     Ok(Layout {
         nid_c: line.nid_c(),

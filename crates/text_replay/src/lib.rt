@@ -1,8 +1,8 @@
-//! A print played again on the line's centres: its events, the part of them that is shown, in which events a section is
-//! seen as the same, and the page that shows the line after each. The page of a running line uses its layout, its
-//! handovers, and its trains and events in words.
+//! Replays a print on the line's centres, and shows the line after each of its events on a page. It reads the events,
+//! cuts out a part of them, and finds the events in which a section looks the same. The page of a running line uses
+//! its layout, its handovers, and its trains and events in words.
 //!
-//! Bodies are free. What is shown is fixed by docs/FORMATS.md.
+//! Bodies are free. docs/FORMATS.md fixes the contents.
 #![tactic(auto)]
 
 mod cut;

@@ -12,15 +12,15 @@ use text_page::{Changes, Layout, LineNow, MissionNow, Part, Phase, RunSheet, Ses
 use text_script::status::Fault;
 use text_script::{LineView, WorldEvent};
 
-/// How many events are shown at most.
+/// The greatest number of events that are shown.
 const MOST_EVENTS: usize = 10_000;
 
-/// How many of the last events are told where no script runs.
+/// The number of last events that are shown in words if no script runs.
 const TOLD: usize = 24;
 
-/// The page of a print: the line before the first event that the cut shows and after each, with a slider. Only the
-/// lines that begin with `> ` are read. Errors: the cut names a train that is not of the line, or no event; a line has
-/// no form of a script; a step is refused.
+/// Makes the page of a print: the line before the first event of the cut and after each, with a slider. Only the
+/// lines that begin with `> ` are read. Errors: the cut names a train that is not of the line, or no event; a line
+/// has no form of a script; a step is refused.
 pub fn page_of(
     alloc: Global,
     line: &Line,
@@ -41,7 +41,7 @@ pub fn page_of(
     page_of_part(alloc, line, shown, first, part)
 }
 
-// The page of the events from the first one on.
+// Makes the page of the events from the first one on.
 fn page_of_part(
     alloc: Global,
     line: &Line,
@@ -59,7 +59,7 @@ fn written(alloc: Global, line: &Line, part: Part, run: &Played) -> Result<Strin
     finished(alloc, sheet, &layout, part, run)
 }
 
-// What changes, table by table.
+// Writes the changes, table by table.
 fn sheet_of(
     alloc: Global,
     line: &Line,
@@ -87,7 +87,7 @@ fn add_tables(
     add_sessions(sheet, layout, line, before, run)
 }
 
-// The page, with the line as it is at last.
+// Finishes the page, with the last state of the line.
 fn finished(
     alloc: Global,
     sheet: RunSheet,
@@ -143,7 +143,7 @@ fn add_missions(
     sheet.end()
 }
 
-// The missions of a train.
+// Adds the missions of a train.
 fn add_missions_of(
     sheet: &mut RunSheet,
     layout: &Layout,
@@ -191,7 +191,7 @@ fn add_sessions(
     sheet.end()
 }
 
-// The sessions of a train at a centre.
+// Adds the sessions of a train at a centre.
 fn add_sessions_at(
     sheet: &mut RunSheet,
     layout: &Layout,
@@ -212,7 +212,7 @@ fn add_sessions_at(
     Ok(())
 }
 
-// How far the session of a train at a centre has come, if there is one.
+// The phase of the session of a train at a centre, if there is one.
 fn phase_in(view: &LineView, train: u8, centre: u8) -> Option<Phase> {
     let train = view.trains.get(train as usize)?;
     let session = train.sessions.get(centre as usize)?;

@@ -1,4 +1,4 @@
-//! The line as it stands before the first event that is shown, and after each.
+//! The line before the first event that is shown, and after each.
 
 use crate::events::centre_of;
 use crate::handovers::Handovers;
@@ -10,7 +10,7 @@ use text_page::MissionNow;
 use text_script::status::Fault;
 use text_script::{Answer, LineView, MissionView, SectionRun, Supervisor, World, WorldEvent};
 
-/// A part of a run. What stands before its first event comes first in each list but `words`.
+/// A part of a run. In each list except `words`, the first item is the state before the first event.
 #[derive(Drop)]
 pub(crate) struct Played {
     pub views: Vec<LineView>,
@@ -20,7 +20,7 @@ pub(crate) struct Played {
     pub words: Vec<String>,
 }
 
-/// Plays events, and tells those from the first one on.
+/// Plays events, and records those from the first shown one on.
 pub(crate) fn play(
     alloc: Global,
     line: &Line,
@@ -37,14 +37,14 @@ pub(crate) fn play(
     Ok(played)
 }
 
-/// The centres of the line, and the handovers that they have announced.
+/// The centres of the line, and their announced handovers.
 #[derive(Drop)]
 struct Centres {
     world: World,
     handovers: Handovers,
 }
 
-// The centres as they are before the first event that is told.
+// The centres before the first recorded event.
 fn centres_at(
     alloc: Global,
     line: &Line,
@@ -58,7 +58,7 @@ fn centres_at(
     Ok(centres)
 }
 
-// Plays the events that come before the first one that is told.
+// Plays the events before the first recorded one.
 fn pass(
     line: &Line,
     events: &[WorldEvent],
@@ -71,7 +71,7 @@ fn pass(
     Ok(())
 }
 
-// Plays those from the first one on, and tells them.
+// Plays and records the events from the first one on.
 fn tell(
     alloc: Global,
     line: &Line,
@@ -89,7 +89,7 @@ fn tell(
     Ok(())
 }
 
-// Plays an event, and tells it in words.
+// Plays an event, and puts it into words.
 fn told(
     alloc: Global,
     line: &Line,
@@ -100,14 +100,14 @@ fn told(
     event_in_words(alloc, line, event, &answer)
 }
 
-// Plays an event, and takes what the centres say of handovers in it.
+// Plays an event, and records the centres' frames about handovers.
 fn step(line: &Line, event: &WorldEvent, centres: &mut Centres) -> Result<Answer, Fault<'static>> {
     let answer = centres.world.step(event)?;
     hear(line, event, &answer, &mut centres.handovers);
     Ok(answer)
 }
 
-// Takes what the centres say of handovers in an event.
+// Records the centres' frames about handovers in an event.
 fn hear(line: &Line, event: &WorldEvent, answer: &Answer, handovers: &mut Handovers) {
     if let Answer::Outcome(outcome) = answer {
         for sent in outcome.frames.as_slice() {
@@ -116,7 +116,7 @@ fn hear(line: &Line, event: &WorldEvent, answer: &Answer, handovers: &mut Handov
     }
 }
 
-// Adds the line as it stands.
+// Records the current state of the line.
 fn look(alloc: Global, centres: &Centres, played: &mut Played) -> Result<(), AllocError> {
     let view = centres.world.view(alloc)?;
     let missions = missions_in(alloc, &view, &centres.handovers)?;
@@ -141,7 +141,7 @@ fn missions_in(
     Ok(missions)
 }
 
-// A mission, of which the lent sections are not told from others that are kept.
+// The mission of a train. It does not separate lent sections from other kept ones.
 fn mission_of(
     nid_engine: u32,
     mission: &MissionView,

@@ -1,4 +1,4 @@
-//! What the page is told of a section, a mission and a session.
+//! The views of a section, a mission and a session on the page.
 
 ghost use Rattle.std.specs.Prelude.{◌≡◌};
 ghost use Rattle.text_script.specs.rbc_world.View.{mark_shown};
@@ -7,7 +7,7 @@ ghost use Rattle.text_replay.specs.Shown.{usage_shown};
 use text_page::{MissionNow, Phase, Run, SectionNow, Usage};
 use text_script::{Mark, MissionFacts, Phase as SessionPhase, SectionRun, SectionView};
 
-/// A section.
+/// The view of a section.
 pub(crate) fn section_now(view: SectionView) -> SectionNow
     ensures mark { usage_shown result.usage ≡ mark_shown view.mark }
     ensures wish { result.is_wished ≡ view.is_wished }
@@ -23,7 +23,7 @@ pub(crate) fn section_now(view: SectionView) -> SectionNow
     }
 }
 
-/// The mission of a train with this authority and these lent sections, of which no handover is known.
+/// The mission of a train with this authority and these lent sections, without a known handover.
 pub fn mission_now(
     nid_engine: u32,
     supervisor: Option<u8>,
@@ -55,7 +55,7 @@ fn run_of(run: SectionRun) -> Run {
     }
 }
 
-/// How far a session has come, if there is one, at a centre where a start of mission waits or not.
+/// The phase of a session, if there is one. `is_waiting` is whether a start of mission waits at the centre.
 pub fn phase_now(phase: SessionPhase, is_waiting: bool) -> Option<Phase> {
     match phase {
         _ if is_waiting => Some(Phase::Waiting),

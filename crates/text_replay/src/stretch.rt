@@ -12,9 +12,8 @@ pub struct Stretch {
     pub until: usize,
 }
 
-/// The stretches of a section, in views of the line by event: what a stretch shows is what is seen in each of its
-/// events, and whatever is
-/// seen in an event is shown.
+/// The stretches of a section, in views of the line by event. The view of a stretch is the view in each of its
+/// events, and each event is in a stretch.
 pub fn stretches_of(
     alloc: Global,
     views: &[LineView],
@@ -26,7 +25,7 @@ pub fn stretches_of(
     stretches_in(alloc, &column)
 }
 
-// What is seen of a section, by event.
+// The views of a section, by event.
 fn column_of(
     alloc: Global,
     views: &[LineView],
@@ -41,7 +40,7 @@ fn column_of(
     Ok(column)
 }
 
-// What is seen of a section. One that is not of the line is shut.
+// The view of a section. A section that is not of the line is shut.
 fn seen_in(view: &LineView, section: u16) -> SectionView
     ensures { result ≡ seen_in section view.now }
 {
@@ -73,7 +72,7 @@ fn stretches_in(alloc: Global, column: &[SectionView]) -> Result<Vec<Stretch>, A
     Ok(stretches)
 }
 
-// Whether a stretch ends with this event: another thing is seen in the next, or there is none.
+// Whether a stretch ends with this event: the next view differs, or there is none.
 fn is_last(column: &[SectionView], i: usize) -> bool
     requires { i < length column.now }
     ensures { result ≡ false → slice_get column.now (i + 1) ≡ slice_get column.now i }

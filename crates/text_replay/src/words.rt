@@ -7,7 +7,7 @@ use text_script::status::Fault;
 use text_script::{Answer, WorldEvent};
 use text_words::{Told, line_in_words};
 
-/// An event and what is answered to it, in words.
+/// An event and its answer, in words.
 pub(crate) fn event_in_words(
     alloc: Global,
     line: &Line,
@@ -20,7 +20,7 @@ pub(crate) fn event_in_words(
     Ok(rows_in_words(alloc, line, printed.as_slice())?)
 }
 
-/// What printed rows say, in order.
+/// Puts printed lines into words, in order.
 pub fn rows_in_words(alloc: Global, line: &Line, printed: &[u8]) -> Result<String, AllocError> {
     let mut words = String::new(alloc);
     let Ok(printed) = std::str::from_utf8(printed) else {
@@ -34,7 +34,7 @@ pub fn rows_in_words(alloc: Global, line: &Line, printed: &[u8]) -> Result<Strin
     Ok(words)
 }
 
-// Who speaks to whom, where anybody does, and what is said.
+// Adds the speaker and the receiver, if there are any, and the content.
 fn add_told(words: &mut String, told: &Told) -> Result<(), AllocError> {
     if !words.is_empty() {
         words.push_str(" · ")?;

@@ -1,4 +1,4 @@
--- How the entries of a script grow with the lines read, and numbers.
+-- The entries of a script grow with the lines read. Numbers are read.
 use Rattle.std.proofs.Common.{◌≡◌, ◌≢◌, ℕ, Bor, ◌+◌, ◌<◌, ◌^◌, ◌&&◌, Bool, true, false, cond, List, [], ◌∷◌, ◌++◌, length, get_or, take, map, Some, None, Ok, Err, refl, ap, sym, ◌∙◌, rules, arith, tests, below_more, nat_lt}
 use Rattle.std.specs.Cmp.Derive.{both_true}
 use Rattle.std.specs.List.{filter, position_or_len}
@@ -14,7 +14,7 @@ use Rattle.text_script.specs.declared.script.ScriptFault.TheVariants.{Form}
 use Rattle.text_script.specs.Script.{asked, is_faulty, is_kept, number_of, row_asks}
 use Rattle.text_script.specs.Entries.{AreAsked, IsFirstFault, asked_of}
 
--- the entries are what the first i lines ask for, and none of these is faulty
+-- the entries are the requests of the first i lines, and none of these lines is faulty
 pub record Reads (line : Line) (rows : List (List ℕ)) (i : ℕ) (entries : List Entry) : Type 0 where
   pub asked : AreAsked line (take i rows) entries
   pub sound : (k : ℕ) → k < i → is_faulty line (get_or rows k []) ≡ false
@@ -48,7 +48,7 @@ reads_fault line rows i entries h kept none r =
     let within : nat_lt i (length rows) ≡ true = search (rules, tests) in
     simp (first, within) refl
 
--- words that are not one, three or four ask for nothing
+-- a line of other than one, three or four words has no form
 pub asked_none : (line : Line) (words : List (Bor (List ℕ))) →
     length words ≢ 1 → length words ≢ 3 → length words ≢ 4 → asked line (map (λ word. word.now) words) ≡ None
 asked_none line [] one three four = refl

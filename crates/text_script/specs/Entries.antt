@@ -1,4 +1,4 @@
--- What the entries of a script in memory stand for, and when they are those of a text.
+-- The requests of a script's entries in memory, and when they are the requests of a text.
 use Rattle.std.specs.Prelude.{◌≡◌, ℕ, ◌+◌, List, map, filter, position, Option, Some, None, option_map, Result, Ok, Err, ⊤}
 use Rattle.rbc_spec.specs.Line.{Line}
 use Rattle.rbc_world.specs.declared.event.WorldEvent.{WorldEvent}
@@ -12,7 +12,7 @@ use Rattle.text_script.specs.declared.script.ScriptFault.TheVariants.{Memory, Fo
 use Rattle.text_script.specs.Script as script
 use Rattle.text_script.specs.Script.{Asked, row_asks, is_kept, is_faulty, rows}
 
--- the result is what the format finds there, unless memory ran out
+-- the result is the one of the format, unless memory ran out
 abbrev pub Finds : {T A : Type 0} → (T → A) → Result T EntryFault → Option A → Type 0
 Finds view (Ok x) found = found ≡ Some (view x)
 Finds view (Err why) found = why ≡ refused.Form → found ≡ None
@@ -23,12 +23,12 @@ event_of (Set centre section) = script.Set centre section
 event_of (Unset centre section) = script.Unset centre section
 event_of (Deliver from to number) = script.Deliver from to number
 
--- what an entry asks for
+-- the request of an entry
 abbrev pub asked_of : Entry → Asked
 asked_of entry.Show = script.Show
 asked_of (entry.Event event) = event_of event
 
--- the entries are what the lines that are not skipped ask for, in order, and each of those lines asks for something
+-- the entries are the requests of the lines that are not skipped, in order; each of these lines has a request
 abbrev pub AreAsked : Line → List (List ℕ) → List Entry → Type 0
 AreAsked line rows entries = map (λ e. Some (asked_of e)) entries ≡ map (row_asks line) (filter is_kept rows)
 

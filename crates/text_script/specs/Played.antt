@@ -1,4 +1,4 @@
--- A script that is played on a world, and told as it goes.
+-- A script is played on a world, and each step is reported.
 use Rattle.std.specs.Prelude.{◌≡◌, List, [], ◌∷◌, ◌++◌, Result, Ok, Err}
 use Rattle.rbc_spec.specs.Line.{Line}
 use Rattle.rbc_spec.specs.World as spec
@@ -30,8 +30,8 @@ IsPlayed {T} tells line w t (entry.Event event ∷ rest) v u =
     (answer : spec.Answer) × (x : World) × (s r : T) × (world_step line w (event_of event) ≡ Ok (answer, x))
     × tells t (Coming event) s × tells s (Answering event answer) r × IsPlayed tells line x r rest v u
 
--- The entries before one are played so. Then its event is reported, and its step is refused. Nothing after it is
--- reported, and the world is left as it was before the step.
+-- The entries before one event are played. Then this event is reported, and its step is refused. Nothing after it is
+-- reported, and the world is as it was before the step.
 abbrev pub IsStopped : {T : Type 0} → (T → Telling → T → Type 0) → Line → World → T → List Entry → StepFault → World → T
     → Type 0
 IsStopped {T} tells line w t entries fault v u =

@@ -1,4 +1,4 @@
--- Scripts as bytes: which lines a script has, and what each of them asks for.
+-- Scripts as bytes: the lines of a script, and the request of each.
 use Rattle.std.specs.Prelude.{ℕ, ◌^◌, ◌==◌, ◌&&◌, Bool, not, if◌then◌else◌, List, [], ◌∷◌, length, slice_index, codes, nat_lt, position, Option, Some, None, is_none, option_map, option_and_then}
 use Rattle.std.specs.List.{slice_split}
 use Rattle.std.specs.Result.{result_ok}
@@ -7,7 +7,7 @@ use Rattle.std.specs.Str.Parse.{digits_value}
 use Rattle.hex.specs.Hex.{decode_of}
 use Rattle.rbc_spec.specs.Line.{Line}
 
--- what a line of a script asks for: to show the line, or an event
+-- the request of a line: to show the line, or an event
 pub data Asked : Type 0 where
   Show : Asked
   Train : (centre : ℕ) → (bytes : List ℕ) → Asked
@@ -19,11 +19,11 @@ pub data Asked : Type 0 where
 abbrev pub centre_named : Line → List ℕ → Option ℕ
 centre_named line word = position (λ p. bytes_eq p.name word) line.centres
 
--- the bytes that pairs of hexadecimal digits in either case stand for, at least one
+-- the bytes of pairs of hexadecimal digits in either case, at least one
 abbrev pub bytes_of : List ℕ → Option (List ℕ)
 bytes_of word = if length word == 0 then None else result_ok (decode_of word)
 
--- the number that decimal digits without a sign stand for, where so many bits hold it
+-- the number of decimal digits without a sign, if it fits in this many bits
 abbrev pub number_of : ℕ → List ℕ → Option ℕ
 number_of bits word =
     if nat_lt 0 (length word) && all_ascii_digits word && nat_lt (digits_value 10 word) (2 ^ bits)
@@ -33,22 +33,22 @@ number_of bits word =
 abbrev pub show_of : List ℕ → Option Asked
 show_of verb = if bytes_eq verb (codes "show") then Some Show else None
 
--- `train A 9B02`: the bytes come from a train to a centre
+-- `train A 9B02`: these bytes from a train reach a centre
 abbrev pub train_of : Line → List ℕ → List ℕ → Option Asked
 train_of line centre digits =
     option_and_then (λ c. option_map (λ bytes. Train c bytes) (bytes_of digits)) (centre_named line centre)
 
--- `set A 3`: the interlocking releases a section, by its number over the whole line
+-- `set A 3`: the interlocking releases a section; its number counts over the whole line
 abbrev pub set_of : Line → List ℕ → List ℕ → Option Asked
 set_of line centre section =
     option_and_then (λ c. option_map (λ s. Set c s) (number_of 16 section)) (centre_named line centre)
 
--- `unset A 3`: it takes the section back
+-- `unset A 3`: the interlocking takes the section back
 abbrev pub unset_of : Line → List ℕ → List ℕ → Option Asked
 unset_of line centre section =
     option_and_then (λ c. option_map (λ s. Unset c s) (number_of 16 section)) (centre_named line centre)
 
--- what comes to a centre from a train or from the interlocking
+-- an event that reaches a centre from a train or from the interlocking
 abbrev pub at_centre_of : Line → List ℕ → List ℕ → List ℕ → Option Asked
 at_centre_of line verb centre word =
     if bytes_eq verb (codes "train") then train_of line centre word
@@ -63,14 +63,14 @@ delivery_of line verb from to number =
     (centre_named line to)) (centre_named line from)
     else None
 
--- what the words of a line ask for; none where the line has no form that a script may have
+-- the request of the words of a line; none if the line has no valid form
 abbrev pub asked : Line → List (List ℕ) → Option Asked
 asked line (verb ∷ []) = show_of verb
 asked line (verb ∷ centre ∷ word ∷ []) = at_centre_of line verb centre word
 asked line (verb ∷ from ∷ to ∷ number ∷ []) = delivery_of line verb from to number
 asked line _ = None
 
--- what a line asks for by its words, which single blanks part
+-- the request of a line; single blanks separate its words
 unfoldable pub row_asks : Line → List ℕ → Option Asked
 row_asks line row = asked line (slice_split (λ b. b == 32) row)
 
@@ -78,7 +78,7 @@ row_asks line row = asked line (slice_split (λ b. b == 32) row)
 unfoldable pub is_kept : List ℕ → Bool
 is_kept text = nat_lt 0 (length text) && not (slice_index text 0 == 35)
 
--- the line is not skipped, and has no form that a script may have
+-- the line is not skipped, and has no valid form
 abbrev pub is_faulty : Line → List ℕ → Bool
 is_faulty line row = is_kept row && is_none (row_asks line row)
 

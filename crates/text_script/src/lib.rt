@@ -1,8 +1,8 @@
 //! The texts of `rbcline`: scripts and their play on a line, prints (`print`), and exit statuses (`status`).
 //!
-//! Types of `rbc_world` that a script or a print has are passed on from here.
+//! Types of `rbc_world` that scripts or prints contain are re-exported here.
 //!
-//! Bodies are free. What is printed, and each exit status, is fixed by docs/FORMATS.md.
+//! Bodies are free. docs/FORMATS.md fixes the printed text and each exit status.
 #![tactic(auto)]
 
 pub mod play;

@@ -1,4 +1,4 @@
-//! The play of a script on a world, reported to an observer as it goes.
+//! Plays a script on a world, and reports each step to an observer.
 
 ghost use Rattle.std.specs.Prelude.{◌≡◌, ◌∷◌, [], OnOk};
 ghost use Rattle.rbc_world.specs.World.{line_of, state_of};
@@ -14,18 +14,18 @@ pub trait Observer {
     /// Why the observer failed.
     type Fault: Drop;
 
-    // Its state after an answer.
+    // The observer's state before a report, the report, and its state after it.
     ghost tells: { Self → Telling → Self → Type 0 };
 
-    /// The script asks for the line, as the centres supervise it.
+    /// Reports that the script asks for the line, as the centres supervise it.
     fn show(&mut self, world: &World) -> Result<(), Self::Fault>
         ensures { OnOk result (tells self.old (Showing (line_of world.now) (state_of world.now)) self.new) };
 
-    /// An event, before the world takes it.
+    /// Reports an event, before the world takes it.
     fn comes(&mut self, event: &WorldEvent) -> Result<(), Self::Fault>
         ensures { OnOk result (tells self.old (Coming event.now) self.new) };
 
-    /// The answer to an event.
+    /// Reports the answer to an event.
     fn answered(&mut self, event: &WorldEvent, answer: &Answer) -> Result<(), Self::Fault>
         ensures { OnOk result (tells self.old (Answering event.now (answer_of answer.now)) self.new) };
 }
@@ -33,7 +33,7 @@ pub trait Observer {
 /// Why a script is not played to its end.
 #[derive(Drop)]
 pub enum PlayFault<F> {
-    /// The step of an event is refused.
+    /// The world refused the step of an event.
     Refused(StepFault),
     /// The observer failed.
     Untold(F),

@@ -1,6 +1,6 @@
-//! What `rbcline` prints of events, of what they lead to, and of the line.
+//! Prints events, their answers, and the line.
 //!
-//! Bodies are free. What is printed, and each exit status, is fixed by docs/FORMATS.md.
+//! Bodies are free. docs/FORMATS.md fixes the printed text and each exit status.
 
 mod outcome;
 mod print;

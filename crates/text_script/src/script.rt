@@ -1,4 +1,5 @@
-//! A script: one event a line, its words parted by one blank. Empty lines and those that begin with `#` are skipped.
+//! A script: one event on each line, its words separated by one blank. Empty lines, and lines that begin with `#`,
+//! are skipped.
 
 ghost use Rattle.std.specs.Prelude.{◌≡◌, ◌<◌, ◌==◌, IfOk, IfErr, map};
 ghost use Rattle.std.specs.List.{slice_split};
@@ -11,7 +12,7 @@ use rbc_line::Line;
 use rbc_world::WorldEvent;
 use std::alloc::{AllocError, AllocFailed, Global};
 
-/// What a line of a script asks for.
+/// The request of one line of a script.
 #[derive(Drop)]
 pub enum Entry {
     /// Print the line that the centres supervise.
@@ -24,7 +25,7 @@ pub enum Entry {
 pub enum ScriptFault {
     /// Memory ran out.
     Memory,
-    /// A line has no form that a script may have: the number of the first such line, from 1.
+    /// A line has no valid form: the number of the first such line, from 1.
     Form(usize),
 }
 
@@ -33,7 +34,7 @@ pub enum ScriptFault {
 pub enum EntryFault {
     /// Memory ran out.
     Memory,
-    /// The line has no form that a script may have.
+    /// The line has no valid form.
     Form,
 }
 
@@ -76,7 +77,7 @@ impl From<AllocError> for EntryFault {
     }
 }
 
-/// What a script asks for, in order.
+/// Reads the entries of a script, in order.
 pub fn script_of(alloc: Global, line: &Line, text: &str) -> Result<Vec<Entry>, ScriptFault>
     ensures asked { IfOk result (λ entries. AreAsked line.now (rows text.now) entries.items) }
     ensures fault { IfErr result (IsFirstFault line.now (rows text.now)) }
@@ -111,7 +112,7 @@ fn is_kept(row: &str) -> bool
     !row.is_empty() && !row.starts_with('#')
 }
 
-/// What a line that is not skipped asks for.
+/// Reads the entry of a line that is not skipped.
 #[tactic(auto, unfolding(crate::specs::Script::row_asks))]
 pub fn entry_of(alloc: Global, line: &Line, row: &str) -> Result<Entry, EntryFault>
     ensures { Finds asked_of result (row_asks line.now row.now) }
@@ -140,7 +141,7 @@ fn show_in(verb: &str) -> Result<Entry, EntryFault>
     Ok(Entry::Show)
 }
 
-/// What comes to a centre from a train or from the interlocking.
+/// Reads an event that reaches a centre from a train or from the interlocking.
 fn at_centre_in(
     alloc: Global,
     line: &Line,
@@ -204,7 +205,7 @@ fn delivery_in(
     Ok(Entry::Event(WorldEvent::Deliver { from, to, number }))
 }
 
-/// The parts of a text between single separators.
+/// Splits a text at each separator.
 fn parts<'a>(alloc: Global, text: &'a str, separator: char) -> Result<Vec<&'a str>, AllocError>
     requires { separator < 128 }
     ensures { IfOk result
@@ -220,7 +221,7 @@ fn centre_in(line: &Line, word: &str) -> Result<u8, EntryFault>
     line.centre_named(word).ok_or(EntryFault::Form)
 }
 
-/// The bytes that pairs of hexadecimal digits stand for, at least one.
+/// Reads bytes from pairs of hexadecimal digits: at least one byte.
 fn bytes_in(alloc: Global, word: &str) -> Result<Vec<u8>, EntryFault>
     ensures { Finds (λ bytes. bytes.items) result (bytes_of word.now) }
 {
@@ -234,7 +235,7 @@ fn bytes_in(alloc: Global, word: &str) -> Result<Vec<u8>, EntryFault>
     }
 }
 
-/// The number of a section: what decimal digits without a sign stand for, where 16 bits hold it.
+/// Reads the number of a section: decimal digits without a sign, if the value fits in 16 bits.
 fn section_in(word: &str) -> Result<u16, EntryFault>
     ensures { Finds (λ n. n) result (number_of 16 word.now) }
 {
@@ -247,7 +248,7 @@ fn section_in(word: &str) -> Result<u16, EntryFault>
     }
 }
 
-/// The number of a frame: what decimal digits without a sign stand for, where 32 bits hold it.
+/// Reads the number of a frame: decimal digits without a sign, if the value fits in 32 bits.
 fn number_in(word: &str) -> Result<u32, EntryFault>
     ensures { Finds (λ n. n) result (number_of 32 word.now) }
 {

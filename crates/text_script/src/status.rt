@@ -1,6 +1,6 @@
-//! How `rbcline` ends: why it did not do what it was asked to do, what it says of that, and its exit status.
+//! The end of `rbcline`: its faults, their printed text, and its exit statuses.
 //!
-//! Bodies are free. What is printed, and each exit status, is fixed by docs/FORMATS.md.
+//! Bodies are free. docs/FORMATS.md fixes the printed text and each exit status.
 
 mod ending;
 mod fault;

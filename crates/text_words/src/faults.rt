@@ -1,8 +1,8 @@
-//! Faults of messages and reasons of silence in words.
+//! Faults of messages, and reasons of silence, in words.
 
 use rbc_msgs::MsgFault;
 
-/// What a fault of a message means.
+/// The meaning of a fault of a message.
 pub fn words_of_fault(fault: MsgFault) -> &'static str {
     match fault {
         MsgFault::Short => "bytes are missing",
@@ -16,7 +16,7 @@ pub fn words_of_fault(fault: MsgFault) -> &'static str {
     }
 }
 
-/// What the fault of this number means.
+/// The meaning of the fault of this number.
 pub(crate) fn words_of_fault_number(number: u32) -> Option<&'static str> {
     let fault = match number {
         1 => MsgFault::Short,
@@ -32,7 +32,7 @@ pub(crate) fn words_of_fault_number(number: u32) -> Option<&'static str> {
     Some(words_of_fault(fault))
 }
 
-/// Why a message is left without an answer, by the number that is printed.
+/// The reason for which a message has no answer, by its printed number.
 pub(crate) fn words_of_reason(number: u32) -> Option<&'static str> {
     match number {
         1 => Some("its T_TRAIN is not above the last one"),
@@ -49,7 +49,7 @@ pub(crate) fn words_of_reason(number: u32) -> Option<&'static str> {
     }
 }
 
-/// What a word to the interlocking says of its section.
+/// The meaning of a reply to the interlocking, for its section.
 pub(crate) fn words_of_word(word: &str) -> Option<&'static str> {
     match word {
         "Done" => Some("done"),

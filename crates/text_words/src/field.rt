@@ -3,18 +3,18 @@
 use std::fmt;
 use std::fmt::Formatter;
 
-/// What a value means.
+/// The meaning of a value.
 #[derive(Clone, Copy)]
 pub enum Meaning {
-    /// No more than the number.
+    /// Only the number.
     Number,
     Words(&'static str),
-    /// A message's name, and who says it.
+    /// A message's name, and its sender.
     Message {
         name: &'static str,
         from: &'static str,
     },
-    /// So many of a unit.
+    /// A count of a unit.
     Count {
         count: u64,
         unit: &'static str,
@@ -26,14 +26,14 @@ pub enum Meaning {
         nid_c: u64,
         nid_bg: u64,
     },
-    /// So many bits.
+    /// This many bits.
     Bits(u32),
 }
 
-/// A variable of a message by its standard name, with its value and what that means.
+/// A variable of a message: its standard name, its value, and the meaning of that value.
 #[derive(Clone, Copy)]
 pub struct Field {
-    /// Whether it stands in a packet.
+    /// Whether it belongs to a packet.
     pub is_in_packet: bool,
     pub name: &'static str,
     pub value: u64,
@@ -62,7 +62,7 @@ fn write_meaning<W: fmt::Write>(f: &mut Formatter<W>, value: u64, meaning: Meani
     }
 }
 
-/// The lowest bits of a value, the highest first.
+/// Writes the lowest `count` bits of a value, the highest first.
 fn write_bits<W: fmt::Write>(f: &mut Formatter<W>, value: u64, count: u32) -> fmt::Result {
     f.write_str("  ")?;
     for at in (0..count).rev() {

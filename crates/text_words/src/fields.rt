@@ -1,10 +1,10 @@
-//! A list of fields in the making.
+//! Builds a list of fields.
 
 use crate::field::{Field, Meaning};
 use rbc_msgs::NID_LRBG_UNKNOWN;
 use std::alloc::{AllocError, Global};
 
-/// The fields of a message so far, and whether those that follow stand in a packet.
+/// The fields of a message so far, and whether the next ones belong to a packet.
 #[derive(Drop)]
 pub struct Fields {
     list: Vec<Field>,
@@ -39,7 +39,7 @@ impl Fields {
         Ok(())
     }
 
-    /// A number that stands for itself.
+    /// Adds a number that means no more than itself.
     pub fn number(&mut self, name: &'static str, value: u64) -> Result<(), AllocError> {
         self.add(name, value, Meaning::Number)
     }
@@ -53,25 +53,25 @@ impl Fields {
         self.add(name, value, Meaning::Words(words))
     }
 
-    /// A distance in metres.
+    /// Adds a distance in metres.
     pub fn metres(&mut self, name: &'static str, value: u64) -> Result<(), AllocError> {
         let unit = "m";
         self.add(name, value, Meaning::Count { count: value, unit })
     }
 
-    /// The number of a packet, which begins here.
+    /// Adds the number of a packet, which begins here.
     pub fn packet(&mut self, number: u64, words: &'static str) -> Result<(), AllocError> {
         self.is_in_packet = true;
         self.words("NID_PACKET", number, words)
     }
 
-    /// L_PACKET.
+    /// Adds L_PACKET, a count of bits.
     pub fn bits_of_packet(&mut self, count: u64) -> Result<(), AllocError> {
         let unit = "bits";
         self.add("L_PACKET", count, Meaning::Count { count, unit })
     }
 
-    /// A balise group by its NID_LRBG.
+    /// Adds a balise group by its NID_LRBG.
     pub fn group(&mut self, nid_lrbg: u64) -> Result<(), AllocError> {
         if nid_lrbg == u64::from(NID_LRBG_UNKNOWN) {
             return self.words("NID_LRBG", nid_lrbg, "unknown");

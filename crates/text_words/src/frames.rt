@@ -1,6 +1,6 @@
-//! What the frames between centres say, in words.
+//! The frames between centres, in words.
 
-/// What a frame says whose body has this name. None where no body has it.
+/// The meaning of a frame whose body has this name. None if no body has it.
 pub(crate) fn words_of_body(name: &str) -> Option<&'static str> {
     Some(match name {
         "AskRight" => "the train's right is asked for",
@@ -19,7 +19,7 @@ pub(crate) fn words_of_body(name: &str) -> Option<&'static str> {
     })
 }
 
-/// What it means that a frame which was delivered is not taken. None where the word is another.
+/// Why a delivered frame is not taken. None for any other word.
 pub(crate) fn words_of_late(word: &str) -> Option<&'static str> {
     Some(match word {
         "old" => "the frame was taken before, and changes nothing",

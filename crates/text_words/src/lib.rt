@@ -1,7 +1,7 @@
-//! Radio messages, and the print of a run, in words for a reader: a message field by field, and a printed line with its
-//! message's name and its distances in metres of the track. Any text is accepted.
+//! Puts radio messages, and the print of a run, into words for a reader. A message is shown field by field. A printed
+//! line is shown with its message's name and its distances in metres of the track. Any text is accepted.
 //!
-//! Bodies are free. What is printed, and each exit status, is fixed by docs/FORMATS.md.
+//! Bodies are free. docs/FORMATS.md fixes the printed text and each exit status.
 #![tactic(auto)]
 
 mod faults;

@@ -1,4 +1,4 @@
-//! The bytes of a message, field by field.
+//! Shows the bytes of a message field by field.
 
 use crate::field::{Field, Meaning};
 use crate::fields::Fields;
@@ -8,7 +8,8 @@ use crate::train::add_train;
 use rbc_msgs::{MsgFault, decode_track, decode_train};
 use std::alloc::{AllocError, Global};
 
-/// The fields of the message that the bytes are: a train's where NID_MESSAGE is 128 or more, else a centre's.
+/// Reads the fields of a message from its bytes. NID_MESSAGE of 128 or more is a train's message, a smaller one a
+/// centre's.
 pub fn fields_of(alloc: Global, bytes: &[u8]) -> Result<Vec<Field>, MsgFault> {
     let mut fields = Fields::new(alloc);
     if is_of_train(bytes) {
@@ -33,7 +34,7 @@ fn add_of_centre(fields: &mut Fields, bytes: &[u8]) -> Result<(), MsgFault> {
     Ok(())
 }
 
-/// NID_MESSAGE of the bytes and its name, where there is a byte.
+/// NID_MESSAGE of the bytes and its name, if there is a byte.
 pub fn name_of(bytes: &[u8]) -> Option<Field> {
     let number = u64::from(*bytes.first()?);
     let from = if is_of_train(bytes) {
@@ -61,7 +62,7 @@ fn field_of_number(number: u64, from: &'static str) -> Field {
     }
 }
 
-/// NID_MESSAGE and L_MESSAGE.
+/// Adds NID_MESSAGE and L_MESSAGE.
 fn add_start(
     fields: &mut Fields,
     number: u64,

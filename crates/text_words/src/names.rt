@@ -7,7 +7,7 @@ ghost use Rattle.rbc_msgs.specs.TrackSpelling.{track_number};
 
 use rbc_msgs::{TrackBody, TrainBody};
 
-/// NID_MESSAGE of what a train says.
+/// NID_MESSAGE of a message from a train.
 pub fn number_of_train(body: &TrainBody) -> u64
     ensures { result ≡ train_number body.now }
 {
@@ -25,7 +25,7 @@ pub fn number_of_train(body: &TrainBody) -> u64
     }
 }
 
-/// NID_MESSAGE of what a centre says.
+/// NID_MESSAGE of a message from a centre.
 pub fn number_of_track(body: TrackBody) -> u64
     ensures { result ≡ track_number (track_body body) }
 {

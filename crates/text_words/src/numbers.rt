@@ -1,6 +1,6 @@
-//! Numbers as `run` prints them: decimal digits without a sign, and no zero in front.
+//! Numbers as `run` prints them: decimal digits without a sign or a leading zero.
 
-/// The number of a section over the whole line.
+/// Reads the number of a section over the whole line.
 pub fn section_number(word: &str) -> Option<u16> {
     if is_plain(word) {
         word.parse().ok()
@@ -9,7 +9,7 @@ pub fn section_number(word: &str) -> Option<u16> {
     }
 }
 
-/// The number of a train, a frame, a fault or a reason.
+/// Reads the number of a train, a frame, a fault or a reason.
 pub fn number_of(word: &str) -> Option<u32> {
     if is_plain(word) {
         word.parse().ok()

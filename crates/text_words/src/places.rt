@@ -7,7 +7,7 @@ use std::alloc::{AllocError, Global};
 use std::fmt;
 use std::fmt::Formatter;
 
-/// A distance in decimetres, shown in metres, with a tenth where it has one.
+/// A distance in decimetres, shown in metres, with a tenth if it has one.
 #[derive(Clone, Copy)]
 struct Decimetres(i32);
 
@@ -23,8 +23,8 @@ impl fmt::Display for Decimetres {
     }
 }
 
-/// Where a report puts its train: from the safe rear to the safe front, or the front alone where integrity is not
-/// confirmed.
+/// The place of a train by its report: from the safe rear to the safe front. If integrity is not confirmed, it is
+/// only the front.
 pub fn place_in_words(
     alloc: Global,
     line: &Line,
@@ -44,7 +44,7 @@ pub fn place_in_words(
     }
 }
 
-/// The place that lies so many metres past a balise group.
+/// The place that lies this many metres past a balise group.
 pub fn point_in_words(
     alloc: Global,
     line: &Line,

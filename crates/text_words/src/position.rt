@@ -6,7 +6,7 @@ use rbc_packets::{Level, Location, Position, TrainLength};
 use rbc_vars::{Direction, MMode, QScale};
 use std::alloc::AllocError;
 
-// A distance or a doubt of this value is unknown.
+// The value of a distance or a doubt that is unknown.
 const UNKNOWN: u64 = 32_767;
 
 // V_TRAIN of 600 km/h. Greater values are spare.
@@ -44,7 +44,7 @@ fn add_running(fields: &mut Fields, position: &Position) -> Result<(), AllocErro
     fields.words("M_MODE", mode.value(), words_of_mode(mode))
 }
 
-/// V_TRAIN in steps of 5 km/h.
+/// Adds V_TRAIN, in steps of 5 km/h.
 fn add_speed(fields: &mut Fields, value: u64) -> Result<(), AllocError> {
     if value > MOST_SPEED {
         return fields.words("V_TRAIN", value, "spare");
@@ -64,7 +64,7 @@ fn words_of_scale(scale: QScale) -> &'static str {
     }
 }
 
-/// A distance or a doubt in the unit of Q_SCALE.
+/// Adds a distance or a doubt, in the unit of Q_SCALE.
 fn add_distance(
     fields: &mut Fields,
     name: &'static str,

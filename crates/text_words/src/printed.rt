@@ -1,4 +1,4 @@
-//! From a line that `run` prints to its words.
+//! Puts a line that `run` prints into words.
 
 use crate::faults::words_of_fault;
 use crate::row::{Row, row_of};
@@ -10,7 +10,7 @@ use rbc_line::Line;
 use rbc_msgs::{MsgFault, TrainMsg, decode_track, decode_train};
 use std::alloc::{AllocError, Global};
 
-/// A line of what `run` prints for this line, in words. None where it is no such line.
+/// Puts a line that `run` prints for this line into words. None if `run` prints no such line.
 pub fn line_in_words(alloc: Global, line: &Line, text: &str) -> Result<Option<Told>, AllocError> {
     let words: Vec<&str> = text.split(' ').collect(alloc)?;
     match row_of(line, &words) {
@@ -27,7 +27,7 @@ pub fn line_in_words(alloc: Global, line: &Line, text: &str) -> Result<Option<To
     }
 }
 
-/// A line without bytes.
+/// Puts a line without bytes into words.
 fn row_told(
     alloc: Global,
     line: &Line,
@@ -41,7 +41,7 @@ fn row_told(
     }))
 }
 
-/// Bytes that come from a train.
+/// Puts bytes from a train into words.
 fn train_told(
     alloc: Global,
     line: &Line,
@@ -57,7 +57,7 @@ fn train_told(
     Ok(Some(Told { who, what, line }))
 }
 
-/// Which train speaks to the centre, and what it says.
+/// The train that sends to the centre, and its message.
 fn train_saying(
     alloc: Global,
     line: &Line,
@@ -85,7 +85,7 @@ fn said_by(
     Ok((who, what))
 }
 
-/// A message to a train.
+/// Puts a message to a train into words.
 fn message_told(
     alloc: Global,
     line: &Line,
@@ -102,7 +102,7 @@ fn message_told(
     Ok(Some(Told { who, what, line }))
 }
 
-/// The line of a message to a train, with the first bytes alone where there are many.
+/// The line of a message to a train, with only the first bytes if there are many.
 fn message_line(
     alloc: Global,
     centre: &str,
@@ -113,7 +113,7 @@ fn message_line(
     format!(in alloc; "{centre} -> {nid_engine} {first}")
 }
 
-/// What a centre says to a train.
+/// Puts a centre's message to a train into words.
 fn centre_saying(alloc: Global, line: &Line, bytes: &[u8]) -> Result<String, AllocError> {
     match decode_track(bytes) {
         Ok(message) => track_in_words(alloc, line, &message),
@@ -127,7 +127,7 @@ fn fault_in_words(alloc: Global, fault: MsgFault) -> Result<String, AllocError> 
     format!(in alloc; "no message, fault {number}: {words}")
 }
 
-/// The bytes that hexadecimal digits stand for, at least one.
+/// Reads bytes from hexadecimal digits: at least one byte.
 fn bytes_of(alloc: Global, digits: &str) -> Result<Option<Vec<u8>>, AllocError> {
     match hex::decode(alloc, digits) {
         Ok(bytes) => Ok(if bytes.is_empty() { None } else { Some(bytes) }),
@@ -136,7 +136,7 @@ fn bytes_of(alloc: Global, digits: &str) -> Result<Option<Vec<u8>>, AllocError> 
     }
 }
 
-/// Bytes in hexadecimal, of more than four the first four.
+/// Bytes in hexadecimal; if there are more than four, only the first four.
 fn shortened(alloc: Global, bytes: &[u8]) -> Result<String, AllocError> {
     if bytes.len() <= 4 {
         return hex::encode_upper(alloc, bytes);
@@ -145,7 +145,7 @@ fn shortened(alloc: Global, bytes: &[u8]) -> Result<String, AllocError> {
     format!(in alloc; "{first}…")
 }
 
-/// Who speaks to whom.
+/// The speaker and the receiver of a line.
 fn who_of(alloc: Global, row: Row<'_>) -> Result<String, AllocError> {
     match row {
         Row::Set { centre, .. } | Row::Unset { centre, .. } => {
@@ -167,12 +167,12 @@ fn who_of(alloc: Global, row: Row<'_>) -> Result<String, AllocError> {
     }
 }
 
-/// Who speaks, to whom.
+/// The speaker and the receiver, with an arrow between them.
 fn between(alloc: Global, from: &str, arrow: &str, to: &str) -> Result<String, AllocError> {
     format!(in alloc; "{from} {arrow} {to}")
 }
 
-/// What is said.
+/// The content of a line, in words.
 fn what_of(alloc: Global, line: &Line, row: Row<'_>) -> Result<String, AllocError> {
     match row {
         Row::Set { section, .. } => event_in_words(alloc, "section", section.into(), "is released"),
@@ -203,7 +203,7 @@ fn what_of(alloc: Global, line: &Line, row: Row<'_>) -> Result<String, AllocErro
     }
 }
 
-/// What happens to a section or a frame.
+/// The event of a section or a frame, in words.
 fn event_in_words(
     alloc: Global,
     what: &str,
@@ -213,7 +213,7 @@ fn event_in_words(
     format!(in alloc; "{what} {number} {words}")
 }
 
-/// What a number stands for, and what it means.
+/// A number with its kind and its meaning.
 fn answer_in_words(
     alloc: Global,
     what: &str,

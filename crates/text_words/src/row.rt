@@ -6,10 +6,10 @@ use crate::numbers::{number_of, section_number};
 use crate::shown::{section_of, supervisor_of};
 use rbc_line::Line;
 
-/// A line that `run` prints, by its form. Centres are named as in the line.
+/// A line that `run` prints, by its form. Centres have the names of the line file.
 #[derive(Clone, Copy)]
 pub enum Row<'a> {
-    /// Bytes come from a train.
+    /// Bytes arrive from a train.
     Train {
         centre: &'a str,
         digits: &'a str,
@@ -42,18 +42,18 @@ pub enum Row<'a> {
         number: u32,
         words: &'static str,
     },
-    /// A frame was delivered that is not the next.
+    /// A delivered frame is not the next one.
     NotNext {
         centre: &'a str,
         words: &'static str,
     },
-    /// A word to the interlocking.
+    /// A reply to the interlocking.
     Word {
         centre: &'a str,
         section: u16,
         words: &'static str,
     },
-    /// A message is left without an answer, for the reason of this number.
+    /// A message has no answer, for the reason of this number.
     Silent {
         centre: &'a str,
         number: u32,
@@ -69,21 +69,21 @@ pub enum Row<'a> {
         centre: &'a str,
     },
     NotSent,
-    /// What a section is used for: by which train, if it is in use.
+    /// The use of a section, and the train that uses it, if there is one.
     Section {
         section: u16,
         mark: &'static str,
         train: Option<u32>,
         is_wished: bool,
     },
-    /// Who supervises a train, if a centre does.
+    /// The supervisor of a train, if there is one.
     Supervisor {
         nid_engine: u32,
         centre: Option<&'a str>,
     },
 }
 
-/// The form of a line, by its words. None where `run` prints no such line.
+/// Finds the form of a line by its words. None if `run` prints no such line.
 pub fn row_of<'a>(line: &Line, words: &[&'a str]) -> Option<Row<'a>> {
     match words {
         [first, rest @ ..] => row_from(line, first, rest),
@@ -143,7 +143,7 @@ fn delivery_of<'a>(
     Some(Row::Deliver { from, to, number })
 }
 
-/// What comes to a centre from a train or from the interlocking.
+/// Reads an event that reaches a centre from a train or from the interlocking.
 fn event_at<'a>(centre: &'a str, verb: &str, word: &'a str) -> Option<Row<'a>> {
     match verb {
         "train" => Some(Row::Train {
@@ -172,7 +172,7 @@ fn answer_of<'a>(line: &Line, centre: &'a str, words: &[&'a str]) -> Option<Row<
     }
 }
 
-/// What comes of a frame that is not the next, or that there is nothing to say.
+/// Reads the remark that a frame was not the next one, or that a step sends nothing.
 fn late_of<'a>(centre: &'a str, word: &str) -> Option<Row<'a>> {
     if word == "ok" {
         return Some(Row::Nothing { centre });
@@ -251,7 +251,7 @@ fn fault_of<'a>(centre: &'a str, number: &str) -> Option<Row<'a>> {
     })
 }
 
-/// The name, where a centre of the line has it.
+/// The name, if a centre of the line has it.
 pub fn centre_of<'a>(line: &Line, name: &'a str) -> Option<&'a str> {
     match line.centre_named(name) {
         Some(_) => Some(name),

@@ -1,4 +1,4 @@
-//! A message in one phrase: its number, its name, and where on the line it speaks of.
+//! Puts a message into one phrase: its number, its name, and its place on the line.
 
 use crate::names::{name_of_number, number_of_track, number_of_train};
 use crate::places::{place_in_words, point_in_words};
@@ -7,7 +7,7 @@ use rbc_msgs::{TrackBody, TrackMsg, TrainBody};
 use rbc_packets::{Authority, Position, SessionOrder, Transition};
 use std::alloc::{AllocError, Global};
 
-/// What a train says.
+/// Puts a message of a train into words.
 pub fn train_in_words(alloc: Global, line: &Line, body: &TrainBody) -> Result<String, AllocError> {
     let number = number_of_train(body);
     let name = name_of_number(number);
@@ -36,7 +36,7 @@ fn position_of(body: &TrainBody) -> Option<&Position> {
     }
 }
 
-/// What a centre says.
+/// Puts a message of a centre into words.
 pub fn track_in_words(
     alloc: Global,
     line: &Line,
@@ -50,7 +50,7 @@ pub fn track_in_words(
     }
 }
 
-/// What follows the number and the name, if anything does.
+/// The text after the number and the name, if there is any.
 fn order_in_words(
     alloc: Global,
     line: &Line,

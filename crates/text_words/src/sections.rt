@@ -3,7 +3,7 @@
 use rbc_line::Line;
 use std::alloc::{AllocError, Global};
 
-/// Where a section lies, its home, and what it is used for.
+/// The place of a section, its home, and its use.
 pub fn section_in_words(
     alloc: Global,
     line: &Line,
@@ -20,7 +20,7 @@ pub fn section_in_words(
     }
 }
 
-/// From where to where a section lies in metres of its track, and its home.
+/// The start and the end of a section in metres of its track, and its home.
 fn stretch_in_words(alloc: Global, line: &Line, number: u16) -> Result<String, AllocError> {
     let Some(section) = line.section(number) else {
         return Ok(String::new(alloc));

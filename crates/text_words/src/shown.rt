@@ -1,11 +1,11 @@
-//! The forms of the lines that `run` prints of the line as it stands: what each section is used for, and who supervises
-//! each train.
+//! The forms of the printed lines about the state of the line: the use of each section, and the supervisor of each
+//! train.
 
 use crate::numbers::{number_of, section_number};
 use crate::row::{Row, centre_of};
 use rbc_line::Line;
 
-/// A section with its use.
+/// Reads a section with its use.
 pub fn section_of<'a>(line: &Line, words: &[&'a str]) -> Option<Row<'a>> {
     match words {
         [number, home, word, rest @ ..] => use_of(section_at(line, number, home)?, word, rest),
@@ -13,7 +13,7 @@ pub fn section_of<'a>(line: &Line, words: &[&'a str]) -> Option<Row<'a>> {
     }
 }
 
-/// What a section is used for.
+/// Reads the use of a section.
 fn use_of<'a>(section: u16, word: &str, rest: &[&'a str]) -> Option<Row<'a>> {
     match *rest {
         [] => free_of(section, word, false),
@@ -23,7 +23,7 @@ fn use_of<'a>(section: u16, word: &str, rest: &[&'a str]) -> Option<Row<'a>> {
     }
 }
 
-/// What a section is used for that is wished back and in no use, or in use and not wished back.
+/// Reads the use of a section: either wished back and unused, or used and not wished back.
 fn free_or_used_of<'a>(section: u16, word: &str, last: &str) -> Option<Row<'a>> {
     match last {
         "wished" => free_of(section, word, true),
@@ -31,7 +31,7 @@ fn free_or_used_of<'a>(section: u16, word: &str, last: &str) -> Option<Row<'a>> 
     }
 }
 
-/// What a section is used for that is in use and wished back.
+/// Reads the use of a section that is in use and wished back.
 fn wished_of<'a>(section: u16, word: &str, train: &str, last: &str) -> Option<Row<'a>> {
     match last {
         "wished" => used_of(section, word, number_of(train)?, true),
@@ -39,7 +39,7 @@ fn wished_of<'a>(section: u16, word: &str, train: &str, last: &str) -> Option<Ro
     }
 }
 
-/// The number of a section of the line, where the home is a centre of the line.
+/// The number of a section of the line, if the home is a centre of the line.
 fn section_at(line: &Line, number: &str, home: &str) -> Option<u16> {
     centre_of(line, home)?;
     let section = section_number(number)?;
@@ -77,7 +77,7 @@ fn used_of<'a>(section: u16, word: &str, nid_engine: u32, is_wished: bool) -> Op
     })
 }
 
-/// A train with its supervisor.
+/// Reads a train with its supervisor.
 pub fn supervisor_of<'a>(line: &Line, words: &[&'a str]) -> Option<Row<'a>> {
     match *words {
         [train, name] => supervised(line, number_of(train)?, name),

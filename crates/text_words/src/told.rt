@@ -3,8 +3,8 @@
 use std::fmt;
 use std::fmt::Formatter;
 
-/// A line of what `run` prints, in words: who speaks to whom, what is said, and the line itself with its hexadecimal
-/// cut.
+/// A printed line of `run` in words: the speaker and the receiver, the message, and the line itself with shortened
+/// hexadecimal.
 #[derive(Drop)]
 pub struct Told {
     pub who: String,

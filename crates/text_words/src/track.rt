@@ -7,10 +7,10 @@ use rbc_packets::{Authority, SessionOrder, Transition};
 use rbc_vars::TTrain;
 use std::alloc::AllocError;
 
-/// T_TRAIN of this value is unknown.
+/// The value of T_TRAIN that is unknown.
 pub const UNKNOWN_TIME: u64 = 4_294_967_295;
 
-/// What follows NID_MESSAGE and L_MESSAGE.
+/// Adds the fields after NID_MESSAGE and L_MESSAGE.
 pub fn add_track(fields: &mut Fields, message: &TrackMsg) -> Result<(), AllocError> {
     let count = u64::from(message.t_train());
     fields.words(
@@ -33,7 +33,7 @@ pub fn add_track(fields: &mut Fields, message: &TrackMsg) -> Result<(), AllocErr
     }
 }
 
-// T_TRAIN of the train data that are acknowledged.
+// Adds T_TRAIN of the acknowledged train data.
 fn add_time_of_data(fields: &mut Fields, t_train: TTrain) -> Result<(), AllocError> {
     let value = t_train.value();
     if value == UNKNOWN_TIME {
@@ -46,7 +46,7 @@ fn add_time_of_data(fields: &mut Fields, t_train: TTrain) -> Result<(), AllocErr
     fields.add("T_TRAIN", value, meaning)
 }
 
-// The header of a packet.
+// Adds the header of a packet.
 fn add_packet(
     fields: &mut Fields,
     number: u64,
@@ -69,7 +69,7 @@ fn add_authority(fields: &mut Fields, authority: Authority) -> Result<(), AllocE
     add_none(fields)
 }
 
-// What an authority may have besides, and has not.
+// Adds the optional parts that an authority may contain and does not.
 fn add_none(fields: &mut Fields) -> Result<(), AllocError> {
     for name in &NONE {
         fields.words(*name, 0, "none")?;
@@ -95,7 +95,7 @@ fn add_order(fields: &mut Fields, order: SessionOrder) -> Result<(), AllocError>
     add_centre(fields, order.nid_c.value(), order.nid_rbc.value())
 }
 
-// A centre, without its number of the radio network.
+// Adds the identity of a centre, without its number of the radio network.
 fn add_centre(fields: &mut Fields, nid_c: u64, nid_rbc: u64) -> Result<(), AllocError> {
     fields.number("NID_C", nid_c)?;
     fields.number("NID_RBC", nid_rbc)?;

@@ -12,7 +12,7 @@ use std::alloc::AllocError;
 // A packet has at most 8 170 bits after its header.
 const MOST_LINES: u32 = 256;
 
-/// What follows NID_MESSAGE and L_MESSAGE.
+/// Adds the fields after NID_MESSAGE and L_MESSAGE.
 pub fn add_train(fields: &mut Fields, message: &TrainMsg) -> Result<(), AllocError> {
     let meaning = Meaning::Count {
         count: 10 * u64::from(message.t_train()),
@@ -58,12 +58,12 @@ fn add_body(fields: &mut Fields, body: &TrainBody) -> Result<(), AllocError> {
     }
 }
 
-// Why an authority is asked for, a bit a reason.
+// Adds the reasons of a request for an authority: one bit for each reason.
 fn add_reason(fields: &mut Fields, reason: QMarqstreason) -> Result<(), AllocError> {
     fields.add("Q_MARQSTREASON", reason.value(), Meaning::Bits(5))
 }
 
-// T_TRAIN of the request that is answered.
+// Adds T_TRAIN of the request that is answered.
 fn add_request(fields: &mut Fields, request: TTrain) -> Result<(), AllocError> {
     let words = match request.value() {
         UNKNOWN_TIME => "unknown",
@@ -81,7 +81,7 @@ fn add_status(fields: &mut Fields, status: QStatus) -> Result<(), AllocError> {
     fields.words("Q_STATUS", status.value(), words)
 }
 
-/// A packet that is kept without being read: its bits, up to 32 a line.
+/// Adds a packet that is kept without being read: its bits, up to 32 on each line.
 fn add_packet(fields: &mut Fields, packet: &Opaque) -> Result<(), AllocError> {
     let words = match packet.nid_packet() {
         11 => "validated train data, not read",

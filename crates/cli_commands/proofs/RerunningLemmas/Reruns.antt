@@ -1,4 +1,4 @@
--- A rerun of entries as it goes on, one by one.
+-- A rerun of entries, one by one.
 use Rattle.std.proofs.Common.{◌≡◌, ℕ, zero, suc, ◌+◌, ◌<◌, ◌≤◌, List, [], ◌∷◌, ◌++◌, length, map, take, drop, get_or, Some, Ok, Err, refl, sym, ap, ◌∙◌, arith}
 use Rattle.std.proofs.lemmas.List.{map-append}
 use Rattle.rbc_spec.specs.Line.{Line}
@@ -13,7 +13,7 @@ use Rattle.law_reached.proofs.Whole.{run_of_none}
 use Rattle.text_journal.specs.declared.entry.Entry.{Entry}
 use Rattle.cli_commands.specs.Rerunning.Rerun.{IsRerun, happened, stamp_of}
 
--- no entry is a run
+-- no entries are a run
 pub begins : (line : Line) (w : World) → w ≡ new_world line → IsRerun line [] w
 begins line w new = record {
   answers = [];
@@ -21,7 +21,7 @@ begins line w new = record {
   stamps = refl;
 }
 
--- an entry whose event is answered with its stamp goes on with a run
+-- an entry extends a run if the answer to its event has its stamp
 pub goes_on : (line : Line) (front : List Entry) (e : Entry) (w x : World) (a : Answer) → IsRerun line front w
     → world_step line w (happened e) ≡ Ok (a, x) → stamp_of a ≡ Some e.stamp → IsRerun line (front ++ e ∷ []) x
 goes_on line front e w x a so_far step stamp = record {

@@ -1,4 +1,4 @@
--- What a writer holds that is known by its name.
+-- The bytes of a writer that is known by its name.
 use Rattle.std.proofs.Common.{◌≡◌, ℕ, List, [], ◌∷◌, ◌++◌, Option, Some, None, Result, Ok, Err, OnOk, is_err, false, sym, ap, subst, ◌∙◌, append-nil}
 use Rattle.std.specs.Io.KnownBytes.{Keeps, Appends, WriteAppends, append_known}
 use Rattle.rbc_spec.specs.Line.{Line}
@@ -28,15 +28,15 @@ pub named_all : {T E : Type 0} (name : ℕ) (a b : Option (List ℕ)) (result : 
 named_all name a b (Ok x) bytes h = named_appends name a b bytes h
 named_all name a b (Err why) bytes h = tt
 
--- what holds at Ok, where there is no fault
+-- a property of Ok holds if there is no fault
 pub when_ok : {X E : Type 0} (result : Result X E) (P : Type 0) → OnOk result P → is_err result ≡ false → P
 when_ok (Ok x) P h e = h
 when_ok (Err why) P h e = absurd cc
 
 -- ## A print through a buffer
 
--- A buffer that held nothing was put in front of a writer. What was written through it stands in the writer once the
--- buffer is empty again: it is this writer, where its bytes are known.
+-- An empty buffer was put before a writer. Once the buffer is empty again, the writer has the bytes that were written
+-- through it. It is this writer, if its bytes are known.
 abbrev pub Stands : ℕ → ℕ → Option (List ℕ) → Option (List ℕ) → List ℕ → Type 0
 Stands old new None after text = Unit {0}
 Stands old new (Some xs) None text = ⊥
@@ -64,13 +64,13 @@ stands old mid new (Some xs) (Some ys) (Some zs) empty left none text e f h k =
     sym (append-nil (new ∷ zs)) ∙ sym (ap (λ us. (new ∷ zs) ++ us) f) ∙ k ∙ h ∙ ap (λ us. ((old ∷ xs) ++ us) ++ text) e ∙ ap (λ us. us ++ text) (append-nil (old ∷ xs))
     )
 
--- so it is of the writer that was lent: it is left as it stands under its name
+-- the lent writer is left in this state, under its name
 pub stands_at_last : (old new : ℕ) (a c last : Option (List ℕ)) (text : List ℕ) → Stands old new a c text → (new ≡ old → last ≡ c) → Appends a last text
 stands_at_last old new None c last text h left = tt
 stands_at_last old new (Some xs) None last text h left = absurd h
 stands_at_last old new (Some xs) (Some ys) last text (same, grows) left = subst (λ (f : Option (List ℕ)). Appends (Some xs) f text) (sym (left same)) grows
 
--- what is printed of a script through a buffer
+-- the print of a script through a buffer
 pub print_stands : {F : Type 0} (line : Line) (entries : List Entry) (result : Result (Unit {0}) (PlayFault F)) (old mid new : ℕ) (a b c last : Option (List ℕ)) (empty held none : List ℕ)
     → empty ≡ [] → none ≡ [] → LeavesPrint {F = F} line entries result (append_known (named old a) empty) (append_known (named mid b) held)
     → Keeps (append_known (named mid b) held) (append_known (named new c) none) → (new ≡ old → last ≡ c) → LeavesPrint {F = F} line entries result a last

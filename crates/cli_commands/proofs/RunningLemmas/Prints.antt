@@ -1,4 +1,4 @@
--- What a printer that is told a script has written.
+-- The text that a printer has written for the reports of a script.
 use Rattle.std.proofs.Common.{◌≡◌, ℕ, List, [], ◌∷◌, ◌++◌, Option, Some, None, Ok, Err, codes, refl, sym, ap, ◌∙◌, subst, append_assoc, append-nil}
 use Rattle.std.specs.Io.KnownBytes.{Appends}
 use Rattle.rbc_spec.specs.Line.{Line}
@@ -24,12 +24,12 @@ adds_both (Some p) None c xs ys h k = absurd h
 adds_both (Some p) (Some q) None xs ys h k = absurd k
 adds_both (Some p) (Some q) (Some r) xs ys h k = k ∙ ap (λ zs. zs ++ ys) h ∙ append_assoc p xs ys
 
--- Of who prints: which writer it has, of which line it prints, and what the writer holds.
+-- For a printer: its writer, its line, and the bytes of the writer.
 module _ {T N : Type 0} (name : T → N) (line_at : T → Line) (held : T → Option (List ℕ)) (line : Line) where
   abbrev pub Tells : T → Telling → T → Type 0
   Tells t telling u = (name u ≡ name t) × (line_at u ≡ line_at t) × IsTold (line_at t) telling (held t) (held u)
 
-  -- what is printed of entries that are played, after a text
+  -- the print of played entries, after a text
   pub record Prints (w : World) (t : T) (entries : List Entry) (v : World) (u : T) (before : List ℕ) : Type 0 where
     pub rows : List ℕ
     pub played : IsPlayed (Adds line) line w before entries v (before ++ rows)
@@ -80,7 +80,7 @@ module _ {T N : Type 0} (name : T → N) (line_at : T → Line) (held : T → Op
         writer = more.writer ∙ answers.0 ∙ comes.0;
       }
 
-  -- all entries were played, and the line is printed after them, over the writer that there was
+  -- all entries were played, and the line is printed after them, to the same writer
   pub prints_all : (F : Type 0) (l : Line) (w : World) (t : T) (entries : List Entry) (v : World) (u : T) (n : N) (after : Option (List ℕ)) → line ≡ l → line_at t ≡ line → w ≡ new_world line
       → IsPlayed Tells l w t entries v u → n ≡ name u → (line_at u ≡ l → Appends (held u) after (line_text (line_at u) v)) → PrintsAll {F = F} line entries (Ok tt) (name t) n (held t) after
   prints_all F l w t entries v u n after of at begins played same last =
@@ -94,7 +94,7 @@ module _ {T N : Type 0} (name : T → N) (line_at : T → Line) (held : T → Op
         ),
       )
 
-  -- it stopped at an event, or for another reason
+  -- the play stopped at an event, or for another reason
   pub prints_until : {F : Type 0} (l : Line) (w : World) (t : T) (entries : List Entry) (fault : PlayFault F) (v : World) (u : T) → line ≡ l → line_at t ≡ line → w ≡ new_world line
       → Leaves {F = F} Tells l w t entries (Err fault) v u → PrintsAll {F = F} line entries (Err fault) (name t) (name u) (held t) (held u)
   prints_until l w t entries (Untold why) v u of at begins stopped = tt

@@ -1,4 +1,4 @@
--- Which fault of a line file each thing that is wrong in it is a case of.
+-- The fault of a line file for each kind of finding.
 use Rattle.rbc_line.specs.declared.fault.LineFault.{LineFault}
 use Rattle.rbc_line.specs.declared.fault.LineFault.TheVariants.{Shape, Centres, Tracks, Sections, Trains, Length, Number, Twice, Home, Order}
 use Rattle.cli_commands.specs.declared.inspecting.finding.Counted.{Counted}
@@ -6,14 +6,14 @@ use Rattle.cli_commands.specs.declared.inspecting.finding.Counted.TheVariants as
 use Rattle.cli_commands.specs.declared.inspecting.finding.Flaw.{Flaw}
 use Rattle.cli_commands.specs.declared.inspecting.finding.Flaw.TheVariants as flaw
 
--- too few or too many of them
+-- the fault of too few or too many items of this kind
 abbrev pub count_fault : Counted → LineFault
 count_fault counted.Centres = Centres
 count_fault counted.Tracks = Tracks
 count_fault counted.Sections = Sections
 count_fault counted.Trains = Trains
 
--- what is wrong at a place
+-- the fault of a flaw
 abbrev pub flaw_fault : Flaw → LineFault
 flaw_fault (flaw.Missing key) = Shape
 flaw_fault (flaw.Unknown key) = Shape

@@ -1,4 +1,4 @@
--- What is printed of entries that are one run of a line.
+-- The print of entries that are one run of a line.
 use Rattle.std.specs.Prelude.{◌≡◌, ℕ, List, map, Option, Result, Ok, Err}
 use Rattle.std.specs.Io.KnownBytes.{Appends}
 use Rattle.rbc_spec.specs.Line.{Line}
@@ -11,16 +11,17 @@ use Rattle.cli_commands.specs.Rerunning.Rerun.{IsRerun, IsFirstUnfit}
 use Rattle.cli_commands.specs.declared.rerunning.fault.RerunFault.{RerunFault}
 use Rattle.cli_commands.specs.declared.rerunning.fault.RerunFault.TheVariants.{Unfit, Refused, Untold}
 
--- the entry of a script that asks for the event of an entry
+-- the script entry for the event of an entry
 abbrev pub asks : Entry → Asked
 asks e = Event e.event
 
--- so much was written after what the writer had: the print of a script of these events
+-- the appended text is the print of a script of these events
 abbrev pub PrintsRun : Line → List Entry → Option (List ℕ) → Option (List ℕ) → Type 0
 PrintsRun line es before after = (text : List ℕ) × IsPrint line (map asks es) text × Appends before after text
 
--- Where all is written the entries are a run of the line, and it is the print of their events; where an entry does not
--- fit, nothing is. Nothing is said where a step was refused, as for want of memory, or a write.
+-- If all is written, the entries are a run of the line, and the text is the print of their events. If an entry does
+-- not fit, nothing is written. Nothing is claimed if a step was refused, for example because memory ran out, or a
+-- write was.
 abbrev pub Reprints : Line → List Entry → Result (Unit {0}) RerunFault → Option (List ℕ) → Option (List ℕ) → Type 0
 Reprints line es (Ok done) before after = ((last : World) × IsRerun line es last) × PrintsRun line es before after
 Reprints line es (Err (Unfit place)) before after = IsFirstUnfit line es place × (after ≡ before)

@@ -1,4 +1,4 @@
--- The bytes of a writer, after the name that tells it from others.
+-- The bytes of a writer, after the name that separates it from other writers.
 use Rattle.std.specs.Prelude.{ℕ, List, ◌∷◌, Option, option_map}
 
 abbrev pub named : ℕ → Option (List ℕ) → Option (List ℕ)

@@ -6,29 +6,29 @@ use text_script::StepFault;
 use text_script::script::{Entry, ScriptFault, script_of};
 use text_script::status::Fault;
 
-/// What an event's line begins with in a print.
+/// The beginning of an event's line in a print.
 const EVENT: &str = "> ";
 
 /// An audit of a print, line by line. The lines that begin with `> ` are the script that is run again.
 ///
-/// It holds the centres, the line that is looked at, and what a run prints of one event: no more for a longer print.
+/// It contains the centres, the current line, and the run's print of one event. A longer print does not need more.
 #[derive(Drop)]
 pub struct Audit<'a> {
     alloc: Global,
     line: &'a Line,
     played: Played<'a>,
     comparison: Comparison,
-    /// How many lines have come.
+    /// The number of lines received.
     rows: usize,
     events: u64,
-    /// Why the run stopped: a refused step, or want of memory. Nothing is played after it.
+    /// Why the run stopped: a refused step, or memory ran out. Nothing is played after it.
     refused: Option<StepFault>,
-    /// The number of the first line whose script has no form that a script may have. Later lines are only counted.
+    /// The number of the first script line without a valid form. Later lines are only counted.
     faulty: Option<usize>,
 }
 
 impl<'a> Audit<'a> {
-    /// An audit to which no line has come.
+    /// Starts an audit without lines.
     pub fn new(alloc: Global, line: &'a Line) -> Result<Audit<'a>, Fault<'static>> {
         Ok(Audit {
             alloc,
@@ -42,7 +42,7 @@ impl<'a> Audit<'a> {
         })
     }
 
-    /// Takes the next line of the print, without the line feed that ends it.
+    /// Takes the next line of the print, without its line feed.
     pub fn row(&mut self, row: &str) {
         self.rows = self.rows.saturating_add(1);
         if self.faulty.is_some() {
@@ -55,8 +55,8 @@ impl<'a> Audit<'a> {
         self.comparison.row(row);
     }
 
-    /// What the audit found, where no further line comes. A script fault is told before a refused step, and that before
-    /// a difference.
+    /// The result of the audit, when no more lines come. A script fault is reported before a refused step, and a
+    /// refused step before a difference.
     pub fn end(&mut self) -> Result<Verdict, Fault<'static>> {
         if let Some(row) = self.faulty {
             return Err(Fault::Script(row));
@@ -73,7 +73,7 @@ impl<'a> Audit<'a> {
         }
     }
 
-    // Reads what a line asks for, and plays it.
+    // Reads the entry of a line, and plays it.
     fn ask(&mut self, text: &str) {
         match script_of(self.alloc, self.line, text) {
             Ok(entries) => {
@@ -99,7 +99,7 @@ impl<'a> Audit<'a> {
         }
     }
 
-    // After all lines of an event the lines that end the print may come.
+    // After all lines of an event, the last lines of the print may come.
     fn know_ending(&mut self) {
         if self.refused.is_some() || !self.comparison.wants_ending() {
             return;
@@ -110,7 +110,7 @@ impl<'a> Audit<'a> {
         }
     }
 
-    // The first refusal is told.
+    // Only the first refusal is reported.
     fn refuse(&mut self, fault: StepFault) {
         if self.refused.is_none() {
             self.refused = Some(fault);

@@ -5,7 +5,7 @@ use text_script::script::Entry;
 use text_script::status::Fault;
 use text_script::{StepFault, World, WorldEvent};
 
-/// The centres of the line, on which the entries of a print are played again.
+/// The centres of the line, which replay the entries of a print.
 #[derive(Drop)]
 pub(crate) struct Played<'a> {
     alloc: Global,
@@ -19,7 +19,7 @@ impl<'a> Played<'a> {
         Ok(Played { alloc, line, world })
     }
 
-    /// Plays an entry, and gives the lines that a run prints of it.
+    /// Plays an entry, and returns the lines that a run prints for it.
     pub(crate) fn entry(&mut self, entry: &Entry) -> Result<Vec<u8>, StepFault> {
         let mut text = Vec::new(self.alloc);
         match entry {
@@ -32,7 +32,7 @@ impl<'a> Played<'a> {
         Ok(text)
     }
 
-    /// The lines with which a run ends, if nothing is played any more.
+    /// The last lines of a run, if nothing more is played.
     pub(crate) fn ending(&self) -> Result<Vec<u8>, StepFault> {
         let mut text = Vec::new(self.alloc);
         self.add_line(&mut text)?;
@@ -50,7 +50,7 @@ impl<'a> Played<'a> {
     }
 }
 
-// Printing into memory fails for want of memory alone.
+// Printing into memory fails only if memory runs out.
 fn told(printed: Result<(), Fault<'static>>) -> Result<(), StepFault> {
     match printed {
         Ok(()) => Ok(()),

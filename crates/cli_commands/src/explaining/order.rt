@@ -1,4 +1,4 @@
-//! The cases of a text in the order of their faults, at peace with the fault for which the text is refused.
+//! Orders the cases of a text by their faults, in agreement with the fault for which the text is refused.
 ghost use Rattle.std.specs.Prelude.{◌≡◌, Some, IfOk};
 ghost use Rattle.std.specs.List.Sorted.{IsNonDecreasingBy};
 ghost use Rattle.cli_commands.specs.Explaining.Lowest.{fault_number, first_fault};
@@ -8,7 +8,7 @@ use rbc_line::LineFault;
 use std::alloc::{AllocError, Global};
 use toml::Table;
 
-/// All that is wrong in the tables of a text, the lowest fault first, and each fault's cases in the order of the file.
+/// Finds all faults in the tables of a text: the lowest fault first, and each fault's cases in the order of the file.
 fn findings_in(alloc: Global, table: &Table) -> Result<Vec<Finding<'_>>, AllocError>
     ensures { IfOk result (λ v. IsNonDecreasingBy fault_number v.items) }
 {
@@ -26,8 +26,8 @@ fn first_fault(findings: &[Finding]) -> Option<LineFault>
     }
 }
 
-/// All that is wrong in tables to which this fault applies as the lowest. If the walk did not find a case of it first,
-/// the fault alone is named: so what is told of a file is never at odds with the fault for which it is refused.
+/// Finds all faults in tables whose lowest fault is `lowest`. If the walk did not find a case of it first, the result
+/// is only this fault. So the findings always agree with the fault for which the file is refused.
 pub(crate) fn cases_from(
     alloc: Global,
     lowest: LineFault,

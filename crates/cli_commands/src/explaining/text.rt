@@ -12,14 +12,14 @@ use std::alloc::{AllocError, Global};
 use toml::Table;
 use toml::de::Error;
 
-/// A text that is TOML, whatever else is wrong with it as a line file.
+/// A text that is valid TOML. As a line file it may be wrong.
 #[derive(Drop)]
 pub struct LineText {
     table: Table,
 }
 
 impl LineText {
-    /// Reads a text. The error says where it is no TOML, or that memory ran out.
+    /// Reads a text. The error gives the place where the text is not TOML, or says that memory ran out.
     pub fn new(alloc: Global, text: &str) -> Result<LineText, Error>
         ensures text { IfOk result (λ t. parse_document text.now ≡ Some (table_view t.table)) }
         ensures refused { IfErr result (λ e. ¬ IsMemory e → parse_document text.now ≡ None) }
@@ -28,8 +28,8 @@ impl LineText {
         Ok(LineText { table })
     }
 
-    /// All that is wrong in the text as a line file, the lowest fault first, and each fault's cases in the order of the
-    /// file. What is missing or of another type is tested no further.
+    /// Finds all faults of the text as a line file: the lowest fault first, and each fault's cases in the order of
+    /// the file. A value that is missing or of another type is not tested further.
     pub fn findings(&self, alloc: Global) -> Result<Vec<Finding<'_>>, AllocError>
         ensures lowest { IfOk result (λ v. Explains (table_view self.now.table) v.items) }
         ensures order { IfOk result (λ v. IsNonDecreasingBy fault_number v.items) }

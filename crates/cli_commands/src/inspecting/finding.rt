@@ -1,14 +1,14 @@
-//! What is wrong in a line file, and where: for the person who mends it.
+//! The faults of a line file, and their places, for the person who corrects it.
 
 use rbc_line::LineFault;
 use std::fmt;
 use std::fmt::Formatter;
 
-/// Where something stands in a line file. Numbers count from 0 in the order of the file, those of sections over all
-/// tracks. Names and engines are there to find the place by, where the file has them.
+/// A place in a line file. Numbers count from 0 in the order of the file; section numbers count over all tracks.
+/// Names and engines help to find the place, if the file has them.
 #[derive(Clone, Copy)]
 pub enum Place<'a> {
-    /// No centre, track, section or train: the file as a whole.
+    /// The file as a whole, not one centre, track, section or train.
     File,
     Centre {
         number: usize,
@@ -28,7 +28,7 @@ pub enum Place<'a> {
     },
 }
 
-/// What a line has a limited number of.
+/// A kind of item of which a line has a limited number.
 #[derive(Clone, Copy)]
 pub enum Counted {
     Centres,
@@ -37,14 +37,14 @@ pub enum Counted {
     Trains,
 }
 
-/// What is wrong at a place.
+/// A fault at a place.
 #[derive(Clone, Copy)]
 pub enum Flaw<'a> {
-    /// A key that has to be there is not.
+    /// A required key is missing.
     Missing {
         key: &'static str,
     },
-    /// A key is there that has no meaning there.
+    /// A key that has no meaning in its table.
     Unknown {
         key: &'a str,
     },
@@ -54,11 +54,11 @@ pub enum Flaw<'a> {
         wanted: &'static str,
         found: &'static str,
     },
-    /// What stands in the place of a table is none.
+    /// A value that should be a table and is not one.
     NoTable {
         found: &'static str,
     },
-    /// There are too few or too many of them.
+    /// There are too few or too many items of this kind.
     Count {
         counted: Counted,
         count: usize,
@@ -69,7 +69,7 @@ pub enum Flaw<'a> {
     Length {
         metres: i64,
     },
-    /// A number that is not 0 to the highest.
+    /// A number that is not from 0 to the highest.
     Number {
         key: &'static str,
         value: i64,
@@ -79,12 +79,12 @@ pub enum Flaw<'a> {
     Name {
         name: &'a str,
     },
-    /// A name that another has already.
+    /// A name that another item already has.
     NameTwice {
         name: &'a str,
         first: Place<'a>,
     },
-    /// A number that another has already.
+    /// A number that another item already has.
     NumberTwice {
         key: &'static str,
         value: i64,
@@ -95,17 +95,17 @@ pub enum Flaw<'a> {
         key: &'static str,
         name: &'a str,
     },
-    /// A home that has sections further in front on the track, with those of another between.
+    /// A home with earlier sections on the track, and sections of another home between them.
     Order {
         home: &'a str,
     },
-    /// A fault of which no case was found. No file is known that has one.
+    /// A fault for which no case was found. No file with such a fault is known.
     Unplaced {
         fault: LineFault,
     },
 }
 
-/// One thing that is wrong in a line file.
+/// One fault at one place of a line file.
 #[derive(Clone, Copy)]
 pub struct Finding<'a> {
     pub place: Place<'a>,
@@ -116,7 +116,7 @@ impl Counted {
     ghost use Rattle.std.specs.Prelude.{◌≡◌};
     ghost use Rattle.cli_commands.specs.Inspecting.Findings.{count_fault};
 
-    /// The fewest and the most of them that a line has.
+    /// The fewest and the most items of this kind in a line.
     pub(crate) fn limits(self) -> (usize, usize) {
         match self {
             Counted::Centres => (2, 8),
@@ -142,7 +142,7 @@ impl Finding<'_> {
     ghost use Rattle.std.specs.Prelude.{◌≡◌};
     ghost use Rattle.cli_commands.specs.Inspecting.Findings.{flaw_fault};
 
-    /// The fault of the line file that this is a case of.
+    /// The line fault of this case.
     pub fn fault(&self) -> LineFault
         ensures { result ≡ flaw_fault self.now.flaw }
     {
@@ -227,7 +227,7 @@ impl fmt::Display for Flaw<'_> {
     }
 }
 
-/// Values out of their bounds, and the flaws that `write_conflict` tells.
+/// Prints values out of their bounds, and the flaws that `write_conflict` prints.
 fn write_value<W: fmt::Write>(f: &mut Formatter<W>, flaw: Flaw<'_>) -> fmt::Result {
     match flaw {
         Flaw::Count { counted, count } => {
@@ -245,7 +245,7 @@ fn write_value<W: fmt::Write>(f: &mut Formatter<W>, flaw: Flaw<'_>) -> fmt::Resu
     }
 }
 
-/// Values that do not go with the rest of the file, and a flaw that was not found.
+/// Prints values that conflict with the rest of the file, and a flaw that was not found.
 fn write_conflict<W: fmt::Write>(f: &mut Formatter<W>, flaw: Flaw<'_>) -> fmt::Result {
     match flaw {
         Flaw::NameTwice { name, first } => write!(f, "name {name:?} is that of {first} too"),

@@ -1,4 +1,4 @@
-//! One walk through the tables of a line file that notes all that is wrong, table by table.
+//! Walks through the tables of a line file once, and notes all faults, table by table.
 use crate::inspecting::finding::{Counted, Finding, Flaw, Place};
 use crate::inspecting::inspection::{Inspection, first_place};
 use std::alloc::{AllocError, Global};
@@ -14,7 +14,7 @@ struct Homes<'a> {
 }
 
 impl<'a> Homes<'a> {
-    /// One more section of this home: whether the home comes again, after another.
+    /// Adds a section of this home. Returns whether the home appears again, after another home.
     fn comes_again(&mut self, home: &'a str) -> Result<bool, AllocError> {
         if self.last == Some(home) {
             return Ok(false);
@@ -24,8 +24,8 @@ impl<'a> Homes<'a> {
     }
 }
 
-/// All that is wrong in the tables of a text as a line file, in the order in which the walk comes to it: within a table
-/// its keys, then what stands in it. What is missing or of another type is tested no further.
+/// Finds all faults in the tables of a text as a line file, in the order of the walk: within a table its keys, then
+/// its content. A value that is missing or of another type is not tested further.
 pub fn cases_in(alloc: Global, table: &Table) -> Result<Vec<Finding<'_>>, AllocError> {
     let mut inspection = Inspection::new(alloc);
     inspection.file(alloc, table)?;
@@ -77,14 +77,14 @@ impl<'a> Inspection<'a> {
         for (number, track) in tracks.iter().enumerate() {
             sections = self.track(alloc, number, sections, track)?;
         }
-        // A track without a section is found at the track.
+        // A track without a section is a finding of the track.
         if sections > 0 {
             self.count(Counted::Sections, sections)?;
         }
         Ok(())
     }
 
-    /// A track, whose first section has this number: the number of the section after it.
+    /// Tests a track whose first section has this number. Returns the number of the section after the track.
     fn track(
         &mut self,
         alloc: Global,
@@ -147,7 +147,7 @@ impl<'a> Inspection<'a> {
         Ok(number)
     }
 
-    /// A section: its home, where it has one.
+    /// Tests a section. Returns its home, if it has one.
     fn section(
         &mut self,
         place: Place<'a>,
@@ -201,12 +201,12 @@ impl<'a> Inspection<'a> {
     }
 }
 
-/// The name in a table, to find the place by.
+/// The name in a table, which helps to find the place.
 fn name_in(value: &Value) -> Option<&str> {
     value.as_table()?.get("name")?.as_str()
 }
 
-/// The engine in a table, to find the place by.
+/// The engine in a table, which helps to find the place.
 fn engine_in(value: &Value) -> Option<i64> {
     value.as_table()?.get("engine")?.as_integer()
 }

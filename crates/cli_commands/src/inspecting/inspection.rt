@@ -1,4 +1,4 @@
-//! What has been found in a line file so far, and the looks at one table of it.
+//! The findings in a line file so far, and the tests of one table.
 
 use crate::inspecting::finding::{Counted, Finding, Flaw, Place};
 use rbc_line::limits::{has_count_fault, is_name, is_outside};
@@ -8,15 +8,15 @@ use std::hash::Hash;
 use toml::value::Array;
 use toml::{Table, Value};
 
-/// What has been found so far, and where each value stands that may stand once.
+/// The findings so far, and the place of each value that must be unique.
 #[derive(Drop)]
 pub(crate) struct Inspection<'a> {
     pub(crate) findings: Vec<Finding<'a>>,
-    /// The file has a list of centres, so that homes and registrars can be sought among them.
+    /// The file has a list of centres, so that homes and registrars can be sought there.
     pub(crate) has_centres: bool,
     pub(crate) centre_names: HashMap<&'a str, Place<'a>>,
     pub(crate) track_names: HashMap<&'a str, Place<'a>>,
-    /// The numbers that may stand once, each with its key.
+    /// The numbers that must be unique, each with its key.
     numbers: HashMap<(&'static str, i64), Place<'a>>,
 }
 
@@ -36,7 +36,7 @@ impl<'a> Inspection<'a> {
         Ok(())
     }
 
-    /// The table that has to stand at this place, with no key but these.
+    /// The table that is required at this place, with no keys other than these.
     pub(crate) fn table(
         &mut self,
         place: Place<'a>,
@@ -52,7 +52,7 @@ impl<'a> Inspection<'a> {
         Ok(Some(table))
     }
 
-    /// Notes the keys of a table but for these.
+    /// Notes the keys of a table other than these.
     pub(crate) fn keys(
         &mut self,
         place: Place<'a>,
@@ -68,7 +68,7 @@ impl<'a> Inspection<'a> {
         Ok(())
     }
 
-    /// The value of a key that has to be there, and of this type.
+    /// The value of a required key, of this type.
     fn value(
         &mut self,
         place: Place<'a>,
@@ -148,7 +148,7 @@ impl<'a> Inspection<'a> {
         Ok(number)
     }
 
-    /// A number from 0 to the highest that no other has under this key.
+    /// A number from 0 to the highest that is unique for this key.
     pub(crate) fn own_number(
         &mut self,
         place: Place<'a>,
@@ -198,7 +198,7 @@ impl<'a> Inspection<'a> {
     }
 }
 
-/// Where the value stands further in front in the file. Where it stands for the first time, the place is kept.
+/// The first place of the value in the file, if the value appeared before. The place of a new value is kept.
 pub(crate) fn first_place<'a, K: Copy + Drop + Eq + Hash>(
     places: &mut HashMap<K, Place<'a>>,
     key: K,

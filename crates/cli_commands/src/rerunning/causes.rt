@@ -3,16 +3,16 @@ use std::alloc::Global;
 use text_journal::Entry;
 use text_script::{Answer, StepFault, World};
 
-/// Entries of which each frame that is delivered was sent, and how many others are left out.
+/// Entries whose delivered frames were all sent, and the number of entries that are left out.
 #[derive(Drop)]
 pub struct Caused {
     pub entries: Vec<Entry>,
     pub left_out: usize,
 }
 
-/// Cuts each journal before its first delivery of a frame that was not sent. Journals that are read one after another
-/// while centres write them may have such a delivery: the event that sent the frame was written after its journal was
-/// read. The entries are in the order of their stamps.
+/// Cuts each journal before its first delivery of a frame that was not sent. Journals that are read one by one while
+/// centres write them may have such a delivery: the sending event was written after its journal was read. The entries
+/// are in the order of their stamps.
 pub fn with_causes(alloc: Global, line: &Line, entries: Vec<Entry>) -> Result<Caused, StepFault> {
     let mut world = World::new(alloc, line)?;
     keep_caused(alloc, &mut world, entries)

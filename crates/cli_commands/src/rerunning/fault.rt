@@ -2,13 +2,13 @@ use crate::rerunning::place::Place;
 use text_script::StepFault;
 use text_script::status::Fault;
 
-/// Why the print of journals is not written whole.
+/// Why the print of journals is not complete.
 #[derive(Debug, Drop)]
 pub enum RerunFault {
-    /// The entries are no run of the line: where the first stands that does not fit. Nothing is written.
+    /// The entries are not a run of the line: the place of the first unfit one. Nothing is written.
     Unfit(Place),
     /// The step of an event is refused.
     Refused(StepFault),
-    /// The writer refused what was written.
+    /// The writer refused a write.
     Untold(Fault<'static>),
 }

@@ -1,16 +1,16 @@
 use text_journal::Entry;
 use text_script::{Answer, WorldEvent};
 
-/// The place of an entry that does not fit: the centre of its journal, and its line in that journal, from 1.
+/// The place of an unfit entry: the centre of its journal, and its line in that journal, from 1.
 #[derive(Clone, Copy, Debug, PartialEq, Eq)]
 pub struct Place {
     pub centre: u8,
     pub row: usize,
-    /// The centre that has not sent the frame of the entry, if that is why it does not fit.
+    /// The centre that has not sent the frame of the entry, if the entry is unfit for this reason.
     pub sender: Option<u8>,
 }
 
-/// The sender of the frame of an event, if the answer is that it was not sent.
+/// The sender of an event's frame, if the answer is that the frame was not sent.
 pub(crate) fn missing_sender(answer: &Answer, event: &WorldEvent) -> Option<u8> {
     match (answer, event) {
         (Answer::NotSent, WorldEvent::Deliver { from, .. }) => Some(*from),
@@ -18,8 +18,8 @@ pub(crate) fn missing_sender(answer: &Answer, event: &WorldEvent) -> Option<u8> 
     }
 }
 
-/// The line of a centre's journal that is next after the first of these entries, which are of all centres. The first
-/// line of a journal is no entry.
+/// The line of a centre's journal that follows its entries among the first `at` entries of all centres. The first
+/// line of a journal is not an entry.
 pub(crate) fn next_row(entries: &[Entry], at: usize, centre: u8) -> usize {
     entries
         .iter()

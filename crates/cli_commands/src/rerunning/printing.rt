@@ -12,8 +12,8 @@ use text_script::play::PlayFault;
 use text_script::status::Fault;
 use text_script::{StepFault, script};
 
-/// Writes the print of the events of the entries, which have to be a run of the line, each with the stamp that its
-/// event is answered with. Else nothing is written.
+/// Writes the print of the entries' events. The entries must be a run of the line: each has the stamp of its event's
+/// answer. Otherwise nothing is written.
 pub fn print_rerun<W: Write>(
     alloc: Global,
     line: &Line,
@@ -49,7 +49,7 @@ fn print_run<W: Write>(
     }
 }
 
-// The script that asks for the events of the entries.
+// The script with the events of the entries.
 fn script_of(alloc: Global, entries: Vec<Entry>) -> Result<Vec<script::Entry>, AllocError>
     ensures { IfOk result (λ script. script.items ≡ map asks entries.items) }
 {

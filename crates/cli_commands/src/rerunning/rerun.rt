@@ -8,9 +8,9 @@ use std::alloc::Global;
 use text_journal::Entry;
 use text_script::{Answer, StepFault, World};
 
-/// Runs the events of the entries from the line's beginning, and finds the first entry whose stamp is not the one that
-/// its event is answered with; none where they are a run of the line. An event that no centre takes, as a frame that
-/// was not sent, has no stamp.
+/// Runs the events of the entries from the line's beginning. Finds the first entry whose stamp is not that of its
+/// event's answer; none if the entries are a run of the line. An event that no centre takes, such as a frame that was
+/// not sent, has no stamp.
 pub fn first_unfit(
     alloc: Global,
     line: &Line,
@@ -38,7 +38,7 @@ pub fn first_unfit(
     Ok(None)
 }
 
-// Whether an event is answered with this stamp.
+// Whether the answer has this stamp.
 fn has_stamp(answer: &Answer, stamp: u32) -> bool
     ensures { IsTrue result ↔ (stamp_of (answer_of answer.now) ≡ Some stamp) }
 {

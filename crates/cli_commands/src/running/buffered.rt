@@ -9,8 +9,8 @@ use text_script::play::PlayFault;
 use text_script::script::Entry;
 use text_script::status::Fault;
 
-/// Prints so too, with a buffer in front of the writer, which is empty after it. Where the writer refused a write, it
-/// may have any part of the print.
+/// Prints like `print_played`, through a buffer that is empty afterwards. If the writer refused a write, it may have
+/// any part of the print.
 pub fn print_buffered<O: Write>(
     alloc: Global,
     line: &Line,
@@ -28,7 +28,7 @@ pub fn print_buffered<O: Write>(
     }
     let (underlying, _) = held.into_parts();
     let Underlying { out } = underlying;
-    // No effect at run time. The proof reads what the writer holds from this use of it.
+    // No effect at run time. The proof reads the content of the writer from this use of it.
     let _ = &*out;
     done
 }

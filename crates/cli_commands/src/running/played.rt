@@ -9,8 +9,8 @@ use text_script::play::PlayFault;
 use text_script::script::Entry;
 use text_script::status::Fault;
 
-/// Plays the entries of a script on the line from its beginning, and prints each, what it led to, and at the end the
-/// line. It stops at the first event whose step is refused: all in front of it is printed then, and the event.
+/// Plays the entries of a script on the line from its beginning. Prints each entry, its answer, and at the end the
+/// line. It stops at the first event whose step is refused: the print then ends with this event.
 pub fn print_played<W: Write>(
     alloc: Global,
     line: &Line,
@@ -26,7 +26,7 @@ pub fn print_played<W: Write>(
     let mut printer = Printer { alloc, line, out };
     let done = printer.print_all(&mut world, entries);
     let Printer { out, .. } = printer;
-    // No effect at run time. The proof reads what the writer holds from this use of it.
+    // No effect at run time. The proof reads the content of the writer from this use of it.
     let _ = &*out;
     done
 }

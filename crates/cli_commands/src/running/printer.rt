@@ -1,4 +1,4 @@
-//! What is printed of a script as it is played.
+//! Prints a script while it is played.
 
 ghost use Rattle.std.specs.Prelude.{◌≡◌, OnOk};
 ghost use Rattle.std.specs.Io.KnownBytes.{Appends};
@@ -16,7 +16,7 @@ use text_script::script::Entry;
 use text_script::status::Fault;
 use text_script::{Answer, World, WorldEvent};
 
-/// Prints each event of a script, and then what it led to.
+/// Prints each event of a script, and then its answer.
 #[derive(Drop)]
 pub struct Printer<'a, W> {
     pub alloc: Global,
@@ -36,7 +36,7 @@ impl<W: Write> Printer<'_, W> {
         print_line(self.alloc, self.out, self.line, world)
     }
 
-    /// Plays the entries of a script on a world, and prints each, what it led to, and at the end the line.
+    /// Plays the entries of a script on a world. Prints each entry, its answer, and at the end the line.
     pub(crate) fn print_all(
         &mut self,
         world: &mut World,

@@ -1,8 +1,8 @@
 use std::io;
 use std::io::Write;
 
-/// A writer under a buffer. Who writes through the buffer knows of any writer that it adds to its bytes, and not which
-/// writer it is. So the name of this one stands in front of its bytes, and stays there.
+/// A writer under a buffer. The buffer's user knows that bytes are appended to a writer, but not to which one. So the
+/// name of this writer precedes its bytes, and stays there.
 #[derive(Drop)]
 pub(crate) struct Underlying<'a, O> {
     pub out: &'a mut O,

@@ -13,7 +13,7 @@ notes_after (e ∷ es) (n ∷ ns) f m are is = (are.0, notes_after es ns f m are
 notes_after [] (n ∷ ns) f m are is = absurd are
 notes_after (e ∷ es) [] f m are is = absurd are
 
--- the note of the next entry after those of the first
+-- the note of the next entry, after those of the first i
 pub notes_next :
     (es : List log.Entry) (i : ℕ) (ns ms : List journal.Entry) (e : log.Entry) (n : journal.Entry)
     → i < length es → e ≡ get_or es i e → ms ≡ ns ++ n ∷ [] → AreNotesOf (take i es) ns → IsNoteOf e n

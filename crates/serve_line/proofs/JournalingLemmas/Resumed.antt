@@ -17,7 +17,7 @@ module _ (nodes : List Node) where
   resumed_after [] e old mid new same is = (new, subst (λ (s : List ShareValue). IsResumed nodes e s new) same is, refl)
   resumed_after (d ∷ es) e old mid new (next, is, are) last = (next, is, resumed_after es e next mid new are last)
 
-  -- the next entry after the first
+  -- the next entry, after the first i
   pub resumed_next :
       (es : List Entry) (i : ℕ) (e : Entry) (old mid new : List ShareValue)
       → i < length es → e ≡ get_or es i e → AreResumed nodes (take i es) old mid → IsResumed nodes e mid new
@@ -29,7 +29,7 @@ module _ (nodes : List Node) where
       subst (λ (xs : List Entry). AreResumed nodes xs old new) (sym front)
       (resumed_after (take i es) e old mid new are last)
 
-  -- one entry, where the commit through the share in its place ends well
+  -- one entry, if the commit through the share in its place succeeds
   pub resumes :
       {F : Type 0} (e : Entry) (at : ℕ) (old : List ShareValue) (node : Node) (before after : ShareValue) (event : Event) (r : Result (Unit {0}) F)
       → at ≡ taken_at e → slice_get nodes at ≡ Some node → slice_get old at ≡ Some before → IsCommitted (taken_at e) event e.event

@@ -1,4 +1,4 @@
--- How centres go on from journals: each event is committed again at its centre.
+-- How centres resume from journals: each event is committed again at its centre.
 use Rattle.std.specs.Prelude.{◌≡◌, ℕ, List, [], ◌∷◌, slice_get, slice_set, Some}
 use Rattle.rbc_spec.specs.Outcome.{Outcome}
 use Rattle.text_script.specs.rbc_centre.declared.event.Event.{Event}
@@ -9,16 +9,16 @@ use Rattle.serve_control.specs.Events.{IsCommitted}
 use Rattle.text_journal.specs.Order.{taken_at}
 use Rattle.text_journal.specs.declared.entry.Entry.{Entry}
 
--- the share committed the event to some log of centre c, which answered it under this stamp
+-- the share committed the event to some log of centre c, with an answer of this stamp
 abbrev pub CommitsAgain : ℕ → ShareValue → ShareValue → Event → ℕ → Type 0
 CommitsAgain c old new e stamp = (outcome : Outcome) × CommitsAt c old new e outcome × (outcome.stamp ≡ stamp)
 
--- a share of the node's centre, through which nothing was committed yet
+-- a share of the node's centre before its first commit
 abbrev pub first_share : Node → ShareValue
 first_share node = record { centre = centre_of node; receipts = [] }
 
--- The event of the entry is committed again at the node in the place of the centre that took it, through the share in
--- the same place, and is answered under the entry's stamp. All other shares stay.
+-- The entry's event is committed again at the node in the place of its centre, through the share in the same place. The
+-- answer has the entry's stamp. All other shares stay.
 pub record IsResumed (nodes : List Node) (e : Entry) (old new : List ShareValue) : Type 0 where
   pub node : Node
   pub before : ShareValue
@@ -30,7 +30,7 @@ pub record IsResumed (nodes : List Node) (e : Entry) (old new : List ShareValue)
   pub committed : CommitsAgain (centre_of node) before after event e.stamp
   pub others : new ≡ slice_set old (taken_at e) after
 
--- the entries one after another
+-- the entries in order
 abbrev pub AreResumed : List Node → List Entry → List ShareValue → List ShareValue → Type 0
 AreResumed nodes [] old new = new ≡ old
 AreResumed nodes (e ∷ es) old new = (mid : List ShareValue) × IsResumed nodes e old mid × AreResumed nodes es mid new

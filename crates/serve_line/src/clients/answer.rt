@@ -6,22 +6,22 @@ use std::sync::Wait;
 use text_script::status::Fault;
 use text_script::{Event, WorldEvent};
 
-/// What a line of another form is answered.
+/// The answer to a line that has no valid form.
 pub(crate) const SCRIPT_FAULT: &str = "script fault\n";
 
-/// The answer to a line if a journal can't be written. An event was not taken, or the line of centres ended before the
-/// event was written.
+/// The answer to a line if a journal can't be written. Either the event was not taken, or the line of centres ended
+/// before the event was written.
 const JOURNAL_FAULT: &str = "journal fault\n";
 
-/// A connection at the control endpoint, and what it reaches.
+/// A connection at the control endpoint: the server, and the slot of the connection.
 #[derive(Clone, Copy)]
 pub(crate) struct Served<'a, 'h> {
     pub server: &'a Server<'h>,
     pub slot: &'a Slot,
 }
 
-/// Does what a line at the control endpoint asks for, and writes what a run prints of it. A commit that is refused is
-/// told with its number.
+/// Performs the command of a line at the control endpoint, and writes the text that a run prints for it. The answer to
+/// a refused commit is the number of the fault.
 pub(crate) fn answer<R: Wait>(
     rt: &R,
     served: Served<'_, '_>,
@@ -60,7 +60,7 @@ pub(crate) fn answer<R: Wait>(
     }
 }
 
-// Shows the line, after the journals have each event that it shows. Without them nothing is shown.
+// Shows the line, after the journals have each event that it shows. If a journal can't be written, nothing is shown.
 fn show_written<R: Wait>(
     rt: &R,
     server: &Server<'_>,

@@ -11,14 +11,14 @@ use std::sync::Wait;
 use std::sync::atomic::Ordering;
 use std::time::{Clock, Duration};
 
-/// How a connection of the interlocking went on after a line, and how it ended.
+/// The state of a connection of the interlocking after a line, and at its end.
 #[derive(Clone, Copy, PartialEq, Eq)]
 enum Next {
-    /// The next line may come.
+    /// The next line may arrive.
     Listen,
-    /// No further line is taken.
+    /// No further line is read.
     End,
-    /// The centres are to end.
+    /// The centres are to stop.
     Stop,
 }
 
@@ -45,7 +45,7 @@ pub(crate) fn serve_control<R: Wait + Clock, N: Notes>(
     notes.often(Kind::End, format_args!("control: connection {number} ends"));
 }
 
-// Answers the lines of a connection, until none comes any more, or all sessions have ended.
+// Answers the lines of a connection until it ends, or until all sessions have ended.
 fn answer_rows<R: Wait + Clock, N: Notes>(
     rt: &R,
     server: &Server<'_>,
@@ -85,7 +85,7 @@ fn answer_rows<R: Wait + Clock, N: Notes>(
     unreachable!()
 }
 
-// Whether the reserve connection ends: the thread of the endpoint serves it, and others wait.
+// Whether the reserve connection ends. The thread of the endpoint serves it, and other connections wait.
 fn is_over(server: &Server<'_>, rests: u32) -> bool {
     rests >= RESERVE_RESTS || server.state.is_stopped()
 }
@@ -127,7 +127,7 @@ fn answer_row<R: Wait + Clock, N: Notes>(
     }
 }
 
-// How a connection goes on after an answer.
+// Whether the connection continues after an answer.
 fn answered(sent: Sent) -> Next {
     match sent {
         Sent::Whole => Next::Listen,
@@ -135,8 +135,8 @@ fn answered(sent: Sent) -> Next {
     }
 }
 
-// Whether a line is the first of a request of HTTP/1, or has a control character. A browser sends it, perhaps for a
-// page of another site: the lines that follow are not the interlocking's.
+// Whether a line is the request line of HTTP/1, or has a control character other than a tab. A browser sends such a
+// line, perhaps for a page of another site. The lines that follow are not from the interlocking.
 fn is_of_another_protocol(row: &[u8]) -> bool {
     let row = row.strip_suffix(b"\r").unwrap_or(row);
     row.ends_with(b" HTTP/1.0")

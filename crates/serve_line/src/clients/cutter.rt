@@ -1,14 +1,13 @@
-/// How many bytes the first fields of a message fill: NID_MESSAGE (8 bits), L_MESSAGE (10), T_TRAIN (32) and NID_ENGINE
-/// (24).
+/// The bytes of the first fields of a message: NID_MESSAGE (8 bits), L_MESSAGE (10), T_TRAIN (32) and NID_ENGINE (24).
 const HEAD: usize = 10;
 
-/// Finds the last byte of each message of a stream, and the engine that the message names. In bytes with a fault it may
-/// find none: then the stream finds the fault.
+/// Finds the last byte of each message of a stream, and the engine that the message names. In faulty bytes it may find
+/// no end: then the stream reports the fault.
 #[derive(Clone, Copy)]
 pub(crate) struct Cutter {
-    // What has come of the message, at most its first fields.
+    // The bytes of the message so far, at most its first fields.
     head: [u8; HEAD],
-    // How many bytes of the message have come.
+    // The number of bytes of the message so far.
     count: usize,
 }
 
@@ -21,7 +20,7 @@ impl Cutter {
         }
     }
 
-    /// Takes the next byte. The result is the NID_ENGINE of the message that it ends, if it ends one.
+    /// Takes the next byte. If the byte ends a message, the result is its NID_ENGINE.
     pub fn take(&mut self, byte: u8) -> Option<u32> {
         if let Some(place) = self.head.get_mut(self.count) {
             *place = byte;

@@ -2,7 +2,7 @@ use crate::clients::control::serve_control;
 use crate::clients::entrance::{Entrance, is_idle};
 use crate::clients::limits::{DEAF_REST_MS, GRACE_RESTS, LEAVING_RESTS, NEXT_RESTS};
 use crate::clients::sessions::serve_train;
-use crate::state::{DOOR_REST_MS, Endpoint, Peer, Server, Slot, Watch};
+use crate::state::{ENDPOINT_REST_MS, Endpoint, Peer, Server, Slot, Watch};
 use crate::status::{Kind, Life, Notes};
 use std::alloc::Global;
 use std::net::TcpStream;
@@ -12,8 +12,8 @@ use std::thread::Threads;
 use std::time::{Clock, Duration};
 use std::{io, thread};
 
-/// Lets peers in at one endpoint until the centres stop, and closes it. It returns with the last of them, and ends
-/// those that are left after a while.
+/// Accepts connections at one endpoint until the centres stop, and closes it. After the stop, connections have a
+/// limited time to end; then they are shut. It returns after the last connection.
 pub fn run_endpoint<R: Threads + Wait + Sync + Clock, N: Notes + Sync>(
     rt: &R,
     server: &Server<'_>,
@@ -30,8 +30,7 @@ pub fn run_endpoint<R: Threads + Wait + Sync + Clock, N: Notes + Sync>(
                 break;
             }
             looks.look(rt, server, notes, endpoint);
-            let Some((stream, slot)) = next_caller(rt, server, notes, endpoint, &mut entrance)
-            else {
+            let Some((stream, slot)) = next_peer(rt, server, notes, endpoint, &mut entrance) else {
                 continue;
             };
             let peer = endpoint.peer;
@@ -55,14 +54,14 @@ pub fn run_endpoint<R: Threads + Wait + Sync + Clock, N: Notes + Sync>(
     }
 }
 
-// Where the connections of an endpoint come from. That of the interlocking keeps a file in reserve.
+// The source of an endpoint's connections. The control endpoint keeps a file in reserve.
 fn entrance_of<R: Wait>(rt: &R, endpoint: &Endpoint) -> Option<Entrance> {
     let listener = endpoint.listener.lock(rt).take()?;
     let has_reserve = matches!(endpoint.peer, Peer::Interlocking);
     Some(Entrance::new(listener, has_reserve))
 }
 
-/// What the thread of an endpoint looks at now and then.
+/// The periodic checks of an endpoint's thread: the usage of its centre, and the queue of its journal.
 #[derive(Clone, Copy)]
 struct Looks {
     life: Life,
@@ -93,8 +92,8 @@ impl Looks {
     }
 }
 
-// Serves the connection of a slot for which no thread can be made. One of the interlocking is served in the thread of
-// the endpoint, so that `stop` can be sent. One of a train ends.
+// Serves the connection of a slot if no thread can be made. A connection of the interlocking is served in the thread of
+// the endpoint, so that `stop` can be sent. A connection of a train ends.
 fn attend_here<R: Threads + Wait + Sync + Clock, N: Notes + Sync>(
     rt: &R,
     server: &Server<'_>,
@@ -112,7 +111,7 @@ fn attend_here<R: Threads + Wait + Sync + Clock, N: Notes + Sync>(
     attend(rt, server, notes, endpoint.peer, reserve, stream);
 }
 
-// A connection at the reserve slot of an endpoint, if the endpoint has one.
+// Puts the connection of a slot into the reserve slot of its endpoint. `None` if there is none, or it is taken.
 fn reserve_for<'a, R: Wait>(
     rt: &R,
     endpoint: &'a Endpoint,
@@ -120,13 +119,14 @@ fn reserve_for<'a, R: Wait>(
 ) -> Option<(Arc<TcpStream, Global>, &'a Slot)> {
     let stream = stream?;
     let shared = Arc::try_clone(&stream).ok()?;
-    let slot = endpoint.reserve_seat(rt)?;
+    let slot = endpoint.reserve_slot(rt)?;
     *slot.stream.lock(rt) = Some(shared);
     Some((stream, slot))
 }
 
-// Who comes through an endpoint now, with a slot. It rests a while where nobody comes, and refuses who finds no slot.
-fn next_caller<'a, R: Wait, N: Notes>(
+// The next connection of an endpoint, with its slot. It rests if no connection waits. A connection is refused if no
+// slot is free.
+fn next_peer<'a, R: Wait, N: Notes>(
     rt: &R,
     server: &Server<'_>,
     notes: &N,
@@ -165,7 +165,7 @@ fn next_caller<'a, R: Wait, N: Notes>(
     Some((stream, slot))
 }
 
-// Rests a while if no connection came. It rests longer if the system can give none, as when too many files are open.
+// Rests if no connection arrived. It rests longer if the system can give none, as when too many files are open.
 fn rest_after<R: Wait, N: Notes>(
     rt: &R,
     server: &Server<'_>,
@@ -187,16 +187,17 @@ fn rest_after<R: Wait, N: Notes>(
         .park_timeout(rt, Duration::from_millis(DEAF_REST_MS));
 }
 
-// Rests a while at an endpoint.
+// Rests at an endpoint for at most `ENDPOINT_REST_MS`, or until its waker is rung.
 fn rest<R: Wait>(rt: &R, endpoint: &Endpoint) {
     endpoint
         .waker
-        .park_timeout(rt, Duration::from_millis(DOOR_REST_MS));
+        .park_timeout(rt, Duration::from_millis(ENDPOINT_REST_MS));
 }
 
-// A slot for a new connection. If all are taken, another connection leaves its own: of those of trains the first that
-// serves no train, of those of the interlocking the one that has been silent longest. If that one does not leave, as
-// when it waits for the disk, the next one of the interlocking has to. If none does, the reserve slot is taken.
+// A slot for a new connection. If all are taken, another connection has to leave its slot. At a centre, this is the
+// earliest connection that serves no train. At the control endpoint, it is the least recently active one. If that
+// connection does not leave, as when it waits for the disk, the next one of the interlocking has to. If none leaves,
+// the reserve slot is taken.
 fn slot_for<'a, R: Wait>(rt: &R, server: &Server<'_>, endpoint: &'a Endpoint) -> Option<&'a Slot> {
     let each = match endpoint.peer {
         Peer::Trains(_) => LEAVING_RESTS,
@@ -217,11 +218,11 @@ fn slot_for<'a, R: Wait>(rt: &R, server: &Server<'_>, endpoint: &'a Endpoint) ->
     }
     match endpoint.free_slot(rt) {
         Some(slot) => Some(slot),
-        None => endpoint.reserve_seat(rt),
+        None => endpoint.reserve_slot(rt),
     }
 }
 
-// The slot whose connection has to leave it for a new one.
+// The slot whose connection has to leave for a new one.
 fn dispensable<'a, R: Wait>(
     rt: &R,
     server: &Server<'_>,
@@ -237,7 +238,7 @@ fn dispensable<'a, R: Wait>(
     oldest
 }
 
-// After `stop` trains have a while to end their connections. Then those that are left are ended.
+// After `stop`, trains have about 30 seconds to end their connections. Then the remaining connections are ended.
 fn end_trains<R: Wait, N: Notes>(rt: &R, server: &Server<'_>, notes: &N, endpoint: &Endpoint) {
     for _ in 0..GRACE_RESTS {
         if endpoint.is_empty() {
@@ -252,7 +253,7 @@ fn end_trains<R: Wait, N: Notes>(rt: &R, server: &Server<'_>, notes: &N, endpoin
     }
 }
 
-// After the last session the interlocking has a second to take its last answers.
+// After the last session the interlocking has a second to read its last answers. Then its connections are ended.
 fn end_controls<R: Wait>(rt: &R, server: &Server<'_>, endpoint: &Endpoint) {
     for _ in rt.forever() {
         if endpoint.is_empty() || server.state.is_empty() {
@@ -271,7 +272,7 @@ fn end_controls<R: Wait>(rt: &R, server: &Server<'_>, endpoint: &Endpoint) {
     }
 }
 
-// Serves one connection, and leaves its slot.
+// Serves one connection, and frees its slot.
 fn attend<R: Threads + Wait + Sync + Clock, N: Notes + Sync>(
     rt: &R,
     server: &Server<'_>,

@@ -2,17 +2,17 @@ use std::io;
 use std::io::ErrorKind;
 use std::net::{TcpListener, TcpStream};
 
-/// Where the connections of an endpoint come from.
+/// The source of an endpoint's connections: its listener, and a file in reserve.
 #[derive(Drop)]
 pub(crate) struct Entrance {
     listener: TcpListener,
-    // A file that is closed for a connection if the program may open no further one.
+    // An open file. It is closed to make room for a connection if the program may open no further file.
     reserve: Option<TcpListener>,
     has_reserve: bool,
 }
 
 impl Entrance {
-    /// Connections of this listener, with a file in reserve or without one.
+    /// Accepts connections of this listener, with a file in reserve or without one.
     pub fn new(listener: TcpListener, has_reserve: bool) -> Entrance {
         Entrance {
             listener,
@@ -21,7 +21,7 @@ impl Entrance {
         }
     }
 
-    /// A connection that waits to be taken.
+    /// The next connection that waits. An error for which `is_idle` holds means that none waits.
     pub fn accept(&mut self) -> io::Result<TcpStream> {
         match self.listener.accept() {
             Ok((stream, _)) => Ok(stream),
@@ -38,7 +38,7 @@ impl Entrance {
         }
     }
 
-    // Opens the file in reserve again, if that is possible.
+    // Opens the reserve file again, if that is possible.
     fn refill(&mut self) {
         if self.has_reserve && self.reserve.is_none() {
             self.reserve = self.listener.try_clone().ok();
@@ -46,7 +46,7 @@ impl Entrance {
     }
 }
 
-/// Whether no connection waits.
+/// Whether this error of `accept` only means that no connection waits.
 pub(crate) fn is_idle(kind: ErrorKind) -> bool {
     matches!(
         kind,

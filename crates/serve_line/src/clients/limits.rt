@@ -1,45 +1,45 @@
-//! How much a peer may have of each thing at most, and how long each wait for one takes.
+//! The limits for one peer: sizes, and the time of each wait.
 
 use std::net::TcpStream;
 use std::time::Duration;
 
-/// How many replies wait for one train at most. One more, and its connection is cut.
+/// The most replies that wait for one train. At one more, its connection is cut.
 pub(crate) const REPLIES: usize = 256;
 
-/// How many events of a connection wait for the journal at most, before its next message is read.
+/// The most events of a connection that wait for the journal before its next message is read.
 pub(crate) const UNWRITTEN: u32 = 64;
 
-/// How many bytes a line at the control endpoint has at most.
+/// The most bytes of a line at the control endpoint.
 pub(crate) const MOST_ROW: usize = 4_096;
 
-/// How long a write to a train may wait for one that reads nothing, in seconds. Then the connection is cut. An answer
-/// to the interlocking has this time as a whole.
+/// The longest wait of a write to a train that reads nothing, in seconds. After it the connection is cut. A whole
+/// answer to the interlocking has the same limit.
 pub(crate) const PATIENCE_S: u64 = 10;
 
-/// How long a train may say nothing, in seconds. Then its connection counts as lost.
+/// The longest silence of a train, in seconds. After it the connection counts as lost.
 pub(crate) const SILENCE_S: u64 = 600;
 
-/// How long an endpoint rests where the system gives it no connection, in milliseconds.
+/// The rest of an endpoint after the system failed to give a connection, in milliseconds.
 pub(crate) const DEAF_REST_MS: u64 = 1_000;
 
-/// How long a control connection waits for a line, or to write a part of an answer, before it looks at the time and
-/// whether the centres still run, in milliseconds.
+/// The longest wait of a control connection, for a line or for a part of a write, in milliseconds. After it the
+/// connection checks the time and whether the centres still run.
 pub(crate) const CONTROL_REST_MS: u64 = 100;
 
-/// How long the reserve connection may be silent, in rests of a control connection: 5 seconds.
+/// The longest silence of the reserve connection, in rests of a control connection: 5 seconds.
 pub(crate) const RESERVE_RESTS: u32 = 50;
 
-/// How long a connection has to leave its slot for another, in rests of an endpoint.
+/// The time for a connection to leave its slot for another, in rests of an endpoint: 1 second.
 pub(crate) const LEAVING_RESTS: u32 = 50;
 
-/// How long a connection of the interlocking has before the next one has to leave its slot too, in rests of an
-/// endpoint.
+/// The time of a connection of the interlocking before the next one has to leave its slot too, in rests of an endpoint:
+/// 0.2 seconds.
 pub(crate) const NEXT_RESTS: u32 = 10;
 
-/// How long trains have after `stop` until their connections are ended, in rests of an endpoint: some 30 seconds.
+/// The time of trains after `stop` until their connections are ended, in rests of an endpoint: about 30 seconds.
 pub(crate) const GRACE_RESTS: u32 = 1_500;
 
-/// Lets a connection send at once. A read and a write wait for the client no longer than this.
+/// Lets a connection send at once. Each read and each write waits for the client no longer than these times.
 pub(crate) fn set_waits(stream: &TcpStream, reading: Duration, writing: Duration) {
     let _ = stream.set_nodelay(true);
     let _ = stream.set_read_timeout(Some(reading));

@@ -7,18 +7,18 @@ use std::sync::Wait;
 use std::sync::atomic::{AtomicU32, Ordering};
 use text_script::Outcome;
 
-/// A train's connection as the session over it sees it, which notes each train that opens its session.
+/// A train's connection as its session sees it. It notes each train that opens its session.
 #[derive(Drop)]
 pub(crate) struct LoggedSink<'a, N> {
     pub connection_sink: ConnectionSink<'a>,
     pub sink: &'a CentreSink<'a>,
     pub notes: &'a N,
-    /// How many events of the connection were answered.
+    /// The number of answered events of the connection.
     pub events: AtomicU32,
 }
 
 impl<N> LoggedSink<'_, N> {
-    // Waits for the journal after each `UNWRITTEN`th event: so answers that wait for the disk have room.
+    // Waits for the journal after every `UNWRITTEN`th event, so that answers that wait for the disk have room.
     fn keep_near<R: Wait>(&self, rt: &R, stamp: u32) {
         if self.events.fetch_add(1, Ordering::SeqCst) % UNWRITTEN == UNWRITTEN - 1 {
             let _ = self.sink.reaches(rt, stamp);

@@ -8,31 +8,31 @@ use std::net::TcpStream;
 use std::sync::Wait;
 use std::time::Clock;
 
-/// How many bytes one read takes at most.
+/// The most bytes of one read.
 const PIECE: usize = 4_096;
 
-/// The bytes of a train's connection. The last byte of a message is given once the engine that it names may send one
-/// more: until then it waits, and what follows it.
+/// The bytes of a train's connection. The last byte of a message is given when the engine of the message may send one
+/// more. Until then that byte waits, and all following bytes.
 #[derive(Drop)]
 pub(crate) struct Paced<'a, R> {
     pieces: Pieces<'a, R>,
     failed: u64,
 }
 
-/// The pieces that are read of the connection.
+/// The bytes read from the connection, in pieces.
 #[derive(Drop)]
 struct Pieces<'a, R> {
     stream: &'a TcpStream,
     rate_limit: RateLimit<'a, R>,
     cutter: Cutter,
-    // What was read last, and how much of it was given.
+    // The last piece read, and the number of its bytes that were given.
     piece: [u8; PIECE],
     end: usize,
     given: usize,
 }
 
 impl<'a, R: Wait + Clock> Paced<'a, R> {
-    /// Of a connection over which nothing has come yet.
+    /// The bytes of a connection before its first byte.
     pub fn new(stream: &'a TcpStream, rate_limit: RateLimit<'a, R>) -> Paced<'a, R>
         ensures failures { result.failed ≡ 0 }
     {
@@ -49,7 +49,7 @@ impl<'a, R: Wait + Clock> Paced<'a, R> {
 }
 
 impl<R: Wait + Clock> Pieces<'_, R> {
-    // The byte that is given next, if one was read.
+    // The next byte to give, if one was read.
     fn next(&self) -> Option<u8> {
         if self.given >= self.end {
             return None;
@@ -57,8 +57,8 @@ impl<R: Wait + Clock> Pieces<'_, R> {
         self.piece.get(self.given).copied()
     }
 
-    // Reads a piece, and returns whether the connection gave one, or ended. A read that the system interrupts is tried
-    // again.
+    // Reads a piece. The result is whether the read succeeded, also at the end of the stream. An interrupted read is
+    // tried again.
     fn fill(&mut self) -> bool {
         for _ in 0..u64::MAX {
             let mut reader = self.stream;
@@ -75,8 +75,8 @@ impl<R: Wait + Clock> Pieces<'_, R> {
         false
     }
 
-    // Gives bytes that were read, up to the last byte of a message. That one is given first, after a wait. The result
-    // is their number; `None` if the connection has to leave its slot.
+    // Gives bytes that were read, up to the last byte of a message. That byte is given first, after a wait. The result
+    // is the number of bytes; `None` if the connection has to leave its slot.
     fn give(&mut self, buffer: &mut [u8]) -> Option<usize> {
         let mut count = 0usize;
         for place in buffer.iter_mut() {

@@ -4,10 +4,10 @@ use std::sync::Wait;
 use std::thread;
 use std::time::{Clock, Duration};
 
-/// How long a thread sleeps at most before it looks whether its connection has to leave, in milliseconds.
+/// The longest sleep of a thread before it checks whether its connection has to leave, in milliseconds.
 const MOST_SLEEP_MS: u64 = 100;
 
-/// Holds the thread that reads a train's connection back if messages come too fast.
+/// Delays the thread that reads a train's connection if messages arrive too fast.
 #[derive(Drop)]
 pub(crate) struct RateLimit<'a, R> {
     pub rt: &'a R,
@@ -17,7 +17,7 @@ pub(crate) struct RateLimit<'a, R> {
 }
 
 impl<R: Wait + Clock> RateLimit<'_, R> {
-    /// Waits until a message of this engine may pass. It returns false if the connection has to leave its slot before.
+    /// Waits until a message of this engine may pass. It returns false if the connection has to leave its slot first.
     pub fn admits(&self, nid_engine: u32) -> bool {
         let bucket = self.paces.bucket(self.line, nid_engine);
         for _ in self.rt.forever() {
@@ -37,7 +37,7 @@ impl<R: Wait + Clock> RateLimit<'_, R> {
     }
 }
 
-// The time in milliseconds, if the clock tells it.
+// The monotonic time in milliseconds, if the clock gives it.
 fn now_of<T: Clock>(clock: &T) -> Option<u64> {
     let now = clock.monotonic().ok()?;
     Some(

@@ -4,20 +4,20 @@ use crate::clients::limits::MOST_ROW;
 use std::alloc::Global;
 use std::io::{ErrorKind, Read};
 
-/// The lines that come over a connection.
+/// The lines of a connection.
 #[derive(Drop)]
 pub(crate) struct RowReader<R: Drop> {
     reader: R,
-    // What came after the last line that was given.
+    // The bytes after the last line that was given.
     held: Vec<u8>,
 }
 
-/// What came over a connection.
+/// The result of a read of a connection.
 #[derive(Drop)]
 pub(crate) enum Came {
     /// A line, without the line feed that ends it.
     Row(Vec<u8>),
-    /// No whole line yet.
+    /// No complete line yet.
     Nothing,
     /// No further line: the connection has ended, a line is too long, or memory ran out.
     End,
@@ -31,7 +31,7 @@ impl<R: Read + Drop> RowReader<R> {
         }
     }
 
-    /// The next line, if it is whole already; else it reads once. A last line needs no line feed.
+    /// The next line, if it is complete; else it reads once. A last line needs no line feed.
     pub fn next(&mut self) -> Came {
         if let Some(end) = self.held.iter().position(|byte| *byte == b'\n') {
             return self.cut(end);
@@ -42,7 +42,7 @@ impl<R: Read + Drop> RowReader<R> {
         self.read()
     }
 
-    // Takes the line off that ends at this place.
+    // Takes off the line that ends at this place.
     fn cut(&mut self, end: usize) -> Came
         requires { end < vec_len self.old.held }
     {
@@ -71,7 +71,7 @@ impl<R: Read + Drop> RowReader<R> {
         }
     }
 
-    // What follows the last line feed.
+    // The bytes after the last line feed.
     fn last(&mut self) -> Came {
         if self.held.is_empty() {
             return Came::End;

@@ -3,15 +3,15 @@ use std::io::{ErrorKind, Write};
 use std::net::TcpStream;
 use std::time::{Clock, Duration, Instant};
 
-/// How much of an answer went out.
+/// How much of an answer was sent.
 #[derive(Clone, Copy, PartialEq, Eq)]
 pub(crate) enum Sent {
     Whole,
-    /// Only a part: the connection failed, or did not take all in time.
+    /// Only a part was sent: the connection failed, or did not take all of it in time.
     Short,
 }
 
-/// Writes an answer. Ten seconds after it began no further part of it is written.
+/// Sends an answer. Ten seconds after the start, no further part of it is written.
 pub(crate) fn send<R: Clock>(rt: &R, stream: &TcpStream, text: &[u8]) -> Sent {
     let Ok(begun) = Instant::now(rt) else {
         return Sent::Short;
@@ -32,7 +32,7 @@ pub(crate) fn send<R: Clock>(rt: &R, stream: &TcpStream, text: &[u8]) -> Sent {
     Sent::Short
 }
 
-// Writes what the connection takes now. The result is the rest; `None` if the connection failed.
+// Writes as many bytes as the connection takes now. The result is the rest; `None` if the connection failed.
 fn write_some<'a>(stream: &TcpStream, text: &'a [u8]) -> Option<&'a [u8]> {
     let mut out = stream;
     match out.write(text) {
@@ -45,7 +45,7 @@ fn write_some<'a>(stream: &TcpStream, text: &'a [u8]) -> Option<&'a [u8]> {
     }
 }
 
-// Whether an answer that began then takes too long.
+// Whether an answer that began at this time takes too long, or the clock fails.
 fn is_late<R: Clock>(rt: &R, begun: Instant) -> bool {
     match Instant::now(rt) {
         Ok(now) => now.duration_since(begun) >= Duration::from_secs(PATIENCE_S),

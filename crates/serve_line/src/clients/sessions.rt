@@ -63,15 +63,15 @@ pub(crate) fn serve_train<R: Threads + Wait + Sync + Clock, N: Notes + Sync>(
     }
 }
 
-/// How a connection ended.
+/// The end of a connection.
 #[derive(Clone, Copy)]
 enum End {
     Session(SessionEnd),
-    /// Its train was too slow to take its answers.
+    /// Its train was too slow to read its answers.
     Cut,
 }
 
-// What the two threads of a connection have of it.
+// The parts of a connection that its two threads use.
 #[derive(Drop)]
 struct Ends {
     stream: Arc<TcpStream, Global>,
@@ -79,7 +79,7 @@ struct Ends {
     replies: Receiver<Reply>,
 }
 
-// Takes the connection into the connections.
+// Registers the connection with the centre's connections, and returns the parts for its threads.
 fn entered<R: Wait>(
     rt: &R,
     alloc: Global,
@@ -100,7 +100,7 @@ fn entered<R: Wait>(
     Ok(ends)
 }
 
-// What the threads of a connection have of it, and what the connections has.
+// The parts of a connection for its threads, and the part for the centre's connections.
 fn ends_of(
     alloc: Global,
     stream: Arc<TcpStream, Global>,
@@ -120,8 +120,8 @@ fn ends_of(
     Ok((ends, connection))
 }
 
-// Reads and writes the connection, each in a thread, and says how it ended. Without a thread that writes it is not
-// read, and there is no end to tell.
+// Reads and writes the connection, each in a thread, and returns its end. If the writer's thread can't be made, the
+// connection is not read, and the result is `None`.
 fn read_and_write<R: Threads + Wait + Sync + Clock, N: Notes + Sync>(
     rt: &R,
     server: &Server<'_>,
@@ -140,7 +140,7 @@ fn read_and_write<R: Threads + Wait + Sync + Clock, N: Notes + Sync>(
     })
 }
 
-// Commits what the train says, and says how the session ended.
+// Commits the messages of the train, and returns the end of the session.
 fn read_messages<R: Wait + Clock, N: Notes>(
     rt: &R,
     server: &Server<'_>,
@@ -168,8 +168,8 @@ fn read_messages<R: Wait + Clock, N: Notes>(
     }
 }
 
-// Writes the replies of a connection that wait, each once its event is in the journal, if there is one. After the last
-// one the connection is ended for the reader too.
+// Writes the pending replies of a connection. If there is a journal, each reply waits until its event is written there.
+// After the last reply the connection is shut for the reader too.
 fn write_replies<R: Wait>(rt: &R, ends: &Ends, sink: &CentreSink<'_>) {
     let mut out = ends.shared_writer.end(rt);
     let _ = match sink.journal {
@@ -194,7 +194,7 @@ fn tell_end<N: Notes>(notes: &N, name: &str, number: usize, end: End) {
     }
 }
 
-// What is noted of an end, with the number of its fault.
+// The text of the note of an end, with the number of its fault.
 fn ending(end: End) -> (&'static str, Option<u8>) {
     match end {
         End::Session(SessionEnd::EndOfStream) => ("ends", None),

@@ -13,10 +13,10 @@ use std::alloc::{AllocError, Global};
 use std::sync::Wait;
 use text_journal::{Entry, add_entry};
 
-/// How many events are written at once at most. The centre takes no step while they are copied.
+/// The most events of one write. The centre takes no step while they are copied.
 const MOST_AT_ONCE: usize = 256;
 
-/// The next events of a centre after the first `written`, in the order of its log: all of them, and 256 at most.
+/// The next events of a centre after the first `written`, in the order of its log, at most 256.
 pub(crate) fn next_entries<R: Wait>(
     rt: &R,
     alloc: Global,
@@ -30,7 +30,7 @@ pub(crate) fn next_entries<R: Wait>(
     Ok(entries_from(alloc, look.log(), written)?)
 }
 
-// What is left of a row after its first, so much as is written at once.
+// The entries after the first `written`, at most 256.
 fn next_of(entries: &[Committed], written: usize) -> &[Committed]
     ensures { result.now ≡ take 256 (drop written entries.now) }
 {

@@ -3,21 +3,21 @@ use std::io;
 use std::io::{Error, ErrorKind, Seek, SeekFrom, Write};
 use std::os::unix::fs::MetadataExt;
 
-/// A centre's journal as a file: what is written to it stays.
+/// A centre's journal as a file: bytes written to it stay.
 #[derive(Drop)]
 pub struct JournalFile<F> {
     file: F,
-    /// How many bytes of it stay.
+    /// The number of its bytes that stay.
     length: u64,
-    /// Whether it may have more bytes than those: the last call failed.
+    /// Whether the file may have more bytes than those, as after a failed call.
     is_torn: bool,
-    /// Whether each call waits until the disk has what it wrote.
+    /// Whether each call waits until its bytes are on the disk.
     is_synced: bool,
-    /// What was done to the file while it was open. Then nothing more is written to it.
+    /// The damage done to the file while it was open, if any. After it nothing more is written.
     harm: Option<Harm>,
 }
 
-/// What may be done to a journal while it is written.
+/// The damage that a journal may suffer while it is written.
 #[derive(Clone, Copy)]
 enum Harm {
     Removed,
@@ -34,7 +34,7 @@ impl Harm {
 }
 
 impl<F: Write + Seek + OpenFile> JournalFile<F> {
-    /// Keeps the first `length` bytes of a file; the next call cuts it there.
+    /// Keeps the first `length` bytes of a file. The next call truncates the file to them.
     pub fn new(file: F, length: u64, is_synced: bool) -> JournalFile<F> {
         JournalFile {
             file,
@@ -45,8 +45,8 @@ impl<F: Write + Seek + OpenFile> JournalFile<F> {
         }
     }
 
-    /// Writes a text after what stays, and waits until it stays too. An error leaves what stayed; what may have been
-    /// written of the text is taken off by the next call. Once the file was removed or cut, each call is an error.
+    /// Appends a text to the bytes that stay, and waits until it stays too. An error keeps the earlier bytes. The next
+    /// call takes off any part of the text that was written. After the file was removed or cut, each call is an error.
     pub fn add(&mut self, text: &[u8]) -> io::Result<()> {
         if let Some(harm) = self.harm {
             return Err(harm.error());
@@ -64,7 +64,7 @@ impl<F: Write + Seek + OpenFile> JournalFile<F> {
         Ok(())
     }
 
-    /// Begins it again, with this first line.
+    /// Begins the journal again, with this first line.
     pub fn begin(&mut self, first: &str) -> io::Result<()> {
         self.length = 0;
         self.is_torn = true;
@@ -72,7 +72,7 @@ impl<F: Write + Seek + OpenFile> JournalFile<F> {
         self.add(b"\n")
     }
 
-    // Takes off what follows the bytes that stay.
+    // Truncates the file to the bytes that stay.
     fn mend(&mut self) -> io::Result<()> {
         self.look(self.length, u64::MAX)?;
         self.file.set_len(self.length)?;
@@ -80,8 +80,8 @@ impl<F: Write + Seek + OpenFile> JournalFile<F> {
         Ok(())
     }
 
-    // Looks whether the file still has its name, and its length is in these bounds. A file that tells nothing of
-    // itself, as one in memory, is not looked at.
+    // Checks that the file still has its name, and that its length is within these bounds. A file without metadata, as
+    // one in memory, is not checked.
     fn look(&mut self, least: u64, most: u64) -> io::Result<()> {
         let found = match self.file.metadata() {
             Ok(found) => found,

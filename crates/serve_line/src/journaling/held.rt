@@ -3,13 +3,14 @@ use rbc_board::Carrier;
 use rbc_linkmsg::Frame;
 use std::sync::Wait;
 
-/// A carrier that takes a frame once the event that sent it is written in the sender's journal, where it keeps one.
+/// A carrier that takes a frame when its event is written in the sender's journal. If the sender keeps no journal, it
+/// takes the frame at once.
 #[derive(Drop)]
 pub struct JournaledCarrier<'a, R, C> {
     /// The handle by which it may wait.
     pub rt: &'a R,
     pub carrier: C,
-    /// The journal of the centre that sends.
+    /// The journal of the sending centre, if it keeps one.
     pub journal: Option<&'a Journal>,
 }
 

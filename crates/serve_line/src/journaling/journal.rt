@@ -2,37 +2,37 @@ use std::sync::{Condvar, Mutex, MutexGuard, Wait};
 use std::thread::Parker;
 use std::time::Duration;
 
-/// How many events may wait to be written before the centre's peers wait for them, whatever they are answered.
+/// The most events that may wait to be written before the centre's peers wait for them, whatever the answer.
 const MOST_UNWRITTEN: u32 = 4_096;
 
-/// How long the thread that writes rests before it looks for events again, in milliseconds.
+/// The rest of the writing thread before it looks for events again, in milliseconds.
 const REST_MS: u64 = 50;
 
-/// How far a centre's journal is written. Who lets an answer out asks here first.
+/// The reach of a centre's journal. Each thread that releases an answer checks it first.
 #[derive(Drop)]
 pub struct Journal {
-    /// How many events of its centre it had at first.
+    /// The number of the centre's events in the journal at the start.
     begins: usize,
-    /// Rung where there may be something to write.
+    /// Rung when there may be something to write.
     waker: Parker,
     reach: Mutex<Reach>,
-    /// Told where the reach changes.
+    /// Notified when the reach changes.
     moved: Condvar,
 }
 
-/// How far a journal reaches.
+/// The reach of a journal.
 #[derive(Clone, Copy)]
 struct Reach {
-    /// The stamp of the last event that is written.
+    /// The stamp of the last written event.
     stamp: u32,
-    /// It can't be written now.
+    /// Whether the journal can't be written now.
     is_stuck: bool,
-    /// Nothing more is written.
+    /// Whether the journal is closed: nothing more is written.
     is_closed: bool,
 }
 
 impl Journal {
-    /// A journal that has so many events of its centre, the last of which has this stamp; 0 where it has none.
+    /// A journal that has the first `begins` events of its centre, the last with this stamp; 0 if it has none.
     pub fn new(begins: usize, stamp: u32) -> Journal {
         Journal {
             begins,
@@ -46,20 +46,19 @@ impl Journal {
         }
     }
 
-    /// How many events of its centre it had at first.
+    /// The number of the centre's events in the journal at the start.
     pub(crate) fn begins(&self) -> usize {
         self.begins
     }
 
-    /// Waits until the event with this stamp is written, and says whether it is: not where the journal was closed
-    /// before.
+    /// Waits until the event with this stamp is written. It returns false if the journal was closed first.
     pub fn reaches<R: Wait>(&self, rt: &R, stamp: u32) -> bool {
         self.waker.unpark();
         self.wait_for(rt, stamp)
     }
 
-    /// An event with this stamp was committed, after which nothing leaves the centre. It waits only where the journal
-    /// is far from it, or can't be written.
+    /// Waits after a commit with this stamp whose answer need not wait for its event. It waits only if the journal is
+    /// 4096 stamps late, or can't be written. It returns false if the journal was closed.
     pub fn keeps_up<R: Wait>(&self, rt: &R, stamp: u32) -> bool {
         self.waker.unpark();
         if self.reach.lock(rt).is_stuck {
@@ -69,8 +68,8 @@ impl Journal {
         }
     }
 
-    /// Waits until the event with this stamp is written, and says whether it is. It is not if the journal can't be
-    /// written now, or was closed before.
+    /// Waits until the event with this stamp is written. It returns false if the journal can't be written now, or was
+    /// closed first.
     pub fn comes_to<R: Wait>(&self, rt: &R, stamp: u32) -> bool {
         self.waker.unpark();
         let mut reach = self.reach.lock(rt);
@@ -106,17 +105,17 @@ impl Journal {
         unreachable!()
     }
 
-    /// Rings the thread that writes.
+    /// Rings the writing thread.
     pub fn ring(&self) {
         self.waker.unpark();
     }
 
-    /// Rests until the journal is rung, or for a while.
+    /// Rests until the journal is rung, or for `REST_MS`.
     pub(crate) fn rest<R: Wait>(&self, rt: &R) {
         self.waker.park_timeout(rt, Duration::from_millis(REST_MS));
     }
 
-    /// All events up to this stamp are written.
+    /// Reports that all events up to this stamp are written.
     pub(crate) fn reached<R: Wait>(&self, rt: &R, stamp: u32) {
         let mut reach = self.reach.lock(rt);
         reach.stamp = stamp;
@@ -124,21 +123,21 @@ impl Journal {
         self.tell(reach);
     }
 
-    /// The journal can't be written now.
+    /// Reports that the journal can't be written now.
     pub(crate) fn stick<R: Wait>(&self, rt: &R) {
         let mut reach = self.reach.lock(rt);
         reach.is_stuck = true;
         self.tell(reach);
     }
 
-    /// Nothing more is written.
+    /// Closes the journal: nothing more is written.
     pub fn close<R: Wait>(&self, rt: &R) {
         let mut reach = self.reach.lock(rt);
         reach.is_closed = true;
         self.tell(reach);
     }
 
-    // The reach has changed: who waits looks again.
+    // Notifies the waiting threads that the reach has changed.
     fn tell(&self, reach: MutexGuard<'_, Reach>) {
         drop(reach);
         self.moved.notify_all();

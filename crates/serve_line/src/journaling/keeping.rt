@@ -12,10 +12,10 @@ use std::sync::atomic::{AtomicBool, Ordering};
 use std::time::{Clock, Duration};
 use std::{io, thread};
 
-/// How long the thread that writes rests after a write that failed, in milliseconds.
+/// The rest of the writing thread after a failed write, in milliseconds.
 const STUCK_REST_MS: u64 = 500;
 
-/// Who writes the journal of a centre.
+/// The writer of a centre's journal.
 #[derive(Drop)]
 pub struct JournalWriter<'a, N> {
     pub alloc: Global,
@@ -25,15 +25,14 @@ pub struct JournalWriter<'a, N> {
     pub node: &'a Node,
     pub journal: &'a Journal,
     pub notes: &'a N,
-    /// The centres are to end: a journal that can't be written is given up.
+    /// Whether the centres are to stop. Then a journal that can't be written is given up.
     pub is_stopped: &'a AtomicBool,
-    /// Nothing more is committed.
+    /// Whether nothing more is committed.
     pub is_over: &'a AtomicBool,
 }
 
-/// Writes what the centre commits after the events with which the journal begins, in the order of its log. It ends
-/// where nothing more is committed and all is written, or where the journal is to be given up, and says whether all is
-/// written.
+/// Writes the centre's events after those at the start of the journal, in the order of its log. It returns true when
+/// nothing more is committed and all events are written. It returns false when the journal is given up before that.
 pub fn keep_journal<R: Wait + Clock, N: Notes, F: Write + Seek + OpenFile>(
     rt: &R,
     writer: &JournalWriter<'_, N>,
@@ -65,7 +64,7 @@ pub fn keep_journal<R: Wait + Clock, N: Notes, F: Write + Seek + OpenFile>(
 }
 
 impl<N: Notes> JournalWriter<'_, N> {
-    // Writes the next events, and gives their count. An error leaves them unwritten.
+    // Writes the next events, and returns their count. After an error none of them counts as written.
     fn write_next<R: Wait, F: Write + Seek + OpenFile>(
         &self,
         rt: &R,
@@ -94,7 +93,7 @@ impl<N: Notes> JournalWriter<'_, N> {
         }
     }
 
-    // The first failure of several is noted.
+    // Marks the journal as stuck. The first of consecutive failures is noted.
     fn note_stuck<R: Wait>(&self, rt: &R, was_stuck: bool, error: &io::Error) {
         self.journal.stick(rt);
         if !was_stuck {

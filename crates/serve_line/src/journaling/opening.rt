@@ -6,16 +6,16 @@ use std::time::{Clock, Duration};
 use std::{fs, io, thread};
 use thiserror::Error;
 
-/// The rights of a new journal: its owner reads and writes it.
+/// The mode of a new journal: its owner reads and writes it.
 const MODE: u32 = 0o600;
 
-/// How often a lock is tried. A program that only reads the journal has it for a moment.
+/// The tries to lock a journal. A program that only reads the journal holds the lock for a moment.
 const LOCK_TRIES: u32 = 20;
 
-/// How long to rest between two tries, in milliseconds.
+/// The rest between two tries, in milliseconds.
 const LOCK_REST_MS: u64 = 50;
 
-/// Why a journal is not opened.
+/// The reason why a journal can't be opened.
 #[derive(Debug, Drop, Error)]
 pub enum OpenFault {
     #[error("it is not there")]
@@ -37,9 +37,9 @@ impl From<io::Error> for OpenFault {
     }
 }
 
-/// Opens the journal of this name and locks it: until it is closed, no other program that locks it can write it.
+/// Opens the journal of this name and locks it. Until it is closed, no other program that locks it can write it.
 pub fn open_journal<R: Files<File = File> + Clock>(rt: &R, name: &str) -> Result<File, OpenFault> {
-    // A pipe would be waited for, and a device may never end.
+    // Opening a pipe would wait, and a device may never end.
     if !fs::metadata(rt, name)?.is_file() {
         return Err(OpenFault::NotPlain);
     }
@@ -48,7 +48,7 @@ pub fn open_journal<R: Files<File = File> + Clock>(rt: &R, name: &str) -> Result
     Ok(file)
 }
 
-/// Makes an empty journal of this name, and locks it. It is refused if a file has the name.
+/// Creates an empty journal of this name, and locks it. It fails if a file has the name.
 pub fn make_journal<R: Files<File = File> + Clock>(rt: &R, name: &str) -> Result<File, OpenFault> {
     let file = OpenOptions::new()
         .read(true)

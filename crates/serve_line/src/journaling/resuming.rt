@@ -11,13 +11,13 @@ use std::sync::Wait;
 use text_journal::Entry;
 use text_script::{Event, WorldEvent};
 
-/// Why centres do not go on from journals.
+/// The reason why centres can't resume from journals.
 #[derive(Clone, Copy, Debug, PartialEq, Eq)]
 pub enum ResumeFault {
     /// Memory ran out.
     Memory,
-    /// The centre of this number would not have taken an event of its journal so: the line of the first one in the
-    /// journal, from 1, its first line counted. The journals are not of one run.
+    /// The centre of this number would not have taken an event of its journal with this result. The second number is
+    /// the line of the first such event; the journal's lines count from 1. The journals are not from one run.
     Unfit(u8, usize),
 }
 
@@ -33,9 +33,9 @@ impl<T: Drop> From<AllocFailed<T>> for ResumeFault {
     }
 }
 
-/// Commits the events of the centres' journals again, in the order in which they are given, each at its centre's node.
-/// Each has to be answered under the stamp that it had. It gives the receipts, a share for each node. An error leaves
-/// what was committed in the nodes.
+/// Commits the events of the centres' journals again, in the given order, each at its centre's node. Each answer must
+/// have the stamp of its entry. The result is the receipts, one share for each node. After an error the committed
+/// events stay in the nodes.
 pub fn resume<R: Wait>(
     rt: &R,
     alloc: Global,
@@ -49,7 +49,7 @@ pub fn resume<R: Wait>(
     Ok(shares)
 }
 
-// A share for each node.
+// One share for each node.
 fn first_shares(alloc: Global, nodes: &[Node]) -> Result<Vec<Share>, AllocError>
     ensures { IfOk result (λ shares. shares.items ≡ map first_share nodes.now) }
 {
@@ -60,7 +60,7 @@ fn first_shares(alloc: Global, nodes: &[Node]) -> Result<Vec<Share>, AllocError>
     Ok(shares)
 }
 
-// Commits the events, each at its centre.
+// Commits the events in order, each at its centre.
 fn commit_all<R: Wait>(
     rt: &R,
     alloc: Global,
@@ -106,7 +106,7 @@ fn commit_entry<R: Wait>(
     }
 }
 
-// Commits an event again, which has to be answered under this stamp.
+// Commits an event again. Its answer must have this stamp.
 fn commit_again<R: Wait>(
     rt: &R,
     node: &Node,
@@ -123,7 +123,7 @@ fn commit_again<R: Wait>(
     }
 }
 
-// The event as its centre takes it. None where its bytes are no message, or its frame was not sent.
+// The event in the form in which its centre takes it. `None` if its bytes are not a message, or its frame was not sent.
 fn event_of<R: Wait>(
     rt: &R,
     alloc: Global,

@@ -8,18 +8,18 @@ use text_script::status::Fault;
 use text_script::{Body, Event, FrameRoom, StepFault};
 use text_words::number_of_train;
 
-/// How many events are told.
+/// The number of events on the page.
 const TOLD: usize = 24;
 
-/// How many of a log's last entries are looked through for them at most, under its centre's lock.
+/// The most entries at the end of a log that are read for them, under its centre's lock.
 const OLDEST: usize = 256;
 
-/// The last events that are worth a person's while, in words.
+/// The last notable events, in words.
 #[derive(Drop)]
 pub(crate) struct News {
-    // By the centres' numbers: how many entries of the log were looked at.
+    // Indexed by the centres' numbers: the number of log entries read so far.
     looked: Vec<usize>,
-    // Copies of what came since the words were told last.
+    // Copies of the notable entries since the last call of `tell`.
     fresh: Vec<Entry>,
     room: FrameRoom,
     told: Vec<String>,
@@ -35,7 +35,7 @@ impl News {
         })
     }
 
-    /// Copies what came to a centre since it was looked at last: the last events that are worth it.
+    /// Copies the last notable events of a centre since the last call.
     pub fn read_on(
         &mut self,
         alloc: Global,
@@ -62,7 +62,7 @@ impl News {
         Ok(())
     }
 
-    /// Tells in words what was copied, and gives the last events, the newest first. No lock is held for it.
+    /// Puts the copied events into words, and returns the last events, the newest first. No lock is held meanwhile.
     pub fn tell(&mut self, alloc: Global, line: &Line) -> Result<Vec<String>, Fault<'static>> {
         self.fresh.sort_by_key(|entry| entry.outcome.stamp)?;
         let old = self.fresh.len().saturating_sub(TOLD);
@@ -81,7 +81,7 @@ impl News {
     }
 }
 
-// An event and what it led to, in words, after its stamp.
+// An event and its effects, in words, after its stamp.
 fn in_words(alloc: Global, line: &Line, entry: &Entry) -> Result<String, Fault<'static>> {
     let mut printed: Vec<u8> = Vec::new(alloc);
     print_event(alloc, &mut printed, line, &world_event(alloc, entry)?)?;
@@ -92,8 +92,8 @@ fn in_words(alloc: Global, line: &Line, entry: &Entry) -> Result<String, Fault<'
     Ok(format!(in alloc; "{stamp} · {words}")?)
 }
 
-// Whether an event is worth a person's while: reports and requests of a train that runs on as it should are not, and of
-// what comes over links handovers alone.
+// Whether an event is notable. Routine reports and requests of a train are not. Of the frames, only those of handovers
+// are.
 fn is_news(line: &Line, entry: &Entry) -> bool {
     if entry.outcome.silence.is_some() || announces(line, entry) {
         return true;
@@ -105,7 +105,7 @@ fn is_news(line: &Line, entry: &Entry) -> bool {
     }
 }
 
-// Whether it led to a frame of a handover.
+// Whether an event led to a frame of a handover.
 fn announces(line: &Line, entry: &Entry) -> bool {
     for sent in entry.outcome.frames.as_slice() {
         if is_of_handover(sent.frame.body()) {

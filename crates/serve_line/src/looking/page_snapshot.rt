@@ -19,7 +19,7 @@ pub struct PageSnapshot {
 }
 
 impl PageSnapshot {
-    /// Nothing was seen yet. The centres listen at these ports.
+    /// A view before the first look. The centres listen at these ports.
     pub fn new(alloc: Global, line: &Line, ports: Vec<u16>) -> Result<PageSnapshot, AllocError> {
         Ok(PageSnapshot {
             layout: layout_of(alloc, line, ports)?,
@@ -29,8 +29,8 @@ impl PageSnapshot {
         })
     }
 
-    /// Looks at the centres, one after another. In the result nobody has a slot, and each journal is written. The page
-    /// shows it once it is `now`.
+    /// Reads the centres, one after another. In the result no slot is taken, and each journal can be written. The page
+    /// shows it when it is stored in `now`.
     pub fn look<R: Wait>(
         &mut self,
         rt: &R,
@@ -53,7 +53,7 @@ impl PageSnapshot {
     }
 }
 
-// Of the sections that are kept, those in a train's movement authority are given.
+// Marks as given those kept sections that are in the movement authority of their train.
 fn mark_given(now: &mut LineNow) {
     for (s, section) in now.sections.iter_mut().enumerate() {
         if let Usage::Kept { nid_engine } = section.usage {
@@ -77,7 +77,7 @@ fn has_in_hand(missions: &[Option<MissionNow>], nid_engine: u32, section: usize)
     false
 }
 
-// The line of which nothing was seen.
+// The line before the first look.
 fn nothing_of(alloc: Global, line: &Line) -> Result<LineNow, AllocError> {
     Ok(LineNow {
         events: 0,

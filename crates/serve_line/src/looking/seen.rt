@@ -1,4 +1,4 @@
-//! What one centre shows.
+//! The view of one centre.
 
 use rbc_book::Entry;
 use rbc_line::Line;
@@ -8,7 +8,7 @@ use text_page::{LineNow, SectionNow, SessionNow, Usage};
 use text_replay::{mission_now, phase_now};
 use text_script::{Centre, TrainPage};
 
-/// Adds what a centre has of its own sections, of its trains, and of its life.
+/// Adds a centre's sections of its own, its trains, its links, and its usage.
 pub(crate) fn see_centre(
     line: &Line,
     log: &CentreLog,
@@ -54,7 +54,7 @@ fn see_sections(line: &Line, centre: &Centre, now: &mut LineNow) {
     }
 }
 
-// What a section is used for, where no movement authority is known.
+// The usage of a section if no movement authority is known.
 fn usage_of(entry: Entry) -> Usage {
     match entry {
         Entry::Shut => Usage::Shut,
@@ -63,7 +63,7 @@ fn usage_of(entry: Entry) -> Usage {
     }
 }
 
-// What its links have sent and taken.
+// Sets the counts of frames that the centre has sent and taken, for each of its links.
 fn see_links(centre: &Centre, now: &mut LineNow) {
     for link in now.links.iter_mut() {
         if link.from == centre.number() {
@@ -75,7 +75,7 @@ fn see_links(centre: &Centre, now: &mut LineNow) {
     }
 }
 
-// A train that is supervised here. Where two centres showed it, the later look counts.
+// Adds a train that is supervised here. If two centres show it, the later look counts.
 fn see_mission(centre: u8, i: u8, nid_engine: u32, page: &TrainPage, now: &mut LineNow) {
     let (Some(facts), Some(place)) = (page.mission, now.missions.get_mut(i as usize)) else {
         return;

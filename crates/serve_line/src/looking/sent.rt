@@ -4,19 +4,19 @@ use text_page::LineNow;
 use text_replay::Handovers;
 use text_script::Centre;
 
-/// How many frames of a link are read under a centre's lock at most. What is left is read at a later look.
+/// The most frames of a link that are read under a centre's lock. The rest is read at a later look.
 const MOST_READ: u32 = 256;
 
-/// What the centres have sent each other, as far as it was read.
+/// The announced handovers, from the frames of all links that were read so far.
 #[derive(Drop)]
 pub(crate) struct Sent {
     handovers: Handovers,
-    // By the numbers of the sender and of the receiver: how many frames were read.
+    // Indexed by the sender's and the receiver's number: the number of frames read.
     read: Vec<Vec<u32>>,
 }
 
 impl Sent {
-    /// Nothing was read.
+    /// No frame was read.
     pub fn new(alloc: Global, line: &Line) -> Result<Sent, AllocError> {
         let centres = line.centre_count() as usize;
         let mut read = Vec::new(alloc);
@@ -29,7 +29,7 @@ impl Sent {
         })
     }
 
-    /// Reads what a centre has sent since it was looked at last.
+    /// Reads the frames that a centre has sent since the last call.
     pub fn read_on(&mut self, line: &Line, centre: &Centre) {
         for to in 0..line.centre_count() {
             self.read_link(line, centre, to);
@@ -54,7 +54,7 @@ impl Sent {
         }
     }
 
-    /// Adds the handovers of the missions that their supervisors have announced.
+    /// Adds to each mission the next handover that its supervisor has announced.
     pub fn add_handovers(&self, now: &mut LineNow) {
         for (train, mission) in now.missions.iter_mut().enumerate() {
             if let Some(mission) = mission {

@@ -17,7 +17,7 @@ use std::sync::{Mutex, Wait};
 use std::thread::Parker;
 use text_script::print::name_of;
 
-// How many connections a centre of the line serves at once.
+// The most connections of a centre at the same time.
 fn most_trains(line: &Line) -> usize {
     line.train_count() as usize + SPARE
 }
@@ -40,13 +40,13 @@ pub fn endpoints_of(
 ) -> Result<Vec<Endpoint>, AllocError> {
     let mut endpoints = Vec::new(alloc);
     for (number, listening) in listening.into_iter().enumerate() {
-        endpoints.push(door_of(alloc, line, nodes, number, listening)?)?;
+        endpoints.push(endpoint_of(alloc, line, nodes, number, listening)?)?;
     }
     Ok(endpoints)
 }
 
-// The endpoint of this number: that of a centre, or after those the control endpoint.
-fn door_of(
+// The endpoint of this number: a centre's, or after those the control endpoint.
+fn endpoint_of(
     alloc: Global,
     line: &Line,
     nodes: &[Node],
@@ -57,9 +57,9 @@ fn door_of(
         Some(node) => {
             let reached = &nodes[number..=number];
             let peer = Peer::Trains(node.share().centre());
-            (peer, seats_of(alloc, most_trains(line), reached)?)
+            (peer, slots_of(alloc, most_trains(line), reached)?)
         }
-        None => (Peer::Interlocking, control_seats(alloc, nodes)?),
+        None => (Peer::Interlocking, control_slots(alloc, nodes)?),
     };
     Ok(Endpoint {
         listener: Mutex::new(Some(listening.listener)),
@@ -70,15 +70,15 @@ fn door_of(
     })
 }
 
-// The slots of the control endpoint, and the reserve slot.
-fn control_seats(alloc: Global, nodes: &[Node]) -> Result<Vec<Slot>, AllocError> {
-    let mut slots = seats_of(alloc, CONTROLS, nodes)?;
+// The slots of the control endpoint; the last is the reserve slot.
+fn control_slots(alloc: Global, nodes: &[Node]) -> Result<Vec<Slot>, AllocError> {
+    let mut slots = slots_of(alloc, CONTROLS, nodes)?;
     slots.push(seat_of(alloc, CONTROLS, true, nodes)?)?;
     Ok(slots)
 }
 
-// So many slots, from which these nodes are reached.
-fn seats_of(alloc: Global, count: usize, nodes: &[Node]) -> Result<Vec<Slot>, AllocError> {
+// This many free slots, each with a share of each of these nodes.
+fn slots_of(alloc: Global, count: usize, nodes: &[Node]) -> Result<Vec<Slot>, AllocError> {
     let mut slots = Vec::with_capacity(alloc, count)?;
     for number in 0..count {
         slots.push(seat_of(alloc, number, false, nodes)?)?;
@@ -86,7 +86,7 @@ fn seats_of(alloc: Global, count: usize, nodes: &[Node]) -> Result<Vec<Slot>, Al
     Ok(slots)
 }
 
-// The slot of this number, which is free.
+// The slot of this number; it is free.
 fn seat_of(
     alloc: Global,
     number: usize,
@@ -109,7 +109,7 @@ fn seat_of(
     })
 }
 
-/// The links of the line, each in one direction.
+/// The links of the line, one for each direction.
 pub fn links_of(
     alloc: Global,
     line: &Line,
@@ -127,7 +127,7 @@ pub fn links_of(
     Ok(links)
 }
 
-// The link from a centre to that of the share.
+// The link from a centre to the centre of the share.
 fn link_of(from: u8, share: Share) -> DirectedLink {
     DirectedLink {
         from,
@@ -137,17 +137,17 @@ fn link_of(from: u8, share: Share) -> DirectedLink {
     }
 }
 
-/// For each centre the wakers of its links, by the numbers of the centres that they lead to.
+/// For each centre the wakers of its outgoing links, indexed by the receiving centre's number.
 pub fn wakers_of(alloc: Global, line: &Line) -> Result<Vec<Vec<Parker>>, AllocError> {
     let mut wakers = Vec::new(alloc);
     for _ in 0..line.centre_count() {
-        wakers.push(bells_from(alloc, line)?)?;
+        wakers.push(wakers_from(alloc, line)?)?;
     }
     Ok(wakers)
 }
 
-// The wakers of the links from one centre.
-fn bells_from(alloc: Global, line: &Line) -> Result<Vec<Parker>, AllocError> {
+// The wakers of the outgoing links of one centre.
+fn wakers_from(alloc: Global, line: &Line) -> Result<Vec<Parker>, AllocError> {
     let mut wakers = Vec::new(alloc);
     for _ in 0..line.centre_count() {
         wakers.push(Parker::new())?;
@@ -168,7 +168,7 @@ pub fn connections_of<'a>(
     Ok(connections)
 }
 
-/// For each centre the journal that it goes on with, after what its node has.
+/// For each centre its journal. It begins after the events that the node has.
 pub fn journals_of<R: Wait>(
     rt: &R,
     alloc: Global,
@@ -187,7 +187,7 @@ pub fn journals_of<R: Wait>(
     Ok(journals)
 }
 
-/// For each centre where its answers go on to.
+/// For each centre the sink of its answers.
 pub fn sinks_of<'a>(
     alloc: Global,
     line: &'a Line,

@@ -7,22 +7,23 @@ use std::io::ErrorKind;
 use std::net::{IpAddr, Ipv4Addr, Net, SocketAddr, TcpListener, TcpStream};
 use text_script::print::name_of;
 
-/// The ports of the centres and that of the interlocking, on which only this host is listened to.
+/// The listening ports of the centres and of the interlocking, and the page's port, if there is one. All are ports of
+/// this host only.
 #[derive(Drop)]
 pub struct Endpoints(Vec<Listening>, Option<Listening>);
 
-/// A port that is listened on.
+/// A listening port.
 #[derive(Drop)]
 pub struct Listening {
-    /// What connections are taken from, without waiting.
+    /// The listener; `accept` on it does not wait.
     pub listener: TcpListener,
-    /// Its address, with the port that the system picked where none was named.
+    /// Its address. If port 0 was asked for, the system picked the port.
     pub address: SocketAddr,
 }
 
 impl Endpoints {
-    /// Listens on 127.0.0.1: centre i at the port `first` + i, the control endpoint at the port after those. For the
-    /// port 0 the system picks each port. Where one can't be listened on, a note names it.
+    /// Listens on 127.0.0.1: centre i at port `first` + i, the control endpoint at the port after those. If `first` is
+    /// 0, the system picks each port. If a port can't be listened on, a note names it.
     pub fn open<R: Net<Stream = TcpStream, Listener = TcpListener>, N: Notes>(
         rt: &R,
         alloc: Global,
@@ -45,8 +46,7 @@ impl Endpoints {
         Ok(Endpoints(endpoints, None))
     }
 
-    /// Listens at this port of this host for browsers too, which are shown the line. Where that can't be, a note says
-    /// so.
+    /// Listens at this port of this host for browsers too, for the page of the line. If that fails, a note reports it.
     pub fn and_page<R: Net<Stream = TcpStream, Listener = TcpListener>, N: Notes>(
         self,
         rt: &R,
@@ -62,7 +62,7 @@ impl Endpoints {
         }
     }
 
-    /// The addresses, by the centres' numbers, and at last that of the control endpoint.
+    /// The address of centre `number`; after the centres, that of the control endpoint.
     pub fn address(&self, number: usize) -> Option<SocketAddr> {
         match self.0.get(number) {
             Some(endpoint) => Some(endpoint.address),
@@ -78,14 +78,14 @@ impl Endpoints {
         }
     }
 
-    /// The ports, by the centres' numbers, and at last that of the control endpoint; and that of the page, if there is
-    /// one.
+    /// The ports, in the order of the centres' numbers, then that of the control endpoint; and that of the page, if
+    /// there is one.
     pub fn all(self) -> (Vec<Listening>, Option<Listening>) {
         (self.0, self.1)
     }
 }
 
-// The port of an endpoint: so far past the first, or 0 where the system picks each.
+// The port of an endpoint: `first` + `number`, or 0 if the system picks each.
 fn port_of(first: u16, number: u8) -> u32 {
     match first {
         0 => 0,
@@ -93,7 +93,7 @@ fn port_of(first: u16, number: u8) -> u32 {
     }
 }
 
-// Who comes through the endpoint of this number to whom.
+// The name of the endpoint of this number: that of its centre, or `control`.
 fn who_is_at(line: &Line, number: u8) -> &str {
     if number < line.centre_count() {
         name_of(line, number)

@@ -1,19 +1,19 @@
 use crate::state::limits::{BURST, PER_SECOND};
 use serve_workers::reading::Rate;
 
-/// How the centres of a line are served, beside its ports.
+/// The options of running centres, apart from their ports.
 #[derive(Clone, Copy, Debug)]
 pub struct ServeOptions {
-    /// How many messages of each train a centre takes, and how many of all other engines together.
+    /// The rate at which a centre takes messages of each train, and of all other engines together.
     pub rate: Rate,
-    /// Whether each control connection is told of a section that was wished back and is shut, once it is.
+    /// Whether each control connection is notified when a section whose return was requested is shut.
     pub is_telling: bool,
-    /// Whether `show` says how much of each log, clock and link is used up.
+    /// Whether `show` reports the usage of each log, clock and link.
     pub shows_life: bool,
 }
 
 impl Default for ServeOptions {
-    /// As where nothing else is asked for.
+    /// The defaults: 50 messages per second, 100 at once, no notifications and no usage.
     fn default() -> ServeOptions {
         ServeOptions {
             rate: Rate {

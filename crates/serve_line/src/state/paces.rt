@@ -3,11 +3,11 @@ use serve_workers::reading::{Bucket, Rate};
 use std::alloc::{AllocError, Global};
 use std::sync::Mutex;
 
-/// How fast messages come to a centre: a bucket for each train of the line, and one for all other engines together. A
-/// new connection brings no new bucket.
+/// The message rates at a centre: a bucket for each train of the line, and one for all other engines together. A new
+/// connection does not get a new bucket.
 #[derive(Drop)]
 pub struct Paces {
-    // By the trains' places in the line file.
+    // In the order of the trains in the line file.
     trains: Vec<Mutex<Bucket>>,
     others: Mutex<Bucket>,
 }

@@ -2,20 +2,20 @@ use crate::status::Notes;
 use std::sync::atomic::{AtomicBool, AtomicU64, Ordering};
 use std::time::{Clock, Duration, Instant};
 
-/// How long an event may wait for the disk without a note, in seconds.
+/// The longest wait of an event for the disk without a note, in seconds.
 const LONG_S: u64 = 1;
 
-/// Who waits until the journal of a centre has an event.
+/// The events that wait until the journal of a centre has them.
 #[derive(Drop)]
 pub struct Queue {
     entered: AtomicU64,
     left: AtomicU64,
-    /// Nobody has left for a while.
+    /// Events wait, and none has left for a second.
     is_long: AtomicBool,
 }
 
 impl Queue {
-    /// Nobody waits.
+    /// An empty queue.
     pub(crate) fn new() -> Queue {
         Queue {
             entered: AtomicU64::new(0),
@@ -29,7 +29,7 @@ impl Queue {
         self.entered.fetch_add(1, Ordering::SeqCst);
     }
 
-    /// An event waits no longer. If it is not written, the queue has not moved.
+    /// An event waits no longer. If it was not written, the queue has not moved.
     pub(crate) fn leave(&self, is_written: bool) {
         if is_written {
             self.left.fetch_add(1, Ordering::SeqCst);
@@ -38,22 +38,22 @@ impl Queue {
         }
     }
 
-    /// Whether events wait, and none of them has gone on for a second.
+    /// Whether events wait, and none of them has left for a second.
     pub fn is_long(&self) -> bool {
         self.is_long.load(Ordering::SeqCst)
     }
 }
 
-/// Looks at the queue of a centre now and then, and notes when it does not move.
+/// Checks the queue of a centre periodically, and notes when it does not move.
 #[derive(Clone, Copy)]
 pub struct Watch {
-    // How many had left, and since when.
+    // The number of events that had left, and the time since then.
     left: u64,
     since: Option<Instant>,
 }
 
 impl Watch {
-    /// It has not looked yet.
+    /// A watch before its first check.
     pub fn new() -> Watch {
         Watch {
             left: 0,
@@ -61,7 +61,7 @@ impl Watch {
         }
     }
 
-    /// Looks at the queue of the centre of this name.
+    /// Checks the queue of the centre of this name.
     pub fn look<T: Clock, N: Notes>(&mut self, clock: &T, queue: &Queue, notes: &N, name: &str) {
         let left = queue.left.load(Ordering::SeqCst);
         let is_empty = queue.entered.load(Ordering::SeqCst) == left;

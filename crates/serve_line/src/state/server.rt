@@ -11,49 +11,49 @@ use std::sync::{Mutex, Wait};
 use std::thread::Parker;
 use text_script::print::name_of;
 
-/// Who comes through an endpoint.
+/// The kind of peer at an endpoint.
 #[derive(Clone, Copy)]
 pub enum Peer {
-    /// Trains, to the centre of this number.
+    /// Trains, connected to the centre of this number.
     Trains(u8),
-    /// The interlocking, to all centres.
+    /// The interlocking, connected to all centres.
     Interlocking,
 }
 
 /// The link from one centre to another.
 #[derive(Drop)]
 pub struct DirectedLink {
-    /// The number of the centre whose frames go over it.
+    /// The number of the sending centre.
     pub from: u8,
-    /// The number of the centre that takes them.
+    /// The number of the receiving centre.
     pub to: u8,
-    /// What its two workers tell each other.
+    /// The signals between its two workers.
     pub ends: LinkEnds,
-    /// The receipts of the frames that came over it.
+    /// The receipts of the frames that were received over it.
     pub share: Mutex<Share>,
 }
 
 /// Whether the centres still run.
 #[derive(Drop)]
 pub struct State {
-    /// No connection is taken any more.
+    /// No further connection is accepted.
     pub is_stopped: AtomicBool,
-    /// How many endpoints of centres are open or have connections still.
+    /// The number of centres' endpoints that are open or still have connections.
     endpoints: AtomicU64,
-    /// How often a peer came or was heard.
+    /// Counts new connections and received lines; orders slots by last activity.
     heard: AtomicU64,
-    /// No connection is left: nothing new comes to the links.
+    /// No connection is left: nothing new arrives at the links.
     pub is_over: AtomicBool,
     /// No worker is left: nothing more is committed.
     pub is_done: AtomicBool,
-    /// A journal was given up: it lacks what was committed last.
+    /// A journal was given up: it lacks the last committed events.
     has_lost: AtomicBool,
     /// Memory ran out, or a thread could not be made.
     has_failed: AtomicBool,
 }
 
 impl State {
-    /// Of a line with so many centres, whose endpoints are all open.
+    /// The state of a line with this many centres, whose endpoints are all open.
     pub fn new(centres: u8) -> State {
         State {
             is_stopped: AtomicBool::new(false),
@@ -66,12 +66,13 @@ impl State {
         }
     }
 
-    /// Whether no connection is taken any more.
+    /// Whether no further connection is accepted.
     pub fn is_stopped(&self) -> bool {
         self.is_stopped.load(Ordering::SeqCst)
     }
 
-    /// A peer came or was heard: which of all such times this is.
+    /// Counts a new connection or a received line, and returns the count before it. Slots use it as the time of their
+    /// last activity.
     pub fn hear(&self) -> u64 {
         self.heard.fetch_add(1, Ordering::SeqCst)
     }
@@ -86,7 +87,7 @@ impl State {
         self.endpoints.load(Ordering::SeqCst) == 0
     }
 
-    /// Nothing new comes from here on.
+    /// Nothing new arrives from now on.
     pub fn end(&self) {
         self.is_over.store(true, Ordering::SeqCst);
     }
@@ -102,7 +103,7 @@ impl State {
     }
 }
 
-// The stamp of the last event that a centre has taken; 0 if it has taken none.
+// The stamp of the last event of a centre; 0 if it has none.
 fn last_stamp<R: Wait>(rt: &R, node: &Node) -> u32 {
     let look = node.look(rt);
     match look.log().entries().last() {
@@ -111,33 +112,33 @@ fn last_stamp<R: Wait>(rt: &R, node: &Node) -> u32 {
     }
 }
 
-/// All that the workers share.
+/// The shared state of all workers of a running line.
 #[derive(Drop)]
 pub struct Server<'a> {
-    /// Where memory comes from.
+    /// The allocator.
     pub alloc: Global,
     /// The line that is served.
     pub line: &'a Line,
-    /// The centres, by their numbers.
+    /// The nodes of the centres, indexed by the centres' numbers.
     pub nodes: &'a [Node],
-    /// Where the answers of each go on to.
+    /// The sinks of the centres' answers, indexed by the centres' numbers.
     pub sinks: &'a [CentreSink<'a>],
-    /// Their endpoints, and after those the control endpoint.
+    /// The endpoints of the centres, and after those the control endpoint.
     pub endpoints: &'a [Endpoint],
-    /// The links of the line, each in one direction.
+    /// The links of the line, one for each direction.
     pub links: &'a [DirectedLink],
-    /// The wakers of the links from each centre: all of a centre are rung together.
+    /// The wakers of each centre's outgoing links. All wakers of a centre are rung together.
     pub wakers: &'a [Vec<Parker>],
-    /// The journals of the centres, by their numbers; none where they keep none.
+    /// The journals, indexed by the centres' numbers; empty if the centres keep none.
     pub journals: &'a [Journal],
-    /// Whether they still run.
+    /// Whether the centres still run.
     pub state: &'a State,
-    /// How they are served.
+    /// The options of the server.
     pub options: ServeOptions,
 }
 
 impl Server<'_> {
-    /// A centre as its workers see it.
+    /// The committer of a centre: its node and its sink.
     pub fn committer(&self, centre: u8) -> Option<Committer<'_, Open, CentreSink<'_>>> {
         let node = self.nodes.get(centre as usize)?;
         let sink = self.sinks.get(centre as usize)?;
@@ -172,7 +173,7 @@ impl Server<'_> {
         true
     }
 
-    /// The journal of a centre is given up: nothing that it lacks is answered.
+    /// Gives up the journal of a centre: no event that it lacks is answered.
     pub fn lose<R: Wait>(&self, rt: &R, centre: u8) {
         self.state.has_lost.store(true, Ordering::SeqCst);
         if let Some(journal) = self.journal(centre) {
@@ -180,7 +181,7 @@ impl Server<'_> {
         }
     }
 
-    /// Nothing more is committed: what is left is written to the journals.
+    /// Nothing more is committed. The remaining events are written to the journals.
     pub fn finish(&self) {
         self.state.is_done.store(true, Ordering::SeqCst);
         for journal in self.journals {
@@ -188,7 +189,7 @@ impl Server<'_> {
         }
     }
 
-    /// The node of the centre that a peer comes to, if it comes to one.
+    /// The node of a train endpoint's centre; `None` for the interlocking.
     pub fn node(&self, peer: Peer) -> Option<&Node> {
         match peer {
             Peer::Trains(centre) => self.nodes.get(centre as usize),
@@ -196,7 +197,7 @@ impl Server<'_> {
         }
     }
 
-    /// Where the answers of the centre go on to that a peer comes to, if it comes to one.
+    /// The sink of a train endpoint's centre; `None` for the interlocking.
     pub fn sink(&self, peer: Peer) -> Option<&CentreSink<'_>> {
         match peer {
             Peer::Trains(centre) => self.sinks.get(centre as usize),
@@ -212,7 +213,7 @@ impl Server<'_> {
         }
     }
 
-    /// What a peer's notes begin with.
+    /// The prefix of a peer's notes.
     pub fn name(&self, peer: Peer) -> &str {
         match peer {
             Peer::Trains(centre) => name_of(self.line, centre),
@@ -220,7 +221,7 @@ impl Server<'_> {
         }
     }
 
-    /// No connection is taken from now on.
+    /// Stops the server: no further connection is accepted.
     pub fn stop(&self) {
         self.state.is_stopped.store(true, Ordering::SeqCst);
         for endpoint in self.endpoints {
@@ -231,7 +232,7 @@ impl Server<'_> {
         }
     }
 
-    /// The centres can't go on: they stop, and print nothing.
+    /// Stops the server after a failure. The centres print nothing.
     pub fn fail(&self) {
         self.state.has_failed.store(true, Ordering::SeqCst);
         self.stop();

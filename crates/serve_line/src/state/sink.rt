@@ -8,28 +8,29 @@ use serve_workers::writing::Release;
 use std::sync::Wait;
 use text_script::{Outcome, Word};
 
-/// Where what a centre answers goes on to: to its trains and links, and, where the interlocking is told of sections, to
-/// its connections. If the centre keeps a journal, nothing leaves it before its event is written there: words to the
-/// interlocking wait here, and messages to trains and frames wait with the thread that sends them.
+/// The sink of a centre's answers: its trains, its links, and, if the interlocking is notified of sections, its
+/// connections. If the centre keeps a journal, nothing leaves it before the event is written there. Replies to the
+/// interlocking wait here. Messages to trains and frames wait in the threads that send them.
 #[derive(Drop)]
 pub struct CentreSink<'a> {
     /// The connections of the centre's trains, and the wakers of its links.
     pub connections: &'a TrainConnections<'a>,
-    /// The control endpoint, if its connections are told.
+    /// The control endpoint, if its connections are notified.
     pub control: Option<&'a Endpoint>,
     /// The centre's journal, if it keeps one.
     pub journal: Option<&'a Journal>,
-    /// Who waits for that journal.
+    /// The events that wait for that journal.
     pub queue: Queue,
-    /// How fast messages come to the centre.
+    /// The message rates of the centre.
     pub paces: Paces,
     /// The name of the centre.
     pub name: &'a str,
 }
 
 impl CentreSink<'_> {
-    /// Waits until this answer may go on, and returns whether it may: not if the journal was given up before its event
-    /// was written. Without a word to the interlocking it waits only if the journal is late or can't be written.
+    /// Waits until this answer may leave, and returns whether it may. It may not if the journal was given up before its
+    /// event was written. An answer without a reply to the interlocking waits only if the journal is late or can't be
+    /// written.
     pub fn may_send<R: Wait>(&self, rt: &R, outcome: &Outcome) -> bool {
         if !outcome.words().is_empty() {
             return self.reaches(rt, outcome.stamp);
@@ -44,7 +45,7 @@ impl CentreSink<'_> {
     }
 
     /// Waits until the journal has the event with this stamp, if the centre keeps one. It returns false if the journal
-    /// was given up before.
+    /// was given up first.
     pub fn reaches<R: Wait>(&self, rt: &R, stamp: u32) -> bool {
         let Some(journal) = self.journal else {
             return true;
@@ -66,7 +67,7 @@ impl CentreSink<'_> {
         comes_to
     }
 
-    /// Tells the interlocking of each section that was wished back, and is shut now.
+    /// Notifies the interlocking of each section whose return was requested and that is shut now.
     pub fn tell<R: Wait>(&self, rt: &R, outcome: &Outcome) {
         let Some(endpoint) = self.control else {
             return;
@@ -93,7 +94,7 @@ impl AnswerSink for CentreSink<'_> {
 }
 
 impl Release for CentreSink<'_> {
-    // A message to a train may be written once its event is in the journal.
+    // A message to a train may be written when its event is in the journal.
     fn is_released<R: Wait>(&self, rt: &R, stamp: u32) -> bool {
         self.reaches(rt, stamp)
     }

@@ -8,31 +8,31 @@ use std::sync::atomic::{AtomicBool, AtomicU64, Ordering};
 use std::sync::{Arc, Mutex, Wait};
 use std::thread::Parker;
 
-/// A place for one connection at a time, and the receipts of what is committed over it: a share for each centre that it
-/// reaches.
+/// A slot of an endpoint: it holds one connection at a time. Its shares hold the receipts of the connection's commits,
+/// one share for each centre that the endpoint reaches.
 #[derive(Drop)]
 pub struct Slot {
-    /// Which of its endpoint's slots this is, from 0 on.
+    /// The number of the slot at its endpoint, from 0.
     pub number: usize,
-    /// The thread of the endpoint serves its connection. It is taken if no other slot gets free, or no thread can be
-    /// made.
+    /// Whether the thread of the endpoint serves the connection of this slot. The slot is taken if no other slot
+    /// becomes free, or no thread can be made.
     pub is_reserve: bool,
-    /// Whether a connection has it.
+    /// Whether a connection has the slot.
     pub is_taken: AtomicBool,
-    /// Its connection has to leave it.
+    /// Whether the connection has to leave the slot.
     pub is_leaving: AtomicBool,
-    /// The time at which its connection came or was heard last, as `State::hear` counts.
+    /// The time of the connection's last activity, its start or its last line, as `State::hear` counts.
     pub heard: AtomicU64,
     /// The connection, while one has the slot.
     pub stream: Mutex<Option<Arc<TcpStream, Global>>>,
     /// The receipts.
     pub shares: Mutex<Vec<Share>>,
-    /// Lines that the interlocking is told of, which its connection has yet to write.
+    /// Notification lines that the connection has not written yet, at most `MOST_TOLD` bytes and one line.
     pub told: Mutex<Vec<u8>>,
 }
 
 impl Slot {
-    /// Ends the connection that has the slot.
+    /// Shuts the connection that has the slot.
     pub fn shut<R: Wait>(&self, rt: &R) {
         self.is_leaving.store(true, Ordering::SeqCst);
         if let Some(stream) = &*self.stream.lock(rt) {
@@ -40,12 +40,13 @@ impl Slot {
         }
     }
 
-    /// Whether its connection has to leave it.
+    /// Whether the connection has to leave the slot.
     pub fn is_leaving(&self) -> bool {
         self.is_leaving.load(Ordering::SeqCst)
     }
 
-    /// Tells the connection that has the slot that a section is shut. A connection for which too much waits ends.
+    /// Notifies the connection that has the slot that a section is shut. If too many bytes wait for the connection, it
+    /// ends.
     pub fn tell<R: Wait>(&self, rt: &R, centre: &str, section: u16) {
         if !self.is_taken.load(Ordering::SeqCst) {
             return;
@@ -59,50 +60,50 @@ impl Slot {
         }
     }
 
-    /// What the connection was told since this was asked last.
+    /// Takes the notification lines since the last call.
     pub fn take_told<R: Wait>(&self, rt: &R, alloc: Global) -> Vec<u8> {
         std::mem::replace(&mut *self.told.lock(rt), Vec::new(alloc))
     }
 
-    /// Its connection is gone: the slot is free.
+    /// Frees the slot: its connection has ended.
     pub fn leave<R: Wait>(&self, rt: &R) {
         *self.stream.lock(rt) = None;
         self.is_taken.store(false, Ordering::SeqCst);
     }
 
-    /// Whether its connection was heard longer ago than that of the other slot.
+    /// Whether the connection of this slot was last active before that of the other slot.
     fn was_active_before(&self, other: &Slot) -> bool {
         self.heard.load(Ordering::SeqCst) < other.heard.load(Ordering::SeqCst)
     }
 }
 
-/// A port that connections come to.
+/// A listening port, and the slots of its connections.
 #[derive(Drop)]
 pub struct Endpoint {
-    /// None once the endpoint is closed.
+    /// `None` after the endpoint is closed.
     pub listener: Mutex<Option<TcpListener>>,
-    /// Its address.
+    /// The address of the port.
     pub address: SocketAddr,
-    /// Who comes through it.
+    /// The kind of peer.
     pub peer: Peer,
-    /// The slots of its connections.
+    /// The slots of the connections.
     pub slots: Vec<Slot>,
-    /// Rung where the endpoint is to close.
+    /// Rung when the endpoint is to close.
     pub waker: Parker,
 }
 
 impl Endpoint {
-    /// A slot that is free, which is taken now. Only the thread at the endpoint calls it.
+    /// Takes a free slot, if there is one. Only the thread of the endpoint calls it.
     pub fn free_slot<R: Wait>(&self, rt: &R) -> Option<&Slot> {
-        self.free_seat_of(rt, false)
+        self.free_slot_of(rt, false)
     }
 
-    /// The reserve slot, which is taken now, if the endpoint has one. Only the thread at the endpoint calls it.
-    pub fn reserve_seat<R: Wait>(&self, rt: &R) -> Option<&Slot> {
-        self.free_seat_of(rt, true)
+    /// Takes the reserve slot, if the endpoint has one and it is free. Only the thread of the endpoint calls it.
+    pub fn reserve_slot<R: Wait>(&self, rt: &R) -> Option<&Slot> {
+        self.free_slot_of(rt, true)
     }
 
-    fn free_seat_of<R: Wait>(&self, rt: &R, is_reserve: bool) -> Option<&Slot> {
+    fn free_slot_of<R: Wait>(&self, rt: &R, is_reserve: bool) -> Option<&Slot> {
         for slot in &self.slots {
             if slot.is_reserve == is_reserve && !slot.is_taken.load(Ordering::SeqCst) {
                 slot.told.lock(rt).clear();
@@ -114,7 +115,7 @@ impl Endpoint {
         None
     }
 
-    /// Whether a connection has to leave its slot, and has not left it yet.
+    /// Whether a connection has to leave its slot, and has not left yet.
     pub fn is_awaiting_leave(&self) -> bool {
         for slot in &self.slots {
             if slot.is_leaving() && slot.is_taken.load(Ordering::SeqCst) {
@@ -124,7 +125,7 @@ impl Endpoint {
         false
     }
 
-    /// Whether no connection has a slot.
+    /// Whether no slot is taken.
     pub fn is_empty(&self) -> bool {
         for slot in &self.slots {
             if slot.is_taken.load(Ordering::SeqCst) {
@@ -134,7 +135,7 @@ impl Endpoint {
         true
     }
 
-    /// The one of both slots whose connection was heard longer ago.
+    /// The slot whose connection was last active earlier.
     pub fn older<'a>(one: Option<&'a Slot>, other: &'a Slot) -> &'a Slot {
         match one {
             Some(one) if one.was_active_before(other) => one,

@@ -1,7 +1,7 @@
-/// How many notes of a kind are written in a second. Of further ones only the number is.
+/// The most notes of a kind that are written in one second. Of further notes only the number is written.
 const EACH_SECOND: u32 = 10;
 
-/// A kind of note of which many may come in a short time.
+/// A kind of note that may occur many times in a short time.
 #[derive(Clone, Copy, Debug, PartialEq, Eq)]
 pub enum Kind {
     /// A connection begins.
@@ -32,7 +32,7 @@ pub(crate) const KINDS: [Kind; 7] = [
 ];
 
 impl Kind {
-    /// The words after the number of notes that were left out.
+    /// The text after the number of omitted notes.
     pub(crate) fn words(self) -> &'static str {
         match self {
             Kind::Begin => "connections begin",
@@ -46,7 +46,7 @@ impl Kind {
     }
 }
 
-/// How many notes of each kind were written in its last second, and how many were left out.
+/// For each kind, the notes written in its last second, and the notes omitted.
 #[derive(Drop)]
 pub(crate) struct Counts {
     counts: [Count; 7],
@@ -60,16 +60,16 @@ struct Count {
     left_out: u64,
 }
 
-/// What becomes of a note.
+/// The decision about a note.
 #[derive(Clone, Copy)]
 pub(crate) struct Taken {
     pub is_written: bool,
-    /// How many notes of its kind were left out in an earlier second.
+    /// The number of notes of its kind that were omitted in an earlier second, and not reported yet.
     pub left_out: u64,
 }
 
 impl Counts {
-    /// No note came yet.
+    /// Counts before the first note.
     pub fn new() -> Counts {
         let count = Count {
             second: 0,
@@ -79,7 +79,7 @@ impl Counts {
         Counts { counts: [count; 7] }
     }
 
-    /// Takes a note of this kind in this second.
+    /// Counts a note of this kind in this second, and decides whether it is written.
     pub fn take(&mut self, kind: Kind, second: u64) -> Taken {
         let Some(count) = self.counts.get_mut(kind as usize) else {
             return Taken {
@@ -100,7 +100,7 @@ impl Counts {
         }
     }
 
-    /// How many notes of this kind were left out in a second before this one, and not reported yet.
+    /// The number of notes of this kind that were omitted before this second, and not reported yet.
     pub fn left_out(&mut self, kind: Kind, second: u64) -> u64 {
         match self.counts.get_mut(kind as usize) {
             Some(count) => count.turn(second),
@@ -110,7 +110,7 @@ impl Counts {
 }
 
 impl Count {
-    // Begins this second, if it is another one. The result is how many notes were left out before.
+    // Begins this second, if it is a new one. The result is the number of notes omitted before.
     fn turn(&mut self, second: u64) -> u64 {
         if self.second == second {
             return 0;

@@ -8,10 +8,10 @@ use text_script::LAST_STAMP;
 use text_script::print::name_of;
 use text_script::status::Fault;
 
-/// How many frames a directed link carries in all.
+/// The most frames of a directed link.
 const MOST_FRAMES: u32 = 65_536;
 
-/// How much of a centre's log, of its clock and of its fullest link is used up, as far as it was noted.
+/// The usage of a centre's log, of its clock and of its fullest link, as noted last.
 #[derive(Clone, Copy)]
 pub struct Life {
     log: Gauge,
@@ -30,7 +30,7 @@ impl Life {
         }
     }
 
-    /// Looks at the centre of this name, and notes what is half used up, or almost.
+    /// Checks the centre of this name, and notes usage of 50, 90 and 99 percent, once each.
     pub fn look<R: Wait, N: Notes>(
         &mut self,
         rt: &R,
@@ -48,7 +48,7 @@ impl Life {
     }
 }
 
-/// Writes how much of each centre's log, clock and links is used up.
+/// Writes the usage of each centre's log, clock and links.
 pub fn write_life<R: Wait>(
     rt: &R,
     line: &Line,
@@ -75,7 +75,7 @@ fn write_used(line: &Line, log: &CentreLog, text: &mut Vec<u8>) -> Result<(), Fa
     Ok(())
 }
 
-// The entries of a log, the stamp of the last, and the frames on the link that has most.
+// The number of entries of a log, the stamp of the last, and the frames of the fullest link.
 fn used_of(log: &CentreLog, centres: u8) -> (u64, u64, u64) {
     let stamp = match log.entries().last() {
         Some(entry) => u64::from(entry.outcome.stamp),
@@ -88,14 +88,14 @@ fn used_of(log: &CentreLog, centres: u8) -> (u64, u64, u64) {
     (log.entries().len() as u64, stamp, u64::from(frames))
 }
 
-/// How much of a thing was noted last, in percent.
+/// The last noted usage of a thing, in percent.
 #[derive(Clone, Copy)]
 struct Gauge {
     noted: u64,
 }
 
 impl Gauge {
-    // Notes how much is used, once at 50, at 90 and at 99 percent.
+    // Notes the usage when it first reaches 50, 90 or 99 percent.
     fn tell<N: Notes>(&mut self, notes: &N, name: &str, thing: &str, used: u64, most: u64) {
         let mark = mark_reached(used, most);
         if mark > self.noted {
@@ -105,7 +105,7 @@ impl Gauge {
     }
 }
 
-// How much is used up, in percent, where that is noted.
+// The highest of 0, 50, 90 and 99 percent that the usage has reached.
 fn mark_reached(used: u64, most: u64) -> u64 {
     let used = used.saturating_mul(100);
     if used >= most.saturating_mul(99) {

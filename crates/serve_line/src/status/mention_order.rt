@@ -3,19 +3,19 @@ use rbc_log::{CentreLog, Entry};
 use std::alloc::{AllocError, Global};
 use text_script::Event;
 
-/// How many entries of a log are looked at in one piece at most. The log's centre takes no step meanwhile.
+/// The most entries of a log that are read in one piece. The log's centre takes no step meanwhile.
 const PIECE: usize = 4_096;
 
-/// Which trains the centres have heard of, and when first.
+/// The trains that messages to the centres have named, and the first such message of each.
 #[derive(Drop)]
 pub struct MentionOrder {
-    // By the trains' places in the line file.
+    // In the order of the trains in the line file.
     first: Vec<Option<Mention>>,
-    // By the centres' numbers: how many entries of the log were looked at.
+    // Indexed by the centres' numbers: the number of log entries read so far.
     looked: Vec<usize>,
 }
 
-/// When a message named a train: the stamp of its step, and the centre.
+/// A message that named a train: the stamp of its step, and the centre.
 #[derive(Clone, Copy, PartialEq, Eq, PartialOrd, Ord)]
 struct Mention {
     stamp: u32,
@@ -23,7 +23,7 @@ struct Mention {
 }
 
 impl MentionOrder {
-    /// No train was heard of.
+    /// No train has been named.
     pub fn new(alloc: Global, line: &Line) -> Result<MentionOrder, AllocError> {
         Ok(MentionOrder {
             first: vec![in alloc; None; line.train_count() as usize]?,
@@ -31,7 +31,7 @@ impl MentionOrder {
         })
     }
 
-    /// Looks at a piece of what came to a centre since it was looked at last, and says whether more is left.
+    /// Reads a piece of the new log entries of a centre, and returns whether more are left.
     pub fn read_on(&mut self, line: &Line, log: &CentreLog) -> bool {
         let centre = log.number() as usize;
         let Some(looked) = self.looked.get_mut(centre) else {
@@ -68,7 +68,7 @@ impl MentionOrder {
         }
     }
 
-    /// The trains that were heard of, by their places in the line file, in the order in which they were first heard of.
+    /// The named trains, by their places in the line file, in the order of their first messages.
     pub fn order(&self, alloc: Global) -> Result<Vec<usize>, AllocError> {
         let mut heard = Vec::new(alloc);
         for (train, first) in self.first.iter().enumerate() {

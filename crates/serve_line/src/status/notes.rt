@@ -9,22 +9,22 @@ use std::sync::{Mutex, Wait};
 use std::thread;
 use std::time::{Clock, Duration};
 
-/// How often a note is offered to the thread that writes it before it is lost.
+/// The offers of a note to the writing thread before it is lost.
 const OFFERS: u32 = 20;
 
-/// How long the thread that writes waits for a note before it looks whether some were left out, in seconds.
+/// The longest wait of the writing thread for a note before it reports omitted notes, in seconds.
 const REST_S: u64 = 1;
 
-/// Receives notes of what happens while the centres run.
+/// Receives notes of the running centres.
 pub trait Notes {
-    /// Takes one note, which is a line without the line feed that ends it.
+    /// Takes one note: a line without the line feed that ends it.
     fn note<D: Display + Drop>(&self, text: D);
 
-    /// Takes one note of a kind of which many may come.
+    /// Takes one note of a kind that may occur many times.
     fn often<D: Display + Drop>(&self, kind: Kind, text: D);
 }
 
-/// Writes each note as a line on standard error. A note that is not taken is lost.
+/// Writes each note as a line on standard error. A note that can't be written is lost.
 #[derive(Clone, Copy)]
 pub struct StderrNotes<'a, R>(pub &'a R);
 
@@ -38,16 +38,16 @@ impl<R: Eprint> Notes for StderrNotes<'_, R> {
     }
 }
 
-/// What the threads that note and the thread that writes share.
+/// The state shared by the threads that send notes and the thread that writes them.
 #[derive(Drop)]
 pub struct Backlog {
-    // How many notes were lost since the last that was written.
+    // The number of notes lost since the last report.
     lost: AtomicU64,
     counts: Mutex<Counts>,
 }
 
 impl Backlog {
-    /// No note came yet.
+    /// A backlog before the first note.
     pub fn new() -> Backlog {
         Backlog {
             lost: AtomicU64::new(0),
@@ -56,22 +56,22 @@ impl Backlog {
     }
 }
 
-/// Hands each note to a thread that writes it, so that nobody waits for who reads the notes. A note is lost if too many
-/// wait. Each begins with the time, in UTC.
+/// Sends each note to a thread that writes it, so that nobody waits for the reader of the notes. A note is lost if too
+/// many wait. Each begins with the time, in UTC.
 #[derive(Drop)]
 pub struct QueuedNotes<'a, R> {
     /// The handle by which it may wait.
     pub rt: &'a R,
-    /// Where memory for a note comes from.
+    /// The allocator for notes.
     pub alloc: Global,
-    /// Where notes wait to be written.
+    /// The queue of notes to be written.
     pub queue: Sender<Vec<u8>>,
-    /// What it shares with the thread that writes.
+    /// The state shared with the writing thread.
     pub backlog: &'a Backlog,
 }
 
 impl<R: Wait> QueuedNotes<'_, R> {
-    // Offers a note to the thread that writes it, and says whether it was taken.
+    // Offers a note to the writing thread, and returns whether it was taken.
     fn offer(&self, note: Vec<u8>) -> bool {
         let mut left = note;
         for _ in 0..OFFERS {
@@ -107,7 +107,7 @@ impl<R: Wait + Clock> Notes for QueuedNotes<'_, R> {
     }
 }
 
-// Writes a note after the time, if the clock tells it.
+// Writes a note after the time, if the clock gives it.
 fn write_timed<T: Clock, D: Display + Drop>(clock: &T, note: &mut Vec<u8>, text: D) -> Option<()> {
     match utc(clock) {
         Some(time) => write!(note, "{time} {text}").ok(),
@@ -121,7 +121,7 @@ fn utc<T: Clock>(clock: &T) -> Option<Timestamp> {
     Timestamp::from_second(now.as_second()).ok()
 }
 
-// The second by the monotonic clock, 0 if it tells none.
+// The second by the monotonic clock; 0 if the clock fails.
 fn second_of<T: Clock>(clock: &T) -> u64 {
     match clock.monotonic() {
         Ok(now) => now.as_secs(),
@@ -129,8 +129,8 @@ fn second_of<T: Clock>(clock: &T) -> u64 {
     }
 }
 
-/// Writes the notes that come, until no more can come. Before each it writes how many were lost, and how many of each
-/// kind were left out.
+/// Writes the received notes until no more can arrive. Before each note it reports the number of lost notes. After a
+/// second without a note, and at the end, it also reports the omitted notes of each kind.
 pub fn write_notes<R: Wait + Clock, N: Notes>(
     rt: &R,
     notes: &N,
@@ -163,7 +163,7 @@ fn tell_lost<N: Notes>(notes: &N, backlog: &Backlog) {
     }
 }
 
-// Writes how many notes of each kind were left out before this second.
+// Reports the notes of each kind that were omitted before this second.
 fn tell_left_out<R: Wait, N: Notes>(rt: &R, notes: &N, backlog: &Backlog, second: u64) {
     for kind in KINDS {
         let count = backlog.counts.lock(rt).left_out(kind, second);
@@ -174,7 +174,7 @@ fn tell_left_out<R: Wait, N: Notes>(rt: &R, notes: &N, backlog: &Backlog, second
     }
 }
 
-/// Takes no notes.
+/// Drops all notes.
 #[derive(Clone, Copy, Debug)]
 pub struct NoNotes;
 

@@ -10,12 +10,12 @@ use text_script::print::{print_section, print_train};
 use text_script::status::Fault;
 use text_script::{Mark, SectionRun, SectionView};
 
-/// The line as the centres showed it, each at its own moment.
+/// The line as the centres show it, each at its own moment.
 #[derive(Drop)]
 struct Snapshot {
-    /// By section number, what its home has of it.
+    /// Indexed by section number: the page of the section at its home.
     pages: Vec<Page>,
-    /// By the trains' places in the line file: the mission of each, where a centre had it.
+    /// In the order of the trains in the line file: the mission of each, if a centre has one.
     missions: Vec<Option<Mission>>,
 }
 
@@ -25,7 +25,7 @@ struct Mission {
     hand: SectionRun,
 }
 
-/// Looks at the centres one after another, and writes the line as a run shows it.
+/// Reads the centres one after another, and writes the line as a run shows it.
 pub fn show<R: Wait>(
     rt: &R,
     alloc: Global,
@@ -47,7 +47,7 @@ pub fn show<R: Wait>(
     snapshot.print(alloc, line, mention_order, text)
 }
 
-// Reads what was not seen yet of a log, in pieces, between which its centre goes on.
+// Reads the new entries of a log, in pieces. Between two pieces its centre may take steps.
 fn catch_up<R: Wait>(rt: &R, line: &Line, node: &Node, mention_order: &mut MentionOrder) {
     for _ in 0..MOST_ENTRIES {
         let look = node.look(rt);
@@ -65,7 +65,7 @@ impl Snapshot {
         })
     }
 
-    // Adds what a centre shows of its own sections and of the trains that it supervises.
+    // Adds a centre's own sections, and the trains that it supervises.
     fn add(&mut self, line: &Line, log: &CentreLog) {
         for s in 0..line.section_count() {
             self.add_page(line, log, s);
@@ -139,7 +139,7 @@ impl Snapshot {
         print_train(text, line, train.nid_engine, supervisor)
     }
 
-    // What a section is used for of which its home has this.
+    // The usage of a section with this entry at its home.
     fn mark(&self, line: &Line, s: usize, entry: Entry) -> Mark {
         match entry {
             Entry::Shut => Mark::Shut,

@@ -1,4 +1,4 @@
--- What a bucket lets through, against what it held and what its rate gave.
+-- The messages that a bucket passes, compared with its level and its rate.
 use Rattle.std.proofs.Common.{◌≡◌, ℕ, ◌+◌, ◌-◌, ◌*◌, ◌≤◌, List, [], ◌∷◌, min, max, ap, ◌∙◌, arith}
 use Rattle.std.proofs.Math.Nat.{add-mul}
 use Rattle.serve_workers.specs.Reading.Rates.{Ask, Passes, Waits, Answers, last_time, passed}
@@ -8,7 +8,7 @@ later at [] = omega arith
 later at (Passes time ∷ asks) = let h = later (max at time) asks in omega (arith, h)
 later at (Waits time ∷ asks) = let h = later (max at time) asks in omega (arith, h)
 
--- what the rate gives up to the first ask, and from there on
+-- the gain of the rate up to the first ask, and from there on
 parted : (rate at time last : ℕ) → max at time ≤ last → (last - at) * rate ≡ (time - at) * rate + (last - max at time) * rate
 parted rate at time last h =
     let parts : last - at ≡ (time - at) + (last - max at time) = omega (arith, h) in

@@ -1,16 +1,16 @@
--- What an order lets out is a beginning of what the centre said.
+-- The messages that an order releases are a beginning of the centre's messages.
 use Rattle.std.proofs.Common.{◌≡◌, ◌⊎◌, ℕ, zero, suc, ◌+◌, ◌<◌, ◌≤◌, List, [], ◌∷◌, ◌++◌, All, Contains, inl, inr, ⊎_elim, refl, sym, ap, subst, ◌∙◌, arith, nat_lt}
 use Rattle.std.proofs.lemmas.Bool.{cond_both}
 use Rattle.std.proofs.lemmas.List.Elements.{All-push, All-append, All-nil, All-head, All-tail, All-cons, All-weaker}
 use Rattle.rbc_spec.specs.Message.{TrackMessage}
 use Rattle.serve_workers.specs.Writing.Turns.{Act, HandedIn, LetOut, Goes, IsCounted, IsSaidBy, IsTurn, handed_in, release, kept}
 
--- a member of a list that is not its head follows it
+-- a member of a list that is not its head is in its tail
 member : (x : TrackMessage) (xs : List TrackMessage) (z : TrackMessage) → Contains (x ∷ xs) z → (x ≡ z) ⊎ Contains xs z
 member x xs z (zero, low, is) = inl is
 member x xs z (suc k, low, is) = inr (k, omega (arith, low), is)
 
--- what is counted on from a number has no smaller one
+-- in messages counted from a number, none has a smaller number
 not_before : (first : ℕ) (said : List TrackMessage) (m : TrackMessage) → IsCounted first said → Contains said m → first ≤ m.t_train
 not_before first [] m counted (k, low, is) = absurd (let no : ⊥ = omega (arith, low) in no)
 not_before first (s ∷ said) m counted holds =
@@ -19,7 +19,7 @@ not_before first (s ∷ said) m counted holds =
     (λ (after : Contains said m). let e : first + 1 ≤ m.t_train = not_before (first + 1) said m counted.1 after in omega arith)
     (member s said m holds)
 
--- what is said with this number or after it, is said with the next one or after that
+-- a message that was sent before a number or from it on was sent before the next number or from that on
 said_on : (first : ℕ) (s : TrackMessage) (said : List TrackMessage) (m : TrackMessage) → s.t_train ≡ first →
     IsSaidBy first (s ∷ said) m → IsSaidBy (first + 1) said m
 said_on first s said m number is =
@@ -32,7 +32,7 @@ said_on first s said m number is =
     (member s said m holds))
     is
 
--- the message whose turn it is is the first that was said
+-- the message of the current turn is the first of the list
 turn : (first : ℕ) (s : TrackMessage) (said : List TrackMessage) (m : TrackMessage) → IsCounted first (s ∷ said) → m.t_train ≡ first →
     IsSaidBy first (s ∷ said) m → s ≡ m
 turn first s said m counted number is =
@@ -45,7 +45,7 @@ turn first s said m counted number is =
     (member s said m holds))
     is
 
--- where nothing more was said, nothing has its turn
+-- if no further message was sent, no message has the current turn
 no_turn : (first : ℕ) (m : TrackMessage) → m.t_train ≡ first → IsSaidBy first [] m → ⊥
 no_turn first m number is =
     ⊎_elim
@@ -63,7 +63,7 @@ all_apart P m (x ∷ before) after all =
     let apart = all_apart P m before after (All-tail P x (before ++ m ∷ after) all) in
     (All-cons P x before (All-head P x (before ++ m ∷ after) all) apart.0, apart.1, apart.2)
 
--- what waited, and what waits yet
+-- a property of all waiting messages holds for the released message and for the remaining ones
 all_left : (P : TrackMessage → Type 0) (next : ℕ) (m : TrackMessage) (early left : List TrackMessage) → IsTurn next m early left → All P early →
     P m × All P left
 all_left P next m early left is all =

@@ -1,4 +1,4 @@
--- The reply that is taken out of those that wait is the one whose turn it is.
+-- The reply taken out of the waiting replies is the reply of the current turn.
 use Rattle.std.proofs.Common.{◌≡◌, ℕ, suc, ◌+◌, ◌<◌, List, ◌∷◌, ◌++◌, map, take, drop, length, remove, slice_index_or, HoldsAt, sym, ap, ◌∙◌, arith}
 use Rattle.std.proofs.lemmas.List.{drop_more, take-append-drop, map-append}
 use Rattle.serve_workers.specs.declared.writing.reply.Reply.{Reply}

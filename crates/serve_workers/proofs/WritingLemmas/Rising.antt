@@ -1,4 +1,4 @@
--- What an order lets out rises, also over the sessions of its train.
+-- The T_TRAINs of the messages that an order releases rise, also over the sessions of its train.
 use Rattle.std.proofs.Common.{◌≡◌, ℕ, ◌+◌, ◌≤◌, List, [], ◌∷◌, arith, nat_lt}
 use Rattle.std.proofs.lemmas.Bool.{cond_both, ltb-false}
 use Rattle.rbc_spec.specs.Message.{TrackMessage}

@@ -1,4 +1,4 @@
--- That bytes spell a message has no more than one proof.
+-- There is only one proof that bytes spell a message.
 use Rattle.std.proofs.Common.{ℕ, List}
 use Rattle.std.proofs.Props.{props}
 use Rattle.rbc_spec.specs.Message.{TrackBody, Authority, DataAcknowledged, ShorteningRequest, Transition, EndSession, SystemVersion, TerminationAcknowledged, TrainRejected, TrainAccepted, TrackMessage}

@@ -1,4 +1,4 @@
--- What is written, piece after piece: rows of messages.
+-- The written bytes, piece after piece: lists of messages.
 use Rattle.std.proofs.Common.{◌≡◌, ℕ, List, [], ◌∷◌, ◌++◌, Option, Some, None, Result, Ok, Err, OnErr, refl, sym, ap, subst, ◌∙◌, append_assoc, append-nil}
 use Rattle.std.specs.Io.KnownBytes.{Appends}
 use Rattle.rbc_spec.specs.Message.{TrackMessage}
@@ -18,7 +18,7 @@ pub OnErr-intro : {T E : Type 0} {P : Type 0} (r : Result T E) → P → OnErr r
 OnErr-intro (Ok x) p = tt
 OnErr-intro (Err e) p = p
 
--- a message after those of a row
+-- one more message after those of a list
 spell-more : (ms : List TrackMessage) (bytes last : List ℕ) (m : TrackMessage) → SpellRow bytes ms → SpellsTrack last m → SpellRow (bytes ++ last) (ms ++ m ∷ [])
 spell-more [] bytes last m h s = (last, [], ap (λ xs. xs ++ last) h ∙ sym (append-nil last), s, refl)
 spell-more (n ∷ ms) bytes last m h s =

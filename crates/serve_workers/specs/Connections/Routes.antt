@@ -1,5 +1,5 @@
--- Where a message to a train goes: a function of the message, of the connection that it answers, and of which
--- connection serves which train.
+-- The destination of a message to a train. It depends on the message, on the connection that it answers, and on the
+-- connection that serves each train.
 use Rattle.std.specs.Prelude.{ℕ, ◌==◌, Bool, true, false, List, Option, Some, None, if◌then◌else◌, slice_get, slice_set, option_map, option_and_then}
 use Rattle.std.specs.Option.{option_map_or}
 use Rattle.rbc_spec.specs.Line.{Line, train_number}
@@ -8,13 +8,12 @@ use Rattle.serve_workers.specs.Connections.Serving.{released}
 use Rattle.serve_workers.specs.declared.connections.route.Route.{Route}
 use Rattle.serve_workers.specs.declared.connections.routing_table.Directed.{Directed}
 
--- message 32, by which a session begins
+-- message 32, which begins a session
 abbrev pub is_version : TrackBody → Bool
 is_version SystemVersion = true
 is_version body = false
 
--- The train that the engine is, by its place in the line file. The connection that is answered serves it from message
--- 32 on.
+-- The train of the engine, by its place in the line file. The answered connection serves the train from message 32 on.
 abbrev pub route_of : Line → Option ℕ → ℕ → TrackBody → Option Route
 route_of line own t body =
     option_map (λ i. record { train = i; begins = if is_version body then own else None }) (train_number line t)
@@ -23,16 +22,17 @@ route_of line own t body =
 abbrev pub served_by : ℕ → List (Option ℕ) → Option ℕ
 served_by train serving = option_and_then (λ n. n) (slice_get serving train)
 
--- who serves which train after a message of this route
+-- the serving connections after a message of this route
 abbrev pub serving_after : Route → List (Option ℕ) → List (Option ℕ)
 serving_after r serving = option_map_or (λ n. slice_set (released n serving) r.train (Some n)) r.begins serving
 
--- the connection, if it is another than this
+-- the connection, if it is not the one of this number
 abbrev pub other_than : ℕ → Option ℕ → Option ℕ
 other_than n (Some b) = if b == n then None else Some b
 other_than n None = None
 
--- It goes to the connection that serves its train then. Where another served the train before, that one ends.
+-- The message goes to the connection that serves its train after it. If another connection served the train before,
+-- that one ends.
 abbrev pub directed : Route → List (Option ℕ) → Directed
 directed r serving = record {
   to = served_by r.train (serving_after r serving);

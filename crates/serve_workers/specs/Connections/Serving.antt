@@ -1,4 +1,4 @@
--- Which connection serves which train: by the trains' places, the number of the connection.
+-- The serving connections: by the trains' places, the number of the connection.
 use Rattle.std.specs.Prelude.{ℕ, ◌==◌, List, map, Option, Some, None, if◌then◌else◌}
 
 -- the connection of this number does not serve that train

@@ -1,4 +1,4 @@
--- What a writer of replies leaves: consecutive messages of a centre.
+-- The bytes that a writer of replies leaves: consecutive messages of a centre.
 use Rattle.std.specs.Prelude.{◌≡◌, ℕ, List, [], ◌∷◌, ◌++◌, take}
 use Rattle.rbc_spec.specs.Message.{TrackMessage}
 use Rattle.rbc_msgs.specs.TrackSpelling.{SpellsTrack}

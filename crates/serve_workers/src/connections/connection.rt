@@ -7,10 +7,10 @@ use std::sync::atomic::{AtomicBool, Ordering};
 use std::sync::{Arc, Wait};
 use std::{io, thread};
 
-/// How often a reply is offered to the channel of a connection before the train counts as too slow.
+/// The offers of a reply to the channel of a connection before the train counts as too slow.
 const OFFERS: u32 = 100;
 
-/// A stream of which others have parts too.
+/// A stream with several owners.
 #[derive(Drop)]
 pub struct Shared(pub Arc<TcpStream, Global>);
 
@@ -25,23 +25,23 @@ impl Write for Shared {
     }
 }
 
-/// A train's connection, as those who have something to say to the train see it.
+/// A train's connection, as the senders of messages to the train see it.
 #[derive(Drop)]
 pub struct Connection {
-    /// Where the replies go that its writer writes.
+    /// The queue of replies to its writer.
     replies: Sender<Reply>,
     shared_writer: Arc<SharedWriter<Shared>, Global>,
     stream: Arc<TcpStream, Global>,
     /// Whether its train was too slow.
     is_cut: AtomicBool,
-    /// Whether it was ended here.
+    /// Whether the centre ended it.
     is_ended: AtomicBool,
     /// Whether each reply waits until its event is written.
     is_held: bool,
 }
 
 impl Connection {
-    /// A connection over this stream, whose writer has the other ends of the channel and of the shared_writer.
+    /// A connection over this stream. Its writer has the receiver of the channel and the end of the shared writer.
     pub fn new(
         replies: Sender<Reply>,
         shared_writer: Arc<SharedWriter<Shared>, Global>,
@@ -57,7 +57,7 @@ impl Connection {
         }
     }
 
-    /// The same connection, where each reply waits until its event is written: only its writer writes.
+    /// The same connection, but each reply waits until its event is written: only its writer writes.
     pub fn held(self) -> Connection {
         let mut connection = self;
         connection.is_held = true;
@@ -72,14 +72,14 @@ impl Connection {
         self.shared_writer.turn()
     }
 
-    /// Writes a reply in the calling thread. A write that fails ends the connection.
+    /// Writes a reply in the calling thread. A failed write ends the connection.
     pub(crate) fn write(&self, turn: Turn<'_, Shared>, reply: &Reply) {
         if turn.write(reply).is_err() {
             self.shut();
         }
     }
 
-    /// Hands a reply to the writer. A connection whose train is too slow to take it is cut.
+    /// Sends a reply to the writer. If the train is too slow to take it, the connection is cut.
     pub(crate) fn say<R: Wait>(&self, rt: &R, reply: Reply) {
         self.shared_writer.expect(&reply);
         if !self.offer(rt, reply) {
@@ -87,7 +87,7 @@ impl Connection {
         }
     }
 
-    // Offers a reply to the writer. It says whether the writer took it: if not, too many replies wait already.
+    // Offers a reply to the writer. It returns false if the writer did not take it, since too many replies wait.
     fn offer<R: Wait>(&self, rt: &R, reply: Reply) -> bool {
         let mut left = reply;
         for _ in 0..OFFERS {
@@ -101,7 +101,7 @@ impl Connection {
         false
     }
 
-    /// Ends the connection, since its train is too slow.
+    /// Ends the connection because its train is too slow.
     pub(crate) fn cut(&self) {
         self.is_cut.store(true, Ordering::SeqCst);
         self.shut();
@@ -112,12 +112,12 @@ impl Connection {
         self.is_cut.load(Ordering::SeqCst)
     }
 
-    /// Whether it was ended here.
+    /// Whether the centre ended it.
     pub(crate) fn is_ended(&self) -> bool {
         self.is_ended.load(Ordering::SeqCst)
     }
 
-    /// Ends the connection for both sides.
+    /// Ends the connection in both directions.
     pub(crate) fn shut(&self) {
         self.is_ended.store(true, Ordering::SeqCst);
         let _ = self.stream.shutdown(Shutdown::Both);

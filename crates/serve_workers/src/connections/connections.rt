@@ -10,25 +10,25 @@ use std::sync::{Arc, Mutex, MutexGuard, Wait};
 use std::thread;
 use std::thread::Parker;
 
-/// How many replies to a train may wait for their turn before the thread that reads its connection rests.
+/// The most replies to a train that wait for their turn before the thread that reads its connection rests.
 const FEW: usize = 64;
 
-/// How often that thread rests at most.
+/// The most rests of that thread.
 const RESTS: u32 = 10_000;
 
-/// The connections of trains at a centre, and the wakers of the links that its frames go to.
+/// The connections of trains at a centre, and the wakers of the links that carry its frames.
 #[derive(Drop)]
 pub struct TrainConnections<'a> {
     alloc: Global,
     line: &'a Line,
     board: Mutex<RoutingTable<Arc<Connection, Global>>>,
-    // By the trains' places in the line file: the order of what the centre says to each.
+    // In the order of the trains in the line file: the order of the messages to each train.
     orders: Vec<Mutex<Order>>,
     links: &'a [Parker],
 }
 
 impl<'a> TrainConnections<'a> {
-    /// An connections for so many connections, of which there is none yet.
+    /// Places for this many connections; there is no connection yet.
     pub fn new(
         alloc: Global,
         line: &'a Line,
@@ -46,7 +46,7 @@ impl<'a> TrainConnections<'a> {
         })
     }
 
-    /// Takes a connection in under this number. It serves no train yet.
+    /// Registers a connection under this number. It serves no train yet.
     pub fn enter<R: Wait>(
         &self,
         rt: &R,
@@ -58,7 +58,8 @@ impl<'a> TrainConnections<'a> {
         Ok(())
     }
 
-    /// Lets the connection of this number go, and says whether its train was fast enough for its answers.
+    /// Removes the connection of this number. It returns false if the connection was cut, since its train was too slow,
+    /// or is not registered.
     pub fn leave<R: Wait>(&self, rt: &R, number: usize) -> bool {
         match self.board.lock(rt).leave(number) {
             Some(connection) => !connection.is_cut(),
@@ -71,8 +72,8 @@ impl<'a> TrainConnections<'a> {
         self.board.lock(rt).is_serving(number)
     }
 
-    // The connection that a message of this route goes to, with its number, if one serves its train. One that served
-    // the train before ends. The board is free again after it.
+    // The connection for a message of this route, with its number, if one serves its train. A connection that served
+    // the train before is ended. The routing table is unlocked on return.
     fn direct<R: Wait>(&self, rt: &R, route: &Route) -> Option<(usize, Arc<Connection, Global>)> {
         let mut board = self.board.lock(rt);
         let directed = board.direct(route);
@@ -86,8 +87,8 @@ impl<'a> TrainConnections<'a> {
         Some((number, Arc::try_clone(connection).ok()?))
     }
 
-    // Hands a message to a train in to its order, and lets out what has its turn now. `own` is the number of the
-    // connection that the calling thread reads, and `stamp` that of the event.
+    // Submits a message to the order of its train, and releases the messages whose turn has come. `own` is the number
+    // of the connection that the calling thread reads, and `stamp` that of the event.
     fn say<R: Wait>(&self, rt: &R, own: Option<usize>, saying: &Saying, stamp: u32) {
         let Some(route) = route_of(self.line, own, saying) else {
             return;
@@ -107,9 +108,9 @@ impl<'a> TrainConnections<'a> {
         }
     }
 
-    // Lets the order go on with the session that a message of this route begins. A connection that serves the train
-    // already, or was ended, begins nothing: the message has its turn as any other. `None` if a later session has
-    // begun over another connection: then this one ends.
+    // Lets the order go on with the session that a message of this route begins. If the connection already serves the
+    // train, or was ended, it begins nothing, and the message has its normal turn. `None` if a later session has begun
+    // over another connection: then this one ends.
     fn begin<R: Wait>(
         &self,
         rt: &R,
@@ -136,7 +137,7 @@ impl<'a> TrainConnections<'a> {
         }
     }
 
-    // Hands a message in, and says whether there was room for it.
+    // Submits a message, and returns whether there was room for it.
     fn submit(&self, order: &mut Order, saying: &Saying, stamp: u32) -> bool {
         match Reply::new(self.alloc, saying.message) {
             Ok(reply) => order.submit(reply.answering(stamp)).is_ok(),
@@ -144,7 +145,7 @@ impl<'a> TrainConnections<'a> {
         }
     }
 
-    // Says all messages of an outcome, and rings the wakers where it has frames.
+    // Sends all messages of an outcome, and rings the wakers if it has frames.
     fn tell<R: Wait>(&self, rt: &R, own: Option<usize>, outcome: &Outcome) {
         for saying in outcome.sayings.as_slice() {
             self.say(rt, own, saying, outcome.stamp);
@@ -158,7 +159,7 @@ impl<'a> TrainConnections<'a> {
     }
 }
 
-// The order of what is said to each train, before anything is said.
+// The orders of the messages to the trains, before the first message.
 fn orders_of(alloc: Global, trains: u8) -> Result<Vec<Mutex<Order>>, AllocError> {
     let mut orders = Vec::new(alloc);
     for _ in 0..trains {
@@ -167,9 +168,9 @@ fn orders_of(alloc: Global, trains: u8) -> Result<Vec<Mutex<Order>>, AllocError>
     Ok(orders)
 }
 
-// Says what has its turn, over the connection that serves the train, and says whether many replies wait on. Where a
-// reply was not taken, none of them comes any more: the connection is cut. The first reply is written here if the
-// calling thread reads the connection, and no other waits.
+// Sends the messages whose turn has come, over the connection that serves the train. It returns whether many replies
+// still wait. If a reply was not taken, no later reply can follow it: the connection is cut. The first reply is written
+// here if the calling thread reads the connection, and no other waits.
 fn release<R: Wait>(
     rt: &R,
     own: Option<usize>,
@@ -203,7 +204,7 @@ fn release<R: Wait>(
     is_long
 }
 
-// Hands what has its turn to the writer of the connection. Where there is none, it is let go.
+// Sends the messages whose turn has come to the writer of the connection. If there is no connection, they are dropped.
 fn say_due<R: Wait>(rt: &R, connection: Option<&Connection>, order: &mut Order) {
     for _ in 0..order.waiting() {
         let Some(reply) = order.release() else {
@@ -215,7 +216,7 @@ fn say_due<R: Wait>(rt: &R, connection: Option<&Connection>, order: &mut Order) 
     }
 }
 
-// Rests a while where many replies wait for one that another thread is about to hand in.
+// Rests while many replies wait for one that another thread is about to submit.
 fn rest<R: Wait>(rt: &R, order: &Mutex<Order>) {
     for _ in 0..RESTS {
         if order.lock(rt).waiting() <= FEW {
@@ -233,7 +234,7 @@ impl AnswerSink for TrainConnections<'_> {
     }
 }
 
-/// One connection of an connections, as the session over it sees it.
+/// One connection of a centre's connections, as its session sees it.
 #[derive(Clone, Copy)]
 pub struct ConnectionSink<'a> {
     pub connections: &'a TrainConnections<'a>,

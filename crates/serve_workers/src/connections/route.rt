@@ -7,16 +7,16 @@ use rbc_centre::Saying;
 use rbc_line::Line;
 use rbc_msgs::TrackBody;
 
-/// Which train a message of the centre is for, by its place in the line file, and the connection that serves the train
-/// from this message on, if it begins to.
+/// The train of a message from the centre, by its place in the line file. `begins` is the connection that begins to
+/// serve the train with this message, if one does.
 #[derive(Clone, Copy, Debug, PartialEq, Eq)]
 pub(crate) struct Route {
     pub train: usize,
     pub begins: Option<usize>,
 }
 
-/// The route of a message that answers what came over the connection `own`, or no connection. A message to an engine
-/// that is none of the line has none.
+/// The route of a message that answers the connection `own`, or no connection. There is no route if no train of the
+/// line has this engine.
 pub(crate) fn route_of(line: &Line, own: Option<usize>, saying: &Saying) -> Option<Route>
     ensures { result ≡ route_of line.now own saying.now.nid_engine saying.now.message.body }
 {
@@ -29,7 +29,7 @@ pub(crate) fn route_of(line: &Line, own: Option<usize>, saying: &Saying) -> Opti
     Some(Route { train, begins })
 }
 
-// Whether it is message 32, by which a session begins.
+// Whether it is message 32, which begins a session.
 fn is_version(body: TrackBody) -> bool
     ensures { IsTrue result ↔ (track_body body ≡ SystemVersion) }
 {

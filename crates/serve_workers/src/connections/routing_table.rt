@@ -5,16 +5,16 @@ ghost use Rattle.serve_workers.specs.Connections.Routes.{directed, other_than, s
 use crate::connections::route::Route;
 use std::alloc::{AllocError, Global};
 
-/// Where a message to a train goes: the number of its connection, if one serves the train, and that of a connection
-/// which served the train before, and ends.
+/// The destination of a message to a train: the connection that serves the train, if there is one. `ended` is another
+/// connection, which served the train before, and ends.
 #[derive(Clone, Copy, Debug, PartialEq, Eq)]
 pub(crate) struct Directed {
     pub to: Option<usize>,
     pub ended: Option<usize>,
 }
 
-/// Which connections there are at a centre, and which of them serves which train. A connection serves one train at
-/// most, and a train is served over one connection at most.
+/// The connections of a centre, and the train that each serves. A connection serves at most one train, and at most one
+/// connection serves a train.
 #[derive(Drop)]
 pub(crate) struct RoutingTable<C: Drop> {
     // By the connections' numbers.
@@ -24,7 +24,7 @@ pub(crate) struct RoutingTable<C: Drop> {
 }
 
 impl<C: Drop> RoutingTable<C> {
-    /// Places for so many connections and so many trains.
+    /// Places for this many connections and this many trains.
     pub fn new(alloc: Global, connections: usize, trains: usize) -> Result<Self, AllocError>
         ensures connections { IfOk result (λ b. b.connections.items ≡ replicate connections None) }
         ensures serving { IfOk result (λ b. b.serving.items ≡ replicate trains None) }
@@ -37,8 +37,7 @@ impl<C: Drop> RoutingTable<C> {
         })
     }
 
-    /// Takes a connection in under its number. It serves no train yet. It is handed back where there is no place of
-    /// that number.
+    /// Enters a connection under its number. It serves no train yet. It is dropped if there is no place of that number.
     pub fn enter(&mut self, number: usize, connection: C)
         ensures connections { self.new.connections.items
             ≡ slice_set self.old.connections.items number (Some connection) }
@@ -50,7 +49,7 @@ impl<C: Drop> RoutingTable<C> {
         }
     }
 
-    /// Lets a connection go, which serves no train any more, and gives it if it was there.
+    /// Removes a connection, and returns it if it was there. It serves no train any more.
     pub fn leave(&mut self, number: usize) -> Option<C>
         ensures given { result ≡ option_and_then (λ c. c) (slice_get self.old.connections.items number) }
         ensures connections { self.new.connections.items ≡ slice_set self.old.connections.items number None }
@@ -72,7 +71,8 @@ impl<C: Drop> RoutingTable<C> {
         }
     }
 
-    /// Takes a message of this route, and says where it goes. Who serves its train changes where it begins a session.
+    /// Routes a message, and returns its destination. If the message begins a session, another connection may serve its
+    /// train from now on.
     pub fn direct(&mut self, route: &Route) -> Directed
         ensures directed { result ≡ directed route.now self.old.serving.items }
         ensures serving { self.new.serving.items ≡ serving_after route.now self.old.serving.items }
@@ -86,7 +86,8 @@ impl<C: Drop> RoutingTable<C> {
         Directed { to, ended }
     }
 
-    // The connection serves this train from now on: which other one served it before.
+    // From now on the connection serves this train. The result is the other connection that served it before, if there
+    // was one.
     fn begin(&mut self, number: usize, train: usize) -> Option<usize>
         ensures ended { result ≡ other_than number (served_by train self.old.serving.items) }
         ensures serving { self.new.serving.items
@@ -117,7 +118,7 @@ impl<C: Drop> RoutingTable<C> {
         self.connections.get(number)?.as_ref()
     }
 
-    /// Whether a connection serves a train.
+    /// Whether the connection of this number serves a train.
     pub fn is_serving(&self, number: usize) -> bool
         ensures { IsTrue result ↔ Contains self.now.serving.items (Some number) }
     {
@@ -135,7 +136,7 @@ impl<C: Drop> RoutingTable<C> {
     }
 }
 
-// Places for so many, with nothing in them.
+// This many empty places.
 fn no_places<C: Drop>(alloc: Global, count: usize) -> Result<Vec<Option<C>>, AllocError>
     ensures { IfOk result (λ places. places.items ≡ replicate count None) }
 {
@@ -146,7 +147,7 @@ fn no_places<C: Drop>(alloc: Global, count: usize) -> Result<Vec<Option<C>>, All
     Ok(places)
 }
 
-// What a train is served by, where the connection of this number serves it no more.
+// The connection that serves a train, after the connection of this number has ceased to serve it.
 fn freed(number: usize, place: Option<usize>) -> Option<usize>
     ensures { result ≡ freed number place }
 {
@@ -156,7 +157,7 @@ fn freed(number: usize, place: Option<usize>) -> Option<usize>
     }
 }
 
-// The connection, if it is another than that of this number.
+// The connection, if it is not the one of this number.
 fn other_than(number: usize, connection: Option<usize>) -> Option<usize>
     ensures { result ≡ other_than number connection }
 {

@@ -1,26 +1,27 @@
 ghost use Rattle.std.specs.Prelude.{◌≡◌, ◌≤◌, ◌<◌, ℕ, ◌+◌, ◌-◌, ◌*◌, List, max, IfErr, OnOk, OnErr};
 ghost use Rattle.serve_workers.specs.Reading.Rates.{Ask, Answers, held_at, last_time, passed};
 
-/// What one message takes of a bucket, in thousandths of a message.
+/// The cost of one message in a bucket, in thousandths of a message.
 const MESSAGE: u64 = 1000;
 
-/// How many messages a connection may say.
+/// The rate of a connection's messages.
 #[derive(Clone, Copy, Debug, PartialEq, Eq)]
 pub struct Rate {
-    /// In a second, one after another.
+    /// The messages per second, on average.
     pub per_second: u32,
-    /// At once, where it was silent for long enough before.
+    /// The messages at once, after a long enough silence.
     pub burst: u32,
 }
 
-/// What a connection may still say at once. It fills with time, and each message takes from it: in any span of time it
-/// lets through no more than a burst, and what its rate gives in that time (`a_bucket_keeps_to_its_rate`).
+/// The messages that a connection may still send at once. The level rises with time, and each message takes from it. In
+/// any span of time the bucket passes at most one burst, and the gain of its rate in that time
+/// (`a_bucket_keeps_to_its_rate`).
 #[derive(Clone, Copy, Debug)]
 pub struct Bucket {
     rate: Rate,
     // In thousandths of a message.
     level: u64,
-    // When it was filled last, in milliseconds.
+    // The time of the last fill, in milliseconds.
     at: u64,
 }
 
@@ -38,8 +39,8 @@ impl Bucket {
         }
     }
 
-    /// One more message asks at this time, in milliseconds, whether it may pass. Where it may not yet, the answer is
-    /// how many milliseconds it is to wait before it asks again.
+    /// Asks whether one more message may pass at this time, in milliseconds. If it may not, the error is the number of
+    /// milliseconds to wait before it asks again.
     pub fn ask(&mut self, now: u64) -> Result<(), u64>
         ensures rate { self.new.rate ≡ self.old.rate }
         ensures at { self.new.at ≡ max self.old.at now }
@@ -57,7 +58,7 @@ impl Bucket {
         Err((MESSAGE - self.level) / per_second + 1)
     }
 
-    // What came since it was filled last.
+    // Adds the gain since the last fill.
     fn fill(&mut self, now: u64)
         ensures rate { self.new.rate ≡ self.old.rate }
         ensures at { self.new.at ≡ max self.old.at now }
@@ -71,8 +72,8 @@ impl Bucket {
     }
 }
 
-/// However a bucket was asked, and whatever it held at first: what it let through is no more than it can hold, and what
-/// its rate gave from when it was filled before the first ask to the last.
+/// For any asks and any level at first: the bucket passes at most its capacity and the gain of its rate. The gain
+/// counts from the last fill before the first ask to the last ask.
 pub fn a_bucket_keeps_to_its_rate()
     ensures { (rate burst level at : ℕ) (asks : List Ask) → level ≤ burst * 1000 → Answers rate burst level at asks
         → passed asks * 1000 ≤ burst * 1000 + (last_time at asks - at) * rate }

@@ -5,10 +5,10 @@ ghost use Rattle.serve_workers.specs.Reading.Intake.{Brings, EndsSo};
 use crate::reading::source::Source;
 use rbc_msgs::{Stream, StreamFault, TrainMsg};
 
-/// How many bytes one read takes at most: some messages of the greatest length.
+/// The most bytes of one read: a few messages of the greatest length.
 const PIECE: usize = 4096;
 
-/// Why nothing more is read of a connection.
+/// The reason why nothing more is read from a connection.
 #[derive(Clone, Copy, Debug, PartialEq, Eq)]
 pub enum IntakeEnd {
     /// No bytes are left.
@@ -19,8 +19,8 @@ pub enum IntakeEnd {
     Device,
 }
 
-/// Reads one piece from the source, and appends the messages that are whole with it. Before a fault of the bytes the
-/// messages in front of it are appended; at the other ends the stream keeps what it has of a message that is not whole.
+/// Reads one piece from the source, and appends the messages that are complete with it. Messages before a fault of the
+/// bytes are appended first. At the other ends the stream keeps the bytes of an incomplete message.
 pub fn read_messages<S: Source>(
     source: &mut S,
     stream: &mut Stream,

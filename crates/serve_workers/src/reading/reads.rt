@@ -26,8 +26,7 @@ impl<R: Read + Drop> Source for Reads<R> {
     ghost failures = { λ s. s.failed };
 
     fn read(&mut self, buffer: &mut [u8]) -> Result<usize, ReadFailed> {
-        // A read that the system interrupts, as where the process is stopped and goes on, has not failed: it is tried
-        // again.
+        // An interrupted read has not failed, as when the process is stopped and continues: it is tried again.
         for _ in 0..u64::MAX {
             match self.reader.read(buffer) {
                 Ok(count) => return Ok(count),

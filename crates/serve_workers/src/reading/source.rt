@@ -6,16 +6,16 @@ ghost use Rattle.std.specs.Io.KnownBytes.{ReadConsumes};
 #[derive(Clone, Copy, Debug, PartialEq, Eq)]
 pub struct ReadFailed;
 
-/// Where the bytes of a train come from.
+/// The source of a train's bytes.
 pub trait Source {
-    // The bytes that reads will give from here on, where the source tells them.
+    // The bytes that later reads will give, if the source knows them.
     ghost left: { Self → Option (List ℕ) };
 
-    // How many reads have failed.
+    // The number of failed reads.
     ghost failures: { Self → ℕ };
 
-    /// Reads some bytes into the front of the buffer, and gives their number: none only where none are left, or where
-    /// the buffer has no room. A read that fails gives none.
+    /// Reads some bytes into the front of the buffer, and returns their number. The number is 0 only if no bytes are
+    /// left, or the buffer has no room. A failed read gives no bytes.
     fn read(&mut self, buffer: &mut [u8]) -> Result<usize, ReadFailed>
         requires { failures self.old < 2 ^ 64 - 1 }
         ensures bound { ReadsAtMost result buffer.new }

@@ -4,16 +4,17 @@ ghost use Rattle.serve_workers.specs.Writing.Turns.{kept, kept_from, message_of,
 use crate::writing::reply::Reply;
 use std::alloc::Global;
 
-/// How many replies wait for their turn at most.
+/// The most replies that wait for their turn.
 const MOST_EARLY: usize = 1_024;
 
-/// The order in which a centre's replies to one train go out. The threads that committed them hand them in as they
-/// come; a centre counts what it says to a train (T_TRAIN), so each reply has its turn, and waits for it.
+/// The order in which a centre's replies to one train are sent. The threads that committed the events may submit the
+/// replies in another order. A centre counts its messages to a train (T_TRAIN), so each reply has its turn, and waits
+/// for it.
 #[derive(Drop)]
 pub struct Order {
     // T_TRAIN of the reply whose turn it is.
     next: u32,
-    // What came before its turn.
+    // The replies that were submitted before their turn.
     early: Vec<Reply>,
 }
 
@@ -22,7 +23,7 @@ pub struct Order {
 pub struct NoRoom;
 
 impl Order {
-    /// The order of all that a centre says to a train. Nothing waits.
+    /// The order of all messages of a centre to a train. Nothing waits, and the first turn is 1.
     pub fn new(alloc: Global) -> Order
         ensures next { result.next ≡ 1 }
         ensures early { result.early.items ≡ [] }
@@ -33,8 +34,8 @@ impl Order {
         }
     }
 
-    /// The order goes on with this T_TRAIN, and earlier messages are dropped. It returns whether it does: if the turn
-    /// of this T_TRAIN is over, a later one has begun already, and nothing changes.
+    /// Goes on with this T_TRAIN, and drops earlier messages. It returns false, and changes nothing, if the turn of
+    /// this T_TRAIN is over: then a later session has begun already.
     pub fn begin(&mut self, t_train: u32) -> bool
         ensures begins { IsTrue result ↔ (self.old.next ≤ t_train) }
         ensures next { self.new.next ≡ turn_from t_train self.old.next }
@@ -56,7 +57,7 @@ impl Order {
         t_train < self.next
     }
 
-    /// A reply is handed in, and waits for its turn. One whose turn is over is let go.
+    /// Submits a reply, which waits for its turn. A reply whose turn is over is dropped.
     pub fn submit(&mut self, reply: Reply) -> Result<(), NoRoom>
         ensures next { self.new.next ≡ self.old.next }
         ensures ok { OnOk result
@@ -73,14 +74,14 @@ impl Order {
         self.early.push(reply).ok().ok_or(NoRoom)
     }
 
-    /// How many replies wait for their turn.
+    /// The number of replies that wait for their turn.
     pub fn waiting(&self) -> usize
         ensures { result ≡ length self.now.early.items }
     {
         self.early.len()
     }
 
-    /// The reply whose turn it is, if it was handed in. The turn goes on to the next.
+    /// Releases the reply whose turn it is, if it was submitted. Then the turn advances by one.
     pub fn release(&mut self) -> Option<Reply>
         ensures next { self.new.next ≡ (if is_some result then self.old.next + 1 else self.old.next) }
         ensures some { IfSome result
@@ -96,7 +97,7 @@ impl Order {
     }
 }
 
-// Where the reply with this T_TRAIN stands.
+// The place of the reply with this T_TRAIN.
 fn place_of(replies: &[Reply], t_train: u32) -> Option<usize>
     ensures some { IfSome result
         (λ i. (i < length replies.now) × HoldsAt (λ reply. reply.message.t_train ≡ t_train) replies.now i) }

@@ -1,8 +1,8 @@
 use std::sync::Wait;
 
-/// Tells when replies may be written.
+/// Decides when replies may be written.
 pub trait Release {
-    /// Waits until a reply to the event with this stamp may be written. It returns false if none ever may.
+    /// Waits until a reply to the event with this stamp may be written. It returns false if it never may.
     fn is_released<R: Wait>(&self, rt: &R, stamp: u32) -> bool;
 }
 

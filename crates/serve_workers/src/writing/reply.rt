@@ -4,7 +4,7 @@ ghost use Rattle.rbc_msgs.specs.TrackSpelling.{SpellsTrack};
 use rbc_msgs::{EncodeFault, TrackMsg, encode_track};
 use std::alloc::Global;
 
-/// A message to a train, with the bytes that spell it, and the stamp of the event that it answers.
+/// A message to a train, with its bytes, and the stamp of the event that it answers.
 #[derive(Debug, Drop)]
 pub struct Reply {
     message: TrackMsg,
@@ -15,7 +15,8 @@ pub struct Reply {
 }
 
 impl Reply {
-    /// The reply that says this message, and answers no event. None is too long, so it fails for want of memory alone.
+    /// The reply with this message, as an answer to no event. No message is too long, so it fails only if memory runs
+    /// out.
     pub fn new(alloc: Global, message: TrackMsg) -> Result<Reply, EncodeFault>
         ensures { IfOk result (λ reply. reply.message ≡ message) }
     {
@@ -44,7 +45,7 @@ impl Reply {
         self.stamp
     }
 
-    /// What it says.
+    /// The message.
     pub fn message(&self) -> TrackMsg
         ensures { result ≡ self.now.message }
     {

@@ -5,14 +5,14 @@ use std::io::{ErrorKind, Write};
 use std::sync::atomic::{AtomicU64, Ordering};
 use std::sync::{Mutex, MutexGuard, Wait};
 
-/// Where the replies of one connection are written. Its writer writes those that wait; where none waits, the thread
-/// that reads the connection writes its own. So a reply is never written among the bytes of another, and never in front
-/// of one that waits.
+/// The output of one connection. Its writer writes the waiting replies. If none waits, the thread that reads the
+/// connection writes its own reply. So a reply is never written among the bytes of another, and never before one that
+/// waits.
 #[derive(Drop)]
 pub struct SharedWriter<W: Drop> {
-    // How many bytes wait for the writer.
+    // The number of bytes that wait for the writer.
     waiting: AtomicU64,
-    // None after a reply that was not written whole.
+    // `None` after a reply that was not written completely.
     out: Mutex<Option<W>>,
 }
 
@@ -23,7 +23,7 @@ pub struct Turn<'a, W: Drop> {
 }
 
 impl<W: Write + Drop> Turn<'_, W> {
-    /// Writes the reply. After a write that fails nothing more is written.
+    /// Writes the reply. After a failed write nothing more is written.
     pub fn write(mut self, reply: &Reply) -> Result<(), WriteFailed> {
         let Some(out) = &mut *self.out else {
             return Err(WriteFailed);
@@ -37,7 +37,7 @@ impl<W: Write + Drop> Turn<'_, W> {
 }
 
 impl<W: Write + Drop> SharedWriter<W> {
-    /// The shared_writer to this writer. No reply waits.
+    /// The shared writer of this output. No reply waits.
     pub fn new(out: W) -> SharedWriter<W> {
         SharedWriter {
             waiting: AtomicU64::new(0),
@@ -45,13 +45,13 @@ impl<W: Write + Drop> SharedWriter<W> {
         }
     }
 
-    /// From now on this reply waits. It is said before the reply is handed to the connection's writer.
+    /// From now on this reply waits. It is called before the reply is sent to the connection's writer.
     pub fn expect(&self, reply: &Reply) {
         self.waiting
             .fetch_add(reply.bytes().len() as u64, Ordering::SeqCst);
     }
 
-    /// The right to write a reply at once, if no other waits and none is being written. It waits for nobody.
+    /// The right to write a reply at once, if no other waits and none is being written. It never blocks.
     pub fn turn(&self) -> Option<Turn<'_, W>> {
         let out = self.out.try_lock()?;
         if self.waiting.load(Ordering::SeqCst) != 0 {
@@ -60,7 +60,7 @@ impl<W: Write + Drop> SharedWriter<W> {
         Some(Turn { out })
     }
 
-    /// The shared_writer's end at which its writer writes the replies that wait.
+    /// The end at which the connection's writer writes the waiting replies.
     pub fn end<'a, R: Wait>(&'a self, rt: &'a R) -> QueueWriter<'a, R, W> {
         QueueWriter {
             rt,
@@ -69,7 +69,7 @@ impl<W: Write + Drop> SharedWriter<W> {
     }
 }
 
-/// The end of a shared_writer at which its writer writes the replies that wait.
+/// The end of a shared writer at which the connection's writer writes the waiting replies.
 #[derive(Drop)]
 pub struct QueueWriter<'a, R, W: Drop> {
     rt: &'a R,

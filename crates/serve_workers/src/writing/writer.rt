@@ -12,8 +12,8 @@ use std::sync::Wait;
 #[derive(Clone, Copy, Debug, PartialEq, Eq)]
 pub struct WriteFailed;
 
-/// Writes the replies that come, until no more can come, or a write fails. What is written is a row of whole messages;
-/// only after a write that failed is the last one perhaps no more than begun.
+/// Writes the received replies until no more can arrive, or a write fails. The written bytes are whole messages; only
+/// after a failed write may the last one be incomplete.
 pub fn run_writer<R: Wait, W: Write>(
     rt: &R,
     replies: &Receiver<Reply>,
@@ -27,7 +27,7 @@ pub fn run_writer<R: Wait, W: Write>(
     run_held_writer(rt, replies, &AtOnce, out)
 }
 
-/// The same, where each reply waits until it may be written. It ends at the first that never may.
+/// The same, but each reply waits until it may be written. It ends at the first reply that never may.
 pub fn run_held_writer<R: Wait, L: Release, W: Write>(
     rt: &R,
     replies: &Receiver<Reply>,
@@ -51,7 +51,7 @@ pub fn run_held_writer<R: Wait, L: Release, W: Write>(
     Ok(())
 }
 
-/// Writes all bytes, or, where a write fails, the first of them.
+/// Writes all bytes, or, if a write fails, the first of them.
 pub(crate) fn write_whole<W: Write>(out: &mut W, bytes: &[u8]) -> Result<(), WriteFailed>
     ensures ok { OnOk result (Appends (W.contents out.old) (W.contents out.new) bytes.now) }
     ensures err { OnErr result ((n : ℕ) × Appends (W.contents out.old) (W.contents out.new) (take n bytes.now)) }
@@ -66,7 +66,7 @@ pub(crate) fn write_whole<W: Write>(out: &mut W, bytes: &[u8]) -> Result<(), Wri
     Ok(())
 }
 
-// Writes some bytes, and gives their number. A write that the system interrupts has not failed: it is tried again.
+// Writes some bytes, and returns their number. An interrupted write has not failed: it is tried again.
 fn write_some<W: Write>(out: &mut W, bytes: &[u8]) -> Result<usize, WriteFailed>
     ensures bound { IfOk result (λ count. count ≤ length bytes.now) }
     ensures ok { IfOk result (λ count. Appends (W.contents out.old) (W.contents out.new) (take count bytes.now)) }

@@ -16,10 +16,10 @@ fn rejection(alloc: Global, t_train: u16) -> Result<Reply, Fail> {
 }
 
 // The T_TRAINs of what the order lets out now.
-fn let_out(alloc: Global, order: &mut Order) -> Result<Vec<u32>, Fail> {
+fn release(alloc: Global, order: &mut Order) -> Result<Vec<u32>, Fail> {
     let mut numbers = Vec::new(alloc);
     for _ in 0..order.waiting() {
-        match order.let_out() {
+        match order.release() {
             Some(reply) => numbers.push(reply.message().t_train())?,
             None => break,
         }
@@ -30,11 +30,11 @@ fn let_out(alloc: Global, order: &mut Order) -> Result<Vec<u32>, Fail> {
 // The same, once these were handed in.
 fn handed_in(alloc: Global, order: &mut Order, numbers: &[u16]) -> Result<Vec<u32>, Fail> {
     for number in numbers {
-        if order.hand_in(rejection(alloc, *number)?).is_err() {
+        if order.submit(rejection(alloc, *number)?).is_err() {
             return Err("there is room for the reply".into());
         }
     }
-    let_out(alloc, order)
+    release(alloc, order)
 }
 
 #[test]

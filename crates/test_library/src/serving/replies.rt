@@ -1,9 +1,9 @@
-//! The pipe of a connection, over bytes in memory.
+//! The shared writer of a connection, over bytes in memory.
 
 use crate::line::{ACCEPTED, VERSION};
 use crossbeam_channel::{Receiver, Sender, bounded};
 use rbc_msgs::decode_track;
-use serve_workers::writing::{Pipe, Reply, WriteFailed, run_writer};
+use serve_workers::writing::{Reply, SharedWriter, WriteFailed, run_writer};
 use std::alloc::Global;
 use std::io;
 use std::io::{ErrorKind, Write};
@@ -39,8 +39,8 @@ impl Write for Tape<'_> {
     }
 }
 
-fn pipe_over(kept: &Mutex<Vec<u8>>, is_faulty: bool) -> Pipe<Tape<'_>> {
-    Pipe::new(Tape { kept, is_faulty })
+fn pipe_over(kept: &Mutex<Vec<u8>>, is_faulty: bool) -> SharedWriter<Tape<'_>> {
+    SharedWriter::new(Tape { kept, is_faulty })
 }
 
 fn reply_of(alloc: Global, digits: &str) -> Result<Reply, Fail> {
@@ -74,20 +74,20 @@ fn queued<R: Wait>(
 fn written<R: Wait>(
     rt: &R,
     alloc: Global,
-    pipe: &Pipe<Tape<'_>>,
+    shared_writer: &SharedWriter<Tape<'_>>,
     reply: Reply,
 ) -> Result<Result<(), WriteFailed>, Fail> {
     let (sender, replies) = queued(rt, alloc, reply)?;
     drop(sender);
-    Ok(run_writer(rt, &replies, &mut pipe.end(rt)))
+    Ok(run_writer(rt, &replies, &mut shared_writer.end(rt)))
 }
 
 /// What a write is answered: none where it was not this reply's turn.
 type Answer = Option<Result<(), WriteFailed>>;
 
 // A reply is written at once, if none waits.
-fn written_now(pipe: &Pipe<Tape<'_>>, reply: &Reply) -> Answer {
-    Some(pipe.turn()?.write(reply))
+fn written_now(shared_writer: &SharedWriter<Tape<'_>>, reply: &Reply) -> Answer {
+    Some(shared_writer.turn()?.write(reply))
 }
 
 #[test]
@@ -116,16 +116,16 @@ fn no_reply_overtakes_one_that_waits(rt: HostRuntime) -> Result<(), Fail> {
 fn overtaken<R: Wait>(
     rt: &R,
     alloc: Global,
-    pipe: &Pipe<Tape<'_>>,
+    shared_writer: &SharedWriter<Tape<'_>>,
     kept: &Mutex<Vec<u8>>,
 ) -> Result<(Answer, bool, Result<(), WriteFailed>, Answer), Fail> {
     let version = reply_of(alloc, VERSION)?;
     let accepted = reply_of(alloc, ACCEPTED)?;
-    pipe.expect(&accepted);
-    let first = written_now(pipe, &version);
+    shared_writer.expect(&accepted);
+    let first = written_now(shared_writer, &version);
     let is_empty = kept.lock(rt).is_empty();
-    let waiting = written(rt, alloc, pipe, accepted)?;
-    let second = written_now(pipe, &version);
+    let waiting = written(rt, alloc, shared_writer, accepted)?;
+    let second = written_now(shared_writer, &version);
     Ok((first, is_empty, waiting, second))
 }
 
@@ -143,11 +143,14 @@ fn nothing_is_written_after_a_failed_write(rt: HostRuntime) -> Result<(), Fail> 
 fn failed<R: Wait>(
     rt: &R,
     alloc: Global,
-    pipe: &Pipe<Tape<'_>>,
+    shared_writer: &SharedWriter<Tape<'_>>,
 ) -> Result<([Answer; 2], Result<(), WriteFailed>), Fail> {
     let version = reply_of(alloc, VERSION)?;
-    let now = [written_now(pipe, &version), written_now(pipe, &version)];
-    pipe.expect(&version);
+    let now = [
+        written_now(shared_writer, &version),
+        written_now(shared_writer, &version),
+    ];
+    shared_writer.expect(&version);
     let (_sender, replies) = queued(rt, alloc, version)?;
-    Ok((now, run_writer(rt, &replies, &mut pipe.end(rt))))
+    Ok((now, run_writer(rt, &replies, &mut shared_writer.end(rt))))
 }

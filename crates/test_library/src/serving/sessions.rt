@@ -4,7 +4,7 @@ use crate::line::{HALF_AN_INITIATION, INITIATION};
 use crate::nodes::node_of_a;
 use rbc_node::{Open, Share};
 use serve_workers::reading::Reads;
-use serve_workers::{Closed, SessionEnd, run_session};
+use serve_workers::{NoSink, SessionEnd, run_session};
 use std::alloc::Global;
 use std::io;
 use std::io::{ErrorKind, Read};
@@ -34,7 +34,7 @@ fn ended<R: Wait, S: Read + Drop>(
     let node = node_of_a(alloc)?;
     let mut share = node.share();
     let mut source = Reads::new(reader);
-    let end = run_session(rt, alloc, &node, &Open, &mut share, &mut source, &Closed);
+    let end = run_session(rt, alloc, &node, &Open, &mut share, &mut source, &NoSink);
     Ok((end, share))
 }
 

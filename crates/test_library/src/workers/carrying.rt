@@ -6,7 +6,7 @@ use rbc_board::{Carrier, QueueCarrier};
 use rbc_log::merge;
 use rbc_node::{Family, Node, Open, Share, gather};
 use rbc_world::{Body, Event, Frame, LAST_STAMP, LinkAnswer};
-use serve_workers::{Closed, Desk, InOrder, LinkEnds, receive_frames, send_frames};
+use serve_workers::{Committer, InOrder, LinkEnds, NoSink, receive_frames, send_frames};
 use std::alloc::Global;
 use std::sync::Wait;
 use std::sync::atomic::AtomicBool;
@@ -54,21 +54,21 @@ fn put_and_get<R: Wait>(
 ) -> Result<(), Fail> {
     let (b, of_b) = b;
     let (queue, writer, reader) = QueueCarrier::new(rt, alloc)?;
-    let (ends, bell) = (LinkEnds::new(), Parker::new());
+    let (ends, waker) = (LinkEnds::new(), Parker::new());
     let is_said = AtomicBool::new(true);
-    let sent = send_frames(rt, a, B, &queue, writer, ends.of_sender(&bell, &is_said));
+    let sent = send_frames(rt, a, B, &queue, writer, ends.of_sender(&waker, &is_said));
     if sent.frames != FRAMES {
         return Err("three frames are put".into());
     }
     let is_over = AtomicBool::new(false);
     let mut order = Unruly::new(numbers, &is_over);
-    let desk = Desk {
+    let committer = Committer {
         node: b,
         gate: &Open,
-        outlet: &Closed,
+        sink: &NoSink,
     };
-    let signals = ends.of_receiver(&bell, &is_over);
-    receive_frames(rt, &desk, of_b, A, &queue, reader, &mut order, signals);
+    let signals = ends.of_receiver(&waker, &is_over);
+    receive_frames(rt, &committer, of_b, A, &queue, reader, &mut order, signals);
     Ok(())
 }
 
@@ -130,27 +130,27 @@ fn carried_at_the_end<R: Threads + Wait + Sync, C: Carrier + Sync>(
 {
     let mut of_to = to.share();
     let (sender, receiver) = (from.share().centre(), of_to.centre());
-    let (ends, bell, is_over) = (LinkEnds::new(), Parker::new(), AtomicBool::new(true));
+    let (ends, waker, is_over) = (LinkEnds::new(), Parker::new(), AtomicBool::new(true));
     thread::join(
         rt,
         || -> C::Seen
             requires { C.is_of carrier.now writer }
         {
-            let signals = ends.of_sender(&bell, &is_over);
+            let signals = ends.of_sender(&waker, &is_over);
             send_frames(rt, from, receiver, carrier, writer, signals).seen
         },
         || -> C::Seen
             requires { C.is_of carrier.now reader }
         {
-            let desk = Desk {
+            let committer = Committer {
                 node: to,
                 gate: &Open,
-                outlet: &Closed,
+                sink: &NoSink,
             };
             let mut order = InOrder::new();
-            let signals = ends.of_receiver(&bell, &is_over);
+            let signals = ends.of_receiver(&waker, &is_over);
             receive_frames(
-                rt, &desk, &mut of_to, sender, carrier, reader, &mut order, signals,
+                rt, &committer, &mut of_to, sender, carrier, reader, &mut order, signals,
             )
         },
     );
@@ -222,15 +222,15 @@ fn asked_for<R: Wait>(
     if queue.put(&mut writer, 1, late).is_err() {
         return Err("there is room for the frame".into());
     }
-    let (ends, bell, is_over) = (LinkEnds::new(), Parker::new(), AtomicBool::new(false));
+    let (ends, waker, is_over) = (LinkEnds::new(), Parker::new(), AtomicBool::new(false));
     let mut order = Tried::new(&is_over);
-    let desk = Desk {
+    let committer = Committer {
         node: b,
         gate: &Open,
-        outlet: &Closed,
+        sink: &NoSink,
     };
-    let signals = ends.of_receiver(&bell, &is_over);
-    let mut seen = receive_frames(rt, &desk, of_b, A, &queue, reader, &mut order, signals);
+    let signals = ends.of_receiver(&waker, &is_over);
+    let mut seen = receive_frames(rt, &committer, of_b, A, &queue, reader, &mut order, signals);
     let is_there = queue.get(&mut seen, 1) == Some(late);
     Ok((order.asked(), is_there))
 }

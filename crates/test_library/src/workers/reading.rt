@@ -5,7 +5,7 @@ use crate::nodes::node_of_a;
 use rbc_node::{Node, Open, Share};
 use rbc_world::Phase;
 use serve_workers::reading::Reads;
-use serve_workers::{Closed, SessionEnd, run_session};
+use serve_workers::{NoSink, SessionEnd, run_session};
 use std::alloc::Global;
 use std::io;
 use std::io::{ErrorKind, Read};
@@ -38,7 +38,7 @@ fn session<R: Wait>(
     bytes: Ending<'_>,
 ) -> SessionEnd {
     let mut source = Reads::new(bytes);
-    run_session(rt, alloc, node, &Open, share, &mut source, &Closed)
+    run_session(rt, alloc, node, &Open, share, &mut source, &NoSink)
 }
 
 /// A session at the node over this message and the end of the stream: how it ends.
@@ -92,8 +92,8 @@ fn ended<R: Wait>(rt: &R, alloc: Global, count: usize, fails: bool) -> Result<En
 fn half_a_message_leaves_nothing(rt: HostRuntime) -> Result<(), Fail> {
     let failed = ended(&rt, rt.alloc(), 5, true)?;
     let over = ended(&rt, rt.alloc(), 5, false)?;
-    assert!(rt; failed == (SessionEnd::Device, 0, (0, Phase::Closed)));
-    assert!(rt; over == (SessionEnd::EndOfStream, 0, (0, Phase::Closed)));
+    assert!(rt; failed == (SessionEnd::Device, 0, (0, Phase::NoSink)));
+    assert!(rt; over == (SessionEnd::EndOfStream, 0, (0, Phase::NoSink)));
     Ok(())
 }
 

@@ -1,4 +1,4 @@
--- What a writer has once one more row follows the others.
+-- The text of a writer after one more line.
 use Rattle.std.proofs.Common.{◌≡◌, ℕ, suc, ◌+◌, ◌<◌, ◌==◌, List, [], ◌++◌, Option, Some, None, Result, Ok, Err, OnOk, refl, take, length, get_or, slice_get, option_and_then, sym, ap, subst, ◌∙◌, arith, append_assoc}
 use Rattle.std.proofs.lemmas.List.{flat_map_more, take_more}
 use Rattle.std.proofs.lemmas.Option.{slice_get-get_or}
@@ -22,7 +22,7 @@ Appends-trans (Some p) None c xs ys h k = absurd h
 Appends-trans (Some p) (Some q) None xs ys h k = absurd k
 Appends-trans (Some p) (Some q) (Some r) xs ys h k = k ∙ ap (λ zs. zs ++ ys) h ∙ append_assoc p xs ys
 
--- a text and a row after it are the longer text
+-- a text and one more line make the longer text
 after : (a b c : Option (List ℕ)) (text row whole : List ℕ) → text ++ row ≡ whole → Appends a b text → Appends b c row → Appends a c whole
 after a b c text row whole same h k = subst (Appends a c) same (Appends-trans a b c text row h k)
 
@@ -66,7 +66,7 @@ train_after a b c line v view trains i d seat shows low found h k =
     t : ℕ
     t = get_or trains i d
 
--- the parts of an outcome, and what is left to write
+-- the parts of an outcome make the whole text
 pub whole_outcome : {T E : Type 0} (r : Result T E) (a b c d e : Option (List ℕ)) (line : Line) (centre : List ℕ) (o : Outcome) (given : List Saying) →
     given ≡ o.sayings → (text : List ℕ) × AreSayingRows centre given text × Appends a b text →
     Appends b c (frame_rows line centre o.frames (length line.centres)) → Appends c d (flat_map (word_row centre) o.words) →

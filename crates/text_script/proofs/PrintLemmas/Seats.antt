@@ -1,4 +1,4 @@
--- The centre that supervises a train, looked for among the trains that are shown.
+-- The centre that supervises a train, sought among the trains of the view.
 use Rattle.std.proofs.Common.{◌≡◌, ◌≢◌, ℕ, suc, ◌+◌, ◌<◌, ◌==◌, ◌++◌, take, drop, get_or, eq-eqb, Bool, true, false, List, [], ◌∷◌, Option, Some, None, option_map, option_and_then, length, slice_get, refl, sym, ap, ◌∙◌, cond, arith}
 use Rattle.std.specs.List.{find}
 use Rattle.std.proofs.lemmas.Bool.{eqb-true, ne_eqb}
@@ -11,7 +11,7 @@ use Rattle.rbc_world.specs.declared.view.MissionView.{MissionView}
 use Rattle.rbc_world.specs.declared.view.LineView.{LineView}
 use Rattle.text_script.specs.Print.Shown.{seat_at, seat_in}
 
--- what is not found in a front is looked for after it
+-- a train that is not found in a front is sought after it
 find_after : (p : TrainView → Bool) (xs ys : List TrainView) → find p xs ≡ None → find p (xs ++ ys) ≡ find p ys
 find_after p [] ys none = refl
 find_after p (x ∷ xs) ys none = by (find_after p xs ys) (p x) none
@@ -24,7 +24,7 @@ module _ (t : ℕ) (xs : List TrainView) (i : ℕ) (d : TrainView) (low : i < le
   abbrev is_it : TrainView → Bool
   is_it x = x.nid_engine == t
 
-  -- the train at the next place is another, or is found
+  -- the train at the next place is another train, or is found
   none_more : (get_or xs i d).nid_engine ≢ t → find is_it (take (i + 1) xs) ≡ None
   none_more other =
       ap (find is_it) (take_more xs i d low) ∙ find_after is_it (take i xs) (get_or xs i d ∷ []) none
@@ -35,14 +35,14 @@ module _ (t : ℕ) (xs : List TrainView) (i : ℕ) (d : TrainView) (low : i < le
       ap (find is_it) (sym (take-append-drop i xs)) ∙ find_after is_it (take i xs) (drop i xs) none ∙ ap (find is_it) (drop_more xs i d low)
       ∙ ap (λ (b : Bool). cond b (Some (get_or xs i d)) (find is_it (drop (i + 1) xs))) (eq-eqb (get_or xs i d).nid_engine t same)
 
-  -- the same of a train that is the one at that place
+  -- the same for the train at that place
   pub none_next : d ≡ get_or xs i d → d.nid_engine ≢ t → find is_it (take (i + 1) xs) ≡ None
   none_next is other = none_more (λ same. other (ap (λ (x : TrainView). x.nid_engine) is ∙ same))
 
   pub some_next : d ≡ get_or xs i d → d.nid_engine ≡ t → find is_it xs ≡ Some d
   some_next is same = some_here (sym (ap (λ (x : TrainView). x.nid_engine) is) ∙ same) ∙ ap (λ (x : TrainView). Some x) (sym is)
 
--- so the centre that supervises it is the one of the train that is found
+-- the centre that supervises the train is the one of the train that is found
 pub seat_here : (t : ℕ) (xs whole : List TrainView) (i : ℕ) (d : TrainView) (seat : Option ℕ) → xs ≡ whole → i < length xs →
     find (λ x. x.nid_engine == t) (take i xs) ≡ None → d ≡ get_or xs i d → d.nid_engine ≡ t → seat ≡ seat_of d →
     seat ≡ option_and_then seat_of (find (λ x. x.nid_engine == t) whole)

@@ -1,4 +1,4 @@
--- The rows that are printed, of one thing each, and after each a line feed.
+-- The printed lines, one for each item. A line feed ends each of them.
 use Rattle.std.specs.Prelude.{ℕ, ◌++◌, Bool, List, if◌then◌else◌, Option, codes, slice_get}
 use Rattle.std.specs.Option.{option_map_or}
 use Rattle.std.specs.Fmt.{decimal}
@@ -14,9 +14,9 @@ use Rattle.rbc_world.specs.declared.event.WorldEvent.TheVariants as event
 abbrev pub name_at : Line → ℕ → List ℕ
 name_at line c = option_map_or (λ p. p.name) (slice_get line.centres c) (codes "?")
 
--- ## Events, as rows of a script
+-- ## Events, as lines of a script
 
--- what follows `> `: a word, the name of a centre, and the rest
+-- the text after `> `: a word, the name of a centre, and the rest
 abbrev pub script_row : List ℕ → List ℕ → List ℕ → List ℕ
 script_row word centre rest = codes "> " ++ (word ++ (codes " " ++ (centre ++ (codes " " ++ (rest ++ codes "\n")))))
 
@@ -30,9 +30,9 @@ event_row line (event.Set c s) = script_row (codes "set") (name_at line c) (deci
 event_row line (event.Unset c s) = script_row (codes "unset") (name_at line c) (decimal s)
 event_row line (event.Deliver from to number) = delivery_row (name_at line from) (name_at line to) number
 
--- ## What a centre of this name says
+-- ## Lines about a centre of this name
 
--- bytes to a train
+-- a message to a train, as bytes
 abbrev pub saying_row : List ℕ → ℕ → List ℕ → List ℕ
 saying_row centre t bytes = centre ++ (codes " -> " ++ (decimal t ++ (codes " " ++ (encode_upper bytes ++ codes "\n"))))
 
@@ -50,13 +50,13 @@ body_name (Cancel number t) = codes "Cancel"
 body_name (TakingOver number t) = codes "TakingOver"
 body_name (Yield number t heard has_data is_ended place hand) = codes "Yield"
 
--- a frame to another centre, by that one's name
+-- a frame to another centre, with the name of that centre
 abbrev pub frame_row : List ℕ → List ℕ → Frame → List ℕ
 frame_row centre to f =
     centre ++ (codes " => " ++
     (to ++ (codes " " ++ (decimal f.number ++ (codes " " ++ (body_name f.body ++ codes "\n"))))))
 
--- a word to the interlocking of a section
+-- a reply to the interlocking about a section
 abbrev pub told_row : List ℕ → ℕ → List ℕ → List ℕ
 told_row centre s told = centre ++ (codes " " ++ (decimal s ++ (codes " " ++ (told ++ codes "\n"))))
 
@@ -78,28 +78,28 @@ reason_number Unasked = 8
 reason_number MissionEnded = 9
 reason_number WrongPhase = 10
 
--- it is silent, for this reason
+-- a step was silent, for this reason
 abbrev pub silence_row : List ℕ → Reason → List ℕ
 silence_row centre why = centre ++ (codes " silent " ++ (decimal (reason_number why) ++ codes "\n"))
 
--- one word of the step
+-- a remark on the step, in one word
 abbrev pub remark_row : List ℕ → List ℕ → List ℕ
 remark_row centre remark = centre ++ (codes " " ++ (remark ++ codes "\n"))
 
--- bytes show the fault of this number
+-- the bytes have the fault of this number
 abbrev pub fault_row : List ℕ → ℕ → List ℕ
 fault_row centre number = centre ++ (codes " fault " ++ (decimal number ++ codes "\n"))
 
 -- ## The line
 
--- what a section is used for
+-- the use of a section
 abbrev pub mark_text : Mark → List ℕ
 mark_text Shut = codes "shut"
 mark_text Open = codes "open"
 mark_text (Kept t) = codes "kept " ++ decimal t
 mark_text (Given t) = codes "given " ++ decimal t
 
--- the name of its home
+-- the name of a section's home
 abbrev pub home_at : Line → ℕ → List ℕ
 home_at line s = option_map_or (λ p. name_at line p.home) (section line s) (codes "?")
 
@@ -108,7 +108,7 @@ section_row line s mark is_wished =
     (codes "section " ++ (decimal s ++ (codes " " ++ (home_at line s ++ codes " "))))
     ++ (mark_text mark ++ ((if is_wished then codes " wished" else codes "") ++ codes "\n"))
 
--- who supervises a train
+-- the supervisor of a train
 abbrev pub train_row : Line → ℕ → Option ℕ → List ℕ
 train_row line t supervisor =
     codes "train " ++ (decimal t

@@ -1,4 +1,4 @@
--- What is printed of the line: a row for each section, and one for each train that was heard of.
+-- The print of the line: one line of text for each section, and one for each train that messages have named.
 use Rattle.std.specs.Prelude.{ℕ, zero, suc, ◌==◌, List, [], ◌++◌, Option, option_and_then, length}
 use Rattle.std.specs.List.{flat_map, find}
 use Rattle.rbc_spec.specs.Line.{Line}
@@ -28,6 +28,6 @@ train_rows line v trains = flat_map (λ t. train_row line t (seat_at line v t)) 
 abbrev pub state_text : Line → LineState → List ℕ → List ℕ
 state_text line v trains = section_rows line v (length line.sections) ++ train_rows line v trains
 
--- of the centres as they are, whose state is read off, and the trains that messages have named
+-- the print of the current state of the centres, as read off, with the trains that messages have named
 abbrev pub line_text : Line → World → List ℕ
 line_text line w = state_text line (read_off line w) w.trains

@@ -3,7 +3,7 @@ use Rattle.std.specs.Prelude.{◌≡◌, ℕ, ◌⊎◌, Result, Ok, Err}
 use Rattle.text_script.specs.declared.status.fault.Fault.{Fault}
 use Rattle.text_script.specs.declared.status.fault.Fault.TheVariants.{Words, Usage, CannotRead, NoJournal, Foreign, Damaged, Unfit, Line, Script, Step, Message, Differs, Socket, Write}
 
--- the status that stands for a fault
+-- the exit status of a fault
 abbrev pub status_of : Fault → ℕ
 status_of Differs = 1
 status_of Words = 2
@@ -20,11 +20,11 @@ status_of Socket = 6
 status_of Write = 6
 status_of (Message why) = 7
 
--- a fault was said, or what was written of it was refused
+-- the fault was reported, or writing the report was refused
 abbrev pub IsReported : Fault → ℕ → Type 0
 IsReported fault status = (status ≡ status_of fault) ⊎ (status ≡ 6)
 
--- a command was done, or its fault was said
+-- a command succeeded, or its fault was reported
 abbrev pub Ends : Result (Unit {0}) Fault → ℕ → Type 0
 Ends (Ok done) status = status ≡ 0
 Ends (Err fault) status = IsReported fault status

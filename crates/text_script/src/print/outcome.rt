@@ -18,7 +18,7 @@ use rbc_world::{Body, Frames, LinkAnswer, Outcome, Reason, Saying, StepFault, Wo
 use std::alloc::Global;
 use std::io::Write;
 
-/// Prints what a step of a centre, by its name, answered.
+/// Prints the outcome of a step at the centre of this name.
 pub fn print_outcome<W: Write>(
     alloc: Global,
     out: &mut W,
@@ -35,7 +35,7 @@ pub fn print_outcome<W: Write>(
     print_remark(out, centre, outcome)
 }
 
-// What the step says to trains.
+// Prints the step's messages to trains.
 fn print_sayings<W: Write>(
     alloc: Global,
     out: &mut W,
@@ -68,7 +68,7 @@ fn print_saying<W: Write>(
     Ok(())
 }
 
-// The frames of the step, by the centres that they go to.
+// Prints the frames of the step, by the centres that receive them.
 fn print_all_frames<W: Write>(
     out: &mut W,
     line: &Line,
@@ -84,7 +84,7 @@ fn print_all_frames<W: Write>(
     Ok(())
 }
 
-// The frames to one centre.
+// Prints the frames to one centre.
 fn print_frames<W: Write>(
     out: &mut W,
     line: &Line,
@@ -104,7 +104,7 @@ fn print_frames<W: Write>(
     Ok(())
 }
 
-// What a frame's body is called.
+// The printed name of a frame's body.
 fn body_name(body: Body) -> &'static str
     ensures { result.now ≡ body_name (body_of body) }
 {
@@ -124,7 +124,7 @@ fn body_name(body: Body) -> &'static str
     }
 }
 
-// What the step says to the interlocking.
+// Prints the step's replies to the interlocking.
 fn print_words<W: Write>(out: &mut W, centre: &str, outcome: &Outcome) -> Result<(), Fault<'static>>
     ensures { OnOk result (Appends (W.contents out.old) (W.contents out.new) (flat_map (word_row centre.now)
         (outcome_of outcome.now).words)) }
@@ -149,7 +149,7 @@ fn print_word<W: Write>(out: &mut W, centre: &str, word: &Word) -> Result<(), Fa
     Ok(())
 }
 
-// Why the step was silent, or what is left to say of it.
+// Prints why the step was silent, or its last remark.
 fn print_remark<W: Write>(
     out: &mut W,
     centre: &str,
@@ -187,7 +187,7 @@ fn print_last<W: Write>(
     Ok(())
 }
 
-// That a frame was old or came early, or that the step took its event and has nothing to say.
+// The remark: a frame was old or came early, or the step took its event and sends nothing.
 fn remark_on(outcome: &Outcome) -> Option<&'static str>
     ensures { IsLinkRemark (outcome_of outcome.now) (outcome_of outcome.now).link (option_map
         (λ remark. remark.now) result) }
@@ -200,7 +200,7 @@ fn remark_on(outcome: &Outcome) -> Option<&'static str>
     }
 }
 
-// Whether a step has nothing to say to a train, to another centre or to the interlocking.
+// Whether a step sends nothing: to no train, to no other centre, and not to the interlocking.
 fn says_nothing(outcome: &Outcome) -> bool
     ensures { IsTrue result ↔ SaysNothing (outcome_of outcome.now) }
 {

@@ -18,7 +18,7 @@ use std::alloc::Global;
 use std::fmt::Display;
 use std::io::Write;
 
-/// Prints how much of each thing the line has.
+/// Prints the numbers of centres, tracks, sections and trains of the line.
 pub fn print_counts<W: Write>(out: &mut W, line: &Line) -> Result<(), Fault<'static>> {
     let centres = line.centre_count();
     let tracks = line.track_count();
@@ -60,7 +60,7 @@ pub fn print_event<W: Write>(
     }
 }
 
-// A line of a script: its word, the centre that it names, and what follows that.
+// Prints a line of a script: its word, the centre that it names, and the text after that.
 fn print_row<W: Write, D: Display + Drop>(
     out: &mut W,
     word: &str,
@@ -74,7 +74,7 @@ fn print_row<W: Write, D: Display + Drop>(
     Ok(())
 }
 
-/// Prints that the line is to be shown, as a line of a script, after `> `.
+/// Prints the script line `show`, after `> `.
 pub fn print_show<W: Write>(out: &mut W) -> Result<(), Fault<'static>>
     ensures { OnOk result (Appends (W.contents out.old) (W.contents out.new) (codes "> show\n")) }
 {
@@ -82,7 +82,7 @@ pub fn print_show<W: Write>(out: &mut W) -> Result<(), Fault<'static>>
     Ok(())
 }
 
-/// Prints what an event leads to.
+/// Prints the answer to an event.
 pub fn print_answer<W: Write>(
     alloc: Global,
     out: &mut W,
@@ -98,13 +98,13 @@ pub fn print_answer<W: Write>(
         Answer::Outcome(outcome) => print_outcome(alloc, out, line, centre, outcome)?,
         Answer::Fault(fault) => writeln!(out, "{centre} fault {}", fault.number())?,
         Answer::NotSent => writeln!(out, "not sent")?,
-        // A script names centres of the line alone.
+        // A script names only centres of the line.
         Answer::NoCentre => {}
     }
     Ok(())
 }
 
-/// Prints what each section is used for, and who supervises each train that was heard of.
+/// Prints the use of each section, and the supervisor of each train that messages have named.
 pub fn print_line<W: Write>(
     alloc: Global,
     out: &mut W,
@@ -119,7 +119,7 @@ pub fn print_line<W: Write>(
     print_trains(out, line, world, &view)
 }
 
-// What each section is used for.
+// Prints the use of each section.
 fn print_sections<W: Write>(out: &mut W, line: &Line, view: &LineView) -> Result<(), Fault<'static>>
     ensures { OnOk result ((v : LineState) → Shows line.now v view.now
         → Appends (W.contents out.old) (W.contents out.new) (section_rows line.now v (length line.now.sections))) }
@@ -130,7 +130,7 @@ fn print_sections<W: Write>(out: &mut W, line: &Line, view: &LineView) -> Result
     Ok(())
 }
 
-// Who supervises each train that was heard of.
+// Prints the supervisor of each train that messages have named.
 fn print_trains<W: Write>(
     out: &mut W,
     line: &Line,
@@ -158,7 +158,7 @@ fn supervisor_of(view: &LineView, nid_engine: u32) -> Option<u8>
     None
 }
 
-/// Prints what a section is used for.
+/// Prints the use of a section.
 pub fn print_section<W: Write>(
     out: &mut W,
     line: &Line,
@@ -175,7 +175,7 @@ pub fn print_section<W: Write>(
     Ok(())
 }
 
-// What a section is used for, with the engine of the train that has it.
+// Prints the use of a section, with the engine of the train that uses it.
 fn print_mark<W: Write>(out: &mut W, mark: Mark) -> Result<(), Fault<'static>>
     ensures { OnOk result (Appends (W.contents out.old) (W.contents out.new) (mark_text (mark_shown mark))) }
 {

@@ -5,7 +5,7 @@ use std::fmt::Display;
 use std::io;
 use std::io::Write;
 
-/// Gives the exit status of a command: 0 where it is done; else it says the fault, as `report` does.
+/// Gives the exit status of a command: 0 if it succeeded. Otherwise it reports the fault, as `report` does.
 pub fn ended<O: Write, E: Write>(done: Result<(), Fault<'_>>, out: &mut O, err: &mut E) -> u8
     ensures { Ends done.entry result }
 {
@@ -15,7 +15,7 @@ pub fn ended<O: Write, E: Write>(done: Result<(), Fault<'_>>, out: &mut O, err: 
     }
 }
 
-/// Says what went wrong, and gives the exit status. Help that was asked for goes to `out`.
+/// Reports a fault, and gives the exit status. Requested help is printed to `out`.
 pub fn report<O: Write, E: Write>(fault: &Fault, out: &mut O, err: &mut E) -> u8
     ensures { IsReported fault.now result }
 {

@@ -7,13 +7,13 @@ use std::alloc::{AllocError, AllocFailed};
 use std::io;
 use thiserror::Error;
 
-/// Why the program ends without having done what it was asked to do.
+/// Why the program ends before it has done its task.
 #[derive(Debug, Drop, Error)]
 pub enum Fault<'a> {
-    /// The words can't be read.
+    /// The arguments can't be read.
     #[error("rbcline: words refused")]
     Words,
-    /// The words name no command, or ask for help: what is shown then.
+    /// The arguments name no command, or ask for help. The error contains the text to show.
     #[error(transparent)]
     Usage(clap::Error),
     #[error("rbcline: cannot read {0}")]
@@ -21,32 +21,32 @@ pub enum Fault<'a> {
     /// The journal of a centre can't be read: its name, with its folder.
     #[error("rbcline: cannot read {0}")]
     NoJournal(String),
-    /// A journal of this name is of another centre, line or version.
+    /// The journal of this name belongs to another centre, line or version.
     #[error("rbcline: {0} is of another centre or line")]
     Foreign(String),
     /// A line of a journal is damaged; lines count from 1.
     #[error("rbcline: {journal} line {row}")]
     Damaged { journal: String, row: usize },
-    /// The journals are not those of one run of the line: the line of the first entry that does not fit.
+    /// The journals do not belong to one run of the line. `row` is the line of the first entry that does not fit.
     #[error("rbcline: the journals do not fit together: {journal} line {row}")]
     Unfit { journal: String, row: usize },
     #[error("rbcline: line fault {number}", number = .0.number())]
     Line(LineFault),
-    /// A line of the script has no form that a script may have; lines count from 1.
+    /// A line of the script has no valid form; lines count from 1.
     #[error("rbcline: script line {0}")]
     Script(usize),
     #[error("rbcline: step refused {number}", number = .0.number())]
     Step(StepFault),
-    /// The bytes that are to be shown are no message.
+    /// The bytes to show are not a message.
     #[error("rbcline: message fault {number}", number = .0.number())]
     Message(MsgFault),
-    /// An audit found a line that differs; it is printed already.
+    /// An audit found a line that differs. The line is printed already.
     #[error("rbcline: the print differs")]
     Differs,
-    /// A port can't be listened on, or a connection failed, ended early, or brought what is no message.
+    /// A port can't be listened on; or a connection failed, ended early, or brought bytes that are not a message.
     #[error("rbcline: socket")]
     Socket,
-    /// What the program wrote was refused. Nothing more is written.
+    /// The output was refused. Nothing more is written.
     #[error("rbcline: cannot write")]
     Write,
 }
@@ -84,7 +84,7 @@ impl From<StepFault> for Fault<'_> {
     }
 }
 
-// Want of memory that has no number of its own counts as a refused step.
+// A failed allocation without a number of its own counts as a refused step.
 impl From<AllocError> for Fault<'_> {
     fn from(_error: AllocError) -> Self {
         Fault::Step(StepFault::Memory)

@@ -1,4 +1,4 @@
--- a step was refused after what is printed of all in front of its event
+-- a step was refused after the print of all entries before its event
 use Rattle.cli_commands.proofs.Refusals.{leaves_refused}
 use Rattle.cli_commands.proofs.run.run.Goals as goal
 

@@ -9,11 +9,11 @@ use Rattle.serve_workers.specs.Session.{Joins}
 use Rattle.serve_workers.proofs.Joins.{joins-none, joins-same, joins-then}
 use Rattle.serve_workers.proofs.session.commit_all.Goals as goal
 
--- the next message stands in front of those that are left
+-- the next message is the first of the remaining ones
 next_of : (old new : List TrainText) (m : TrainText) → old ≡ new ++ m ∷ [] → reverse old ≡ m ∷ reverse new
 next_of old new m h = ap reverse h ∙ reverse-append new (m ∷ [])
 
--- what was reversed, forwards again
+-- a reversed list, reversed again
 forwards : (given turned : List TrainText) → turned ≡ reverse given → given ≡ reverse turned
 forwards given turned h = sym (reverse-reverse given) ∙ ap reverse (sym h)
 

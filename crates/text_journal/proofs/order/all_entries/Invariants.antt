@@ -3,7 +3,7 @@ use Rattle.std.specs.List.{flat_map}
 use Rattle.std.specs.Vec.Iter.{into_iter_items}
 use Rattle.text_journal.proofs.order.all_entries.Given as goal
 
--- what was moved, and the entries of the journals that are left, are those of all
+-- the moved entries, and the entries of the journals not yet read, are all entries
 abbrev pub invariant-loop-journal : goal.invariant-loop-journal
 invariant-loop-journal l =
     l.all.items ++ flat_map (λ j. j.items) (into_iter_items l.journal-iterator) ≡ flat_map (λ j. j.items) (into_iter_items l.initial.journal-iterator)

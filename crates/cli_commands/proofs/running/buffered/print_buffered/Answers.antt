@@ -5,7 +5,7 @@ use Rattle.cli_commands.specs.Running.Printed.{LeavesPrint}
 use Rattle.cli_commands.proofs.RunningLemmas.Named.{print_stands, when_ok}
 use Rattle.cli_commands.proofs.running.buffered.print_buffered.Goals as goal
 
--- the writer under the empty buffer is the one that was lent, where its bytes are known
+-- the writer under the empty buffer is the lent one, if its bytes are known
 pub returns : goal.returns
 returns g c =
     let bytes = g.O.Write.contents in
