@@ -5,6 +5,7 @@ use Rattle.rbc_line.specs.Faults.{Names, Applies, IsLowest}
 use Rattle.rbc_line.specs.declared.fault.LineFault.TheVariants as bad
 use Rattle.text_script.specs.rbc_centre.declared.fault.StepFault.TheVariants as refused
 use Rattle.text_script.specs.declared.status.fault.Fault.{Fault}
+use Rattle.text_script.specs.declared.status.print_fault.PrintFault.{PrintFault}
 use Rattle.text_script.specs.declared.status.fault.Fault.TheVariants as fault
 use Rattle.text_script.specs.Script.{rows}
 use Rattle.text_script.specs.Entries.{AreAsked, IsFirstFault}
@@ -57,11 +58,11 @@ abbrev pub LeavesRun : (List ℕ → Option (List ℕ) → Type 0) → List ℕ 
     → Option (List ℕ) → Option (List ℕ) → Type 0
 LeavesRun gives file script (Ok done) before after =
     (line : Line) × (entries : List Entry) × GivesRun gives file script line entries
-    × LeavesPrint {F = Fault} line entries (Ok done) before after
+    × LeavesPrint {F = PrintFault} line entries (Ok done) before after
 LeavesRun gives file script (Err (fault.Step refused.Memory)) before after = Unit {0}
 LeavesRun gives file script (Err (fault.Step why)) before after =
     (line : Line) × (entries : List Entry) × GivesRun gives file script line entries
-    × LeavesPrint {F = Fault} line entries (Err (Refused why)) before after
+    × LeavesPrint {F = PrintFault} line entries (Err (Refused why)) before after
 LeavesRun gives file script (Err fault.Write) before after =
     (line : Line) × (entries : List Entry) × GivesRun gives file script line entries
 LeavesRun gives file script (Err why) before after = (after ≡ before) × GivesNoRun gives file script why

@@ -54,7 +54,7 @@ static FORMS: [Form; 10] = [
             FILE,
             (
                 "PORT",
-                "The port of the first centre; the others follow, and behind them the interlocking",
+                "The port of the first centre; the others follow, and after them the interlocking, unless --control is given",
             ),
         ],
     },
@@ -154,12 +154,18 @@ fn part<'a>(alloc: Global, name: &'static str, value: &'static str, help: &'stat
         .help(help)
 }
 
-// The options of `serve` with a value: the page's port, the rates of messages, and the folders of the journals.
-static DOORS: [(&str, &str, &str); 5] = [
+// The options of `serve` with a value: the page's port, the socket of the interlocking, the rates of messages, and the
+// folders of the journals.
+static DOORS: [(&str, &str, &str); 6] = [
     (
         "page",
         "PORT",
         "Show the line to browsers on this host, at http://127.0.0.1:PORT/",
+    ),
+    (
+        "control",
+        "PATH",
+        "Let the interlocking connect to a Unix socket at PATH, in place of a port; only its owner may [mode 0600]",
     ),
     (
         "rate",
@@ -201,7 +207,7 @@ static PICTURE: [(&str, &str); 1] = [(
     "Draw it in an HTML page with a slider over the events",
 )];
 
-static SERVE: [(&str, &str); 4] = [
+static SERVE: [(&str, &str); 5] = [
     (
         "quiet",
         "Say nothing on standard error while the centres run",
@@ -213,6 +219,10 @@ static SERVE: [(&str, &str); 4] = [
     (
         "life",
         "Show how much of each log, clock and link is used up, behind the lines of `show`",
+    ),
+    (
+        "bind",
+        "Take a train's messages only over the connection that opened its session last; others end their connection",
     ),
     (
         "no-sync",

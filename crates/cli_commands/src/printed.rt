@@ -55,6 +55,6 @@ fn print_found<F: Files, W: Write>(
         Ok(()) => Ok(part),
         Err(RerunFault::Unfit(place)) => Err(unfit_at(alloc, &given.line, place)?),
         Err(RerunFault::Refused(fault)) => Err(fault.into()),
-        Err(RerunFault::Untold(fault)) => Err(fault),
+        Err(RerunFault::Untold(fault)) => Err(fault.into()),
     }
 }

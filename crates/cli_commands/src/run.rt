@@ -10,7 +10,7 @@ use text_script::StepFault;
 use text_script::play::PlayFault;
 use text_script::print::print_counts;
 use text_script::script::{Entry, ScriptFault, script_of};
-use text_script::status::Fault;
+use text_script::status::{Fault, PrintFault};
 
 /// Runs a script on a line. Prints each event with its answer, and at the end the line.
 pub fn run<'a, F: Files, O: Write>(
@@ -27,9 +27,8 @@ pub fn run<'a, F: Files, O: Write>(
     match print_buffered(alloc, &line, &entries, out) {
         Ok(()) => Ok(()),
         Err(PlayFault::Refused(fault)) => Err(Fault::Step(fault)),
-        Err(PlayFault::Untold(Fault::Write)) => Err(Fault::Write),
-        // Only a refused write or a failed allocation can stop the print.
-        Err(PlayFault::Untold(_)) => Err(Fault::Step(StepFault::Memory)),
+        Err(PlayFault::Untold(PrintFault::Write)) => Err(Fault::Write),
+        Err(PlayFault::Untold(PrintFault::Memory)) => Err(Fault::Step(StepFault::Memory)),
     }
 }
 

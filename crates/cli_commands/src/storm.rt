@@ -40,8 +40,8 @@ fn print_storm<W: Write>(
     let mut storm = Storm::new(alloc, line, seed)?;
     let mut printer = Printer { alloc, line, out };
     match storm.play(entries, &mut printer) {
-        Ok(()) => printer.show_line(storm.world()),
+        Ok(()) => Ok(printer.show_line(storm.world())?),
         Err(PlayFault::Refused(fault)) => Err(fault.into()),
-        Err(PlayFault::Untold(fault)) => Err(fault),
+        Err(PlayFault::Untold(fault)) => Err(fault.into()),
     }
 }

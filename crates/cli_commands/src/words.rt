@@ -78,6 +78,10 @@ pub struct ServeWords<'a> {
     pub is_quiet: bool,
     /// The port at which browsers see the line, if there is one.
     pub page: Option<u16>,
+    /// The path of the Unix socket of the interlocking, if it has one in place of a port.
+    pub control: Option<&'a str>,
+    /// A train's messages are taken only over the connection that serves the train.
+    pub is_bound: bool,
     /// Control connections receive the sections that are shut.
     pub is_telling: bool,
     /// `show` prints the used part of each log, clock and link.
@@ -188,6 +192,8 @@ fn serve_words<'a>(words: &ArgMatches<'a>) -> Option<ServeWords<'a>> {
             Some(word) => Some(port_of(word)?),
             None => None,
         },
+        control: words.get_str("control"),
+        is_bound: words.get_flag("bind"),
         is_telling: words.get_flag("tell"),
         shows_life: words.get_flag("life"),
         per_second: named_count(words, "rate")?,

@@ -1,19 +1,22 @@
 -- A step of the world adds to the frames that its links have sent.
-use Rattle.std.proofs.Common.{◌≡◌, ℕ, suc, ◌+◌, ◌*◌, ◌/◌, ◌%◌, Bool, true, false, List, [], ◌∷◌, length, map, Option, Some, None, Result, Ok, Err, if◌then◌else◌, slice_get, refl, sym, ap, subst, ◌∙◌, arith, inl, inr, length-append}
-use Rattle.std.specs.Option.{option_map_or}
-use Rattle.std.specs.List.{range_with_len}
+use Rattle.std.proofs.Common.{[], ◌%◌, ◌*◌, ◌+◌, ◌/◌, ◌∙◌, ◌∷◌, ◌≡◌, ap, arith, Bool, Err, false, if◌then◌else◌, inl}
+use Rattle.std.proofs.Common.{inr, length, length-append, List, map, None, Ok, Option, refl, Result, slice_get, Some}
+use Rattle.std.proofs.Common.{subst, suc, sym, true, ℕ}
 use Rattle.std.proofs.lemmas.Bool.Decides.{eqb_tells}
-use Rattle.rbc_spec.specs.Maps.{put}
-use Rattle.rbc_spec.specs.Line.{Line, is_centre}
-use Rattle.rbc_spec.specs.Frame.{Frame}
-use Rattle.rbc_spec.specs.Outcome.{Outcome}
-use Rattle.rbc_spec.specs.Centre.{Centre, beginning}
-use Rattle.rbc_spec.specs.Step as centre
-use Rattle.rbc_spec.specs.Step.{Refusal, step}
-use Rattle.rbc_spec.specs.World.{World, Event, Bytes, Set, Unset, Delivery, centre_of, Answer, NoCentre, NotSent, Fault, new_world, frame_sent, mention, stepped, at_centre, takes, world_step}
-use Rattle.law_logs.proofs.Stamps.{stamped}
+use Rattle.std.specs.List.{range_with_len}
+use Rattle.std.specs.Option.{option_map_or}
 use Rattle.cli_storm.specs.declared.links.Link.{Link}
 use Rattle.cli_storm.specs.Links.{all_links, counted, counted_by, last_number, link_at}
+use Rattle.law_logs.proofs.Sorted.{stamped}
+use Rattle.rbc_spec.specs.Centre.{beginning, Centre}
+use Rattle.rbc_spec.specs.Frame.{Frame}
+use Rattle.rbc_spec.specs.Line.{is_centre, Line}
+use Rattle.rbc_spec.specs.Maps.{put}
+use Rattle.rbc_spec.specs.Outcome.{Outcome}
+use Rattle.rbc_spec.specs.Step as centre
+use Rattle.rbc_spec.specs.Step.{Refusal, step}
+use Rattle.rbc_spec.specs.World.{Answer, at_centre, Bytes, centre_of, Delivery, Event, Fault, frame_sent, mention}
+use Rattle.rbc_spec.specs.World.{new_world, NoCentre, NotSent, Set, stepped, takes, Unset, World, world_step}
 
 -- a new line has sent no frame
 pub begins : (line : Line) (n k : ℕ) → link_at n (new_world line) k ≡ record { from = k / n; to = k % n; sent = 0 }

@@ -1,4 +1,4 @@
--- The relation is a function, where memory is at hand.
+-- The relation is a function, while memory suffices.
 use Rattle.std.proofs.Common.{◌≡◌, ◌≢◌, List, [], ◌∷◌, Result, Ok, Err, All, map, refl, sym, ap, ◌∙◌, subst}
 use Rattle.std.proofs.lemmas.List.Elements.{All-head, All-tail}
 use Rattle.rbc_spec.specs.Line.{Line}
@@ -14,7 +14,7 @@ use Rattle.law_alike.specs.Alike.{IsStep, AreSteps, seen}
 abbrev Step : Type 0
 Step = Result (spec.Answer × World) Refusal
 
--- what the definition gives tells answer and world, or the refusal
+-- the definition's result gives the answer and the world, or the refusal
 given : (p q : spec.Answer × World) → ◌≡◌ {A = Step} (Ok p) (Ok q) → p ≡ q
 given p q e = cc
 

@@ -1,4 +1,4 @@
--- What is seen of an outcome has one spelling.
+-- The visible part of an outcome has one spelling.
 use Rattle.std.proofs.Common.{◌≡◌, ℕ, List, [], ◌∷◌, refl, sym, ap, ◌∙◌}
 use Rattle.rbc_spec.specs.Frame.{Frame}
 use Rattle.rbc_spec.specs.Outcome.{Outcome, Saying}

@@ -1,4 +1,5 @@
--- What the contract of a world's step says, as a relation of what is seen, and the bytes in which an outcome leaves.
+-- The contract of a world's step as a relation of the visible values, and the bytes of the frames and messages of an
+-- outcome.
 use Rattle.std.specs.Prelude.{◌≡◌, ℕ, List, [], ◌∷◌, Result, Ok, Err, OnErr}
 use Rattle.rbc_spec.specs.Line.{Line}
 use Rattle.rbc_spec.specs.Frame.{Frame}
@@ -15,21 +16,21 @@ use Rattle.rbc_world.specs.declared.event.Answer.{Answer}
 
 -- ## Steps
 
--- what is seen of what a step returns
+-- the visible part of a step's result
 abbrev pub seen : Result Answer StepFault → Result spec.Answer StepFault
 seen (Ok answer) = Ok (answer_of answer)
 seen (Err fault) = Err fault
 
--- the clauses `line`, `exact` and `err` of World::step, of what its memory stands for: the line and world before it,
--- the event, what is returned, and the line and world after it. What is returned and the world that is left are what
--- the definition gives; but of want of memory nothing is said
+-- The clauses `line`, `exact` and `err` of World::step, as a relation. Its values are the line and world before the
+-- step, the event, the result, and the line and world after it. The result and the new world are those of the
+-- definition. If memory runs out, the clauses state no result.
 pub record IsStep (line : Line) (w : World) (event : Event) (result : Result Answer StepFault) (left : Line)
     (new : World) : Type 0 where
   pub same_line : left ≡ line
   pub exact : Gives (λ a. (answer_of a, new)) result (world_step line w event)
   pub err : OnErr result (new ≡ w)
 
--- such steps one after another, each with what it returns, lead from w to new
+-- such steps in order, each with its result, lead from w to new
 abbrev pub AreSteps : Line → World → List Event → List (Result Answer StepFault) → World → Type 0
 AreSteps line w [] [] new = new ≡ w
 AreSteps line w (event ∷ events) (result ∷ results) new =
@@ -51,7 +52,7 @@ AreFramesWritten [] [] = Unit {0}
 AreFramesWritten (f ∷ frames) (bytes ∷ others) = Spells bytes f × AreFramesWritten frames others
 AreFramesWritten frames others = ⊥
 
--- an outcome leaves in these bytes: to trains, and to each centre
+-- the messages of an outcome, and its frames to each centre, are written as these bytes
 pub record IsWrittenAs (o : Outcome) (messages : List (ℕ × List ℕ)) (frames : ℕ → List (List ℕ)) : Type 0 where
   pub to_trains : AreMessagesWritten o.sayings messages
   pub to_centres : (d : ℕ) → AreFramesWritten (o.frames d) (frames d)

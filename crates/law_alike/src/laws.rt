@@ -1,4 +1,4 @@
-//! Laws of what a world's step promises.
+//! Laws of the promise of a world's step.
 
 ghost use Rattle.std.specs.Prelude.{◌≡◌, ◌≢◌, ℕ, List, All, Result, Err, map};
 ghost use Rattle.rbc_spec.specs.Line.{Line};
@@ -9,8 +9,8 @@ ghost use Rattle.rbc_world.specs.rbc_centre.declared.fault.StepFault.TheVariants
 ghost use Rattle.rbc_world.specs.declared.event.Answer.{Answer};
 ghost use Rattle.law_alike.specs.Alike.{IsStep, AreSteps, IsWrittenAs, seen};
 
-/// Two steps that keep the clauses, of whatever programs: from the same world, by the same event, each with memory at
-/// hand, they return the same answer or refusal, as it is seen, and leave the same line and world.
+/// Two steps keep the clauses, perhaps of different programs. From the same world, by the same event, and with enough
+/// memory, they return the same visible answer or refusal. They leave the same line and world.
 pub fn a_step_has_one_result()
     ensures { (line left others_left : Line) (w new others_new : World) (event : Event)
         (result other : Result Answer StepFault)
@@ -19,8 +19,8 @@ pub fn a_step_has_one_result()
         → (seen result ≡ seen other) × (left ≡ others_left) × (new ≡ others_new) }
 {}
 
-/// So do two programs over a whole list of events, one step after another: they return the same for each event, and
-/// leave the same world.
+/// So do two programs over a whole list of events, step by step. They return the same for each event, and leave the
+/// same world.
 pub fn a_list_of_events_has_one_end()
     ensures { (line : Line) (w new others_new : World) (events : List Event)
         (results others : List (Result Answer StepFault))
@@ -29,8 +29,8 @@ pub fn a_list_of_events_has_one_end()
         → (map seen results ≡ map seen others) × (new ≡ others_new) }
 {}
 
-/// What is seen of an outcome has one spelling: the bytes of its messages to trains and of its frames to centres are
-/// the same, whoever writes them.
+/// The visible part of an outcome has one spelling. The bytes of its messages to trains and of its frames are the same
+/// for every program.
 pub fn an_outcome_has_one_spelling()
     ensures { (o : Outcome) (messages others : List (ℕ × List ℕ)) (frames other_frames : ℕ → List (List ℕ))
         → IsWrittenAs o messages frames → IsWrittenAs o others other_frames

@@ -1,8 +1,8 @@
-//! Programs that keep the contract of `World::step` answer alike: where memory is at hand, the same events from the
-//! same world are answered by the same, byte for byte, and leave the same.
+//! Programs that keep the contract of `World::step` give the same answers. While memory suffices, the same events from
+//! the same world have the same answers, byte for byte, and leave the same world.
 //!
-//! What `laws.rt` states stays, and how it is proved is free. `promised.rt` has the one call: it proves of the contract
-//! of `World::step` what the laws speak of.
+//! The statements of `laws.rt` have to stay; their proofs may change. `promised.rt` has one call: it proves that the
+//! contract of `World::step` is the one of the laws.
 #![tactic(auto)]
 
 mod laws;

@@ -3,8 +3,5 @@ pub mod Network
 pub mod Resource
 pub mod Places
 pub mod Runs
-pub mod Sections
 pub mod Chain
-pub mod Sweep
-pub mod Letters
 pub mod Coin

@@ -1,10 +1,5 @@
 pub mod Lists
 pub mod Runs
-pub mod Longest
-pub mod Puts
-pub mod Lines
-pub mod Acts
-pub mod Standstill
 pub mod Worlds
 pub mod WalkLemmas
 pub mod RulesLemmas

@@ -1,12 +1,8 @@
-pub mod Simple
-pub mod Ordered
 pub mod Stays
+pub mod Worlds
 pub mod Entries
-pub mod Hands
-pub mod Changes
-pub mod Fits
 pub mod Homes
+pub mod Changes
 pub mod Missions
 pub mod Reports
 pub mod Steps
-pub mod Worlds

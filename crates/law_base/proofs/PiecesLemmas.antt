@@ -1,7 +1,7 @@
-pub mod InOrder
+pub mod GivenSections
 pub mod Waits
 pub mod Frees
+pub mod OwnFrees
 pub mod Words
 pub mod Promised
-pub mod Runs
 pub mod Loop

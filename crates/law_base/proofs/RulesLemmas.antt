@@ -1,16 +1,11 @@
-pub mod Reasons
 pub mod Places
-pub mod Metres
-pub mod Silent
 pub mod SameReasons
 pub mod Sends
 pub mod SentActs
 pub mod SentAnswers
 pub mod SentSteps
-pub mod Reported
 pub mod SentStandstill
 pub mod SentFrames
 pub mod SentEvents
 pub mod SentTaken
 pub mod Questions
-pub mod Counted

@@ -1,6 +1,7 @@
+pub mod Causes
 pub mod Moves
 pub mod Acts
 pub mod Messages
-pub mod Frames
 pub mod Steps
-pub mod Clock
+pub mod Frames
+pub mod FrameAnswers

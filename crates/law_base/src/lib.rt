@@ -1,8 +1,8 @@
-//! The base of the laws: lemmas of lists, ranges and runs of sections; each rule walked in small moves (`walk`); laws
-//! of the rules themselves (`rules`), of counting (`counting`), of one centre (`local`), and of the pieces of a run of
-//! the single line centre (`pieces`).
+//! The base of the laws. It has lemmas of lists, ranges and runs of sections, and each rule as a walk of small moves
+//! (`walk`). It has laws of the rules (`rules`), of counting (`counting`), and of one centre (`local`). It has lemmas
+//! of the pieces of a run of the one line centre (`pieces`).
 //!
-//! No code: what `laws.rt` states stays, and how it is proved is free.
+//! No code. The statements of `laws.rt` have to stay; their proofs may change.
 #![tactic(auto)]
 
 pub mod counting;

@@ -1,7 +1,7 @@
-//! A local centre has its missions to itself: what stays true of it through all its steps. At the beginning it is so,
-//! and on a one-centre line each step but the taking of a frame leaves it so and sends no frame.
+//! A local centre shares its missions with no other centre. Its initial state is local. On a one-centre line each step
+//! except the taking of a frame leaves it local and sends no frame.
 //!
-//! No code: what `laws.rt` states stays, and how it is proved is free.
+//! No code. The statements of `laws.rt` have to stay; their proofs may change.
 
 mod laws;
 

@@ -1,4 +1,4 @@
-//! Lemmas of the pieces of the one line centre's run, of what each piece keeps of the promises, and of lists of events
-//! taken apart. They stand in `proofs/`, for the crates above to cite. No code.
+//! Lemmas of the pieces of the one line centre's run, of the promises that each piece keeps, and of parts of lists of
+//! events. They are in `proofs/`, for the crates above to cite.
 //!
-//! No code: what `laws.rt` states stays, and how it is proved is free.
+//! No code. The statements of `laws.rt` have to stay; their proofs may change.

@@ -1,7 +1,7 @@
-//! Laws of the rules, over every line and every state of a centre: of runs of sections, of distances, of messages that
-//! are left without an answer, and of what a step sends.
+//! Laws of the rules, for every line and every state of a centre. They are of runs of sections, of distances, of silent
+//! messages, and of the frames and messages of a step.
 //!
-//! No code: what `laws.rt` states stays, and how it is proved is free.
+//! No code. The statements of `laws.rt` have to stay; their proofs may change.
 
 mod asks;
 mod distances;

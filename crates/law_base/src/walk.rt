@@ -1,5 +1,5 @@
-//! Each rule is walked once: what an act of a centre leaves and sends is a walk of small moves, one after another. Each
-//! law that asks something of every small move alone is proved over the walk. It stands in `proofs/`, for the crates
-//! above to cite. No code.
+//! Each rule is walked once: the state and the frames after an act of a centre are those of a walk of small moves. A
+//! law that requires something only of every small move is proved over the walk. The walks are in `proofs/`, for the
+//! crates above to cite.
 //!
-//! No code: how it is proved is free.
+//! No code: the proofs may change.

@@ -6,12 +6,8 @@ pub mod Leaving
 pub mod Starts
 pub mod Borders
 pub mod Messages
-pub mod Comes
+pub mod Rights
 pub mod Routes
 pub mod Frames
-pub mod Interlocking
 pub mod Steps
-pub mod Homes
-pub mod Rights
 pub mod Tokens
-pub mod Fair

@@ -1,5 +1,4 @@
 pub mod Basics
-pub mod Places
 pub mod Missions
 pub mod Kept
 pub mod Moves

@@ -1,15 +1,11 @@
-pub mod Held
 pub mod Sends
+pub mod Held
 pub mod Again
-pub mod Places
 pub mod Leaving
 pub mod Reports
 pub mod Requests
 pub mod Starts
-pub mod Interlocking
-pub mod Rights
 pub mod Routes
 pub mod Handovers
 pub mod Events
-pub mod Ranges
 pub mod Worlds

@@ -1,8 +1,8 @@
-//! Laws of the flow between the centres of a line: what they hold, and what is on the way between them. What stays true
-//! of it (`specs/Sound.antt`), what the one line centre shows of it (`specs/Shows.antt`), and how an act of a centre
-//! changes both (`specs/Leads.antt`).
+//! Laws of the flow between the centres of a line: their states, and the frames on the way. `specs/Sound.antt` has the
+//! invariants, and `specs/Shows.antt` the state of the one line centre that a flow shows. `specs/Leads.antt` has the
+//! effect of an act of a centre on both.
 //!
-//! No code: what `laws.rt` states stays, and how it is proved is free.
+//! No code. The statements of `laws.rt` have to stay; their proofs may change.
 
 mod laws;
 

@@ -1,7 +1,7 @@
-//! Laws of handovers between the centres of a line: what any two centres know of a handover stays true with each step
-//! of a centre.
+//! Laws of handovers between the centres of a line: each step of a centre keeps any two centres in agreement on each
+//! handover.
 //!
-//! No code: what `laws.rt` states stays, and how it is proved is free.
+//! No code. The statements of `laws.rt` have to stay; their proofs may change.
 
 mod laws;
 

@@ -1,6 +1,7 @@
-//! The invariants of each step: the flow between the centres (`flow`), a sound centre (`sound`), rights and tokens that
-//! are neither copied (`no_copy`) nor lost (`no_loss`), handovers (`handover`), questions and their answers
-//! (`no_unasked`, `no_stray`), each thing in one place (`one_place`), and each field in its range (`ranges`).
+//! The invariants of each step: of the flow between the centres (`flow`), of a sound centre (`sound`), and of handovers
+//! (`handover`). Rights and tokens are neither copied (`no_copy`) nor lost (`no_loss`). Others are of questions and
+//! their answers (`no_unasked`, `no_stray`), of each thing in one place (`one_place`), and of each field in its range
+//! (`ranges`).
 #![tactic(auto)]
 
 pub mod flow;

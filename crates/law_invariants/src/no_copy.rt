@@ -1,6 +1,6 @@
-//! Laws of rights and of the tokens of sections: no step of a centre makes one, whatever its event.
+//! Laws of rights and of the tokens of sections: no step of a centre makes one.
 //!
-//! No code: what `laws.rt` states stays, and how it is proved is free.
+//! No code. The statements of `laws.rt` have to stay; their proofs may change.
 
 mod laws;
 

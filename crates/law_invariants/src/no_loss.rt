@@ -1,7 +1,7 @@
-//! Laws of rights and of the tokens of sections: no step of a centre loses one, where no stray frame comes, and no
-//! stray frame is the next of its link in a world. So no event of a line ever loses one.
+//! Laws of rights and of the tokens of sections. No step of a centre loses one, if no stray frame arrives. No stray
+//! frame is the next of its link in a world, so no event of a line ever loses one.
 //!
-//! No code: what `laws.rt` states stays, and how it is proved is free.
+//! No code. The statements of `laws.rt` have to stay; their proofs may change.
 
 mod laws;
 

@@ -1,7 +1,7 @@
-//! Laws of what comes in a world: no frame that is the next of its link is stray, and each question that a centre asked
-//! is on its way, or its answer is.
+//! Laws of arriving frames in a world. No frame that is the next of its link is stray. For each pending question, the
+//! question is on its way, or its answer is.
 //!
-//! No code: what `laws.rt` states stays, and how it is proved is free.
+//! No code. The statements of `laws.rt` have to stay; their proofs may change.
 
 mod laws;
 

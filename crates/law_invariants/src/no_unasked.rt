@@ -1,7 +1,7 @@
-//! Laws of what the centres of a line ask each other for: a right and a route come where they were asked for, and what
-//! comes home was lent.
+//! Laws of the requests between the centres of a line. Rights and sections arrive only if they were asked for, and only
+//! lent sections are returned.
 //!
-//! No code: what `laws.rt` states stays, and how it is proved is free.
+//! No code. The statements of `laws.rt` have to stay; their proofs may change.
 
 mod laws;
 

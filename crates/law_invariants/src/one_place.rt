@@ -1,6 +1,7 @@
-//! Laws of what is in one place: each section in use, each right and each mission; and where a section in use is.
+//! Laws of things in one place: each section in use, each right and each mission. They also state the place of a
+//! section in use.
 //!
-//! No code: what `laws.rt` states stays, and how it is proved is free.
+//! No code. The statements of `laws.rt` have to stay; their proofs may change.
 
 mod laws;
 

@@ -1,7 +1,7 @@
-//! Laws of ranges: whatever happens to a centre, each field of each frame that it sends is in its range, so that every
-//! frame of every world has a spelling.
+//! Laws of ranges: each field of each frame that a centre sends is in its range, so every frame of every world has a
+//! spelling.
 //!
-//! No code: what `laws.rt` states stays, and how it is proved is free.
+//! No code. The statements of `laws.rt` have to stay; their proofs may change.
 
 mod laws;
 

@@ -1,7 +1,7 @@
-//! Laws of a sound centre: it begins so, and whatever happens to it, it stays so. A centre is sound (`IsCentreSound` of
-//! `law_invariants::flow`) by what it has itself, wherever the other centres are.
+//! Laws of a sound centre: its initial state is sound, and each event keeps it sound. Whether a centre is sound
+//! (`IsCentreSound` of `law_invariants::flow`) depends only on its own state.
 //!
-//! No code: what `laws.rt` states stays, and how it is proved is free.
+//! No code. The statements of `laws.rt` have to stay; their proofs may change.
 
 mod laws;
 

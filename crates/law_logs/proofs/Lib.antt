@@ -1,5 +1,3 @@
-pub mod Stamps
-pub mod Parts
-pub mod Merged
 pub mod Sorted
+pub mod Merged
 pub mod BeginningsLemmas

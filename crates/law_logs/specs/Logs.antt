@@ -1,4 +1,4 @@
--- The logs of centres that ran side by side, and what it is to merge them into one list.
+-- The logs of centres that ran side by side, and the definition of a merge of the logs.
 use Rattle.std.specs.Prelude.{◌≡◌, ℕ, ◌+◌, ◌≤◌, ◌<◌, ◌==◌, List, [], ◌∷◌, ◌++◌, map, filter, length, true, false, Some, Ok, slice_get, All, AllPairs, Contains}
 use Rattle.std.specs.List.Sorted.{IsPermutation}
 use Rattle.rbc_spec.specs.Line.{Line, is_centre}
@@ -11,13 +11,13 @@ use Rattle.rbc_spec.specs.World.{World, Answer, Answered, new_world, world_run}
 
 -- ## One log
 
--- an event that a centre took, and what its step answered
+-- an event that a centre took, and the outcome of its step
 pub record LogEntry : Type 0 where
   pub centre : ℕ
   pub event : Event
   pub outcome : Outcome
 
--- the entries, one after another, are the steps that lead centre c from a state to its last
+-- the entries, in order, are the steps that lead centre c from a state to its last
 abbrev pub Replays : Line → ℕ → Centre → List LogEntry → Centre → Type 0
 Replays line c k [] last = last ≡ k
 Replays line c k (e ∷ entries) last =
@@ -33,8 +33,9 @@ abbrev pub IsAboveItsFrame : Event → ℕ → Type 0
 IsAboveItsFrame (Deliver from f) stamp = f.stamp < stamp
 IsAboveItsFrame event stamp = Unit {0}
 
--- a step by its stamp: it is what the clock then shows, above what it showed and above the stamp of a frame that came;
--- and what the step sends on a link follows what was sent before, with that stamp, and numbered on from there
+-- A step and its stamp. The clock then shows the stamp, which is above the old clock and above the stamp of a frame
+-- that arrived. The frames of the step follow those sent before on each link. They have that stamp, and the next
+-- numbers of the link.
 pub record IsStamped (k : Centre) (event : Event) (outcome : Outcome) (new : Centre) : Type 0 where
   pub clock : new.clock ≡ outcome.stamp
   pub above_clock : k.clock < outcome.stamp
@@ -45,18 +46,18 @@ pub record IsStamped (k : Centre) (event : Event) (outcome : Outcome) (new : Cen
 
 -- ## The logs of a line
 
--- a log for each centre of the line: its entries lead the centre from the beginning to where it ends
+-- a log for each centre of the line: its entries lead the centre from its initial state to its last
 pub record AreLogs (line : Line) (logs : ℕ → List LogEntry) (ends : ℕ → Centre) : Type 0 where
   pub replays : (c : ℕ) → is_centre line c ≡ true → Replays line c (beginning line c) (logs c) (ends c)
   pub no_other : (c : ℕ) → is_centre line c ≡ false → logs c ≡ []
 
--- a frame that the event brings to centre c stands in the log of the centre that is named as its sender, as sent to c:
--- under its number, with its stamp and its body
+-- The frame that the event brings to centre c is in the log of the centre that it names as sender. It is there as sent
+-- to c, with its number, stamp and body.
 abbrev pub IsFromLog : (ℕ → List LogEntry) → ℕ → Event → Type 0
 IsFromLog logs c (Deliver from f) = Contains (sent_to c (logs from)) f
 IsFromLog logs c event = Unit {0}
 
--- each frame that was delivered stands in its sender's log
+-- each frame that was delivered is in its sender's log
 abbrev pub IsLegal : (ℕ → List LogEntry) → Type 0
 IsLegal logs = (c : ℕ) → All (λ e. IsFromLog logs c e.event) (logs c)
 
@@ -80,7 +81,7 @@ pub record IsMerge (logs : ℕ → List LogEntry) (merged : List LogEntry) : Typ
 
 -- ## The run of the world
 
--- what happens in the world where centre c takes the event
+-- the event of the world when centre c takes this event
 abbrev pub happening : ℕ → Event → world.Event
 happening c (Train m) = world.Bytes c (Ok m)
 happening c (Set s) = world.Set c s
@@ -90,25 +91,26 @@ happening c (Deliver from f) = world.Delivery from c f.number
 abbrev pub happened : LogEntry → world.Event
 happened e = happening e.centre e.event
 
--- and what was answered
+-- the answer of the world
 abbrev pub answered : LogEntry → Answer
 answered e = Answered e.outcome
 
--- from the beginning, the world answers the events of the entries as they have it, and its centres end as they did
+-- From its initial state, the world gives the answers of the entries to their events. Its centres are in these states
+-- then.
 pub record IsWorldRun (line : Line) (entries : List LogEntry) (ends : ℕ → Centre) : Type 0 where
   pub last : World
   pub runs : world_run line (new_world line) (map happened entries) ≡ Ok (map answered entries, last)
   pub ends_so : (c : ℕ) → is_centre line c ≡ true → last.at c ≡ ends c
 
--- ## What is claimed
+-- ## The claims
 
--- Whatever the centres of a line did side by side: where each log replays its centre from the beginning, and each frame
--- that was delivered stands in its sender's log, every merge of the logs is one run of the world
+-- Suppose that each log replays its centre from the initial state, and that each frame that was delivered is in its
+-- sender's log. Then every merge of the logs is one run of the world, whatever the centres did side by side.
 abbrev pub FamilyTheorem : Type 0
 FamilyTheorem = (line : Line) (logs : ℕ → List LogEntry) (ends : ℕ → Centre) (merged : List LogEntry)
     → AreLogs line logs ends → IsLegal logs → IsMerge logs merged → IsWorldRun line merged ends
 
--- a list that has each entry of each log once is a merge of the logs as soon as it is in the order of stamps
+-- a list of all entries of all logs, each once, is a merge of the logs if it is in the order of stamps
 abbrev pub SortedTheorem : Type 0
 SortedTheorem = (line : Line) (logs : ℕ → List LogEntry) (ends : ℕ → Centre) (together sorted : List LogEntry)
     → AreLogs line logs ends → ((c : ℕ) → entries_of c together ≡ logs c) → IsPermutation together sorted

@@ -1,7 +1,7 @@
-//! Laws of the beginnings of logs: what is left of the logs of a line, where each was cut somewhere, is one run of the
-//! world, as soon as each frame that was delivered stands in what is left of its sender's log.
+//! Laws of the first parts of logs. The logs of a line may each be cut at any position. If each delivered frame is in
+//! the first part of its sender's log, the first parts are one run of the world.
 //!
-//! No code: what `laws.rt` states stays, and how it is proved is free.
+//! No code. The statements of `laws.rt` have to stay; their proofs may change.
 
 mod laws;
 

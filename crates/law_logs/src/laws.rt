@@ -7,24 +7,23 @@ ghost use Rattle.rbc_spec.specs.Centre.{Centre};
 ghost use Rattle.rbc_spec.specs.Step.{Event, step};
 ghost use Rattle.law_logs.specs.Logs.{IsStamped, FamilyTheorem, SortedTheorem};
 
-/// Whatever event a centre takes: the stamp of its step is what its clock then shows, above what it showed, and above
-/// the stamp of a frame that came. What the step sends follows what was sent before, with that stamp, and
-/// numbered on from there.
+/// For every event of a centre, the clock then shows the stamp of the step. It is above the old clock, and above the
+/// stamp of a frame that arrived. The frames of the step follow those sent before, with that stamp, and are numbered
+/// on.
 pub fn each_step_is_stamped()
     ensures { (line : Line) (c : ℕ) (event : Event) (k new : Centre) (outcome : Outcome)
         → step line c event k ≡ Ok (outcome, new) → IsStamped k event outcome new }
 {}
 
-/// Whatever the centres of a line did side by side, and however their steps took turns: where each log replays its
-/// centre from the beginning, and each frame that was delivered stands in its sender's log, every merge of the logs by
-/// stamp and centre is one run of the world. The world answers each event as its entry has it, and each centre ends
-/// where its log does.
+/// Suppose that each log replays its centre from the initial state, and that each delivered frame is in its sender's
+/// log. Then every merge of the logs by stamp and centre is one run of the world, in whatever order the steps were
+/// made. The world answers each event as its entry has it, and each centre ends in the state in which its log does.
 pub fn the_family_theorem()
     ensures { FamilyTheorem }
 {}
 
-/// A list that has each entry of each log once, each log's in its order, is a merge of the logs as soon as it is put in
-/// the order of stamps, of one stamp by centre: in whatever way it was sorted, each log keeps its order in it.
+/// A list has each entry of each log once, each log's entries in their order. Sorted by stamp, and for one stamp by
+/// centre, it is a merge of the logs. Each log keeps its order, whatever the method of sorting.
 pub fn a_sorted_list_is_a_merge()
     ensures { SortedTheorem }
 {}

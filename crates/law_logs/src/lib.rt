@@ -1,6 +1,6 @@
-//! Laws of logs, whole and cut: however they are merged by their stamps, they are one run of the world.
+//! Laws of logs, whole and cut: every merge by their stamps is one run of the world.
 //!
-//! No code: what `laws.rt` states stays, and how it is proved is free.
+//! No code. The statements of `laws.rt` have to stay; their proofs may change.
 #![tactic(auto)]
 
 pub mod beginnings;

@@ -1,4 +1,3 @@
 pub mod Kept
-pub mod Stamps
 pub mod Broken
 pub mod AnswersLemmas

@@ -36,14 +36,14 @@ lending_again line c d t first most k =
     let r = lendable_again line c k first most in
     (where_so (λ j. is_some (section line first)) (booked is_there (Out t) r >> send d (RouteInfo t r))) k
 
--- as `unset`, but a section in use is shut at once, while the one who has it is told
+-- as `unset`, but a section in use is shut at once, while its user gets the request
 abbrev pub shutting_at_once : Line → ℕ → ℕ → Act
 shutting_at_once line c s k =
     if not (is_home line c s) then tell (NotHome s) k
     else (if is_unused (k.book s) then (make s Shut false >> tell (Done s))
     else ((wished line c s (k.book s) >> make s Shut false) >> tell (Done s))) k
 
--- as `route_returned`, but with the sections that come home all are given back that are out for the train
+-- as `route_returned`, but all sections that are out for the train are given back with the returned ones
 abbrev pub giving_back_all : Line → ℕ → ℕ → SectionRun → Act
 giving_back_all line c t r =
     freed line c (is_out_for t) (record { first = 0; count = 512 })
@@ -81,16 +81,16 @@ keeping_older line c d t heard m =
     >> with_some (λ k. find (λ s. is_home line c s && k.wish s) (range_with_len m.hand.first m.hand.count))
     (propose_if_so line t)
 
--- as `cancelled`, but whatever its number
+-- as `cancelled`, but for every number
 abbrev pub cancelling_any : ℕ → ℕ → ℕ → Act
 cancelling_any d number t = where_so (λ k. is_some (k.expects d t)) (expect d t None)
 
 -- ## Handing over, by one rule or another
 
--- the mission of the train is handed over as a rule has it, where it announced that
+-- the mission of the train is handed over by a rule, if it has announced a handover
 abbrev pub handed_over_by : (Mission → Handing → Act) → ℕ → Act
 handed_over_by rule t = with_mission t (λ m. with_some (λ k. m.handing) (rule m))
 
--- the pool of the mission of the train goes home, as a rule has it
+-- the pool of the train's mission is returned by a rule
 abbrev pub sent_home_by : (Mission → Act) → ℕ → Act
 sent_home_by rule t = with_mission t rule

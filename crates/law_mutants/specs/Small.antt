@@ -10,8 +10,8 @@ use Rattle.rbc_spec.specs.Step.{Refusal}
 use Rattle.rbc_spec.specs.World.{World, Answer, Event, Bytes, Set, Unset, Delivery, new_world, world_run}
 use Rattle.law_invariants.specs.Flow.Flow.{Flow, flow_of}
 
--- centres A (0) and B (1), a track of three sections of 1 000 m, the first at A and two at B, and trains 1 and 2,
--- registered at A and at B
+-- Centres A (0) and B (1), and a track of three sections of 1 000 m, the first at A and two at B. Train 1 is registered
+-- at A, train 2 at B.
 abbrev pub small : Line
 small = record {
   nid_c = 5;
@@ -23,7 +23,7 @@ small = record {
   trains = record { nid_engine = 1; registrar = 0 } ∷ record { nid_engine = 2; registrar = 1 } ∷ [];
 }
 
--- a position in metres, with doubts of 10 m and 20 m, of a train of 200 m, from the group at the start of section s
+-- The position of a train of 200 m, in metres from the group at the start of section s. Its doubts are 10 m and 20 m.
 abbrev pub at : (s d_lrbg : ℕ) → Position
 at s d_lrbg = record {
   scale = 10;
@@ -44,7 +44,7 @@ in_section_0 = record { track = 0; group = 82020; front = 6200; rear = Some (pos
 abbrev pub in_section_1 : Place
 in_section_1 = record { track = 0; group = 82021; front = 16200; rear = Some (pos 13900) }
 
--- the section of this number alone
+-- the run of only this section
 abbrev pub only : ℕ → SectionRun
 only s = record { first = s; count = 1 }
 
@@ -52,7 +52,7 @@ only s = record { first = s; count = 1 }
 abbrev pub says : (c t_train : ℕ) → TrainBody → Event
 says c t_train body = Bytes c (Ok (record { t_train = t_train; nid_engine = 1; body = body }))
 
--- ## What happens
+-- ## Events
 
 -- the sections of B are set, and train 1 has a session with it
 abbrev pub at_the_other : List Event
@@ -69,13 +69,13 @@ pooled =
 abbrev pub returning : List Event
 returning = pooled ++ Unset 1 2 ∷ Delivery 1 0 2 ∷ []
 
--- the train's hand is extended over the border, A announces it to B, and B has heard of the train and takes over
+-- the train's hand is extended over the border, A announces it to B, and B gets a report of the train and takes over
 abbrev pub taking : List Event
 taking =
     pooled ++ says 0 6 (Request (at 0 600)) ∷ Delivery 0 1 2 ∷ says 1 7 InitiationOfSession
     ∷ says 1 8 SessionEstablished ∷ says 1 9 (Report (at 1 100)) ∷ []
 
--- ## What it comes to
+-- ## Results
 
 abbrev pub left_by : World → Result (List Answer × World) Refusal → World
 left_by w (Ok (answers, after)) = after
@@ -88,7 +88,7 @@ world_after events = left_by (new_world small) (world_run small (new_world small
 abbrev pub flow : List Event → Flow
 flow events = flow_of (world_after events)
 
--- B expects train 1 from A under the second number that A announced, and has said that it takes over
+-- B expects train 1 from A under the second number that A announced, and has replied that it takes over
 abbrev pub expecting : Centre
 expecting =
     record (beginning small 1) { expects = put_pair (λ d t. None) 0 1 (Some (record { number = 2; is_taking = true })) }

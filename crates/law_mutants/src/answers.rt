@@ -1,7 +1,7 @@
-//! Wrong answers between centres, each beside the rule that stands in its place: a right that is given and kept, a
-//! question that is met by silence, one that is asked twice, sections that come home and stay in use.
+//! Wrong answers between centres, each beside the right rule. A right is given and kept; a question gets no answer; one
+//! is asked twice; returned sections stay in use.
 //!
-//! No code: what `laws.rt` states stays, and how it is proved is free.
+//! No code. The statements of `laws.rt` have to stay; their proofs may change.
 
 mod laws;
 

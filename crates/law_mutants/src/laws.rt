@@ -20,9 +20,9 @@ ghost use Rattle.law_mutants.specs.Small.{small, only, in_section_0, in_section_
 ghost use Rattle.law_mutants.specs.Past.{GoesPast};
 ghost use Rattle.law_mutants.specs.Rules.{lending_again, shutting_at_once, giving_back_all, keeping_pool, starting_at_once, keeping_yield, keeping_older, cancelling_any, handed_over_by, sent_home_by};
 
-/// Whoever asks for sections, no section is then held for a train more often than its home lets be out. Where a section
-/// that is out is lent again, to another train, the first one still has it in a pool, and its home does not let that be
-/// out.
+/// After each request for sections, no section is held for a train more often than its home allows. The wrong rule
+/// lends a section that is out again, to another train. The first train still has it in a pool, and its home does not
+/// allow that.
 pub fn no_section_is_lent_twice()
     ensures the_rule_keeps { (line : Line) (w : Flow) (c d u first most t s : ℕ) → IsLine line → IsCounted w
         → is_centre line c ≡ true
@@ -32,8 +32,8 @@ pub fn no_section_is_lent_twice()
         (replied (flow pooled) 1 (lending_again small 1 0 2 1 1 ((flow pooled).at 1))) }
 {}
 
-/// Whatever mission is handed over, each train then has its right once at most. Where the mission goes on at the centre
-/// that yields, the train has its right there and in the Yield.
+/// After each handover, a train has its right at most once. If the mission stays at the centre that yields, the train
+/// has its right there and in the Yield.
 pub fn no_yield_keeps_its_mission()
     ensures the_rule_keeps { (line : Line) (w : Flow) (c u t : ℕ) → IsCounted w → is_centre line c ≡ true
         → IsWithinCap (rights line t) (centre_count line) w
@@ -42,8 +42,8 @@ pub fn no_yield_keeps_its_mission()
         (replied (flow taking) 0 (handed_over_by (keeping_yield small 0 1) 1 ((flow taking).at 0))) }
 {}
 
-/// Where a mission is taken up, a message that was old to this centre or to the one that yields stays old. Where the
-/// older of both stamps is kept, a message that was heard here would be heard again.
+/// A mission is taken over. A message that was old to this centre or to the one that yields stays old. If the older of
+/// both stamps were kept, a message that was received here would be accepted again.
 pub fn no_older_stamp_is_kept()
     ensures the_rule_keeps { (line : Line) (c d t heard stamp : ℕ) (m : Mission) (k : Centre)
         → (is_stale stamp (k.heard t) ≡ true) ⊎ (is_stale stamp (Some heard) ≡ true)
@@ -53,8 +53,8 @@ pub fn no_older_stamp_is_kept()
         ≡ false) }
 {}
 
-/// A start of mission in released sections waits, and each train then has its right once at most. Where the mission
-/// begins while the right is asked for, it is in the mission and at the registrar.
+/// A start of mission in released sections waits, and each train then has its right at most once. If the mission begins
+/// while the right is asked for, the right is in the mission and at the registrar.
 pub fn no_start_begins_before_its_right()
     ensures the_rule_keeps { (line : Line) (w : Flow) (c u t : ℕ) (place : Place) → IsCounted w
         → is_centre line c ≡ true
@@ -65,8 +65,8 @@ pub fn no_start_begins_before_its_right()
         (replied (flow at_the_other) 1 (starting_at_once small 1 in_section_1 ((flow at_the_other).at 1))) }
 {}
 
-/// Whatever sections come home at the head of a link, no section is then held more often than its home lets be out.
-/// Where all are given back that are out for the train, one opens that is still in a pool there.
+/// After each return of sections at the head of a link, no section is held more often than its home allows. If all
+/// sections that are out for the train are given back, one is open that is still in a pool there.
 pub fn no_section_opens_before_its_return()
     ensures the_rule_keeps { (line : Line) (w : Flow) (a c u t s : ℕ) (r : SectionRun) → IsLine line → IsCounted w
         → is_centre line a ≡ true → is_centre line c ≡ true → TakesHead w a c (RouteReturn u r)
@@ -78,8 +78,8 @@ pub fn no_section_opens_before_its_return()
         (replied (took (flow returning) 0 1) 1 (giving_back_all small 1 1 (only 2) ((flow returning).at 1))) }
 {}
 
-/// Nor does a section that the interlocking wishes back: it stays in use until it comes home. Where it is shut as it is
-/// asked back, it is still in a pool elsewhere.
+/// The same holds for a section that the interlocking wishes back: it stays in use until it is returned. By a wrong
+/// rule it is shut as soon as it is asked for, and is still in a pool elsewhere.
 pub fn no_section_shuts_as_it_is_asked_back()
     ensures the_rule_keeps { (line : Line) (w : Flow) (c e t s : ℕ) → IsLine line → IsCounted w
         → is_centre line c ≡ true
@@ -89,8 +89,8 @@ pub fn no_section_shuts_as_it_is_asked_back()
         (replied (flow pooled) 1 (shutting_at_once small 1 1 ((flow pooled).at 1))) }
 {}
 
-/// Whatever pool goes home, no section is then held more often than its home lets be out. Where the pool stays too, its
-/// sections are in it and on their way home.
+/// After each return of a pool, no section is held more often than its home allows. If the pool stays too, its sections
+/// are in it and on their way home.
 pub fn no_pool_is_returned_and_kept()
     ensures the_rule_keeps { (line : Line) (w : Flow) (c u t s : ℕ) → IsLine line → IsCounted w
         → is_centre line c ≡ true
@@ -101,8 +101,8 @@ pub fn no_pool_is_returned_and_kept()
         (replied (flow pooled) 0 (sent_home_by (keeping_pool small 0 1) 1 ((flow pooled).at 0))) }
 {}
 
-/// What may be taken under one number may be taken after a Cancel under another. Where a Cancel ends the handover
-/// whatever its number, the Yield that comes under the newer one is not taken, and the train has no supervisor.
+/// A handover that may be taken under one number may be taken after a Cancel under another. If a Cancel ends the
+/// handover with any number, the Yield under the newer number is not accepted, and the train has no supervisor.
 pub fn no_older_cancel_ends_a_newer_handover()
     ensures the_rule_keeps { (line : Line) (c d older number t : ℕ) (place : Place) (hand : SectionRun) (k : Centre)
         → older ≢ number

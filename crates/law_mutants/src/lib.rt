@@ -1,6 +1,6 @@
-//! Tempting wrong rules and wrong answers, each beside the rule that is right.
+//! Tempting wrong rules and wrong answers, each beside the right rule.
 //!
-//! No code: what `laws.rt` states stays, and how it is proved is free.
+//! No code. The statements of `laws.rt` have to stay; their proofs may change.
 #![tactic(auto)]
 
 pub mod answers;

@@ -1,10 +1,13 @@
--- What is seen of the scenes, computed.
-use Rattle.std.proofs.Common.{◌≡◌, ℕ, true, false, refl, sym, ◌∙◌}
-use Rattle.rbc_spec.specs.SectionRuns.{within, longest}
-use Rattle.rbc_spec.specs.Line.{start as line_start, end}
+-- The view after each scene, computed.
+use Rattle.std.proofs.Common.{◌∙◌, ◌≡◌, false, refl, sym, true, ℕ}
+use Rattle.law_outside.specs.Outside.{front_end, IsSafeOutside, may_run_over, View}
+use Rattle.law_outside.specs.Scenes.{a_late_report, accepted_after_a_rejection, accepted_in_advance, another_is_done}
+use Rattle.law_outside.specs.Scenes.{ended, granted, granted_before_it_was_told, line, longer_than_the_hand}
+use Rattle.law_outside.specs.Scenes.{out_of_nothing, over_a_waiting_start, reported, seen_of, shortened_by_an_authority}
+use Rattle.law_outside.specs.Scenes.{side_by_side, train_1_runs, unset_of_a_kept_section_is_done}
+use Rattle.rbc_spec.specs.Line.{end, start as line_start}
 use Rattle.rbc_spec.specs.Place.{extent}
-use Rattle.law_outside.specs.Outside.{IsSafeOutside, View, may_run_over, front_end}
-use Rattle.law_outside.specs.Scenes.{line, seen_of, side_by_side, train_1_runs, reported, granted, ended, longer_than_the_hand, over_a_waiting_start, unset_of_a_kept_section_is_done, out_of_nothing, shortened_by_an_authority, granted_before_it_was_told, a_late_report, accepted_in_advance, another_is_done, accepted_after_a_rejection}
+use Rattle.rbc_spec.specs.SectionRuns.{longest, within}
 
 pub own_first : may_run_over line (seen_of side_by_side) 1 1 ≡ true
 unfolding within longest line_start end extent front_end seen_of
@@ -131,7 +134,8 @@ unfolding within longest line_start end extent front_end seen_of
 rejected_strays = refl
 
 -- two trains over one section
-two_over_one : (v : View) (s : ℕ) → may_run_over line v 1 s ≡ true → may_run_over line v 2 s ≡ true → IsSafeOutside line v → ⊥
+two_over_one : (v : View) (s : ℕ) → may_run_over line v 1 s ≡ true → may_run_over line v 2 s ≡ true
+    → IsSafeOutside line v → ⊥
 two_over_one v s first second h = let same : ◌≡◌ {A = ℕ} 1 2 = h.one_train 1 2 s first second in cc
 
 -- a train over a section that is not released

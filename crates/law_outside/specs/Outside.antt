@@ -1,7 +1,8 @@
--- What the world outside sees of the centres of a line: the messages of trains and the answers to them, and the events
--- of the interlocking and the answers to them. No state of a centre occurs here, and no frame. A message to a train
--- never takes anything back from it. A message of a train takes back only what the train was told before it sent that
--- message. "In advance of" is further on in the direction of travel, "in rear of" is further back.
+-- The view of an observer outside the centres of a line. The observer sees the messages of trains and the answers to
+-- them, and the events of the interlocking and the answers to those. No state of a centre occurs here, and no frame. A
+-- message to a train never takes anything back from it. A message of a train takes back only a part that the train was
+-- sent before it sent that message. "In advance of" is further on in the direction of travel, "in rear of" is further
+-- back.
 use Rattle.std.specs.Prelude.{◌≡◌, ℕ, zero, suc, ◌+◌, ◌*◌, ◌==◌, Bool, true, false, ◌&&◌, if◌then◌else◌, List, [], ◌∷◌, ◌++◌, map, min, max, Option, Some, None, option_map, option_and_then, is_none, nat_lt, nat_le, ℤ, pos, int_lt, Ok}
 use Rattle.std.specs.Option.{option_map_or}
 use Rattle.rbc_spec.specs.Maps.{has, put, put_pair}
@@ -12,14 +13,15 @@ use Rattle.rbc_spec.specs.Message.{TrainMessage, TrainBody, Report, ShorteningGr
 use Rattle.rbc_spec.specs.Outcome.{Saying, Word, Done, Told}
 use Rattle.rbc_spec.specs.World.{World, Event, Bytes, Set, Unset, centre_of, Answer, Answered, new_world, world_run}
 
--- a pending request to shorten: the centre that sent it, its T_TRAIN, and where the authority would end
+-- a pending request to shorten: the centre that sent it, its T_TRAIN, and the proposed end of the authority
 pub record Shortening : Type 0 where
   pub centre : ℕ
   pub stamp : ℕ
   pub end : ℕ
 
--- how far a train may run: the track, its safe rear end in decimetres, the farthest end that it was told in metres;
--- T_TRAIN of its last message that was answered by an authority or a start; and the request to shorten since then
+-- How far a train may run. `track` is its track. `rear` is its safe rear end in decimetres. `end` is the farthest end
+-- that it was sent, in metres. `since` is T_TRAIN of its last message that was answered by an authority or by an
+-- accepted start. `asked` is the request to shorten that was sent after that.
 pub record Stretch : Type 0 where
   pub track : ℕ
   pub rear : ℤ
@@ -27,9 +29,9 @@ pub record Stretch : Type 0 where
   pub since : ℕ
   pub asked : Option Shortening
 
--- how far each train may run; for each train and centre how far its start of mission reaches, if that has no answer
--- yet; which sections the interlocking has released and not taken back; and whether a train was ever told something
--- that it cannot place
+-- The observer's view. `stretch`: how far each train may run. `start`: for each train and centre, the stretch of a
+-- start of mission without an answer. `released`: the sections that the interlocking has released and not taken back.
+-- `stray`: some train was sent a message that it cannot place.
 pub record View : Type 0 where
   pub stretch : ℕ → Option Stretch
   pub start : ℕ → ℕ → Option Stretch
@@ -39,7 +41,7 @@ pub record View : Type 0 where
 abbrev pub nothing_seen : View
 nothing_seen = record { stretch = λ t. None; start = λ t c. None; released = λ s. false; stray = false }
 
--- the section is in the stretch, or a part of it is
+-- the section is in the stretch, at least in part
 abbrev pub is_in : Line → ℕ → Stretch → Bool
 is_in line s x = (is_on line x.track s && nat_lt (start line s) x.end) && int_lt x.rear (pos (10 * end line s))
 
@@ -47,7 +49,8 @@ is_in line s x = (is_on line x.track s && nat_lt (start line s) x.end) && int_lt
 abbrev pub may_run_over : Line → View → ℕ → ℕ → Bool
 may_run_over line v t s = has (is_in line s) (v.stretch t)
 
--- the end of the section of the front: of the first n sections, the last on the track that begins in rear of the front
+-- the end of the section that has the front: of the first n sections, the last on the track that starts before the
+-- front
 unfoldable pub front_end : Line → Place → ℕ → Option ℕ
 front_end line place zero = None
 front_end line place (suc n) =
@@ -56,15 +59,15 @@ front_end line place (suc n) =
 
 -- ## Messages of a train
 
--- a report takes back what lies in rear of its safe rear end
+-- a report takes back the part in rear of its safe rear end
 abbrev pub cleared : Place → Stretch → Stretch
 cleared place x = option_map_or (λ rear. if int_lt x.rear rear then record x { rear = rear } else x) place.rear x
 
 abbrev pub up_to : Stretch → ℕ → Stretch
 up_to x end = record x { end = min x.end end }
 
--- an end of mission at standstill also takes back what lies in advance of the section of the front; a granted request
--- what lies in advance of its end, where the front has not passed that
+-- An end of mission at standstill also takes back the part in advance of the section that has the front. A granted
+-- request takes back the part in advance of the proposed end, if the front has not passed that.
 abbrev pub takes_back : Line → ℕ → TrainBody → Place → Stretch → Stretch
 takes_back line c (Report position) place x = cleared place x
 takes_back line c (EndOfMission position) place x =
@@ -90,7 +93,7 @@ after_message line c t_train body x =
     (λ place. if (place.track == x.track) && nat_lt x.since t_train then takes_back line c body place x else x)
     (option_and_then (extent line) (position_of body)) x
 
--- a start reaches from the rear end to the end of the section of the front
+-- the stretch of a start is from its safe rear end to the end of the section that has the front
 abbrev pub begun : Line → ℕ → Place → Option Stretch
 begun line stamp place =
     option_and_then (λ rear. option_map
@@ -114,7 +117,8 @@ says line c m body v =
 
 -- ## Messages to a train
 
--- a train that may still run keeps that, and gets what its start reaches; not on another track
+-- A train whose stretch is not empty keeps it, and gets the stretch of its start too. That is possible only on the same
+-- track.
 abbrev pub accepted : Option Stretch → Stretch → Option Stretch
 accepted None y = Some y
 accepted (Some x) y =
@@ -127,7 +131,7 @@ accepted (Some x) y =
     }) else None)
     else Some y
 
--- the train may run so far now; what it cannot place is stray
+-- the train may run over this stretch from now on; `None` is a message that it cannot place
 abbrev pub gets : ℕ → Option Stretch → View → View
 gets t None v = record v { stray = true }
 gets t (Some x) v = record v { stretch = put v.stretch t (Some x) }
@@ -143,7 +147,7 @@ abbrev pub stamp_of : Event → ℕ → Option ℕ
 stamp_of (Bytes c (Ok m)) t = if m.nid_engine == t then Some m.t_train else None
 stamp_of event t = None
 
--- an authority: the farthest end counts, and it answers a message of the train
+-- an authority: the farther of both ends counts, and the authority answers a message of the train
 abbrev pub extended : Line → Event → ℕ → ℕ → ℕ → Stretch → Option Stretch
 extended line event t group metres x =
     option_and_then (λ stamp. option_map
@@ -171,7 +175,7 @@ is_told line event p (ShorteningRequest l) v =
     (v.stretch p.nid_engine)) v
 is_told line event p body v = v
 
--- ## Words to the interlocking
+-- ## Replies to the interlocking
 
 abbrev pub hears : Event → Word → View → View
 hears (Set c e) (Done s) v = if s == e then record v { released = put v.released s true } else v
@@ -179,7 +183,7 @@ hears (Unset c e) (Done s) v = record v { released = put v.released e false }
 hears event (Told s) v = record v { released = put v.released s false }
 hears event word v = v
 
--- ## A list of events, and the messages and words after each
+-- ## A list of events, with the messages and replies after each
 
 abbrev pub all_told : Line → Event → List Saying → View → View
 all_told line event [] v = v
@@ -189,14 +193,14 @@ abbrev pub all_heard : Event → List Word → View → View
 all_heard event [] v = v
 all_heard event (w ∷ ws) v = all_heard event ws (hears event w v)
 
--- what leaves the line if a centre takes a step: whether the message was heard, messages to trains, words to the
--- interlocking
+-- The part of a centre's step that is seen outside: whether a train's message was accepted, messages to trains, replies
+-- to the interlocking.
 pub record Spoken : Type 0 where
   pub is_heard : Bool
   pub sayings : List Saying
   pub words : List Word
 
--- the message of an event, if it was heard
+-- the message of an event, if it was accepted
 abbrev pub said_by : Line → Event → Bool → View → View
 said_by line (Bytes c (Ok m)) true v = says line c m m.body v
 said_by line event is_heard v = v
@@ -206,7 +210,8 @@ sees line event (Some o) v =
     all_heard event o.words (all_told line event o.sayings (said_by line event o.is_heard v))
 sees line event None v = v
 
--- the lists are equally long: the second has what left the line after each event
+-- The view after a list of events. Both lists have the same length; the second has the messages and replies after each
+-- event.
 abbrev pub sees_all : Line → List Event → List (Option Spoken) → View → View
 sees_all line [] [] v = v
 sees_all line (event ∷ events) (spoken ∷ others) v = sees_all line events others (sees line event spoken v)
@@ -214,25 +219,25 @@ sees_all line events others v = record v { stray = true }
 
 -- ## The promise
 
--- no two trains may run over one section, and none over a section that the interlocking has not released, or has taken
--- back; and each train could place what it was told
+-- No two trains may run over one section. None may run over a section that the interlocking has not released, or has
+-- taken back. Each train could place each message that it was sent.
 pub record IsSafeOutside (line : Line) (v : View) : Type 0 where
   pub one_train : (t u s : ℕ) → may_run_over line v t s ≡ true → may_run_over line v u s ≡ true → t ≡ u
   pub released : (t s : ℕ) → may_run_over line v t s ≡ true → v.released s ≡ true
   pub founded : v.stray ≡ false
 
--- the messages and words of an answer
+-- the messages and replies of an answer
 abbrev pub spoken_of : Answer → Option Spoken
 spoken_of (Answered o) = Some (record { is_heard = is_none o.silence; sayings = o.sayings; words = o.words })
 spoken_of answer = None
 
--- the promise holds after every list of events, with frames late, twice, out of turn or never
+-- the promise holds after every list of events, even if frames are late, repeated, out of order or lost
 abbrev pub OutsideTheorem : Type 0
 OutsideTheorem = (line : Line) (events : List Event) (answers : List Answer) (w : World)
     → IsLine line → world_run line (new_world line) events ≡ Ok (answers, w)
     → IsSafeOutside line (sees_all line events (map spoken_of answers) nothing_seen)
 
--- the promise holds after this event, whatever events led to the world before it
+-- the promise holds after this event, for all events that led to the world before it
 abbrev pub StaysSafeOutside : Line → World → Event → Answer → Type 0
 StaysSafeOutside line w event answer =
     (events : List Event) (answers : List Answer) → world_run line (new_world line) events ≡ Ok (answers, w)

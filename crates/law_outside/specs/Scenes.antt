@@ -1,6 +1,6 @@
--- Scenes that hold up the definition of the promise (`Outside.antt`): lists of events with the answers to them. A right
--- definition calls the first scenes safe, and sees what a train takes back there. It calls all other scenes unsafe: two
--- trains may run over one section, or one over a section that is not released.
+-- Scenes that test the definition of the promise (`Outside.antt`): lists of events with the answers to them. A right
+-- definition calls the first scenes safe, and notices each part that a train takes back there. It calls all other
+-- scenes unsafe: two trains may run over one section, or one train over a section that is not released.
 use Rattle.std.specs.Prelude.{ℕ, ◌+◌, ◌*◌, true, List, [], ◌∷◌, ◌++◌, map, Option, Some, Ok}
 use Rattle.std.specs.List.{range_with_len}
 use Rattle.rbc_spec.specs.Line.{Line}
@@ -26,7 +26,7 @@ line = record {
 abbrev pub group : (s : ℕ) → ℕ
 group s = 5 * 16384 + 100 + s
 
--- a train of 200 m that stands in section s: its front is at 620 m of the section, its rear at 390 m
+-- a train of 200 m in section s: its safe front end is at 620 m, its safe rear end at 390 m of it
 abbrev pub in_section : (s : ℕ) → Position
 in_section s = record {
   scale = 10;
@@ -40,13 +40,13 @@ in_section s = record {
   is_level_2 = true;
 }
 
--- an event, and the messages and words after it
+-- an event, with the messages and replies after it
 pub record Exchange : Type 0 where
   pub event : Event
   pub spoken : Option Spoken
 
--- after the event train t gets these messages, with this T_TRAIN and from the group at the start of section 1, and the
--- interlocking these words
+-- After the event, train t gets these messages with this T_TRAIN, from the group at the start of section 1. The
+-- interlocking gets these replies.
 abbrev pub exchange : Event → (t t_train : ℕ) → List TrackBody → List Word → Exchange
 exchange event t t_train told words = record {
   event = event;
@@ -56,7 +56,7 @@ exchange event t t_train told words = record {
     saying : TrackBody → Saying
     saying it = record { nid_engine = t; message = record { t_train = t_train; nid_lrbg = group 1; body = it } }
 
--- train t sends this message to centre A, and gets these; and the interlocking gets these words
+-- train t sends this message to centre A and gets these messages; the interlocking gets these replies
 abbrev pub talk : (t t_train : ℕ) → TrainBody → List TrackBody → List Word → Exchange
 talk t t_train body told words =
     exchange (Bytes 0 (Ok (record { t_train = t_train; nid_engine = t; body = body }))) t t_train told words
@@ -90,7 +90,7 @@ train_2_starts told = talk 2 1 (StartOfMission true (in_section 2)) told []
 abbrev pub train_1_asks : ℕ → Exchange
 train_1_asks metres = talk 1 2 (Request (in_section 1)) (Authority metres ∷ []) []
 
--- the right of train t comes to A, and its start is accepted
+-- the right of train t arrives at A, and its waiting start is accepted
 abbrev pub right_comes : (t : ℕ) → Exchange
 right_comes t = exchange (Delivery 1 0 1) t 2 (TrainAccepted ∷ []) []
 
@@ -98,11 +98,11 @@ right_comes t = exchange (Delivery 1 0 1) t 2 (TrainAccepted ∷ []) []
 abbrev pub train_1_runs : List Exchange
 train_1_runs = released 3 ∷ train_1_starts ++ train_1_asks 3000 ∷ []
 
--- the interlocking wishes section 3 back, and train 1 is asked to stop at the end of section 2
+-- the interlocking wishes section 3 back, and train 1 gets a request to stop at the end of section 2
 abbrev pub section_3_is_wished_back : Exchange
 section_3_is_wished_back = exchange (Unset 0 3) 1 5 (ShorteningRequest 2000 ∷ []) (Asked 3 ∷ [])
 
--- train 1 grants that, and the interlocking is told that section 3 is shut
+-- train 1 grants that, and the interlocking gets the report that section 3 is shut
 abbrev pub train_1_grants : Exchange
 train_1_grants = talk 1 7 (ShorteningGranted 5 (in_section 1)) [] (Told 3 ∷ [])
 
@@ -124,7 +124,7 @@ reported = train_1_runs ++ talk 1 7 (Report (in_section 2)) [] [] ∷ []
 abbrev pub ended : List Exchange
 ended = train_1_runs ++ talk 1 7 (EndOfMission (in_section 1)) [] [] ∷ []
 
--- the same events, but the authority does not come to the train
+-- the same events, but the authority does not arrive at the train
 abbrev pub the_authority_is_lost : List Exchange
 the_authority_is_lost = released 3 ∷ train_1_starts ++ talk 1 2 (Request (in_section 1)) [] [] ∷ []
 

@@ -1,11 +1,12 @@
-//! What the world outside sees of the centres of a line, and when that is safe: the definition of the promise.
+//! The promise to the world outside the centres of a line: its definition, and scenes that test it.
 //!
-//! `specs/Outside.antt` is what a reader has to believe: how far each train may run by all that it was told and said,
-//! and which sections the interlocking has released (`sees_all`); and that no two trains may run over one section, and
-//! none over one that is not released (`IsSafeOutside`). That the centres keep the promise is proved in `law_promises`.
+//! `specs/Outside.antt` is the definition that a reader has to believe. It derives two things from the messages of a
+//! run (`sees_all`): how far each train may run, and which sections the interlocking has released. A view is safe
+//! (`IsSafeOutside`) if no two trains may run over one section, and none over a section that is not released. That the
+//! centres keep the promise is proved in `law_promises`.
 //!
-//! The functions here have no code. They are scenes that hold up the definition: one that takes back too early calls a
-//! dangerous scene safe, and the check refuses it.
+//! The functions here have no code. They are scenes that test the definition. A definition that takes a part back too
+//! early would call a dangerous scene safe, and the check refuses it.
 #![tactic(auto)]
 
 mod scenes;

@@ -1,4 +1,3 @@
 pub mod Idle
-pub mod Stops
-pub mod Fair
 pub mod InTurn
+pub mod Fair

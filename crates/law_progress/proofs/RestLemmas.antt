@@ -1,3 +1,4 @@
+pub mod Load
 pub mod Sends
 pub mod Delivers
 pub mod Rest

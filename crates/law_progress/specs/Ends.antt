@@ -1,4 +1,4 @@
--- Handovers that can end: what leads from a world to one at rest without a handover.
+-- Handovers that can end: the events that lead from a world to one at rest without a handover.
 use Rattle.std.specs.Prelude.{◌≡◌, ◌⊎◌, ℕ, ◌+◌, ◌≤◌, Bool, List, true, false, All, Option, Some, is_some, Ok, Err}
 use Rattle.rbc_spec.specs.Maps.{has}
 use Rattle.rbc_spec.specs.Line.{Line, is_centre}
@@ -37,7 +37,7 @@ messages_for_report Closed = 3
 messages_for_report Opened = 2
 messages_for_report Up = 1
 
--- a train whose handover stands at centre c has sent a T_TRAIN so near to the last that no report of it can follow
+-- a train with a pending handover at centre c has sent so great a T_TRAIN that no report can follow
 pub record IsOutOfStamps (line : Line) (w : World) : Type 0 where
   pub c : ℕ
   pub t : ℕ
@@ -54,8 +54,8 @@ pub record IsRefusedThere (line : Line) (w : World) : Type 0 where
   pub why : Refusal
   pub refused : world_step line w event ≡ Err why
 
--- finitely many deliveries and messages of trains lead from w to rest, with no handover or with a train that is out of
--- stamps; or to a step that is refused
+-- Finitely many deliveries and messages of trains lead from w to one of three ends. The world is at rest without a
+-- handover. Or it is at rest, and a train has too few stamps left for a report. Or a step is refused.
 pub record GoesOn (line : Line) (w : World) : Type 0 where
   pub events : List Event
   pub going_on : All IsGoingOn events

@@ -1,7 +1,8 @@
-//! Liveness of every fair schedule: where each frame on the way is delivered some time, and nothing else happens from
-//! some position on, a line comes to rest, and stays there. That frames are delivered is the premise, and not claimed.
+//! Liveness of every fair schedule. Suppose that each frame on the way is delivered at some time, and that only
+//! deliveries happen from some position on. Then a line reaches rest and stays there. That frames are delivered is the
+//! premise, and not claimed.
 //!
-//! No code: what `laws.rt` states stays, and how it is proved is free.
+//! No code. The statements of `laws.rt` have to stay; their proofs may change.
 
 mod laws;
 

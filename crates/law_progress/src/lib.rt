@@ -1,7 +1,7 @@
-//! Progress without time: rest is reached from each world, by finitely many deliveries and messages (`rest`), and in
+//! Progress without time. Rest is reached from each world by finitely many deliveries and messages (`rest`), and in
 //! every fair schedule (`fair`). That a frame is ever delivered is a premise, and not claimed.
 //!
-//! No code: what `laws.rt` states stays, and how it is proved is free.
+//! No code. The statements of `laws.rt` have to stay; their proofs may change.
 #![tactic(auto)]
 
 pub mod fair;

@@ -1,7 +1,7 @@
-//! A law of progress without time: from each world a finite list of deliveries leads to rest, where nothing is on the
-//! way and each question has its answer. That a frame is ever delivered is not claimed.
+//! A law of progress without time. From each world a finite list of deliveries leads to rest: nothing is on the way,
+//! and each question has its answer. That a frame is ever delivered is not claimed.
 //!
-//! No code: what `laws.rt` states stays, and how it is proved is free.
+//! No code. The statements of `laws.rt` have to stay; their proofs may change.
 
 mod laws;
 

@@ -1,2 +1,4 @@
+pub mod Speaks
 pub mod Acts
+pub mod Starts
 pub mod Messages

@@ -1,9 +1,12 @@
 pub mod Arrives
-pub mod Meets
+pub mod ArrivesTold
+pub mod ArrivesSeen
+pub mod Ends
 pub mod Parts
+pub mod PartsAccepted
 pub mod Reached
+pub mod ReachedSaid
 pub mod Runs
 pub mod Seen
 pub mod Speaks
 pub mod Told
-pub mod Within

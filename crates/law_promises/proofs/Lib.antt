@@ -1,10 +1,13 @@
 pub mod Promised
 pub mod Spans
+pub mod SpansOfStarts
 pub mod Marks
 pub mod Tied
 pub mod Standstill
 pub mod Follows
+pub mod QuietFollows
 pub mod Heard
+pub mod Released
 pub mod Pieces
 pub mod ArrivalLemmas
 pub mod ApartLemmas

@@ -1,255 +1,104 @@
--- What is seen outside follows the one line centre's state through each event, and so it is safe.
-use Rattle.std.proofs.Common.{◌≡◌, ℕ, ◌<◌, ◌==◌, ◌&&◌, ◌||◌, not, nat_le, Bool, true, false, List, [], ◌∷◌, ◌++◌, map, Option, Some, None, Ok, Err, is_none, is_some, if◌then◌else◌, refl, sym, ap, ◌∙◌, inl, inr, subst, eqb-true, arith, le-leb}
-use Rattle.std.specs.Option.{option_map_or}
-use Rattle.std.specs.List.{All, list_all}
-use Rattle.std.proofs.lemmas.Bool.{and_parts, not-false, both_ways, cases_lt}
+use Rattle.std.proofs.Common.{[], ◌&&◌, ◌++◌, ◌<◌, ◌==◌, ◌||◌, ◌∙◌, ◌∷◌, ◌≡◌, ap, arith, Bool, eqb-true, Err, false}
+use Rattle.std.proofs.Common.{if◌then◌else◌, inl, inr, is_none, is_some, le-leb, List, map, nat_le, None, not, Ok}
+use Rattle.std.proofs.Common.{Option, refl, Some, subst, sym, true, ℕ}
+use Rattle.std.proofs.lemmas.Bool.{and_parts, both_ways, cases_lt, not-false}
 use Rattle.std.proofs.lemmas.Bool.Decides.{eqb_tells}
+use Rattle.std.proofs.lemmas.List.Elements.{All-nil}
 use Rattle.std.proofs.lemmas.Option.{same_Some}
-use Rattle.std.proofs.lemmas.List.Elements.{All-head, All-tail, All-nil, All-cons, All-append}
-use Rattle.rbc_spec.specs.Maps.{has, put}
-use Rattle.rbc_spec.specs.Line.{Line, IsLine, is_centre, is_home}
-use Rattle.rbc_spec.specs.Place.{Place}
-use Rattle.rbc_spec.specs.Message.{TrainMessage, TrainBody, TrainData, Request, Report, ShorteningGranted, ShorteningRejected, EndOfMission, InitiationOfSession, TerminationOfSession, StartOfMission, SessionEstablished, TrackBody, Authority, DataAcknowledged, ShorteningRequest, Transition, EndSession, SystemVersion, TerminationAcknowledged, TrainRejected, TrainAccepted, is_stale}
-use Rattle.rbc_spec.specs.Outcome.{Outcome, Saying, Word, Done, Asked, NotHome, Told, Reason, StaleStamp, ForeignEngine, NotSupervised, ProposalPending, Unasked, NoPlace, WrongPhase, reasons_of}
-use Rattle.rbc_spec.specs.Centre.{Proposal}
-use Rattle.rbc_spec.specs.LineCentre.{LineState, LineMission, Mark, Shut, Open, Kept, Given, is_given_to, line_beginning, hears, At, is_at, Said, nothing}
-use Rattle.rbc_spec.specs.OwnSteps.{Own, Sets, Unsets, is_unused_mark, set_mark, wished_back}
-use Rattle.rbc_spec.specs.Quiet.{Quiet, Keep, Unkeep, Admit, Dismiss, LayDown, TakeUp, Propose, Order, EndOrder, TakesQuiet, TakesAll, is_of_centre, both}
-use Rattle.rbc_spec.specs.World.{Event, Bytes, Set, Unset, Delivery, centre_of, Answer, Answered, NoCentre, NotSent, Fault}
-use Rattle.rbc_spec.specs.Run.{Piece, Goes, Run, Steps, silent, heard, listened, OwnStep, silence, holds, has_here, may_request_at, answers_it, may_listen}
-use Rattle.law_base.proofs.Lists.{none_passes}
-use Rattle.law_base.proofs.Puts.{itself, put_here, put_other, put_pair_there}
-use Rattle.law_base.proofs.PiecesLemmas.Waits.{wait_on}
+use Rattle.std.specs.List.{All, list_all}
+use Rattle.std.specs.Option.{option_map_or}
+use Rattle.law_base.proofs.Lists.{itself, none_passes, put_here, put_other, put_pair_there}
 use Rattle.law_base.proofs.PiecesLemmas.Frees.{by_test}
-use Rattle.law_base.proofs.PiecesLemmas.Words.{Fits, quiets_fit, own_fits}
+use Rattle.law_base.proofs.PiecesLemmas.Waits.{wait_on}
+use Rattle.law_base.proofs.PiecesLemmas.Words.{Fits, own_fits, quiets_fit}
 use Rattle.law_outside.specs.Outside as outside
-use Rattle.law_outside.specs.Outside.{View, Stretch, is_told, all_told, all_heard, said_by, sees, sees_all, nothing_seen, may_run_over, is_in, IsSafeOutside, gets, starts, spoken_of}
-use Rattle.law_promises.proofs.Marks.{if_true}
-use Rattle.law_promises.proofs.Tied.{IsSince, Later, not_under_way}
-use Rattle.law_promises.proofs.Follows.{given, Follows, heard_as, put_later, wait_still, after_none, quiet_follows, quiet_shut}
-use Rattle.law_promises.proofs.Heard.{here_is, Fair, own_follows, own_shut, listens_follow}
-
--- ## What changes of a view
-
--- what trains have said and were told is the same
-pub record SameTrains (x y : View) : Type 0 where
-  pub stretch : y.stretch ≡ x.stretch
-  pub start : y.start ≡ x.start
-  pub stray : y.stray ≡ x.stray
-
-same_view : (x : View) → SameTrains x x
-same_view x = record { stretch = refl; start = refl; stray = refl }
-
-hears_same : (event : Event) (w : Word) (x : View) → SameTrains x (outside.hears event w x)
-hears_same (Bytes c read) (Done s) x = same_view x
-hears_same (Bytes c read) (Asked s) x = same_view x
-hears_same (Bytes c read) (NotHome s) x = same_view x
-hears_same (Bytes c read) (Told s) x = record { stretch = refl; start = refl; stray = refl }
-hears_same (Set c e) (Done s) x = by_same (s == e)
-  where
-    by_same : (b : Bool) → SameTrains x (if b then record x { released = put x.released s true } else x)
-    by_same true = record { stretch = refl; start = refl; stray = refl }
-    by_same false = same_view x
-hears_same (Set c e) (Asked s) x = same_view x
-hears_same (Set c e) (NotHome s) x = same_view x
-hears_same (Set c e) (Told s) x = record { stretch = refl; start = refl; stray = refl }
-hears_same (Unset c e) (Done s) x = record { stretch = refl; start = refl; stray = refl }
-hears_same (Unset c e) (Asked s) x = same_view x
-hears_same (Unset c e) (NotHome s) x = same_view x
-hears_same (Unset c e) (Told s) x = record { stretch = refl; start = refl; stray = refl }
-hears_same (Delivery from to number) (Done s) x = same_view x
-hears_same (Delivery from to number) (Asked s) x = same_view x
-hears_same (Delivery from to number) (NotHome s) x = same_view x
-hears_same (Delivery from to number) (Told s) x = record { stretch = refl; start = refl; stray = refl }
-
-pub all_same : (event : Event) (ws : List Word) (x : View) → SameTrains x (all_heard event ws x)
-all_same event [] x = same_view x
-all_same event (w ∷ ws) x =
-    let one = hears_same event w x in
-    let two = all_same event ws (outside.hears event w x) in
-    record { stretch = two.stretch ∙ one.stretch; start = two.start ∙ one.start; stray = two.stray ∙ one.stray }
-
-pub follows_as : (line : Line) (v : LineState) (x y : View) → SameTrains x y → Follows line v x → Follows line v y
-follows_as line v x y same old =
-    let later = heard_as line v x old v refl in
-    after_none line v x old v y (same.stray ∙ old.founded) old.keep (wait_still line v x old v y refl same.start later) (λ u s. refl) refl same.stretch later
-
--- what the interlocking was told stays as trains are told
-gets_released : (t : ℕ) (o : Option Stretch) (x : View) → (gets t o x).released ≡ x.released
-gets_released t None x = refl
-gets_released t (Some y) x = refl
-
-told_released : (line : Line) (event : Event) (p : Saying) (body : TrackBody) (x : View) → (is_told line event p body x).released ≡ x.released
-told_released line event p (Authority l) x = gets_released p.nid_engine _ x
-told_released line event p (DataAcknowledged stamp) x = refl
-told_released line event p (ShorteningRequest l) x = gets_released p.nid_engine _ x
-told_released line event p (Transition d n r) x = refl
-told_released line event p (EndSession n r) x = refl
-told_released line event p SystemVersion x = refl
-told_released line event p TerminationAcknowledged x = refl
-told_released line event p TrainRejected x = refl
-told_released line event p TrainAccepted x = gets_released p.nid_engine _ (starts p.nid_engine (centre_of event) None x)
-
-pub all_released : (line : Line) (event : Event) (ps : List Saying) (x : View) → (all_told line event ps x).released ≡ x.released
-all_released line event [] x = refl
-all_released line event (p ∷ ps) x = all_released line event ps (is_told line event p p.message.body x) ∙ told_released line event p p.message.body x
-
-pub says_released : (line : Line) (c : ℕ) (m : TrainMessage) (body : TrainBody) (x : View) → (outside.says line c m body x).released ≡ x.released
-says_released line c m InitiationOfSession x = refl
-says_released line c m TerminationOfSession x = refl
-says_released line c m SessionEstablished x = refl
-says_released line c m (StartOfMission is_valid position) x = refl
-says_released line c m (TrainData position) x = refl
-says_released line c m (Request position) x = refl
-says_released line c m (Report position) x = refl
-says_released line c m (ShorteningRejected stamp position) x = refl
-says_released line c m (EndOfMission position) x = refl
-says_released line c m (ShorteningGranted stamp position) x = refl
-
-pub told_both : (line : Line) (event : Event) (ps qs : List Saying) (x : View) → all_told line event (ps ++ qs) x ≡ all_told line event qs (all_told line event ps x)
-told_both line event [] qs x = refl
-told_both line event (p ∷ ps) qs x = told_both line event ps qs (is_told line event p p.message.body x)
-
-heard_both : (event : Event) (ws us : List Word) (x : View) → all_heard event (ws ++ us) x ≡ all_heard event us (all_heard event ws x)
-heard_both event [] us x = refl
-heard_both event (w ∷ ws) us x = heard_both event ws us (outside.hears event w x)
-
--- ## Sections that are released
-
-abbrev pub IsNotShut : LineState → ℕ → Type 0
-IsNotShut v s = v.mark s ≡ Shut → ⊥
-
--- what is not shut was released
-pub record Released (v : LineState) (x : View) : Type 0 where
-  pub each : (s : ℕ) → IsNotShut v s → x.released s ≡ true
-
--- no section is done: what an unset has back is told by its own step alone
-abbrev pub IsNotDone : Word → Type 0
-IsNotDone (Done s) = ⊥
-IsNotDone word = Unit {0}
-
--- a word after an event that is no unset, or one that tells of none done
-abbrev pub IsLater : Event → Word → Type 0
-IsLater (Unset c s) word = IsNotDone word
-IsLater event word = Unit {0}
-
--- a word that fits takes back nothing that is not shut
-word_keeps : (line : Line) (event : Event) (new : LineState) (w : Word) (x : View) (s : ℕ) → Fits line (Set 0 0) new w → IsLater event w → IsNotShut new s → x.released s ≡ true → (outside.hears event w x).released s ≡ true
-word_keeps line (Bytes c read) new (Done e) x s fits later opened is = is
-word_keeps line (Bytes c read) new (Asked e) x s fits later opened is = is
-word_keeps line (Bytes c read) new (NotHome e) x s fits later opened is = is
-word_keeps line (Bytes c read) new (Told e) x s fits later opened is = put_other x.released e s false (λ same. opened (ap new.mark same ∙ fits.0)) ∙ is
-word_keeps line (Set c d) new (Done e) x s fits later opened is = by_same (e == d)
-  where
-    by_same : (b : Bool) → (if b then record x { released = put x.released e true } else x).released s ≡ true
-    by_same true = elim (eqb_tells s e) [ inl h ↦ put_here x.released e s true (h.1) | inr h ↦ put_other x.released e s true (h.1) ∙ is ]
-    by_same false = is
-word_keeps line (Set c d) new (Asked e) x s fits later opened is = is
-word_keeps line (Set c d) new (NotHome e) x s fits later opened is = is
-word_keeps line (Set c d) new (Told e) x s fits later opened is = put_other x.released e s false (λ same. opened (ap new.mark same ∙ fits.0)) ∙ is
-word_keeps line (Unset c d) new (Done e) x s fits later opened is = absurd later
-word_keeps line (Unset c d) new (Asked e) x s fits later opened is = is
-word_keeps line (Unset c d) new (NotHome e) x s fits later opened is = is
-word_keeps line (Unset c d) new (Told e) x s fits later opened is = put_other x.released e s false (λ same. opened (ap new.mark same ∙ fits.0)) ∙ is
-word_keeps line (Delivery from to number) new (Done e) x s fits later opened is = is
-word_keeps line (Delivery from to number) new (Asked e) x s fits later opened is = is
-word_keeps line (Delivery from to number) new (NotHome e) x s fits later opened is = is
-word_keeps line (Delivery from to number) new (Told e) x s fits later opened is = put_other x.released e s false (λ same. opened (ap new.mark same ∙ fits.0)) ∙ is
-
-words_keep : (line : Line) (event : Event) (new : LineState) (ws : List Word) (x : View) (s : ℕ) → All (Fits line (Set 0 0) new) ws → All (IsLater event) ws → IsNotShut new s → x.released s ≡ true → (all_heard event ws x).released s ≡ true
-words_keep line event new [] x s fits later opened is = is
-words_keep line event new (w ∷ ws) x s fits later opened is =
-    words_keep line event new ws (outside.hears event w x) s (All-tail (Fits line (Set 0 0) new) w ws fits) (All-tail (IsLater event) w ws later) opened
-    (word_keeps line event new w x s (All-head (Fits line (Set 0 0) new) w ws fits) (All-head (IsLater event) w ws later) opened is)
-
--- words after what is no unset
-later_other : (event : Event) → ((c s : ℕ) → event ≡ Unset c s → ⊥) → (ws : List Word) → All (IsLater event) ws
-later_other event other [] = All-nil (IsLater event)
-later_other (Bytes c read) other (w ∷ ws) = All-cons (IsLater (Bytes c read)) w ws tt (later_other (Bytes c read) other ws)
-later_other (Set c s) other (w ∷ ws) = All-cons (IsLater (Set c s)) w ws tt (later_other (Set c s) other ws)
-later_other (Unset c s) other (w ∷ ws) = absurd (other c s refl)
-later_other (Delivery from to number) other (w ∷ ws) = All-cons (IsLater (Delivery from to number)) w ws tt (later_other (Delivery from to number) other ws)
-
-told_later : (event : Event) (s : ℕ) → IsLater event (Told s)
-told_later (Bytes c read) s = tt
-told_later (Set c e) s = tt
-told_later (Unset c e) s = tt
-told_later (Delivery from to number) s = tt
-
--- of sections that are told back none is done
-all_later : (event : Event) (ss : List ℕ) → All (IsLater event) (map (λ s. Told s) ss)
-all_later event [] = All-nil (IsLater event)
-all_later event (s ∷ ss) = All-cons (IsLater event) (Told s) (map (λ e. Told e) ss) (told_later event s) (all_later event ss)
-
-module _ (line : Line) (event : Event) where
-  same_words : (said other : Said) → said ≡ other → All (IsLater event) other.words → All (IsLater event) said.words
-  same_words said other is h = subst (λ (p : Said). All (IsLater event) p.words) (sym is) h
-
-  quiet_later : (v : LineState) (q : Quiet) (said : Said) (new : LineState) → TakesQuiet line v q said new → All (IsLater event) said.words
-  quiet_later v (Keep t s) said new h = same_words said _ h.leaves.said_is (All-nil (IsLater event))
-  quiet_later v (Unkeep t s) said new h = same_words said _ h.tells.said_is (all_later event _)
-  quiet_later v (Admit t c) said new h = same_words said _ h.says.said_is (All-nil (IsLater event))
-  quiet_later v (Dismiss t c) said new h = same_words said _ h.says.said_is (all_later event _)
-  quiet_later v (LayDown t c) said new h = same_words said _ h.leaves.said_is (All-nil (IsLater event))
-  quiet_later v (TakeUp t c) said new h = same_words said _ h.leaves.said_is (All-nil (IsLater event))
-  quiet_later v (Propose t c s) said new h = same_words said _ h.says.said_is (All-nil (IsLater event))
-  quiet_later v (Order t c) said new h = same_words said _ h.says.said_is (All-nil (IsLater event))
-  quiet_later v (EndOrder t c) said new h = same_words said _ h.says.said_is (All-nil (IsLater event))
-
-  quiets_later : (v : LineState) (qs : List Quiet) (said : Said) (new : LineState) → TakesAll line v qs said new → All (IsLater event) said.words
-  quiets_later v [] said new h = same_words said _ h.0 (All-nil (IsLater event))
-  quiets_later v (q ∷ qs) said new (first, others, mid, step, rest, same) =
-      same_words said _ same (All-append (IsLater event) first.words others.words (quiet_later v q first mid step) (quiets_later mid qs others new rest))
-
--- a step that opens nothing, whose words fit
-released_on : (line : Line) (event : Event) (v new : LineState) (ws : List Word) (x : View) → ((s : ℕ) → v.mark s ≡ Shut → new.mark s ≡ Shut) → All (Fits line (Set 0 0) new) ws → All (IsLater event) ws → Released v x → Released new (all_heard event ws x)
-released_on line event v new ws x shut fits later old = record { each = λ s opened. words_keep line event new ws x s fits later opened (old.each s (λ is. opened (shut s is))) }
+use Rattle.law_outside.specs.Outside.{all_heard, all_told, is_in, IsSafeOutside, may_run_over, nothing_seen, said_by}
+use Rattle.law_outside.specs.Outside.{sees, sees_all, spoken_of, Stretch, View}
+use Rattle.law_promises.proofs.Follows.{after_none, Follows, given, heard_as, put_later, wait_still}
+use Rattle.law_promises.proofs.Heard.{Fair, listens_follow, own_follows, own_shut}
+use Rattle.law_promises.proofs.Marks.{if_true, IsSince, Later, not_under_way}
+use Rattle.law_promises.proofs.Promised.{here_is}
+use Rattle.law_promises.proofs.QuietFollows.{quiet_follows, quiet_shut}
+use Rattle.law_promises.proofs.Released.{all_released, all_same, follows_as, heard_both, IsLater, later_other}
+use Rattle.law_promises.proofs.Released.{quiets_later, Released, released_on, says_released, told_both}
+use Rattle.rbc_spec.specs.Centre.{Proposal}
+use Rattle.rbc_spec.specs.Line.{is_centre, is_home, IsLine, Line}
+use Rattle.rbc_spec.specs.LineCentre.{At, Given, hears, is_at, is_given_to, Kept, line_beginning, LineMission}
+use Rattle.rbc_spec.specs.LineCentre.{LineState, Mark, nothing, Open, Said, Shut}
+use Rattle.rbc_spec.specs.Maps.{has, put}
+use Rattle.rbc_spec.specs.Message.{EndOfMission, InitiationOfSession, is_stale, Report, Request, SessionEstablished}
+use Rattle.rbc_spec.specs.Message.{ShorteningGranted, ShorteningRejected, StartOfMission, TerminationOfSession}
+use Rattle.rbc_spec.specs.Message.{TrainBody, TrainData, TrainMessage}
+use Rattle.rbc_spec.specs.Outcome.{Asked, Done, ForeignEngine, NoPlace, NotHome, NotSupervised, Outcome}
+use Rattle.rbc_spec.specs.Outcome.{ProposalPending, Reason, reasons_of, StaleStamp, Unasked, Word, WrongPhase}
+use Rattle.rbc_spec.specs.OwnSteps.{is_unused_mark, Own, set_mark, Sets, Unsets, wished_back}
+use Rattle.rbc_spec.specs.Place.{Place}
+use Rattle.rbc_spec.specs.Quiet.{both, is_of_centre, Quiet, TakesAll}
+use Rattle.rbc_spec.specs.Run.{answers_it, Goes, has_here, heard, holds, listened, may_listen, may_request_at, OwnStep}
+use Rattle.rbc_spec.specs.Run.{Piece, Run, silence, silent, Steps}
+use Rattle.rbc_spec.specs.World.{Answer, Answered, Bytes, centre_of, Delivery, Event, Fault, NoCentre, NotSent, Set}
+use Rattle.rbc_spec.specs.World.{Unset}
 
 -- ## Quiet steps
 
 module _ (line : Line) (ok : IsLine line) where
-  quiets_follow : (event : Event) (qs : List Quiet) (v : LineState) (x : View) (said : Said) (new : LineState) → list_all (is_of_centre line (centre_of event)) qs ≡ true → TakesAll line v qs said new → Follows line v x
+  quiets_follow : (event : Event) (qs : List Quiet) (v : LineState) (x : View) (said : Said) (new : LineState)
+      → list_all (is_of_centre line (centre_of event)) qs ≡ true → TakesAll line v qs said new → Follows line v x
       → Follows line new (all_told line event said.sayings x)
   quiets_follow event [] v x said new at h old =
-      subst (λ (p : Said). Follows line new (all_told line event p.sayings x)) (sym h.0) (subst (λ (w : LineState). Follows line w x) (sym h.1) old)
+      subst (λ (p : Said). Follows line new (all_told line event p.sayings x)) (sym h.0)
+      (subst (λ (w : LineState). Follows line w x) (sym h.1) old)
   quiets_follow event (q ∷ qs) v x said new at (first, others, mid, step, rest, same) old =
-      let parts = and_parts (is_of_centre line (centre_of event) q) (list_all (is_of_centre line (centre_of event)) qs) at in
+      let parts = and_parts (is_of_centre line (centre_of event) q)
+      (list_all (is_of_centre line (centre_of event)) qs) at in
       subst (λ (p : Said). Follows line new (all_told line event p.sayings x)) (sym same)
       (subst (Follows line new) (sym (told_both line event first.sayings others.sayings x))
-      (quiets_follow event qs mid (all_told line event first.sayings x) others new parts.1 rest (quiet_follows line ok v x old event q first mid parts.0 step)))
+      (quiets_follow event qs mid (all_told line event first.sayings x) others new parts.1 rest
+      (quiet_follows line ok v x old event q first mid parts.0 step)))
 
-  quiets_shut : (event : Event) (qs : List Quiet) (v : LineState) (x : View) (said : Said) (new : LineState) → list_all (is_of_centre line (centre_of event)) qs ≡ true → TakesAll line v qs said new → Follows line v x
+  quiets_shut : (event : Event) (qs : List Quiet) (v : LineState) (x : View) (said : Said) (new : LineState)
+      → list_all (is_of_centre line (centre_of event)) qs ≡ true → TakesAll line v qs said new → Follows line v x
       → (s : ℕ) → v.mark s ≡ Shut → new.mark s ≡ Shut
   quiets_shut event [] v x said new at h old s is = ap (λ (w : LineState). w.mark s) h.1 ∙ is
   quiets_shut event (q ∷ qs) v x said new at (first, others, mid, step, rest, same) old s is =
-      let parts = and_parts (is_of_centre line (centre_of event) q) (list_all (is_of_centre line (centre_of event)) qs) at in
-      quiets_shut event qs mid (all_told line event first.sayings x) others new parts.1 rest (quiet_follows line ok v x old event q first mid parts.0 step) s (quiet_shut line ok v x old event q first mid step s is)
+      let parts = and_parts (is_of_centre line (centre_of event) q)
+      (list_all (is_of_centre line (centre_of event)) qs) at in
+      quiets_shut event qs mid (all_told line event first.sayings x) others new parts.1 rest
+      (quiet_follows line ok v x old event q first mid parts.0 step) s
+      (quiet_shut line ok v x old event q first mid step s is)
 
   -- ## Own steps
 
-  -- a message that is not stale is later than the last that was heard
+  -- a message that is not stale is later than the last recorded one
   stale_below : (n : ℕ) (o : Option ℕ) → is_stale n o ≡ false → (k : ℕ) → IsSince k o → k < n
   stale_below n None fresh k since = let wrong : None ≡ Some since.last = since.is in cc
   stale_below n (Some last) fresh k since = elim (cases_lt last n) [
-    | inl less ↦ let same : last ≡ since.last = same_Some last since.last since.is in let le = since.le in omega (arith, same, le, less)
+    | inl less ↦ let same : last ≡ since.last = same_Some last since.last since.is in let le = since.le in
+        omega (arith, same, le, less)
     | inr le ↦ absurd (both_ways (nat_le n last) fresh (le-leb n last le))
   ]
 
   not_stale : (n : ℕ) (o : Option ℕ) → is_stale n o ≡ false → Later o (Some n)
-  not_stale n o fresh k since = record { last = n; is = refl; le = (let less = stale_below n o fresh k since in omega (arith, less)) }
+  not_stale n o fresh k since =
+      record { last = n; is = refl; le = (let less = stale_below n o fresh k since in omega (arith, less)) }
 
-  -- the centre hears a message
-  hears_follow : (c : ℕ) (m : TrainMessage) (v : LineState) (x : View) → is_stale m.t_train (v.heard m.nid_engine c) ≡ false → Follows line v x → Follows line (hears c m v) x
+  -- the centre records a message
+  hears_follow : (c : ℕ) (m : TrainMessage) (v : LineState) (x : View)
+      → is_stale m.t_train (v.heard m.nid_engine c) ≡ false → Follows line v x → Follows line (hears c m v) x
   hears_follow c m v x fresh old =
-      let later = put_later v.heard m.nid_engine c (Some m.t_train) (not_stale m.t_train (v.heard m.nid_engine c) fresh) in
-      after_none line v x old (hears c m v) x old.founded (wait_on line v old.keep (hears c m v) refl (λ t d s waited. refl)) (wait_still line v x old (hears c m v) x refl refl later) (λ u s. refl) refl refl later
+      let later = put_later v.heard m.nid_engine c (Some m.t_train)
+      (not_stale m.t_train (v.heard m.nid_engine c) fresh) in
+      after_none line v x old (hears c m v) x old.founded
+      (wait_on line v old.keep (hears c m v) refl (λ t d s waited. refl))
+      (wait_still line v x old (hears c m v) x refl refl later) (λ u s. refl) refl refl later
 
-  -- both of what follows
+  -- both invariants
   pub record Both (v : LineState) (x : View) : Type 0 where
     pub follows : Follows line v x
     pub released : Released v x
 
-  module _ (v : LineState) (x : View) (old : Follows line v x) (c : ℕ) (at_centre : is_centre line c ≡ true) (t_train t : ℕ) where
+  module _ (v : LineState) (x : View) (old : Follows line v x) (c : ℕ)
+      (at_centre : is_centre line c ≡ true) (t_train t : ℕ) where
     abbrev pub message : TrainBody → TrainMessage
     message body = record { t_train = t_train; nid_engine = t; body = body }
 
@@ -279,49 +128,74 @@ module _ (line : Line) (ok : IsLine line) where
     heard_now : (body : TrainBody) → (after_hearing body).heard t c ≡ Some t_train
     heard_now body = put_pair_there v.heard t c (Some t_train)
 
-    -- it was sent after all that is heard of
+    -- the message was sent after each recorded message
     module _ (not_late : is_stale t_train (v.heard t c) ≡ false) where
       heard_then : (body : TrainBody) → Follows line (after_hearing body) x
       heard_then body = hears_follow c (message body) v x not_late old
 
-      heard_fresh : (body : TrainBody) (n : LineMission) (y : Stretch) → (after_hearing body).mission t ≡ Some n → n.supervisor ≡ At c → x.stretch t ≡ Some y → y.since < t_train
+      heard_fresh : (body : TrainBody) (n : LineMission) (y : Stretch) → (after_hearing body).mission t ≡ Some n
+          → n.supervisor ≡ At c → x.stretch t ≡ Some y → y.since < t_train
       heard_fresh body n y is at there =
           let w = (old.tied t).way n is in
           let same : w.0 ≡ y = same_Some w.0 y (sym w.1 ∙ there) in
-          subst (λ (z : Stretch). z.since < t_train) same (stale_below t_train (v.heard t c) not_late w.0.since (w.2.talk.since c at))
+          subst (λ (z : Stretch). z.since < t_train) same
+          (stale_below t_train (v.heard t c) not_late w.0.since (w.2.talk.since c at))
 
-      -- what a message that is not silent has
-      fair_is : (body : TrainBody) → silence line v c (message body) ≡ None → Fair line ok (after_hearing body) x (heard_then body) c at_centre (message body) (heard_now body) (heard_fresh body) body
+      -- the facts of a message that is not silent
+      fair_is : (body : TrainBody) → silence line v c (message body) ≡ None
+          → Fair line ok (after_hearing body) x (heard_then body) c at_centre (message body)
+          (heard_now body) (heard_fresh body) body
       fair_is InitiationOfSession is = tt
       fair_is TerminationOfSession is = tt
       fair_is SessionEstablished is = tt
       fair_is (StartOfMission is_valid position) is =
-          not_there (v.wait t c) (or_right_false _ (is_some (v.wait t c)) (none_passes (holds line v c (message (StartOfMission is_valid position)) (StartOfMission is_valid position)) (reasons_of (StartOfMission is_valid position)) 3 WrongPhase is refl))
+          not_there (v.wait t c) (or_right_false _ (is_some (v.wait t c))
+          (none_passes (holds line v c (message (StartOfMission is_valid position))
+          (StartOfMission is_valid position)) (reasons_of (StartOfMission is_valid position)) 3 WrongPhase is refl))
       fair_is (TrainData position) is = tt
       fair_is (Request position) is =
-          let h = here_is (after_hearing (Request position)) c t (λ n. true) (not-false (has_here v c t (λ n. true)) (none_passes (holds line v c (message (Request position)) (Request position)) (reasons_of (Request position)) 4 NotSupervised is refl)) in
-          let placed = none_passes (holds line v c (message (Request position)) (Request position)) (reasons_of (Request position)) 8 NoPlace is refl in (
+          let h = here_is (after_hearing (Request position)) c t (λ n. true)
+          (not-false (has_here v c t (λ n. true))
+          (none_passes (holds line v c (message (Request position)) (Request position))
+          (reasons_of (Request position)) 4 NotSupervised is refl)) in
+          let placed = none_passes (holds line v c (message (Request position)) (Request position))
+          (reasons_of (Request position)) 8 NoPlace is refl in (
             h.0,
             and_not_false (is_at c h.0.m.supervisor) (may_request_at line v t h.0.m position) (at_there h.0.m h.0.at)
-                (subst (λ (o : Option LineMission). option_map_or (λ n. is_at c n.supervisor && not (may_request_at line v t n position)) o false ≡ false) h.0.of_train placed),
+                (subst (λ (o : Option LineMission). option_map_or (λ n. is_at c n.supervisor
+                && not (may_request_at line v t n position)) o false ≡ false) h.0.of_train placed),
             no_proposal (is_at c h.0.m.supervisor) h.0.m.proposal (at_there h.0.m h.0.at)
-                (subst (λ (o : Option LineMission). option_map_or (λ n. is_at c n.supervisor && is_some n.proposal) o false ≡ false) h.0.of_train
-                (none_passes (holds line v c (message (Request position)) (Request position)) (reasons_of (Request position)) 7 ProposalPending is refl)),
+                (subst (λ (o : Option LineMission). option_map_or (λ n. is_at c n.supervisor && is_some n.proposal) o
+                false ≡ false) h.0.of_train
+                (none_passes (holds line v c (message (Request position)) (Request position))
+                (reasons_of (Request position)) 7 ProposalPending is refl)),
           )
       fair_is (Report position) is =
-          let h = here_is (after_hearing (Report position)) c t (λ n. true) (not-false (has_here v c t (λ n. true)) (none_passes (holds line v c (message (Report position)) (Report position)) (reasons_of (Report position)) 4 NotSupervised is refl)) in
+          let h = here_is (after_hearing (Report position)) c t (λ n. true)
+          (not-false (has_here v c t (λ n. true))
+          (none_passes (holds line v c (message (Report position)) (Report position)) (reasons_of (Report position))
+          4 NotSupervised is refl)) in
           h.0
       fair_is (ShorteningGranted stamp position) is =
           here_is (after_hearing (ShorteningGranted stamp position)) c t (answers_it stamp)
-          (not-false (has_here v c t (answers_it stamp)) (none_passes (holds line v c (message (ShorteningGranted stamp position)) (ShorteningGranted stamp position)) (reasons_of (ShorteningGranted stamp position)) 5 Unasked is refl))
+          (not-false (has_here v c t (answers_it stamp))
+          (none_passes (holds line v c (message (ShorteningGranted stamp position))
+          (ShorteningGranted stamp position)) (reasons_of (ShorteningGranted stamp position)) 5 Unasked is refl))
       fair_is (ShorteningRejected stamp position) is = tt
       fair_is (EndOfMission position) is =
-          let h = here_is (after_hearing (EndOfMission position)) c t (λ n. true) (not-false (has_here v c t (λ n. true)) (none_passes (holds line v c (message (EndOfMission position)) (EndOfMission position)) (reasons_of (EndOfMission position)) 4 NotSupervised is refl)) in
+          let h = here_is (after_hearing (EndOfMission position)) c t (λ n. true)
+          (not-false (has_here v c t (λ n. true))
+          (none_passes (holds line v c (message (EndOfMission position)) (EndOfMission position))
+          (reasons_of (EndOfMission position)) 4 NotSupervised is refl)) in
           h.0
 
       -- a report of a train that is supervised elsewhere
-      listen_follows : (body : TrainBody) (reason : Option Reason) → may_listen line c body reason ≡ true → Follows line (after_hearing body) (outside.says line c (message body) body x)
-      listen_follows (Report position) reason may = listens_follow line ok (after_hearing (Report position)) x (heard_then (Report position)) c at_centre (message (Report position)) (heard_now (Report position)) (heard_fresh (Report position)) position (after_hearing (Report position)) (heard_then (Report position)).keep refl refl refl refl
+      listen_follows : (body : TrainBody) (reason : Option Reason) → may_listen line c body reason ≡ true
+          → Follows line (after_hearing body) (outside.says line c (message body) body x)
+      listen_follows (Report position) reason may =
+          listens_follow line ok (after_hearing (Report position)) x (heard_then (Report position)) c at_centre
+          (message (Report position)) (heard_now (Report position)) (heard_fresh (Report position)) position
+          (after_hearing (Report position)) (heard_then (Report position)).keep refl refl refl refl
       listen_follows InitiationOfSession reason may = cc
       listen_follows TerminationOfSession reason may = cc
       listen_follows SessionEstablished reason may = cc
@@ -332,30 +206,54 @@ module _ (line : Line) (ok : IsLine line) where
       listen_follows (ShorteningRejected stamp position) reason may = cc
       listen_follows (EndOfMission position) reason may = cc
 
-      own_heard : (body : TrainBody) (said : Said) (mid : LineState) → silence line v c (message body) ≡ None → Own line (after_hearing body) c (message body) body said mid
-          → Follows line mid (all_told line (Bytes c (Ok (message body))) said.sayings (outside.says line c (message body) body x))
-      own_heard body said mid is hearing = own_follows line ok (after_hearing body) x (heard_then body) c at_centre (message body) (heard_now body) (heard_fresh body) body said mid (fair_is body is) hearing
+      own_heard : (body : TrainBody) (said : Said) (mid : LineState) → silence line v c (message body) ≡ None
+          → Own line (after_hearing body) c (message body) body said mid
+          → Follows line mid (all_told line (Bytes c (Ok (message body))) said.sayings
+          (outside.says line c (message body) body x))
+      own_heard body said mid is hearing = own_follows line ok (after_hearing body) x (heard_then body) c at_centre
+          (message body) (heard_now body) (heard_fresh body) body said mid (fair_is body is) hearing
 
-      heard_shut : (body : TrainBody) (said : Said) (mid : LineState) → Own line (after_hearing body) c (message body) body said mid → (s : ℕ) → v.mark s ≡ Shut → mid.mark s ≡ Shut
-      heard_shut body said mid hearing = own_shut line ok (after_hearing body) x (heard_then body) c at_centre (message body) (heard_now body) (heard_fresh body) body said mid hearing
+      heard_shut : (body : TrainBody) (said : Said) (mid : LineState)
+          → Own line (after_hearing body) c (message body) body said mid → (s : ℕ) → v.mark s ≡ Shut → mid.mark s ≡ Shut
+      heard_shut body said mid hearing = own_shut line ok (after_hearing body) x (heard_then body) c at_centre
+          (message body) (heard_now body) (heard_fresh body) body said mid hearing
 
-    -- a message that is heard is not stale
+    -- a message with an answer is not stale
     fresh_is : (body : TrainBody) → silence line v c (message body) ≡ None → is_stale t_train (v.heard t c) ≡ false
-    fresh_is InitiationOfSession is = none_passes (holds line v c (message InitiationOfSession) InitiationOfSession) (reasons_of InitiationOfSession) 1 StaleStamp is refl
-    fresh_is TerminationOfSession is = none_passes (holds line v c (message TerminationOfSession) TerminationOfSession) (reasons_of TerminationOfSession) 1 StaleStamp is refl
-    fresh_is SessionEstablished is = none_passes (holds line v c (message SessionEstablished) SessionEstablished) (reasons_of SessionEstablished) 1 StaleStamp is refl
-    fresh_is (StartOfMission is_valid position) is = none_passes (holds line v c (message (StartOfMission is_valid position)) (StartOfMission is_valid position)) (reasons_of (StartOfMission is_valid position)) 1 StaleStamp is refl
-    fresh_is (TrainData position) is = none_passes (holds line v c (message (TrainData position)) (TrainData position)) (reasons_of (TrainData position)) 1 StaleStamp is refl
-    fresh_is (Request position) is = none_passes (holds line v c (message (Request position)) (Request position)) (reasons_of (Request position)) 1 StaleStamp is refl
-    fresh_is (Report position) is = none_passes (holds line v c (message (Report position)) (Report position)) (reasons_of (Report position)) 1 StaleStamp is refl
-    fresh_is (ShorteningGranted stamp position) is = none_passes (holds line v c (message (ShorteningGranted stamp position)) (ShorteningGranted stamp position)) (reasons_of (ShorteningGranted stamp position)) 1 StaleStamp is refl
-    fresh_is (ShorteningRejected stamp position) is = none_passes (holds line v c (message (ShorteningRejected stamp position)) (ShorteningRejected stamp position)) (reasons_of (ShorteningRejected stamp position)) 1 StaleStamp is refl
-    fresh_is (EndOfMission position) is = none_passes (holds line v c (message (EndOfMission position)) (EndOfMission position)) (reasons_of (EndOfMission position)) 1 StaleStamp is refl
+    fresh_is InitiationOfSession is = none_passes (holds line v c (message InitiationOfSession) InitiationOfSession)
+        (reasons_of InitiationOfSession) 1 StaleStamp is refl
+    fresh_is TerminationOfSession is = none_passes (holds line v c (message TerminationOfSession) TerminationOfSession)
+        (reasons_of TerminationOfSession) 1 StaleStamp is refl
+    fresh_is SessionEstablished is = none_passes (holds line v c (message SessionEstablished) SessionEstablished)
+        (reasons_of SessionEstablished) 1 StaleStamp is refl
+    fresh_is (StartOfMission is_valid position) is =
+        none_passes (holds line v c (message (StartOfMission is_valid position)) (StartOfMission is_valid position))
+        (reasons_of (StartOfMission is_valid position)) 1 StaleStamp is refl
+    fresh_is (TrainData position) is = none_passes (holds line v c (message (TrainData position)) (TrainData position))
+        (reasons_of (TrainData position)) 1 StaleStamp is refl
+    fresh_is (Request position) is = none_passes (holds line v c (message (Request position)) (Request position))
+        (reasons_of (Request position)) 1 StaleStamp is refl
+    fresh_is (Report position) is = none_passes (holds line v c (message (Report position)) (Report position))
+        (reasons_of (Report position)) 1 StaleStamp is refl
+    fresh_is (ShorteningGranted stamp position) is =
+        none_passes (holds line v c (message (ShorteningGranted stamp position)) (ShorteningGranted stamp position))
+        (reasons_of (ShorteningGranted stamp position)) 1 StaleStamp is refl
+    fresh_is (ShorteningRejected stamp position) is =
+        none_passes (holds line v c (message (ShorteningRejected stamp position)) (ShorteningRejected stamp position))
+        (reasons_of (ShorteningRejected stamp position)) 1 StaleStamp is refl
+    fresh_is (EndOfMission position) is =
+        none_passes (holds line v c (message (EndOfMission position)) (EndOfMission position))
+        (reasons_of (EndOfMission position)) 1 StaleStamp is refl
 
-    fresh_if_listened : (body : TrainBody) → may_listen line c body (silence line v c (message body)) ≡ true → is_stale t_train (v.heard t c) ≡ false
-    fresh_if_listened (Report position) may = by_two (holds line v c (message (Report position)) (Report position) ForeignEngine) (is_stale t_train (v.heard t c)) _ may
+    fresh_if_listened : (body : TrainBody) → may_listen line c body (silence line v c (message body)) ≡ true
+        → is_stale t_train (v.heard t c) ≡ false
+    fresh_if_listened (Report position) may =
+        by_two (holds line v c (message (Report position)) (Report position) ForeignEngine)
+        (is_stale t_train (v.heard t c)) _ may
       where
-        by_two : (a b : Bool) (rest : Option Reason) → may_listen line c (Report position) (if a then Some ForeignEngine else (if b then Some StaleStamp else rest)) ≡ true → b ≡ false
+        by_two : (a b : Bool) (rest : Option Reason)
+            → may_listen line c (Report position)
+            (if a then Some ForeignEngine else (if b then Some StaleStamp else rest)) ≡ true → b ≡ false
         by_two true b rest may = cc
         by_two false true rest may = cc
         by_two false false rest may = refl
@@ -372,29 +270,49 @@ module _ (line : Line) (ok : IsLine line) where
     abbrev pub spoken : TrainBody → Option Reason → View
     spoken body why = said_by line (Bytes c (Ok (message body))) (is_none why) x
 
-    pub steps_follow : (body : TrainBody) (said : Said) (mid : LineState) (why : Option Reason) → Steps line v c (message body) said mid why → Follows line mid (all_told line (Bytes c (Ok (message body))) said.sayings (spoken body why))
+    pub steps_follow : (body : TrainBody) (said : Said) (mid : LineState) (why : Option Reason)
+        → Steps line v c (message body) said mid why
+        → Follows line mid (all_told line (Bytes c (Ok (message body))) said.sayings (spoken body why))
     steps_follow body said mid why (silent reason is so none new) =
-        subst (λ (o : Option Reason). Follows line mid (all_told line (Bytes c (Ok (message body))) said.sayings (spoken body o))) (sym so)
-        (subst (λ (p : Said). Follows line mid (all_told line (Bytes c (Ok (message body))) p.sayings x)) (sym none) (subst (λ (w : LineState). Follows line w x) (sym new) old))
+        subst (λ (o : Option Reason). Follows line mid
+        (all_told line (Bytes c (Ok (message body))) said.sayings (spoken body o))) (sym so)
+        (subst (λ (p : Said). Follows line mid (all_told line (Bytes c (Ok (message body))) p.sayings x)) (sym none)
+        (subst (λ (w : LineState). Follows line w x) (sym new) old))
     steps_follow body said mid why (heard is so hearing) =
-        subst (λ (o : Option Reason). Follows line mid (all_told line (Bytes c (Ok (message body))) said.sayings (spoken body o))) (sym so) (own_heard (fresh_is body is) body said mid is hearing)
+        subst (λ (o : Option Reason). Follows line mid
+        (all_told line (Bytes c (Ok (message body))) said.sayings (spoken body o))) (sym so)
+        (own_heard (fresh_is body is) body said mid is hearing)
     steps_follow body said mid why (listened may so none new) =
-        subst (λ (o : Option Reason). Follows line mid (all_told line (Bytes c (Ok (message body))) said.sayings (spoken body o))) (sym so)
-        (subst (λ (p : Said). Follows line mid (all_told line (Bytes c (Ok (message body))) p.sayings (spoken body None))) (sym none)
-        (subst (λ (w : LineState). Follows line w (spoken body None)) (sym new) (listen_follows (fresh_if_listened body may) body (silence line v c (message body)) may)))
+        subst (λ (o : Option Reason). Follows line mid
+        (all_told line (Bytes c (Ok (message body))) said.sayings (spoken body o))) (sym so)
+        (subst (λ (p : Said). Follows line mid
+        (all_told line (Bytes c (Ok (message body))) p.sayings (spoken body None))) (sym none)
+        (subst (λ (w : LineState). Follows line w (spoken body None)) (sym new)
+        (listen_follows (fresh_if_listened body may) body (silence line v c (message body)) may)))
 
     no_words_fit : (mid : LineState) (said : Said) → said ≡ nothing → All (Fits line (Set 0 0) mid) said.words
-    no_words_fit mid said none = subst (λ (p : Said). All (Fits line (Set 0 0) mid) p.words) (sym none) (All-nil (Fits line (Set 0 0) mid))
+    no_words_fit mid said none = subst (λ (p : Said). All (Fits line (Set 0 0) mid) p.words) (sym none)
+        (All-nil (Fits line (Set 0 0) mid))
 
     not_unset : (body : TrainBody) (ws : List Word) → All (IsLater (Bytes c (Ok (message body)))) ws
     not_unset body ws = later_other (Bytes c (Ok (message body))) (λ d s same. cc) ws
 
-    steps_released : (body : TrainBody) (said : Said) (mid : LineState) (why : Option Reason) (z : View) → Steps line v c (message body) said mid why → Released v z → Released mid (all_heard (Bytes c (Ok (message body))) said.words z)
-    steps_released body said mid why z (silent reason is so none new) good = released_on line (Bytes c (Ok (message body))) v mid said.words z (λ s shut. ap (λ (w : LineState). w.mark s) new ∙ shut) (no_words_fit mid said none) (not_unset body said.words) good
-    steps_released body said mid why z (listened may so none new) good = released_on line (Bytes c (Ok (message body))) v mid said.words z (λ s shut. ap (λ (w : LineState). w.mark s) new ∙ shut) (no_words_fit mid said none) (not_unset body said.words) good
+    steps_released : (body : TrainBody) (said : Said) (mid : LineState) (why : Option Reason) (z : View)
+        → Steps line v c (message body) said mid why → Released v z
+        → Released mid (all_heard (Bytes c (Ok (message body))) said.words z)
+    steps_released body said mid why z (silent reason is so none new) good =
+        released_on line (Bytes c (Ok (message body))) v mid said.words z
+        (λ s shut. ap (λ (w : LineState). w.mark s) new ∙ shut) (no_words_fit mid said none)
+        (not_unset body said.words) good
+    steps_released body said mid why z (listened may so none new) good =
+        released_on line (Bytes c (Ok (message body))) v mid said.words z
+        (λ s shut. ap (λ (w : LineState). w.mark s) new ∙ shut) (no_words_fit mid said none)
+        (not_unset body said.words) good
     steps_released body said mid why z (heard is so hearing) good =
-        released_on line (Bytes c (Ok (message body))) v mid said.words z (heard_shut (fresh_is body is) body said mid hearing)
-        (own_fits line (Set 0 0) (after_hearing body) c said mid (message body) body hearing) (not_unset body said.words) good
+        released_on line (Bytes c (Ok (message body))) v mid said.words z
+        (heard_shut (fresh_is body is) body said mid hearing)
+        (own_fits line (Set 0 0) (after_hearing body) c said mid (message body) body hearing)
+        (not_unset body said.words) good
 
   -- ## Set and unset
 
@@ -408,47 +326,67 @@ module _ (line : Line) (ok : IsLine line) where
     unused_kept : (m : Mark) (t : ℕ) → is_unused_mark m ≡ true → m ≡ Kept t → ⊥
     unused_kept m t is kept = let wrong : false ≡ true = sym (ap is_unused_mark kept) ∙ is in cc
 
-    entered : (s : ℕ) (mark : Mark) (mid : LineState) → is_unused_mark mark ≡ true → is_unused_mark (v.mark s) ≡ true → mid ≡ set_mark s mark v → Follows line mid x
+    entered : (s : ℕ) (mark : Mark) (mid : LineState) → is_unused_mark mark ≡ true → is_unused_mark (v.mark s) ≡ true
+        → mid ≡ set_mark s mark v → Follows line mid x
     entered s mark mid unused was is = subst (λ (w : LineState). Follows line w x) (sym is)
         (after_none line v x old (set_mark s mark v) x old.founded
-        (wait_on line v old.keep (set_mark s mark v) refl (λ t d e waited. put_other v.mark s e mark (λ same. unused_kept (v.mark s) t was (ap v.mark (sym same) ∙ waited.kept))))
+        (wait_on line v old.keep (set_mark s mark v) refl
+        (λ t d e waited. put_other v.mark s e mark
+        (λ same. unused_kept (v.mark s) t was (ap v.mark (sym same) ∙ waited.kept))))
         (wait_still line v x old (set_mark s mark v) x refl refl (heard_as line v x old (set_mark s mark v) refl))
         (λ u e. elim (eqb_tells e s) [
-          | inl h ↦ ap (is_given_to u) (put_here v.mark s e mark (h.1)) ∙ unused_free mark u unused ∙ sym (ap (λ (k : ℕ). is_given_to u (v.mark k)) (h.1) ∙ unused_free (v.mark s) u was)
+          | inl h ↦ ap (is_given_to u) (put_here v.mark s e mark (h.1)) ∙ unused_free mark u unused
+              ∙ sym (ap (λ (k : ℕ). is_given_to u (v.mark k)) (h.1) ∙ unused_free (v.mark s) u was)
           | inr h ↦ ap (is_given_to u) (put_other v.mark s e mark (h.1))
         ]) refl refl (heard_as line v x old (set_mark s mark v) refl))
 
     wished : (s : ℕ) (wish : Bool) (mid : LineState) → mid ≡ wished_back s wish v → Follows line mid x
     wished s wish mid is = subst (λ (w : LineState). Follows line w x) (sym is)
-        (after_none line v x old (wished_back s wish v) x old.founded (wait_on line v old.keep (wished_back s wish v) refl (λ t d e waited. refl)) (wait_still line v x old (wished_back s wish v) x refl refl (heard_as line v x old (wished_back s wish v) refl)) (λ u e. refl) refl refl (heard_as line v x old (wished_back s wish v) refl))
+        (after_none line v x old (wished_back s wish v) x old.founded
+        (wait_on line v old.keep (wished_back s wish v) refl (λ t d e waited. refl))
+        (wait_still line v x old (wished_back s wish v) x refl refl
+        (heard_as line v x old (wished_back s wish v) refl)) (λ u e. refl) refl refl
+        (heard_as line v x old (wished_back s wish v) refl))
 
-    no_sayings : (event : Event) (words : List Word) (said : Said) (mid : LineState) → said ≡ record { sayings = []; words = words } → Follows line mid x → Follows line mid (all_told line event said.sayings x)
-    no_sayings event words said mid is h = subst (λ (p : Said). Follows line mid (all_told line event p.sayings x)) (sym is) h
+    no_sayings : (event : Event) (words : List Word) (said : Said) (mid : LineState)
+        → said ≡ record { sayings = []; words = words } → Follows line mid x
+        → Follows line mid (all_told line event said.sayings x)
+    no_sayings event words said mid is h =
+        subst (λ (p : Said). Follows line mid (all_told line event p.sayings x)) (sym is) h
 
-    pub sets_follow : (c s : ℕ) (said : Said) (mid : LineState) → Sets line v c s said mid → Follows line mid (all_told line (Set c s) said.sayings x)
+    pub sets_follow : (c s : ℕ) (said : Said) (mid : LineState) → Sets line v c s said mid
+        → Follows line mid (all_told line (Set c s) said.sayings x)
     sets_follow c s said mid h = by_test (is_home line c s) _ _
-        (λ _ n. no_sayings (Set c s) (Done s ∷ []) said mid n.said_is (by_use (is_unused_mark (v.mark s)) refl n.new_is))
-        (λ _ n. no_sayings (Set c s) (NotHome s ∷ []) said mid n.said_is (subst (λ (w : LineState). Follows line w x) (sym n.new_is) old)) h
+        (λ _ n. no_sayings (Set c s) (Done s ∷ []) said mid n.said_is
+        (by_use (is_unused_mark (v.mark s)) refl n.new_is))
+        (λ _ n. no_sayings (Set c s) (NotHome s ∷ []) said mid n.said_is
+        (subst (λ (w : LineState). Follows line w x) (sym n.new_is) old)) h
       where
-        by_use : (b : Bool) → is_unused_mark (v.mark s) ≡ b → mid ≡ (if b then set_mark s Open v else wished_back s false v) → Follows line mid x
+        by_use : (b : Bool) → is_unused_mark (v.mark s) ≡ b
+            → mid ≡ (if b then set_mark s Open v else wished_back s false v) → Follows line mid x
         by_use true unused is = entered s Open mid refl unused is
         by_use false used is = wished s false mid is
 
-    pub unsets_follow : (c s : ℕ) (said : Said) (mid : LineState) → Unsets line v c s said mid → Follows line mid (all_told line (Unset c s) said.sayings x)
+    pub unsets_follow : (c s : ℕ) (said : Said) (mid : LineState) → Unsets line v c s said mid
+        → Follows line mid (all_told line (Unset c s) said.sayings x)
     unsets_follow c s said mid h = by_test (is_home line c s) _ _
         (λ _ n. by_test (is_unused_mark (v.mark s)) _ _
         (λ unused q. no_sayings (Unset c s) (Done s ∷ []) said mid q.said_is (entered s Shut mid refl unused q.new_is))
         (λ _ q. no_sayings (Unset c s) (Asked s ∷ []) said mid q.said_is (wished s true mid q.new_is)) n)
-        (λ _ n. no_sayings (Unset c s) (NotHome s ∷ []) said mid n.said_is (subst (λ (w : LineState). Follows line w x) (sym n.new_is) old)) h
+        (λ _ n. no_sayings (Unset c s) (NotHome s ∷ []) said mid n.said_is
+        (subst (λ (w : LineState). Follows line w x) (sym n.new_is) old)) h
 
   module _ (v : LineState) (z : View) (good : Released v z) where
-    heard_of : (event : Event) (words : List Word) (said : Said) (mid : LineState) → said ≡ record { sayings = []; words = words } → Released mid (all_heard event words z) → Released mid (all_heard event said.words z)
+    heard_of : (event : Event) (words : List Word) (said : Said) (mid : LineState)
+        → said ≡ record { sayings = []; words = words } → Released mid (all_heard event words z)
+        → Released mid (all_heard event said.words z)
     heard_of event words said mid is h = subst (λ (p : Said). Released mid (all_heard event p.words z)) (sym is) h
 
     still : (mid : LineState) → mid.mark ≡ v.mark → Released mid z
     still mid marks = record { each = λ e opened. good.each e (λ is. opened (ap (λ (f : ℕ → Mark). f e) marks ∙ is)) }
 
-    set_there : (s : ℕ) (mid : LineState) → ((e : ℕ) → (e ≡ s → ⊥) → mid.mark e ≡ v.mark e) → Released mid (record z { released = put z.released s true })
+    set_there : (s : ℕ) (mid : LineState) → ((e : ℕ) → (e ≡ s → ⊥) → mid.mark e ≡ v.mark e)
+        → Released mid (record z { released = put z.released s true })
     set_there s mid marks = record {
       each = λ e opened. elim (eqb_tells e s) [
         | inl h ↦ put_here z.released s e true (h.1)
@@ -456,51 +394,70 @@ module _ (line : Line) (ok : IsLine line) where
       ];
     }
 
-    sets_released : (c s : ℕ) (said : Said) (mid : LineState) → Sets line v c s said mid → Released mid (all_heard (Set c s) said.words z)
+    sets_released : (c s : ℕ) (said : Said) (mid : LineState) → Sets line v c s said mid
+        → Released mid (all_heard (Set c s) said.words z)
     sets_released c s said mid h = by_test (is_home line c s) _ _
-        (λ _ n. heard_of (Set c s) (Done s ∷ []) said mid n.said_is (subst (λ (y : View). Released mid y) (sym (if_true (s == s) (record z { released = put z.released s true }) z (itself s))) (by_use (is_unused_mark (v.mark s)) n.new_is)))
-        (λ _ n. heard_of (Set c s) (NotHome s ∷ []) said mid n.said_is (still mid (ap (λ (w : LineState). w.mark) n.new_is))) h
+        (λ _ n. heard_of (Set c s) (Done s ∷ []) said mid n.said_is
+        (subst (λ (y : View). Released mid y)
+        (sym (if_true (s == s) (record z { released = put z.released s true }) z (itself s)))
+        (by_use (is_unused_mark (v.mark s)) n.new_is)))
+        (λ _ n. heard_of (Set c s) (NotHome s ∷ []) said mid n.said_is
+        (still mid (ap (λ (w : LineState). w.mark) n.new_is))) h
       where
-        by_use : (b : Bool) → mid ≡ (if b then set_mark s Open v else wished_back s false v) → Released mid (record z { released = put z.released s true })
-        by_use true is = set_there s mid (λ e apart. ap (λ (w : LineState). w.mark e) is ∙ put_other v.mark s e Open apart)
+        by_use : (b : Bool) → mid ≡ (if b then set_mark s Open v else wished_back s false v)
+            → Released mid (record z { released = put z.released s true })
+        by_use true is = set_there s mid (λ e apart. ap (λ (w : LineState). w.mark e) is
+            ∙ put_other v.mark s e Open apart)
         by_use false is = set_there s mid (λ e apart. ap (λ (w : LineState). w.mark e) is)
 
-    taken_back : (s : ℕ) (mid : LineState) → mid ≡ set_mark s Shut v → Released mid (record z { released = put z.released s false })
+    taken_back : (s : ℕ) (mid : LineState) → mid ≡ set_mark s Shut v
+        → Released mid (record z { released = put z.released s false })
     taken_back s mid is = record {
       each = λ e opened. elim (eqb_tells e s) [
         | inl h ↦ absurd (opened (ap (λ (w : LineState). w.mark e) is ∙ put_here v.mark s e Shut (h.1)))
-        | inr h ↦ put_other z.released s e false (h.1) ∙ good.each e (λ shut. opened (ap (λ (w : LineState). w.mark e) is ∙ put_other v.mark s e Shut (h.1) ∙ shut))
+        | inr h ↦ put_other z.released s e false (h.1)
+            ∙ good.each e (λ shut. opened (ap (λ (w : LineState). w.mark e) is
+            ∙ put_other v.mark s e Shut (h.1) ∙ shut))
       ];
     }
 
-    unsets_released : (c s : ℕ) (said : Said) (mid : LineState) → Unsets line v c s said mid → Released mid (all_heard (Unset c s) said.words z)
+    unsets_released : (c s : ℕ) (said : Said) (mid : LineState) → Unsets line v c s said mid
+        → Released mid (all_heard (Unset c s) said.words z)
     unsets_released c s said mid h = by_test (is_home line c s) _ _
         (λ _ n. by_test (is_unused_mark (v.mark s)) _ _
         (λ _ q. heard_of (Unset c s) (Done s ∷ []) said mid q.said_is (taken_back s mid q.new_is))
-        (λ _ q. heard_of (Unset c s) (Asked s ∷ []) said mid q.said_is (still mid (ap (λ (w : LineState). w.mark) q.new_is))) n)
-        (λ _ n. heard_of (Unset c s) (NotHome s ∷ []) said mid n.said_is (still mid (ap (λ (w : LineState). w.mark) n.new_is))) h
+        (λ _ q. heard_of (Unset c s) (Asked s ∷ []) said mid q.said_is
+        (still mid (ap (λ (w : LineState). w.mark) q.new_is))) n)
+        (λ _ n. heard_of (Unset c s) (NotHome s ∷ []) said mid n.said_is
+        (still mid (ap (λ (w : LineState). w.mark) n.new_is))) h
 
   -- ## An event
 
   module _ (v : LineState) (x : View) (old : Follows line v x) (good : Released v x) where
-    own_follow : (event : Event) (o : Outcome) (said : Said) (mid : LineState) (why : Option Reason) → o.silence ≡ why → OwnStep line v event said mid why
+    own_follow : (event : Event) (o : Outcome) (said : Said) (mid : LineState) (why : Option Reason) → o.silence ≡ why
+        → OwnStep line v event said mid why
         → Follows line mid (all_told line event said.sayings (said_by line event (is_none o.silence) x))
     own_follow (Bytes c (Ok m)) o said mid why is h =
-        subst (λ (r : Option Reason). Follows line mid (all_told line (Bytes c (Ok m)) said.sayings (said_by line (Bytes c (Ok m)) (is_none r) x))) (sym is)
+        subst (λ (r : Option Reason). Follows line mid
+        (all_told line (Bytes c (Ok m)) said.sayings (said_by line (Bytes c (Ok m)) (is_none r) x))) (sym is)
         (steps_follow v x old c h.0 m.t_train m.nid_engine m.body said mid why h.1)
     own_follow (Bytes c (Err number)) o said mid why is h = absurd h
     own_follow (Set c s) o said mid why is h = sets_follow v x old c s said mid h.1
     own_follow (Unset c s) o said mid why is h = unsets_follow v x old c s said mid h.1
     own_follow (Delivery from to number) o said mid why is h =
-        subst (λ (p : Said). Follows line mid (all_told line (Delivery from to number) p.sayings x)) (sym h.0) (subst (λ (w : LineState). Follows line w x) (sym h.1) old)
+        subst (λ (p : Said). Follows line mid (all_told line (Delivery from to number) p.sayings x)) (sym h.0)
+        (subst (λ (w : LineState). Follows line w x) (sym h.1) old)
 
-    own_released : (event : Event) (said : Said) (mid : LineState) (why : Option Reason) (z : View) → OwnStep line v event said mid why → Released v z → Released mid (all_heard event said.words z)
-    own_released (Bytes c (Ok m)) said mid why z h is = steps_released v x old c h.0 m.t_train m.nid_engine m.body said mid why z h.1 is
+    own_released : (event : Event) (said : Said) (mid : LineState) (why : Option Reason) (z : View)
+        → OwnStep line v event said mid why → Released v z → Released mid (all_heard event said.words z)
+    own_released (Bytes c (Ok m)) said mid why z h is =
+        steps_released v x old c h.0 m.t_train m.nid_engine m.body said mid why z h.1 is
     own_released (Bytes c (Err number)) said mid why z h is = absurd h
     own_released (Set c s) said mid why z h is = sets_released v z is c s said mid h.1
     own_released (Unset c s) said mid why z h is = unsets_released v z is c s said mid h.1
     own_released (Delivery from to number) said mid why z h is =
-        subst (λ (p : Said). Released mid (all_heard (Delivery from to number) p.words z)) (sym h.0) (subst (λ (w : LineState). Released w z) (sym h.1) is)
+        subst (λ (p : Said). Released mid (all_heard (Delivery from to number) p.words z)) (sym h.0)
+        (subst (λ (w : LineState). Released w z) (sym h.1) is)
 
     said_released : (event : Event) (b : Bool) → (said_by line event b x).released ≡ x.released
     said_released (Bytes c (Ok m)) true = says_released line c m m.body x
@@ -510,17 +467,25 @@ module _ (line : Line) (ok : IsLine line) where
     said_released (Unset c s) b = refl
     said_released (Delivery from to number) b = refl
 
-    piece_both : (event : Event) (o : Outcome) (new : LineState) → Piece line v event o new → Both new (sees line event (spoken_of (Answered o)) x)
+    piece_both : (event : Event) (o : Outcome) (new : LineState) → Piece line v event o new
+        → Both new (sees line event (spoken_of (Answered o)) x)
     piece_both event o new h = record {
-      follows = follows_as line new told_all (sees line event (spoken_of (Answered o)) x) (all_same event o.words told_all)
+      follows = follows_as line new told_all (sees line event (spoken_of (Answered o)) x)
+          (all_same event o.words told_all)
           (subst (λ ps. Follows line new (all_told line event ps start)) (sym sayings)
-          (subst (Follows line new) (sym (told_both line event h.own.sayings h.later.sayings start)) (quiets_follow event h.quiets h.mid between h.later new h.own_centre h.quiet_steps mid_follows)));
+          (subst (Follows line new) (sym (told_both line event h.own.sayings h.later.sayings start))
+          (quiets_follow event h.quiets h.mid between h.later new h.own_centre h.quiet_steps mid_follows)));
       released = subst (λ ws. Released new (all_heard event ws told_all)) (sym words)
           (subst (Released new) (sym (heard_both event h.own.words h.later.words told_all))
-          (released_on line event h.mid new h.later.words (all_heard event h.own.words told_all) (quiets_shut event h.quiets h.mid between h.later new h.own_centre h.quiet_steps mid_follows)
-          (quiets_fit line (Set 0 0) h.mid mid_follows.keep h.quiets h.later new h.quiet_steps) (quiets_later line event h.mid h.quiets h.later new h.quiet_steps)
+          (released_on line event h.mid new h.later.words (all_heard event h.own.words told_all)
+          (quiets_shut event h.quiets h.mid between h.later new h.own_centre h.quiet_steps mid_follows)
+          (quiets_fit line (Set 0 0) h.mid mid_follows.keep h.quiets h.later new h.quiet_steps)
+          (quiets_later line event h.mid h.quiets h.later new h.quiet_steps)
           (own_released event h.own h.mid o.silence told_all h.own_step
-          (record { each = λ s opened. ap (λ (f : ℕ → Bool). f s) (all_released line event o.sayings start ∙ said_released event (is_none o.silence)) ∙ good.each s opened }))));
+          (record {
+            each = λ s opened. ap (λ (f : ℕ → Bool). f s) (all_released line event o.sayings start
+                ∙ said_released event (is_none o.silence)) ∙ good.each s opened;
+          }))));
     }
       where
         start : View
@@ -544,7 +509,8 @@ module _ (line : Line) (ok : IsLine line) where
     same_both : (new : LineState) → new ≡ v → Both new x
     same_both new is = subst (λ (w : LineState). Both w x) (sym is) (record { follows = old; released = good })
 
-    goes_both : (event : Event) (answer : Answer) (new : LineState) → Goes line v event answer new → Both new (sees line event (spoken_of answer) x)
+    goes_both : (event : Event) (answer : Answer) (new : LineState) → Goes line v event answer new
+        → Both new (sees line event (spoken_of answer) x)
     goes_both (Bytes c (Ok m)) (Answered o) new h = piece_both (Bytes c (Ok m)) o new h
     goes_both (Bytes c (Err number)) (Answered o) new h = piece_both (Bytes c (Err number)) o new h
     goes_both (Set c s) (Answered o) new h = piece_both (Set c s) o new h
@@ -580,14 +546,16 @@ module _ (line : Line) (ok : IsLine line) where
     released = record { each = λ s opened. absurd (opened refl) };
   }
 
-  run_both : (events : List Event) (answers : List Answer) (v new : LineState) (x : View) → Run line v events answers new → Both v x → Both new (sees_all line events (map spoken_of answers) x)
+  run_both : (events : List Event) (answers : List Answer) (v new : LineState) (x : View)
+      → Run line v events answers new → Both v x → Both new (sees_all line events (map spoken_of answers) x)
   run_both [] [] v new x h both = subst (λ (w : LineState). Both w x) (sym h) both
   run_both [] (answer ∷ answers) v new x h both = absurd h
   run_both (event ∷ events) [] v new x h both = absurd h
   run_both (event ∷ events) (answer ∷ answers) v new x (mid, goes, rest) both =
-      run_both events answers mid new (sees line event (spoken_of answer) x) rest (goes_both v x both.follows both.released event answer mid goes)
+      run_both events answers mid new (sees line event (spoken_of answer) x) rest
+      (goes_both v x both.follows both.released event answer mid goes)
 
-  -- ## What is safe
+  -- ## Safety
 
   given_to_one : (m : Mark) (t u : ℕ) → is_given_to t m ≡ true → is_given_to u m ≡ true → t ≡ u
   given_to_one Shut t u one two = cc
@@ -598,7 +566,8 @@ module _ (line : Line) (ok : IsLine line) where
   given_opened : (m : Mark) (t : ℕ) → is_given_to t m ≡ true → m ≡ Shut → ⊥
   given_opened m t given is = let wrong : false ≡ true = sym (ap (is_given_to t) is) ∙ given in cc
 
-  over_given : (v : LineState) (x : View) → Follows line v x → (t s : ℕ) → may_run_over line x t s ≡ true → given v t s ≡ true
+  over_given : (v : LineState) (x : View) → Follows line v x → (t s : ℕ)
+      → may_run_over line x t s ≡ true → given v t s ≡ true
   over_given v x h t s is = by_stretch (x.stretch t) refl is
     where
       by_stretch : (o : Option Stretch) → x.stretch t ≡ o → has (is_in line s) o ≡ true → given v t s ≡ true
@@ -607,10 +576,14 @@ module _ (line : Line) (ok : IsLine line) where
 
   both_safe : (v : LineState) (x : View) → Both v x → IsSafeOutside line x
   both_safe v x h = record {
-    one_train = λ t u s one two. given_to_one (v.mark s) t u (over_given v x h.follows t s one) (over_given v x h.follows u s two);
+    one_train = λ t u s one two. given_to_one (v.mark s) t u (over_given v x h.follows t s one)
+        (over_given v x h.follows u s two);
     released = λ t s is. h.released.each s (given_opened (v.mark s) t (over_given v x h.follows t s is));
     founded = h.follows.founded;
   }
 
-  pub run_safe : (events : List Event) (answers : List Answer) (v : LineState) → Run line line_beginning events answers v → IsSafeOutside line (sees_all line events (map spoken_of answers) nothing_seen)
-  run_safe events answers v h = both_safe v (sees_all line events (map spoken_of answers) nothing_seen) (run_both events answers line_beginning v nothing_seen h begins_both)
+  pub run_safe : (events : List Event) (answers : List Answer) (v : LineState)
+      → Run line line_beginning events answers v
+      → IsSafeOutside line (sees_all line events (map spoken_of answers) nothing_seen)
+  run_safe events answers v h = both_safe v (sees_all line events (map spoken_of answers) nothing_seen)
+      (run_both events answers line_beginning v nothing_seen h begins_both)

@@ -1,6 +1,6 @@
-//! What a train's message does to other trains: nothing (`specs/Apart.antt`).
+//! A train's message has no effect on other trains (`specs/Apart.antt`).
 //!
-//! No code: what `laws.rt` states stays, and how it is proved is free.
+//! No code. The statements of `laws.rt` have to stay; their proofs may change.
 
 mod laws;
 

@@ -1,11 +1,11 @@
-//! What trains go by if only a part of their messages comes to them: that is safe too.
+//! The view by which trains run if only a part of the messages to them arrives: that is safe too.
 //!
-//! `specs/Received.antt` has the law of the centres of a line: any message may be lost. `specs/Meeting.antt` says what
-//! that means for trains that stay within what they go by. `specs/Arrival.antt` has the law of any centres whose
-//! answers are safe, if no acceptance is lost.
+//! `specs/Received.antt` has the law of the centres of a line: any message may be lost. `specs/Meeting.antt` has the
+//! consequence for trains that stay within the stretch by which they run. `specs/Arrival.antt` has the law of any
+//! centres whose answers are safe, if no acceptance is lost.
 //!
-//! No code: what `laws.rt` states stays, and how it is proved is free. The scenes show messages that are lost, and what
-//! each premise keeps out.
+//! No code. The statements of `laws.rt` have to stay; their proofs may change. The scenes show lost messages, and the
+//! reason for each premise.
 
 mod laws;
 mod scenes;

@@ -11,9 +11,9 @@ ghost use Rattle.rbc_spec.specs.Run.{Run};
 ghost use Rattle.law_outside.specs.Outside.{IsSafeOutside, OutsideTheorem, sees_all, nothing_seen, spoken_of};
 ghost use Rattle.law_promises.specs.Promised.{IsFreedWithin, IsTakenBack};
 
-/// After any list of events, a section that the line shows as given to a train is so after the next event too, but
-/// where the train clears it by a report or an end of mission that its supervisor hears, or grants the standing request
-/// to give it up.
+/// After any list of events, a section that the line shows as given to a train stays given by the next event. The
+/// exceptions are messages of the train to its supervisor. A report or an end of mission clears the section, or the
+/// train grants the pending request to give it up.
 pub fn a_section_leaves_a_hand_only_by_its_train()
     ensures { (line : Line) (events : List Event) (answers : List Answer) (w new : World) (event : Event)
         (answer : Answer) (t s : ℕ) → IsLine line
@@ -22,7 +22,7 @@ pub fn a_section_leaves_a_hand_only_by_its_train()
         → MayFree line w t s event }
 {}
 
-/// So wherever a section was given to a train and is not any more, some event between freed it so.
+/// So if a section was given to a train and is not any more, some event between freed it in one of these ways.
 pub fn a_section_that_left_was_freed()
     ensures { (line : Line) (past events : List Event) (earlier answers : List Answer) (w last : World) (t s : ℕ)
         → IsLine line
@@ -31,8 +31,8 @@ pub fn a_section_that_left_was_freed()
         → IsFreedWithin line w events t s }
 {}
 
-/// Where a section is told back, or an unset of it is answered by Done, it is shut at its home and nobody has it: no
-/// hand, no pool, no start that waits and no frame on the way.
+/// If a section is reported back, or an unset of it is answered by Done, it is shut at its home and nobody has it. No
+/// hand, no pool, no waiting start and no frame on the way has it.
 pub fn a_section_told_back_is_nobodys()
     ensures told { (line : Line) (events : List Event) (answers : List Answer) (w new : World) (event : Event)
         (o : Outcome) (c s : ℕ) → IsLine line
@@ -45,15 +45,15 @@ pub fn a_section_told_back_is_nobodys()
         → is_home line c s ≡ true → Contains o.words (Done s) → IsTakenBack line c s new }
 {}
 
-/// What the world outside sees is safe: whatever comes to the centres of a line, in any order, late, twice or never, no
-/// two trains may run over one section by what they were told, and none over a section that the interlocking has not
-/// released, or has had back.
+/// The view from outside is safe for all events at the centres of a line, also with late, repeated or lost frames. No
+/// two trains may run over one section by the messages to them. None may run over a section that the interlocking has
+/// not released, or has taken back.
 pub fn what_the_world_sees_is_safe()
     ensures { OutsideTheorem }
 {}
 
-/// The same of each run of the one line centre: by all that they were told no two trains may run over one section, and
-/// none over a section that the interlocking has not released, or has taken back.
+/// The same of each run of the one line centre. By all messages to them no two trains may run over one section. None
+/// may run over a section that the interlocking has not released, or has taken back.
 pub fn what_is_told_is_safe()
     ensures { (line : Line) (events : List Event) (answers : List Answer) (v : LineState) → IsLine line
         → Run line line_beginning events answers v

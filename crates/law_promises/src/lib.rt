@@ -1,7 +1,7 @@
-//! The promise of the centres to the world outside, what of it arrives at the trains (`arrival`), and that no train
-//! takes from another (`apart`).
+//! The promise of the centres to the world outside. `arrival` is of the part that arrives at the trains. `apart`: no
+//! train takes from another.
 //!
-//! No code: what `laws.rt` states stays, and how it is proved is free.
+//! No code. The statements of `laws.rt` have to stay; their proofs may change.
 #![tactic(auto)]
 
 pub mod apart;

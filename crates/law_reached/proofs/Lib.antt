@@ -1,8 +1,4 @@
-pub mod Decided
-pub mod Reached
 pub mod Known
+pub mod Reached
 pub mod Missions
-pub mod Marks
-pub mod Forced
-pub mod Whole
 pub mod OneCentreLemmas

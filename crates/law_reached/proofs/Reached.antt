@@ -1,29 +1,33 @@
--- What was reached stands for its read-off, and is sound.
+-- A reached world is represented by the state that is read off, and is sound.
 use Rattle.std.proofs.Common.{◌≡◌, List, Ok}
-use Rattle.rbc_spec.specs.Line.{Line, IsLine}
-use Rattle.rbc_spec.specs.World.{World, Event, Answer, new_world, world_run}
-use Rattle.rbc_spec.specs.ReadOff.{StandsFor, read_off}
-use Rattle.rbc_spec.specs.Promises.{IsSound}
-use Rattle.rbc_spec.proofs.Safe.{safe}
-use Rattle.law_invariants.specs.Flow.Flow.{flow_of}
-use Rattle.law_invariants.specs.Flow.Sound.{LosesNothing}
 use Rattle.law_invariants.proofs.FlowLemmas.OnePlace.{has_one_place}
 use Rattle.law_invariants.proofs.HandoverLemmas.Worlds.{world_begins}
 use Rattle.law_invariants.proofs.NoLossLemmas.Worlds.{never_lost}
-use Rattle.law_refinement.specs.Meets.{Meets}
+use Rattle.law_invariants.specs.Flow.Flow.{flow_of}
+use Rattle.law_invariants.specs.Flow.Sound.{LosesNothing}
+use Rattle.law_refinement.proofs.Promises.{begins_so, run_read, run_so, stands_read, WaitsAtCentres}
 use Rattle.law_refinement.specs.Announced.{IsAnnounced}
-use Rattle.law_refinement.proofs.Lines.{run_read, stands_read}
-use Rattle.law_refinement.proofs.Waits.{WaitsAtCentres, begins_so}
-use Rattle.law_refinement.proofs.Promises.{run_so}
+use Rattle.law_refinement.specs.Meets.{Meets}
+use Rattle.rbc_spec.proofs.Safe.{safe}
+use Rattle.rbc_spec.specs.Line.{IsLine, Line}
+use Rattle.rbc_spec.specs.Promises.{IsSound}
+use Rattle.rbc_spec.specs.ReadOff.{read_off, StandsFor}
+use Rattle.rbc_spec.specs.World.{Answer, Event, new_world, World, world_run}
 
--- a world that is met by what is read off it, and loses nothing, is sound
-pub sound_met : (line : Line) → IsLine line → (w : World) → Meets line w (read_off line w) → LosesNothing line (flow_of w) → IsSound line w
+-- a world is sound if the state that is read off meets it, and nothing is lost
+pub sound_met : (line : Line) → IsLine line → (w : World) → Meets line w (read_off line w)
+    → LosesNothing line (flow_of w) → IsSound line w
 sound_met line ok w meets whole =
     let stands = stands_read line w (read_off line w) meets in
-    record { stands = stands; safe = safe line w (read_off line w) stands; one_place = has_one_place line ok w meets.sound.flow whole }
+    record {
+      stands = stands;
+      safe = safe line w (read_off line w) stands;
+      one_place = has_one_place line ok w meets.sound.flow whole;
+    }
 
 module _ (line : Line) (ok : IsLine line) where
-  module _ (events : List Event) (answers : List Answer) (w : World) (is : world_run line (new_world line) events ≡ Ok (answers, w)) where
+  module _ (events : List Event) (answers : List Answer) (w : World)
+      (is : world_run line (new_world line) events ≡ Ok (answers, w)) where
     pub meets : Meets line w (read_off line w)
     meets = (run_read line ok events answers w is).1
 

@@ -1,5 +1,5 @@
--- What is known of a world that events led to. There is one proof of it at most, so a value may keep it: where a world
--- is sound by one of two reasons, this says the test that tells.
+-- The facts that are known of a world after a list of events. They have at most one proof, so a value may keep it. If a
+-- world is sound for one of two reasons, the fact stated here is the test between them.
 use Rattle.std.specs.Prelude.{◌≡◌, ℕ, ◌+◌, ◌<◌, ◌≤◌, true, false, ◌&&◌, [], Some, None, option_map, is_some, nat_lt, length}
 use Rattle.law_base.specs.Counting.Network.{IsCounted, EachOnTheWay, way}
 use Rattle.law_base.specs.Counting.Chain.{Chain}
@@ -16,10 +16,10 @@ use Rattle.law_invariants.specs.Flow.Sound.{IsHandAt, IsCentreSound, LosesNothin
 use Rattle.law_invariants.specs.Flow.Shows.{Shows}
 use Rattle.law_refinement.specs.Announced.{IsAnnounced}
 
--- ## What is on the way
+-- ## Frames on the way
 
--- a Yield from a to b carries a place, which is of the line with its hand, to the next centre, and no section of the
--- hand is of the one beyond that
+-- A Yield from a to b carries a place that is of the line with its hand. It goes to the next centre, and no section of
+-- the hand is of the centre beyond.
 pub record IsYieldKnown (line : Line) (a b t : ℕ) (carried : YieldedPlace) (hand : SectionRun) : Type 0 where
   pub carries : is_some (carried_place carried) ≡ true
   pub is_hand : (place : Place) → carried_place carried ≡ Some place → IsHandAt line place hand
@@ -36,8 +36,9 @@ IsBodyKnown line a b (Announce number t track) =
 IsBodyKnown line a b (Cancel number t) = is_some (train_number line t) ≡ true
 IsBodyKnown line a b body = Unit {0}
 
--- the handover of train t from a to b: the frames on the way turn the number that b expects into the one that a
--- announced, and what is not taken over yet is not claimed
+-- The handover of train t from a to b. The frames on the way turn the number that b expects into the one that a
+-- announced. A number above the last announced is nowhere. No number is pending twice, or both before and after b
+-- replies that it takes over.
 pub record IsPairKnown (w : Flow) (a b t : ℕ) : Type 0 where
   pub chain : Chain (follows t) (way w a b) (option_map (λ e. e.number) ((w.at b).expects a t))
       (option_map (λ h. h.number) (handing_to b ((w.at a).mission t)))
@@ -53,7 +54,7 @@ pub record IsKnown (line : Line) (w : World) : Type 0 where
   pub no_mission : (c t : ℕ) → is_centre line c ≡ false → (w.at c).mission t ≡ None
   pub no_wait : (c t : ℕ) → is_centre line c ≡ false → (w.at c).wait t ≡ None
   pub no_sent : (a b : ℕ) → (is_centre line a && is_centre line b) ≡ false → (w.at a).sent b ≡ []
-  -- frames have their numbers, none was taken that was not sent, and each on the way is as it may be
+  -- frames are numbered, only frames that were sent were taken, and each frame on the way keeps the rule of its kind
   pub numbered : IsNumbered w
   pub counted : IsCounted (flow_of w)
   pub bodies : EachOnTheWay (IsBodyKnown line) (flow_of w)

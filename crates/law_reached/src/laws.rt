@@ -1,4 +1,4 @@
-//! Laws of what is known of a world, and of what is seen of it.
+//! Laws of the facts that are known of a world, and of its view.
 
 ghost use Rattle.std.specs.Prelude.{◌≡◌, ℕ, List, Some, Ok};
 ghost use Rattle.rbc_spec.specs.Line.{Line, IsLine};
@@ -13,8 +13,8 @@ ghost use Rattle.law_base.specs.Local.Local.{IsLocal};
 ghost use Rattle.law_reached.specs.Known.{IsKnown};
 ghost use Rattle.law_reached.specs.Seen.{AreMissionsSeen, AreSectionsSeen};
 
-/// What is known of each world that events led to, has one proof at most, and is enough: the state that is read off the
-/// world stands for it, it is sound, and each frame has the number under which it was sent.
+/// The facts that are known of each world after a list of events have at most one proof, and suffice. The state that is
+/// read off represents the world, which is sound, and each frame has the number under which it was sent.
 pub fn what_is_known_of_a_world()
     ensures reached { (line : Line) (events : List Event) (answers : List Answer) (w : World) → IsLine line
         → world_run line (new_world line) events ≡ Ok (answers, w) → IsKnown line w }
@@ -26,8 +26,8 @@ pub fn what_is_known_of_a_world()
         → f.number ≡ number }
 {}
 
-/// From such a world the one line centre may meet each further event with the same answer, between the states that are
-/// read off the worlds, and the event keeps its promises.
+/// From such a world the one line centre may give the same answer to each further event, between the states that are
+/// read off. The event keeps its promises.
 pub fn each_further_event()
     ensures goes { (line : Line) (w new : World) (event : Event) (answer : Answer) → IsLine line → IsKnown line w
         → world_step line w event ≡ Ok (answer, new) → Goes line (read_off line w) event answer (read_off line new) }
@@ -35,8 +35,7 @@ pub fn each_further_event()
         → world_step line w event ≡ Ok (answer, new) → KeepsPromises line w event answer new }
 {}
 
-/// There each train's mission is found by looking at the centres and, where none of them has it, at the Yields on the
-/// way.
+/// In such a world each train's mission is found at a centre or, if none of them has it, in a Yield on the way.
 pub fn who_has_a_mission()
     ensures { (line : Line) (w : World) → IsKnown line w → AreMissionsSeen line w }
 {}
@@ -46,8 +45,8 @@ pub fn what_a_section_is_marked()
     ensures { (line : Line) (w : World) → IsKnown line w → AreSectionsSeen line w }
 {}
 
-/// On a one-centre line: no other centre has a part in what events led to, of which there is one proof at most. So each
-/// further event leaves no choice, and so does each run.
+/// On a one-centre line no other centre has a part in any world after a list of events. This fact has at most one
+/// proof. So each further event leaves no choice, and so does each run.
 pub fn each_event_is_forced()
     ensures local { (line : Line) (c : ℕ) (events : List Event) (answers : List Answer) (w : World) → IsLine line
         → IsOneCentreLine line c

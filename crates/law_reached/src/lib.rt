@@ -1,6 +1,6 @@
-//! Properties of each world that events lead to, and of a line with one centre.
+//! Properties of each world after a list of events, and of a line with one centre.
 //!
-//! No code: what `laws.rt` states stays, and how it is proved is free.
+//! No code. The statements of `laws.rt` have to stay; their proofs may change.
 #![tactic(auto)]
 
 mod laws;

@@ -1,8 +1,8 @@
-//! A one-centre line, whose one centre is the home of all sections and every train's registrar: the one line centre
-//! meets its events without free choice. It answers wherever it may, leaves a message without an answer exactly for its
-//! reason, and takes no quiet step but a request to shorten after an unset that asks for it.
+//! A one-centre line: one centre is the home of all sections and every train's registrar. The one line centre meets its
+//! events without a choice. It accepts whenever it may, and is silent if and only if a reason holds. Its only quiet
+//! step is a request to shorten after an unset that asks for it.
 //!
-//! No code: what `laws.rt` states stays, and how it is proved is free.
+//! No code. The statements of `laws.rt` have to stay; their proofs may change.
 
 mod laws;
 

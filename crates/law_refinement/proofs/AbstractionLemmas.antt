@@ -1,9 +1,4 @@
-pub mod Acts
+pub mod Shows
 pub mod Hands
 pub mod Missions
-pub mod Shows
-pub mod ReadOff
-pub mod Splits
 pub mod Marks
-pub mod Frames
-pub mod Entering

@@ -2,11 +2,8 @@ pub mod Keeps
 pub mod Moves
 pub mod Proposals
 pub mod EndOrders
-pub mod Unseen
 pub mod Borders
-pub mod Requested
 pub mod Yields
 pub mod Laying
-pub mod Ended
 pub mod Announced
 pub mod AnnouncedSteps

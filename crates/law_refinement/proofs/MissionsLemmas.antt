@@ -1,13 +1,13 @@
-pub mod Keeps
 pub mod Heard
 pub mod Sets
 pub mod Leaves
 pub mod Clears
 pub mod Reports
 pub mod Cuts
+pub mod CutMessages
 pub mod Stands
+pub mod Ended
 pub mod Ends
 pub mod Extending
 pub mod Grants
 pub mod Asked
-pub mod Listens

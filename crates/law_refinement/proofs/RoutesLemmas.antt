@@ -1,10 +1,8 @@
 pub mod Bodies
 pub mod Rights
-pub mod Freed
 pub mod Refused
 pub mod Interlocking
 pub mod Told
 pub mod Lending
 pub mod Unkept
-pub mod Linked
 pub mod Homes

@@ -1,28 +1,32 @@
 -- The one line centre has a centre's reasons of silence.
-use Rattle.std.proofs.Common.{◌≡◌, ◌⊎◌, ℕ, ◌+◌, ◌-◌, ◌≤◌, Bool, true, false, Option, Some, None, refl, sym, ◌∙◌, arith}
+use Rattle.std.proofs.Common.{◌+◌, ◌-◌, ◌∙◌, ◌≡◌, ◌≤◌, ◌⊎◌, arith, Bool, false, None, Option, refl, Some, sym, true, ℕ}
 use Rattle.std.specs.List.{find}
-use Rattle.law_base.proofs.Runs.{within_from}
-use Rattle.law_base.proofs.Lines.{on_line}
-use Rattle.law_base.specs.Rules.Silences.{HasEndIfAsked, EndsOnLine}
+use Rattle.law_base.proofs.Lists.{on_line}
 use Rattle.law_base.proofs.RulesLemmas.SameReasons as reasons
-use Rattle.rbc_spec.specs.Line.{Line, is_centre}
-use Rattle.rbc_spec.specs.Message.{TrainMessage, TrainBody, TrainData, Request, Report, ShorteningGranted, ShorteningRejected, EndOfMission, InitiationOfSession, TerminationOfSession, StartOfMission, SessionEstablished}
-use Rattle.rbc_spec.specs.Outcome.{Reason, reasons_of}
+use Rattle.law_base.proofs.Runs.{within_from}
+use Rattle.law_base.specs.Rules.Silences.{EndsOnLine, HasEndIfAsked}
+use Rattle.law_invariants.proofs.FlowLemmas.Stands.{stands}
+use Rattle.law_invariants.specs.Flow.Flow.{flow_of}
+use Rattle.law_invariants.specs.Flow.Shows.{Shows}
+use Rattle.law_invariants.specs.Flow.Sound.{IsFlowSound, IsHandAt}
 use Rattle.rbc_spec.specs.Centre.{Centre}
+use Rattle.rbc_spec.specs.Line.{is_centre, Line}
 use Rattle.rbc_spec.specs.LineCentre.{LineState}
+use Rattle.rbc_spec.specs.Message.{EndOfMission, InitiationOfSession, Report, Request, SessionEstablished}
+use Rattle.rbc_spec.specs.Message.{ShorteningGranted, ShorteningRejected, StartOfMission, TerminationOfSession}
+use Rattle.rbc_spec.specs.Message.{TrainBody, TrainData, TrainMessage}
+use Rattle.rbc_spec.specs.Outcome.{Reason, reasons_of}
+use Rattle.rbc_spec.specs.Run as run
 use Rattle.rbc_spec.specs.Step as step
 use Rattle.rbc_spec.specs.World.{World}
-use Rattle.rbc_spec.specs.Run as run
-use Rattle.law_invariants.specs.Flow.Flow.{flow_of}
-use Rattle.law_invariants.specs.Flow.Sound.{IsFlowSound, IsHandAt}
-use Rattle.law_invariants.specs.Flow.Shows.{Shows}
-use Rattle.law_invariants.proofs.FlowLemmas.Stands.{stands}
 
--- whatever the clock shows
-pub silent_by_clock : (line : Line) (c stamp : ℕ) (k : Centre) (m : TrainMessage) → step.silence line c (step.ticked stamp k) m ≡ step.silence line c k m
+-- for every state of the clock
+pub silent_by_clock : (line : Line) (c stamp : ℕ) (k : Centre) (m : TrainMessage)
+    → step.silence line c (step.ticked stamp k) m ≡ step.silence line c k m
 silent_by_clock line c stamp k m = by_body m.body
   where
-    by_body : (body : TrainBody) → find (step.holds line c (step.ticked stamp k) (record m { body = body })) (reasons_of body) ≡ find (step.holds line c k (record m { body = body })) (reasons_of body)
+    by_body : (body : TrainBody) → find (step.holds line c (step.ticked stamp k) (record m { body = body }))
+        (reasons_of body) ≡ find (step.holds line c k (record m { body = body })) (reasons_of body)
     by_body SessionEstablished = refl
     by_body (StartOfMission is_valid position) = refl
     by_body (TrainData position) = refl
@@ -34,7 +38,8 @@ silent_by_clock line c stamp k m = by_body m.body
     by_body InitiationOfSession = refl
     by_body TerminationOfSession = refl
 
-module _ (line : Line) (w : World) (v : LineState) (sound : IsFlowSound line (flow_of w)) (sees : Shows line (flow_of w) v) (c : ℕ) (m : TrainMessage) where
+module _ (line : Line) (w : World) (v : LineState) (sound : IsFlowSound line (flow_of w))
+    (sees : Shows line (flow_of w) v) (c : ℕ) (m : TrainMessage) where
   has_end : HasEndIfAsked line (w.at c) m
   has_end position n asks has = by_centre (is_centre line c) refl
     where
@@ -42,7 +47,9 @@ module _ (line : Line) (w : World) (v : LineState) (sound : IsFlowSound line (fl
       at_centre hand =
           let last : ℕ = n.hand.first + n.hand.count - 1 in
           let some : 1 ≤ n.hand.count = hand.some in
-          let below = on_line line n.place.track last (hand.on_track last (within_from n.hand last (omega (arith, some)) (omega (arith, some)))) in
+          let below =
+          on_line line n.place.track last
+          (hand.on_track last (within_from n.hand last (omega (arith, some)) (omega (arith, some)))) in
           record { some = some; last = omega (arith, some, below) }
 
       by_centre : (b : Bool) → is_centre line c ≡ b → EndsOnLine line n.hand
@@ -52,10 +59,11 @@ module _ (line : Line) (w : World) (v : LineState) (sound : IsFlowSound line (fl
   pub silent : (why : Reason) → step.silence line c (w.at c) m ≡ Some why → run.silence line v c m ≡ Some why
   silent why is = reasons.silent line w v (stands line w sound v sees) c m.nid_engine m.t_train m.body why has_end is
 
-  pub heard : step.silence line c (w.at c) m ≡ None → (run.silence line v c m ≡ None) ⊎ (run.may_listen line c m.body (run.silence line v c m) ≡ true)
+  pub heard : step.silence line c (w.at c) m ≡ None → (run.silence line v c m ≡ None)
+      ⊎ (run.may_listen line c m.body (run.silence line v c m) ≡ true)
   heard is = reasons.heard line w v (stands line w sound v sees) c m.nid_engine m.t_train m.body has_end is
 
-  -- it is silent wherever a centre is
+  -- the centre is not silent if the one line centre is not
   pub heard_alike : run.silence line v c m ≡ None → step.silence line c (w.at c) m ≡ None
   heard_alike is = by_silence (step.silence line c (w.at c) m) refl
     where

@@ -6,12 +6,12 @@ use Rattle.rbc_spec.specs.Centre.{Centre, Mission}
 use Rattle.rbc_spec.specs.Acts.{part_at}
 use Rattle.rbc_spec.specs.World.{World}
 
--- a mission at centre c that announced none has no section of the next centre in its hand
+-- a mission at centre c without an announced handover has no section of the next centre in its hand
 abbrev pub HasAnnounced : Line → ℕ → Centre → Type 0
 HasAnnounced line c k =
     (t d : ℕ) (m : Mission) → k.mission t ≡ Some m → next_centre line c m.place.track ≡ Some d → m.handing ≡ None
     → is_empty (part_at line d m.place.track m.hand) ≡ true
 
--- so it is with each centre of the line
+-- this holds of each centre of the line
 abbrev pub IsAnnounced : Line → World → Type 0
 IsAnnounced line w = (c : ℕ) → is_centre line c ≡ true → HasAnnounced line c (w.at c)

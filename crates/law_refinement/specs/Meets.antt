@@ -1,4 +1,4 @@
--- A world of centres and what the one line centre shows of it.
+-- A world of centres, and the state of the one line centre that it shows.
 use Rattle.std.specs.Prelude.{◌≡◌, Ok}
 use Rattle.rbc_spec.specs.Line.{Line}
 use Rattle.rbc_spec.specs.LineCentre.{LineState}
@@ -13,8 +13,8 @@ pub record Meets (line : Line) (w : World) (v : LineState) : Type 0 where
   pub sound : IsWorldSound line w
   pub shows : Shows line (flow_of w) v
 
--- whatever the centres answer to the event, the one line centre, whose state is v, may give that answer and stay as it
--- is, and it meets the new world
+-- For every answer of the centres to the event: the one line centre in state v may give it. It stays in state v, and v
+-- meets the new world.
 abbrev pub StaysWith : Line → World → LineState → Event → Type 0
 StaysWith line w v event =
     (answer : Answer) (new : World) → world_step line w event ≡ Ok (answer, new)

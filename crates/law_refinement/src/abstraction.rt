@@ -1,7 +1,7 @@
-//! Laws of what the one line centre shows of the centres of a line: how it changes by an act of one centre
-//! (`specs/After.antt`), field by field, and that it is the state that is read off.
+//! Laws of the state that the one line centre shows of the centres of a line. They state its change by an act of one
+//! centre (`specs/After.antt`), field by field, and that it is the state that is read off.
 //!
-//! No code: what `laws.rt` states stays, and how it is proved is free.
+//! No code. The statements of `laws.rt` have to stay; their proofs may change.
 
 mod laws;
 

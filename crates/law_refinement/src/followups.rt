@@ -1,7 +1,7 @@
-//! Laws of the acts that follow a centre's own step: each leads to quiet steps of the one line centre, shows what is
-//! then shown, and keeps all sound.
+//! Laws of the acts that follow a centre's own step. Each leads to quiet steps of the one line centre, shows the state
+//! after them, and keeps all sound.
 //!
-//! No code: what `laws.rt` states stays, and how it is proved is free.
+//! No code. The statements of `laws.rt` have to stay; their proofs may change.
 
 mod laws;
 

@@ -1,7 +1,7 @@
-//! Laws of what the frames of a handover lead to at the whole line, each as the next frame of its link: quiet steps of
-//! the one line centre, or none.
+//! Laws of the frames of a handover at the whole line. Each, as the next frame of its link, leads to quiet steps of the
+//! one line centre, or to none.
 //!
-//! No code: what `laws.rt` states stays, and how it is proved is free.
+//! No code. The statements of `laws.rt` have to stay; their proofs may change.
 
 mod laws;
 

@@ -17,20 +17,22 @@ ghost use Rattle.rbc_spec.specs.ReadOff.{StandsFor, read_off};
 ghost use Rattle.rbc_spec.specs.Theorems.{WholeLineTheorem, EachEventTheorem};
 ghost use Rattle.law_refinement.specs.Meets.{Meets, StaysWith};
 
-/// What a step tells the interlocking it tells by the order of sections and in every state of a centre.
+/// In every state of a centre, a step reports sections to the interlocking in the order of their numbers.
 pub fn each_step_tells_in_order()
     ensures { (line : Line) (c : ℕ) (k : Centre) (event : Event) → TellsInOrder (taken line c event k).0.words }
 {}
 
-/// The one line centre's beginning meets a new world. What meets a world is read off it, and stands for it.
+/// The initial state of the one line centre meets a new world. A state that meets a world is read off it, and
+/// represents it.
 pub fn what_meets_a_world()
     ensures beginning { (line : Line) → Meets line (new_world line) line_beginning }
     ensures read { (line : Line) (w : World) (v : LineState) → Meets line w v → v ≡ read_off line w }
     ensures stands { (line : Line) (w : World) (v : LineState) → Meets line w v → StandsFor line w (read_off line w) }
 {}
 
-/// The one line centre leaves a message without an answer for the same reason as the centre that it comes to. Where the
-/// centre answers, it has none, or may listen to the train; and where it has none the centre answers.
+/// The one line centre is silent for the same reason as the centre at which the message arrives. If the centre answers,
+/// the one line centre has no reason, or may listen to the train. If the one line centre has no reason, the centre
+/// answers.
 pub fn the_line_centre_is_silent_alike()
     ensures silent { (line : Line) (w : World) (v : LineState) (c : ℕ) (m : TrainMessage) (why : Reason)
         → Meets line w v
@@ -42,9 +44,9 @@ pub fn the_line_centre_is_silent_alike()
         → run.silence line v c m ≡ None → step.silence line c (w.at c) m ≡ None }
 {}
 
-/// What leads nowhere at the centres leads nowhere at the one line centre: it gives the same answer, and its state
-/// meets the new world. So it is with a message that is silent, bytes that spell none, a frame that is not the next of
-/// its link, one that was never sent, and an event at a centre that is not of the line.
+/// An event without effect at the centres has none at the one line centre. It gives the same answer, and its state
+/// meets the new world. Such events are a silent message, bytes without a message, and an event at a centre that is not
+/// of the line. Others are a frame that is not the next of its link, and one that was never sent.
 pub fn what_leads_nowhere()
     ensures silent { (line : Line) (w : World) (v : LineState) (c : ℕ) (m : TrainMessage) (why : Reason) → IsLine line
         → Meets line w v
@@ -61,14 +63,14 @@ pub fn what_leads_nowhere()
         → is_centre line (centre_of event) ≡ false → StaysWith line w v event }
 {}
 
-/// Whatever happens to the centres of a line: what they answer and hold is a run of the one line centre.
+/// For every list of events, the answers and states of the centres of a line are a run of the one line centre.
 pub fn the_whole_line_theorem()
     ensures { WholeLineTheorem }
 {}
 
-/// Whatever has happened to the centres of a line, the one line centre may meet each further event with the same
-/// answer, between the states that are read off the centres. The event keeps its promises, and the new world is sound:
-/// no right and no token of a section is lost.
+/// After any list of events, the one line centre may give the same answer to each further event, between the states
+/// that are read off. The event keeps its promises, and the new world is sound. So no right and no section in use is
+/// lost.
 pub fn each_event_of_the_line()
     ensures { EachEventTheorem }
 {}

@@ -1,8 +1,8 @@
-//! The law of the whole line: each step of a centre is a step of the single line centre, followed by quiet steps.
-//! `abstraction` says how the centres together are read as the single line centre; the other modules are its parts by
+//! The law of the whole line: each step of a centre is a step of the one line centre, followed by quiet steps.
+//! `abstraction` defines how the centres together are read as the one line centre. The other modules are its parts by
 //! subject.
 //!
-//! No code: what `laws.rt` states stays, and how it is proved is free.
+//! No code. The statements of `laws.rt` have to stay; their proofs may change.
 #![tactic(auto)]
 
 pub mod abstraction;

@@ -1,7 +1,7 @@
-//! Laws of the messages that change a mission: of each, the part of a centre's answer that is the own step of the one
-//! line centre, at the whole line, and what follows it.
+//! Laws of the messages that change a mission. For each, a first part of the centre's answer is the own step of the one
+//! line centre.
 //!
-//! No code: what `laws.rt` states stays, and how it is proved is free.
+//! No code. The statements of `laws.rt` have to stay; their proofs may change.
 
 mod laws;
 

@@ -1,7 +1,7 @@
-//! Laws of rights and of sections that are lent between centres, and of what the interlocking says: what the frames of
-//! them, a set and an unset lead to at the one line centre.
+//! Laws of rights, of sections lent between centres, and of the interlocking. They state the effect of their frames, of
+//! a set and of an unset on the one line centre.
 //!
-//! No code: what `laws.rt` states stays, and how it is proved is free.
+//! No code. The statements of `laws.rt` have to stay; their proofs may change.
 
 mod laws;
 

@@ -1,7 +1,7 @@
-//! Laws of the messages of sessions, of train data, of rejected requests to shorten, and of starts of mission: the one
-//! line centre takes its own step of each, and shows what the answer leaves.
+//! Laws of the messages of sessions, of train data, of rejected requests to shorten, and of starts of mission. For
+//! each, the one line centre takes its own step, and shows the state after the answer.
 //!
-//! No code: what `laws.rt` states stays, and how it is proved is free.
+//! No code. The statements of `laws.rt` have to stay; their proofs may change.
 
 mod laws;
 

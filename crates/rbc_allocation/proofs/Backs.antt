@@ -1,4 +1,4 @@
--- A section that is given back, by what its entry means.
+-- A section that is given back, by its entry.
 use Rattle.std.proofs.Common.{◌≡◌, ◌&&◌, ◌||◌, inl, inr, Bool, true, false, cond, not, refl, sym, ap, ◌∙◌}
 use Rattle.std.proofs.Math.Bool.{and-false}
 use Rattle.std.proofs.lemmas.Bool.{cases_Bool}
@@ -8,7 +8,7 @@ use Rattle.rbc_spec.specs.Centre.{Entry, Shut, Open}
 abbrev pub back_to : Bool → Entry
 back_to w = cond w Shut Open
 
--- what a section's entry and wish become where it is to be given back, if its entry is meant
+-- the entry and the wish after a section is given back, if its entry is meant
 abbrev pub entry_then : (Entry → Bool) → Bool → Entry → Bool → Entry
 entry_then is_meant x e w = cond (x && is_meant e) (back_to w) e
 
@@ -16,7 +16,7 @@ abbrev pub wish_then : (Entry → Bool) → Bool → Entry → Bool → Bool
 wish_then is_meant x e w = not (x && is_meant e) && w
 
 module _ (is_meant : Entry → Bool) (idle : (w : Bool) → is_meant (back_to w) ≡ false) where
-  -- what is to be given back two times comes to the same as once
+  -- to give back two times is the same as once
   twice : {X : Type 0} (f : Bool → Entry → Bool → X) → ((y : Bool) (e : Entry) (w : Bool) → is_meant e ≡ false → f y e w ≡ f false e w)
       → ((e : Entry) (w : Bool) → is_meant e ≡ true → f false (back_to w) false ≡ f true e w)
       → (e : Entry) (w x y : Bool) → f y (entry_then is_meant x e w) (wish_then is_meant x e w) ≡ f (x || y) e w

@@ -1,4 +1,4 @@
--- What is held of the sections of a hand.
+-- The tokens of the sections of a hand.
 use Rattle.std.proofs.Common.{◌≡◌, ℕ, zero, suc, ◌+◌, ◌-◌, ◌<◌, ◌≤◌, ◌&&◌, ◌⊎◌, inl, inr, Bool, true, false, not, List, [], ◌∷◌, ◌++◌, length, take, drop, replicate, Option, Some, None, option_map, slice_get, refl, sym, ap, subst, ◌∙◌, arith, eq-eqb}
 use Rattle.std.specs.List.{AllByRecursion}
 use Rattle.std.proofs.lemmas.Bool.{cases_Bool, false≢true, eqb-true}
@@ -27,14 +27,14 @@ slice_get-drop (suc k) [] i j e = refl
 slice_get-drop (suc k) (x ∷ xs) i zero e = absurd (let no : ⊥ = omega (arith, e) in no)
 slice_get-drop (suc k) (x ∷ xs) i (suc j) e = slice_get-drop k xs i j (omega (arith, e))
 
--- what stands in the first part of a list stands in the list
+-- an item of the first part of a list is in the list
 slice_get-take : {X : Type 0} (k : ℕ) (xs : List X) (i : ℕ) (x : X) → slice_get (take k xs) i ≡ Some x → slice_get xs i ≡ Some x
 slice_get-take zero xs i x h = absurd (none-some x h)
 slice_get-take (suc k) [] i x h = h
 slice_get-take (suc k) (y ∷ ys) zero x h = h
 slice_get-take (suc k) (y ∷ ys) (suc i) x h = slice_get-take k ys i x h
 
--- what stands in two lists, one after the other, stands in the first or in the second
+-- an item of a joined list is in the first or in the second list
 slice_get-append : {X : Type 0} (xs ys : List X) (i : ℕ) (x : X) → slice_get (xs ++ ys) i ≡ Some x → (slice_get xs i ≡ Some x) ⊎ ((j : ℕ) × (i ≡ length xs + j) × (slice_get ys j ≡ Some x))
 slice_get-append [] ys i x h = inr (i, omega arith, h)
 slice_get-append (y ∷ xs) ys zero x h = inl h
@@ -79,11 +79,11 @@ own_at t [] i x all at = absurd (none-some x at)
 own_at t (y ∷ ys) zero x all at = sym (same_Some y x at) ∙ all.0
 own_at t (y ∷ ys) (suc i) x all at = own_at t ys i x all.1 at
 
--- a hand of claims for the train alone
+-- a hand of only claims for the train
 pub own_held : (t : ℕ) (is_home : ℕ → Bool) (h : Holding) → IsAllOwn t h → IsHeldAt t is_home h
 own_held t is_home h all i held at = ap (is_held_as t (is_home (h.first + i))) (own_at t h.holds i held all at) ∙ eq-eqb t t refl
 
--- and with more of them
+-- a hand of only claims for the train, with more of them, has only such claims
 own_append : (t n : ℕ) (xs : List Held) → AllByRecursion (λ held. held ≡ Own t) xs → AllByRecursion (λ held. held ≡ Own t) (xs ++ replicate n (Own t))
 own_append t zero [] all = tt
 own_append t (suc n) [] all = (refl, own_append t n [] tt)
@@ -105,7 +105,7 @@ run_front n h g most is = ap run is ∙ run_by (run (hand_front n h)) h.first n 
 
 -- ## A token that is given back
 
--- what is held of the k-th section
+-- the token of the k-th section
 record IsTokenAt (h : Holding) (k : ℕ) (token : Token) : Type 0 where
   held : Held
   at : slice_get h.holds k ≡ Some held
@@ -118,19 +118,19 @@ token_is h k token o is some = by (slice_get h.holds k) refl (sym is ∙ some)
     by None at e = absurd (none-some token e)
     by (Some x) at e = record { held = x; at = at; is = sym (same_Some (token_of (h.first + k) x) token e) }
 
--- what holds of the section and train of a token that is held so, holds of the k-th section of the hand
+-- a property of the section and train of such a token holds of the k-th section of the hand
 pub ends_at : (P : ℕ → ℕ → Type 0) (t : ℕ) (h : Holding) (k s : ℕ) (token : Token) (o : Option Token) (a : Pages) → h.first + k ≡ s → o ≡ token_at h k → o ≡ Some token → IsHeldBy t h a
     → ((s t : ℕ) (held : Held) → token ≡ token_of s held → is_held_as t (is_own a s) held ≡ true → P s t) → P s t
 ends_at P t h k s token o a there is some so ends =
     let found = token_is h k token o is some in
     subst (λ n. P n t) there (ends (h.first + k) t found.held found.is (so k found.held found.at))
 
--- what gives back a token that is held so, gives back its section
+-- to give back such a token is to give back its section
 pub frees_at : (t : ℕ) (h : Holding) (k s : ℕ) (token : Token) (o : Option Token) (a b : Pages) → h.first + k ≡ s → o ≡ token_at h k → o ≡ Some token → IsHeldBy t h a
     → ((s t : ℕ) (held : Held) → token ≡ token_of s held → is_held_as t (is_own a s) held ≡ true → FreesRun t (one s) a b) → FreesRun t (one s) a b
 frees_at t h k s token o a b = ends_at (λ s t. FreesRun t (one s) a b) t h k s token o a
 
--- and tells whether that was wished back
+-- the result of giving a section back is whether it was wished back
 pub told_at : (t : ℕ) (h : Holding) (k s : ℕ) (token : Token) (o : Option Token) (a : Pages) (b : Bool) → h.first + k ≡ s → o ≡ token_at h k → o ≡ Some token → IsHeldBy t h a
     → ((s t : ℕ) (held : Held) → token ≡ token_of s held → is_held_as t (is_own a s) held ≡ true → b ≡ (is_taken_for t (entry_at a s) && wish_at a s)) → b ≡ (is_taken_for t (entry_at a s) && wish_at a s)
 told_at t h k s token o a b = ends_at (λ s t. b ≡ (is_taken_for t (entry_at a s) && wish_at a s)) t h k s token o a
@@ -166,7 +166,7 @@ name_foreign t s (Name u home) token lent book name is so = elim (cases_Bool (is
 pub name_held : (t s : ℕ) (held : Held) (token : Token) (lent : Lent) (book : Pages) → token ≡ code.Name lent → token ≡ token_of s held → is_held_as t (is_own book s) held ≡ true → FreesRun t (one s) book book
 name_held t s held token lent book name is so = frees_foreign t s book (name_foreign t s held token lent book name is so)
 
--- and its section was not wished back here
+-- the section of a name that is held was not wished back here
 pub name_untold : (t s : ℕ) (held : Held) (token : Token) (lent : Lent) (book : Pages) → token ≡ code.Name lent → token ≡ token_of s held → is_held_as t (is_own book s) held ≡ true
     → false ≡ (is_taken_for t (entry_at book s) && wish_at book s)
 name_untold t s held token lent book name is so =

@@ -46,7 +46,7 @@ within_before first n s = grind (arith, nat_tests)
 pub takes_none : (t first : ℕ) (book : Pages) → TakesRun t (record { first = first; count = 0 }) book book
 takes_none t first book = record { homes = λ s. refl; entry = λ s. rw (within_none first s) refl; wish = λ s. refl }
 
--- all of a run, where they are open
+-- all of a run, if they are open
 pub takes_all : (t : ℕ) (r : SectionRun) (a b : Pages) → ((s : ℕ) → within r s ≡ true → is_open (entry_at a s) ≡ true) → ((s : ℕ) → is_own b s ≡ is_own a s)
     → ((s : ℕ) → entry_at b s ≡ cond (within r s) (Taken t) (entry_at a s)) → ((s : ℕ) → wish_at b s ≡ wish_at a s) → TakesRun t r a b
 takes_all t r a b free homes entry wish = record {
@@ -58,7 +58,7 @@ takes_all t r a b free homes entry wish = record {
   wish = wish;
 }
 
--- a hand with so many own sections more, from a first
+-- a hand with `count` further own sections, from a first
 pub record HasGrown (h g : Holding) (first count t : ℕ) : Type 0 where
   pub long : length g.holds ≡ length h.holds + count
   pub begins : g.first + length h.holds ≡ first
@@ -168,7 +168,7 @@ frees_one t s claim a b is homes entry wish = frees_on t s a b homes
 hand_by : (h : Holding) (first : ℕ) (holds : List Held) → h.first ≡ first → h.holds ≡ holds → h ≡ record { first = first; holds = holds }
 hand_by h first holds a b i = record { first = a i; holds = b i }
 
--- so many sections at the front of the hand have left
+-- the first k sections of the hand have left
 pub record HasFreedFront (t k : ℕ) (before now : Holding) (old new : Pages) : Type 0 where
   pub hand : now ≡ hand_rest k before
   pub book : FreesRun t (record { first = before.first; count = k }) old new
@@ -200,7 +200,7 @@ front_left k first now is lt =
     let count : length now.holds ≡ length first.holds - k = ap (λ (h : Holding). length h.holds) is ∙ length-drop k first.holds in
     grind (arith, nat_tests)
 
--- so many sections at its end have left
+-- the last k sections have left
 pub record HasFreedBack (t k : ℕ) (before now : Holding) (old new : Pages) : Type 0 where
   pub hand : now ≡ hand_front (length before.holds - k) before
   pub book : FreesRun t (record { first = before.first + (length before.holds - k); count = k }) old new

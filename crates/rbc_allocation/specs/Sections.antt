@@ -17,26 +17,26 @@ pub record TakesRun (t : ℕ) (r : SectionRun) (old new : Pages) : Type 0 where
 abbrev pub is_held : ℕ → SectionRun → Pages → ℕ → Bool
 is_held t r book s = within r s && is_taken_for t (entry_at book s)
 
--- the sections of the run that were in use for the train are open, or shut where they were wished back; nothing else
--- changed
+-- The sections of the run that were in use for the train are open, or shut if they were wished back. Nothing else
+-- changed.
 pub record FreesRun (t : ℕ) (r : SectionRun) (old new : Pages) : Type 0 where
   pub homes : (s : ℕ) → is_own new s ≡ is_own old s
   pub entry : (s : ℕ) → entry_at new s
       ≡ (if is_held t r old s then (if wish_at old s then Shut else Open) else entry_at old s)
   pub wish : (s : ℕ) → wish_at new s ≡ (not (is_held t r old s) && wish_at old s)
 
--- those of the run that are in use for the train and wished back, rising
+-- the sections of the run that are in use for the train and wished back, in rising order
 abbrev pub wished : ℕ → SectionRun → Pages → List ℕ
 wished t r book = filter (λ s. is_taken_for t (entry_at book s) && wish_at book s) (range_with_len r.first r.count)
 
--- so many of the first sections of a run, and all but so many of them
+-- the first `count` sections of a run, and all the others
 abbrev pub front_of : ℕ → SectionRun → SectionRun
 front_of count r = record { first = r.first; count = count }
 
 abbrev pub rest_of : ℕ → SectionRun → SectionRun
 rest_of count r = record { first = r.first + count; count = r.count - count }
 
--- so many sections that follow a run
+-- the `count` sections that follow a run
 abbrev pub next_of : ℕ → SectionRun → SectionRun
 next_of count r = record { first = next_after r; count = count }
 
@@ -51,20 +51,20 @@ pub record IsAllTaken (t : ℕ) (r : SectionRun) (book : Pages) : Type 0 where
 
 -- ## In a hand
 
--- the hand without so many of its first sections, and with so many of them alone
+-- the hand without its first `count` sections, and with only these
 abbrev pub hand_rest : ℕ → Holding → Holding
 hand_rest count h = record { first = h.first + count; holds = drop count h.holds }
 
 abbrev pub hand_front : ℕ → Holding → Holding
 hand_front count h = record h { holds = take count h.holds }
 
--- what is held of a section, of the home or not: a claim is for the train, and a name is of a section that is not of
--- the home. So a section of the home is held by its claim for the train
+-- The token of a section. A claim is for the train, and a name is of a section that is not of the home. So a section of
+-- the home is held by its claim for the train.
 abbrev pub is_held_as : ℕ → Bool → Held → Bool
 is_held_as t is_home (Own u) = u == t
 is_held_as t is_home (Name u home) = not is_home
 
--- each section of the hand is held so, where these are the sections of the home
+-- each section of the hand is held so, if these are the sections of the home
 abbrev pub IsHeldAt : ℕ → (ℕ → Bool) → Holding → Type 0
 IsHeldAt t is_home hand =
     (i : ℕ) (held : Held) → slice_get hand.holds i ≡ Some held → is_held_as t (is_home (hand.first + i)) held ≡ true

@@ -1,8 +1,8 @@
-//! Sections that a centre takes into use for a train, as tokens in the train's hand, and gives back to its book; and
-//! those of them that the interlocking is to be told of, since it wished them back. A mission has such a hand, and so
-//! has a start that waits.
+//! Sections that a centre takes into use for a train, as tokens in the train's hand, and gives back to its book. The
+//! sections that the interlocking wished back are reported to it then. A mission has such a hand, and so has a waiting
+//! start.
 //!
-//! Bodies and proofs are free. The clauses of public functions stay, since the crates above stand on them.
+//! Bodies and proofs may change. The clauses of public functions have to stay: the crates above depend on them.
 #![tactic(auto)]
 
 mod sections;

@@ -13,7 +13,7 @@ use rbc_book::{Back, Book};
 use rbc_hand::{Hand, Token};
 use rbc_line::SectionRun;
 
-// Ends a token: a claim goes back to the book. Whether its section was wished back.
+// Ends a token: a claim returns to the book. The result is whether its section was wished back.
 fn end_token(token: Token, book: &mut Book) -> bool
     ensures told { (s t : ℕ) (held : Held) → token ≡ token_of s held → is_held_as t (is_own book.old s) held ≡ true
         → result ≡ (is_taken_for t (entry_at book.old s) && wish_at book.old s) }
@@ -72,7 +72,7 @@ fn free_last(hand: &mut Hand, nid_engine: u32, book: &mut Book)
     }
 }
 
-// So many of the first sections leave the hand. The marks of those that were wished back.
+// The first `count` sections leave the hand. The result is the marks of those that were wished back.
 fn free_front(hand: &mut Hand, count: u16, nid_engine: u32, book: &mut Book) -> u64
     requires held { IsHeldBy nid_engine hand.old book.old }
     requires some { count ≤ length hand.old.holds }
@@ -92,7 +92,7 @@ fn free_front(hand: &mut Hand, count: u16, nid_engine: u32, book: &mut Book) -> 
     marks
 }
 
-// So many of the last sections leave the hand.
+// The last `count` sections leave the hand.
 fn free_back(hand: &mut Hand, count: u16, nid_engine: u32, book: &mut Book)
     requires held { IsHeldBy nid_engine hand.old book.old }
     requires some { count ≤ length hand.old.holds }
@@ -131,8 +131,8 @@ fn wished(sections: SectionRun, nid_engine: u32, book: &Book) -> Told
     Told::of(sections.first, sections.count, marks)
 }
 
-/// So many of the first sections leave the hand: those of the book's home are given back, and the names of the others
-/// end. Those that were wished back, in rising order.
+/// The first `count` sections leave the hand: those of the book's home are given back, and the names of the others end.
+/// The result is those that were wished back, in rising order.
 pub fn clear(hand: &mut Hand, count: u16, nid_engine: u32, book: &mut Book) -> Told
     requires held { IsHeldBy nid_engine hand.old book.old }
     requires some { count ≤ length hand.old.holds }
@@ -149,8 +149,8 @@ pub fn clear(hand: &mut Hand, count: u16, nid_engine: u32, book: &mut Book) -> T
     Told::of(first, count, marks)
 }
 
-/// All but so many of the first sections leave the hand: those of the book's home are given back, and the names of the
-/// others end. Those that were wished back, in rising order.
+/// All sections but the first `keep` leave the hand: those of the book's home are given back, and the names of the
+/// others end. The result is those that were wished back, in rising order.
 pub fn cut(hand: &mut Hand, keep: u16, nid_engine: u32, book: &mut Book) -> Told
     requires held { IsHeldBy nid_engine hand.old book.old }
     requires some { keep ≤ length hand.old.holds }
@@ -172,7 +172,7 @@ pub fn cut(hand: &mut Hand, keep: u16, nid_engine: u32, book: &mut Book) -> Told
     told
 }
 
-// After the marks of so many sections from the first on, those of the sections up to others.
+// Appends the marks of the sections from `from` up to `upto` to those of the sections before.
 fn marks_on(first: u16, from: u16, upto: u16, old: u64, nid_engine: u32, book: &Book) -> u64
     requires order { from ≤ upto }
     requires room { upto ≤ 32 }
@@ -194,7 +194,7 @@ fn marks_on(first: u16, from: u16, upto: u16, old: u64, nid_engine: u32, book: &
     marks
 }
 
-// After the marks of so many sections from the first on, none up to others.
+// Appends no marks for the sections from `from` up to `upto` to those of the sections before.
 fn no_marks_on(first: u16, from: u16, upto: u16, old: u64) -> u64
     requires order { from ≤ upto }
     requires room { upto ≤ 32 }
@@ -209,8 +209,8 @@ fn no_marks_on(first: u16, from: u16, upto: u16, old: u64) -> u64
     marks
 }
 
-/// Those of so many of the first sections, and of those after so many, that are in use for the train and wished back,
-/// in rising order.
+/// Those sections that are in use for the train and wished back, in rising order. They are among the first `cleared`,
+/// or after the first `keep`.
 pub fn wished_around(
     sections: SectionRun,
     cleared: u16,

@@ -4,8 +4,7 @@ ghost use Rattle.rbc_allocation.specs.Marks.{marked};
 use arrayvec::ArrayVec;
 use std::marker::Model;
 
-/// Sections that the interlocking is to be told of, in rising order: some of at most 64 that follow one another, each
-/// by one bit.
+/// Sections to report to the interlocking, in rising order: some of at most 64 consecutive ones, each by one bit.
 #[derive(Debug, Drop)]
 pub struct Told {
     first: u16,
@@ -38,7 +37,7 @@ impl Told {
         }
     }
 
-    /// The marked ones of so many sections from the first on: the lowest bit is the last section's.
+    /// The marked ones of `count` sections from the first on: the lowest bit is the last section's.
     #[inline(always)]
     pub fn of(first: u16, count: u16, marks: u64) -> Told
         requires few { count ≤ 64 }

@@ -1,7 +1,7 @@
--- What a row of bits holds in its two words.
+-- The bits of a `BitRow` in its two words.
 use Rattle.std.specs.Prelude.{◌≡◌, ◌⊎◌, ℕ, ◌^◌, ◌<◌, ◌≤◌}
 
--- each word has its bits and none above them, and the second has some only where the first is full
+-- each word has its bits and none above them; the second has some only if the first is full
 pub record IsRow (front back first second : ℕ) : Type 0 where
   pub first-few : first ≤ 128
   pub second-few : second ≤ 128

@@ -1,7 +1,7 @@
 //! The bits of a radio message (SUBSET-026 chapter 7): fields follow each other bit by bit, highest bit first. A reader
 //! gives field after field of bytes that it borrows, a writer makes bytes of field after field.
 //!
-//! Bodies and proofs are free. The clauses of public functions stay, since the crates above stand on them.
+//! Bodies and proofs may change. The clauses of public functions have to stay: the crates above depend on them.
 #![tactic(auto)]
 
 mod fault;

@@ -7,12 +7,12 @@ use crate::reader::BitReader;
 use crate::word::BitWord;
 use std::marker::Model;
 
-/// Bits of a message that are read field by field, to the last of them. Up to 121 of them stand in one word. A refusal
+/// Bits of a message that are read field by field, to the last of them. Up to 121 of them are in one word. A refusal
 /// moves nothing.
 #[derive(Debug, Drop)]
 pub struct BitPart<'a> {
     word: BitWord,
-    /// The bits that stand in no word.
+    /// The bits outside that word.
     others: BitReader<'a>,
 }
 
@@ -49,7 +49,7 @@ impl<'a> BitPart<'a> {
         requires { (1 ≤ n) × (n ≤ 64) }
         ensures field { IfOk result (λ v. self.old ≡ field n v ++ self.new) }
         ensures fits { IfOk result (λ v. v < 2 ^ n) }
-        // The same as a function of the bits: Short exactly where fewer than n bits are left.
+        // The same as a function of the bits: `Short` if and only if fewer than n bits are left.
         ensures next { MatchResult result
             (λ v. field_at BitFault.Short n self.old ≡ Ok (v, self.new))
             (λ e. field_at BitFault.Short n self.old ≡ Err e) }
@@ -62,8 +62,8 @@ impl<'a> BitPart<'a> {
     }
 }
 
-// Reads the field of the next n bits, which the word has not: where it has some bits, these are the last. It is
-// inlined, so that the word stays in registers.
+// Reads the field of the next n bits, which the word does not have; if the word has some bits, these are the last. It
+// is inlined, so that the word stays in registers.
 #[inline(always)]
 fn take_other(word: &BitWord, others: &mut BitReader, n: u32) -> Result<u64, BitFault>
     requires width { n ≤ 64 }

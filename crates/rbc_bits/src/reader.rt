@@ -53,7 +53,7 @@ impl<'a> BitReader<'a> {
         requires { n ≤ 64 }
         ensures field { IfOk result (λ v. self.old ≡ field n v ++ self.new) }
         ensures fits { IfOk result (λ v. v < 2 ^ n) }
-        // The same as a function of the bits: Short exactly where fewer than n bits are left.
+        // The same as a function of the bits: `Short` if and only if fewer than n bits are left.
         ensures next { MatchResult result
             (λ v. field_at BitFault.Short n self.old ≡ Ok (v, self.new))
             (λ e. field_at BitFault.Short n self.old ≡ Err e) }
@@ -68,7 +68,7 @@ impl<'a> BitReader<'a> {
     pub fn cut(&mut self, n: u32) -> Result<BitReader<'a>, BitFault>
         ensures part { IfOk result (λ part. self.old ≡ part ++ self.new) }
         ensures length { IfOk result (λ part. length part ≡ n) }
-        // The same as a function of the bits: Short exactly where fewer than n bits are left.
+        // The same as a function of the bits: `Short` if and only if fewer than n bits are left.
         ensures next { MatchResult result
             (λ part. part_at BitFault.Short n self.old ≡ Ok (part, self.new))
             (λ e. part_at BitFault.Short n self.old ≡ Err e) }
@@ -98,7 +98,7 @@ impl<'a> BitReader<'a> {
         }
     }
 
-    /// The same, where they stand in one word.
+    /// The same, if they fit in one word.
     #[inline(always)]
     pub fn word_part(&self) -> Option<BitPart<'a>>
         ensures { IfSome result (λ part. part ≡ self.now) }
@@ -112,7 +112,7 @@ impl<'a> BitReader<'a> {
         Some(BitPart::new(word, others))
     }
 
-    /// The bits that are left as one word, where they are none, or few, and so many bytes stand before their end.
+    /// The bits that are left as one word, if they fit and enough bytes are before their end.
     #[inline(always)]
     pub fn word(&self) -> Option<BitWord>
         ensures { IfSome result (λ word. word ≡ self.now) }
@@ -131,10 +131,10 @@ impl<'a> BitReader<'a> {
     }
 }
 
-// How many bits stand in sixteen bytes that end with the last of them, wherever that is.
+// The number of bits that sixteen bytes always have, if the last bit is in the last byte.
 const MOST_IN_A_WORD: u32 = 121;
 
-// The field of n bits after the first `used` bits: out of eight bytes, where it lies in them.
+// The field of n bits after the first `used` bits: from eight bytes, if it is in them.
 #[inline(always)]
 fn field_from(bytes: &[u8], used: u32, n: u32) -> u64
     requires small { length bytes.now ≤ 2 ^ 28 }
@@ -153,8 +153,8 @@ fn field_from(bytes: &[u8], used: u32, n: u32) -> u64
     }
 }
 
-// Where the eight bytes begin that are looked at for a field after the first `used` bits: at the field's first byte,
-// or sooner where fewer than eight are left.
+// The first of the eight bytes that are read for a field after the first `used` bits. It is that of the field's first
+// bit, or an earlier one if fewer than eight are left.
 #[inline(always)]
 fn first_of_eight(count: usize, used: u32) -> usize
     requires { used ≤ 8 * count }
@@ -167,7 +167,7 @@ fn first_of_eight(count: usize, used: u32) -> usize
     if first < last { first } else { last }
 }
 
-// A field that lies in nine bytes at most.
+// A field that spans at most nine bytes.
 #[inline(never)]
 fn long_field(bytes: &[u8], used: u32, n: u32) -> u64
     requires small { length bytes.now ≤ 2 ^ 28 }

@@ -7,11 +7,11 @@ use crate::writer::BitWriter;
 use std::alloc::Global;
 use std::marker::Model;
 
-// What 256 bits have.
+// The number of bytes of 256 bits.
 const MOST_BYTES: usize = 32;
 
-/// The bits that were written so far, 256 at most. They stand in two words, and no call takes the address of these: so
-/// they stay in registers, and the place of each field is known where those before it are.
+/// The bits written so far, at most 256. They are in two words, and no call takes the address of these. So they stay in
+/// registers, and the position of each field is known if those before it are.
 #[derive(Debug, Drop)]
 pub struct BitRow {
     /// The first bits.
@@ -86,7 +86,7 @@ impl BitRow {
         bytes_of(alloc, first, second, third, fourth, count as usize)
     }
 
-    /// A writer that has written these bits, with memory for so many bytes.
+    /// A writer that has written these bits, with memory for this number of bytes.
     #[inline(always)]
     pub fn writer(self, alloc: Global, bytes: usize) -> Result<BitWriter, BitFault>
         ensures ok { IfOk result (λ w. w ≡ self) }
@@ -163,8 +163,8 @@ fn bytes_of(
     }
 }
 
-// Writes the bytes of four words, the highest first. It is a call, so that each is a word that the processor turns at
-// once, and not bytes of the fields that are in it.
+// Writes the bytes of four words, the highest first. It is a call, so that the processor writes each word once, and not
+// the bytes of its fields.
 #[inline(never)]
 fn write_words(bytes: &mut [u8], first: u64, second: u64, third: u64, fourth: u64)
     requires { length bytes.old ≡ 32 }

@@ -8,7 +8,7 @@ use std::marker::Model;
 /// Bits that are still to be read, in one word of 128 bits. A refusal moves nothing.
 #[derive(Debug, Drop)]
 pub struct BitWord {
-    /// They stand at its front.
+    /// The bits are at its front.
     word: u128,
     left: u32,
 }
@@ -33,7 +33,7 @@ impl BitWord {
         BitWord { word: 0, left: 0 }
     }
 
-    /// The n bits of a number in front of its last `after` bits.
+    /// The n bits of a number before its last `after` bits.
     #[inline(always)]
     pub(crate) fn of(number: u128, n: u32, after: u32) -> BitWord
         requires { (1 ≤ n) × (n + after ≤ 128) }

@@ -25,7 +25,7 @@ impl Model for BitWriter {
 }
 
 impl BitWriter {
-    /// No bits, and memory for so many bytes.
+    /// No bits, and memory for this number of bytes.
     pub fn with_capacity(alloc: Global, bytes: usize) -> Result<Self, BitFault>
         ensures ok { IfOk result (λ w. w ≡ []) }
         ensures memory { IsOkUnless result BitFault.Memory }
@@ -76,8 +76,7 @@ impl BitWriter {
     }
 }
 
-// A field with which 64 bits are full, after bits that are held: eight bytes more. What comes out are the bits after
-// them.
+// Appends a field that fills the 64-bit buffer: writes out eight bytes, and returns the bits left over.
 #[inline(always)]
 fn push_full(
     bytes: &mut Vec<u8>,

@@ -1,4 +1,4 @@
--- What notes know, place by place.
+-- The frames that notes know, by position.
 use Rattle.std.proofs.Common.{◌≡◌, ℕ, zero, suc, ◌-◌, ◌<◌, List, [], ◌∷◌, Option, Some, None, Bool, if◌then◌else◌, slice_get, length, refl, sym, ap, subst, ◌∙◌, arith, inl, inr, IfSome}
 use Rattle.std.specs.Option.{option_and_then}
 use Rattle.std.proofs.lemmas.Option.{slice_get_within, slice_get-get_or}
@@ -31,7 +31,7 @@ known_note ns number n f known at =
 pub slice_get_read : {X : Type 0} (xs : List X) (k : ℕ) (x : X) → k < length xs → x ≡ get_or xs k x → slice_get xs k ≡ Some x
 slice_get_read xs k x within read = slice_get-get_or xs k x within ∙ ap Some (sym read)
 
--- where two notes that were compared agree, so do the rows
+-- if two notes that were compared agree, so do the lists
 pub rows_agree : (ns ms : List (Note Frame)) (number : ℕ) (n m : Note Frame) → slice_get ns (number - 1) ≡ Some n → slice_get ms (number - 1) ≡ Some m → IfSome m.known (Agrees n.known)
     → (f g : Frame) → known_at ns number ≡ Some f → known_at ms number ≡ Some g → f ≡ g
 rows_agree ns ms number n m at at' agree f g known known' =

@@ -1,4 +1,4 @@
--- Each step keeps the rule of the queue, and what is found among frames that are known.
+-- Each step keeps the rule of the queue, and the frames found among known ones.
 use Rattle.std.proofs.Common.{◌≡◌, ◌≢◌, ℕ, zero, suc, ◌<◌, ◌≤◌, ◌==◌, true, false, true≢false, List, [], ◌∷◌, ◌++◌, set, sym, refl, ap, ◌∙◌, subst, ⊎_elim, ◌⊎◌, inl, inr, Some, None, if◌then◌else◌, arith}
 use mathlib.Core.Option.{some, some-ne-none}
 use lib.ListN.{get_elem?}
@@ -7,7 +7,7 @@ use Rattle.crossbeam_queue.specs.Fifo.{Pushes, Pops, Forks, Merges, Learns}
 use Rattle.crossbeam_queue.proofs.Lists.{at_set, at_snoc}
 use Rattle.rbc_linkmsg.specs.declared.frame.Frame.{Frame}
 use Rattle.rbc_board.specs.declared.view.View.{View}
-use Rattle.rbc_board.specs.InStep.{Mem, Fits, IsUnique, InStep, viewed, found}
+use Rattle.rbc_board.specs.InStep.{AreInOrder, Mem, Fits, IsUnique, InStep, viewed, found}
 
 mem-append : (f : Frame) (xs ys : List Frame) → Mem f (xs ++ ys) → Mem f xs ⊎ Mem f ys
 mem-append f [] ys m = inr m
@@ -22,6 +22,22 @@ mem-left f (x ∷ xs) ys (inr m) = inr (mem-left f xs ys m)
 pub mem-right : (f : Frame) (xs ys : List Frame) → Mem f ys → Mem f (xs ++ ys)
 mem-right f [] ys m = m
 mem-right f (x ∷ xs) ys m = inr (mem-right f xs ys m)
+
+pub mem-push : (f y : Frame) (xs : List Frame) → Mem f (xs ++ y ∷ []) → Mem f xs ⊎ (f ≡ y)
+mem-push f y xs m =
+    ⊎_elim (λ a. inl a) (λ b. ⊎_elim (λ (e : f ≡ y). inr e) (λ (c : ⊥). absurd c) b) (mem-append f xs (y ∷ []) m)
+
+-- a frame whose number is above all others follows in their order
+in_order_push : (x : Frame) (xs : List Frame) → AreInOrder xs → ((f : Frame) → Mem f xs → f.number < x.number)
+    → AreInOrder (xs ++ x ∷ [])
+in_order_push x [] order low = ((λ g m. absurd m), tt)
+in_order_push x (f ∷ fs) order low = (
+  (λ g m. ⊎_elim
+      (λ (a : Mem g fs). order.0 g a)
+      (λ (e : g ≡ x). subst (λ (y : Frame). f.number < y.number) (sym e) (low f (inl refl)))
+      (mem-push g x fs m)),
+  in_order_push x fs order.1 (λ g m. low g (inr m)),
+)
 
 abbrev All : (ℕ → View → Type 0) → List View → Type 0
 All F views = (port : ℕ) (v : View) → get_elem? views port ≡ some v → F port v
@@ -40,6 +56,7 @@ begins = (
   [],
   λ f g m. absurd m,
   λ f m. m,
+  tt,
   all_set (Fits 0 []) (viewed true 0 [] ∷ []) 0 (viewed true 0 []) ((λ f m. m), λ _. (refl, λ f m. absurd m)) (λ j u other e. absurd (alone j u other e)),
 )
 
@@ -49,7 +66,7 @@ puts n port v x may above items views room h at =
     let put = h.1 in
     let unique = h.2 in
     let queued = h.3 in
-    let fits = h.4 in
+    let fits = h.5 in
     let w : View = viewed v.puts x.number (x ∷ v.known) in
     let mine = fits port v at in
     let here = mine.1 may in
@@ -62,6 +79,7 @@ puts n port v x may above items views room h at =
             (λ (a : f ≡ x). ⊎_elim (λ (b : g ≡ x). a ∙ sym b) (λ (b : Mem g put). absurd (unlike g b (sym e ∙ ap (λ (y : Frame). y.number) a))) k)
             (λ (a : Mem f put). ⊎_elim (λ (b : g ≡ x). absurd (unlike f a (e ∙ ap (λ (y : Frame). y.number) b))) (λ (b : Mem g put). unique f g a b e) k) m),
         (λ f m. ⊎_elim (λ (a : Mem f items). inr (queued f a)) (λ (b : Mem f (x ∷ [])). ⊎_elim (λ (e : f ≡ x). inl e) (λ (c : ⊥). absurd c) b) (mem-append f items (x ∷ []) m)),
+        in_order_push x items h.4 (λ f m. let low = (here.1 f (queued f m)).1 in omega arith),
         all_set (Fits seat (x ∷ put)) views port w (
           (λ f m. ⊎_elim (λ (a : f ≡ x). inl a) (λ (b : Mem f v.known). inr (mine.0 f b)) m),
           λ _. (
@@ -79,16 +97,17 @@ puts n port v x may above items views room h at =
 pub takes : (port : ℕ) (v : View) → Pops InStep port v (λ x w. w ≡ viewed v.puts v.last (x ∷ v.known))
 takes port v x items views h at =
     let w : View = viewed v.puts v.last (x ∷ v.known) in
-    let mine = h.4 port v at in (
+    let mine = h.5 port v at in (
       w,
       (
         h.0,
         h.1,
         h.2,
         (λ f m. h.3 f (inr m)),
+        h.4.1,
         all_set (Fits h.0 h.1) views port w
             ((λ f m. ⊎_elim (λ (a : f ≡ x). subst (λ y. Mem y h.1) (sym a) (h.3 x (inl refl))) (λ (b : Mem f v.known). mine.0 f b) m), λ p. ((mine.1 p).0, λ f m. (inr ((mine.1 p).1 f m).0, ((mine.1 p).1 f m).1)))
-            (λ j u other e. h.4 j u e),
+            (λ j u other e. h.5 j u e),
       ),
       refl,
     )
@@ -97,28 +116,29 @@ pub forks : (port : ℕ) (v : View) → Forks InStep port v v (viewed false 0 []
 forks port v items views h at =
     let r : View = viewed false 0 [] in
     let vs : List View = set views port v in
-    let old : All (Fits h.0 h.1) vs = all_set (Fits h.0 h.1) views port v (h.4 port v at) (λ j u other e. h.4 j u e) in (
+    let old : All (Fits h.0 h.1) vs = all_set (Fits h.0 h.1) views port v (h.5 port v at) (λ j u other e. h.5 j u e) in (
       h.0,
       h.1,
       h.2,
       h.3,
+      h.4,
       λ j u e. ⊎_elim (λ x. old j u x) (λ (is : r ≡ u). ((λ f m. absurd (subst (λ (y : View). Mem f y.known) (sym is) m)), λ p. absurd (true≢false (sym (ap (λ (y : View). y.puts) is ∙ p))))) (at_snoc vs r u j e),
     )
 
 pub learns : (port : ℕ) (v : View) → Learns InStep port v (λ items. IsUnique v.known)
-learns port v items views h at f g m k e = h.2 f g ((h.4 port v at).0 f m) ((h.4 port v at).0 g k) e
+learns port v items views h at f g m k e = h.2 f g ((h.5 port v at).0 f m) ((h.5 port v at).0 g k) e
 
 pub merges : (port : ℕ) (v : View) (other : ℕ) (u : View) → Merges InStep port v other u (viewed v.puts v.last (v.known ++ u.known)) (viewed false 0 [])
 merges port v other u items views h at two at' =
     let both : View = viewed v.puts v.last (v.known ++ u.known) in
-    let mine = h.4 port v at in
+    let mine = h.5 port v at in
     let vs : List View = set views port both in
     let was : get_elem? views other ≡ some u = ⊎_elim (λ x. absurd (two x.0)) (λ x. x.1) (at_set views port other both u at') in
-    let theirs = h.4 other u was in
+    let theirs = h.5 other u was in
     let now : All (Fits h.0 h.1) vs = all_set (Fits h.0 h.1) views port both
     ((λ f m. ⊎_elim (λ a. mine.0 f a) (λ b. theirs.0 f b) (mem-append f v.known u.known m)), λ p. ((mine.1 p).0, λ f m. (mem-left f v.known u.known ((mine.1 p).1 f m).0, ((mine.1 p).1 f m).1)))
-    (λ j y _ e. h.4 j y e) in
-    (h.0, h.1, h.2, h.3, all_set (Fits h.0 h.1) vs other (viewed false 0 []) ((λ f m. absurd m), λ p. absurd (true≢false (sym p))) (λ j y apart e. now j y e))
+    (λ j y _ e. h.5 j y e) in
+    (h.0, h.1, h.2, h.3, h.4, all_set (Fits h.0 h.1) vs other (viewed false 0 []) ((λ f m. absurd m), λ p. absurd (true≢false (sym p))) (λ j y apart e. now j y e))
 
 pub found-keeps : (n : ℕ) (f y : Frame) (xs : List Frame) → found n xs ≡ Some f → found n (xs ++ y ∷ []) ≡ Some f
 found-keeps n f y [] e = absurd cc
@@ -147,12 +167,9 @@ found-mem n f (x ∷ xs) e = elim (eqb_tells x.number n) [
   | inr k ↦ let rest = found-mem n f xs (sym (ap (λ b. if b then Some x else found n xs) k.0) ∙ e) in (inr rest.0, rest.1)
 ]
 
--- what is known of both is one frame
+-- a frame that both know is one frame
 pub found-same : (n : ℕ) (f g : Frame) (xs ys ks ls : List Frame) → IsUnique (ks ++ ls) → ((h : Frame) → Mem h xs → Mem h ks) → ((h : Frame) → Mem h ys → Mem h ls) → found n xs ≡ Some f → found n ys ≡ Some g → f ≡ g
 found-same n f g xs ys ks ls unique a b e e' =
     let one = found-mem n f xs e in
     let two = found-mem n g ys e' in
     unique f g (mem-left f ks ls (a f one.0)) (mem-right g ks ls (b g two.0)) (one.1 ∙ sym two.1)
-
-pub mem-push : (f y : Frame) (xs : List Frame) → Mem f (xs ++ y ∷ []) → Mem f xs ⊎ (f ≡ y)
-mem-push f y xs m = ⊎_elim (λ a. inl a) (λ b. ⊎_elim (λ (e : f ≡ y). inr e) (λ (c : ⊥). absurd c) b) (mem-append f xs (y ∷ []) m)

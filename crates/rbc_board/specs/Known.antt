@@ -1,4 +1,4 @@
--- What notes of a row of cells know.
+-- The frames that a list of notes of cells knows.
 use Rattle.std.specs.Prelude.{◌≡◌, ℕ, ◌-◌, List, Option, Some, None, slice_get, length, if◌then◌else◌, ◌==◌}
 use Rattle.std.specs.Option.{option_and_then}
 use Rattle.once_cell.specs.declared.race.note.Note.{Note}
@@ -6,7 +6,7 @@ use Rattle.once_cell.specs.declared.race.once_box.OnceBox.{OnceBox}
 use Rattle.once_cell.specs.Once.{cell_name}
 use Rattle.rbc_linkmsg.specs.declared.frame.Frame.{Frame}
 
--- what a row of notes knows under a number, from 1
+-- the frame that a list of notes knows under a number, from 1
 abbrev pub known_at : List (Note Frame) → ℕ → Option Frame
 known_at notes number =
     if number == 0 then None else option_and_then (λ (n : Note Frame). n.known) (slice_get notes (number - 1))

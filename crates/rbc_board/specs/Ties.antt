@@ -1,4 +1,4 @@
--- What ties the notes of a caller to the queue of its link.
+-- The relation between the notes of a caller and the queue of its link.
 use Rattle.std.specs.Prelude.{◌≡◌, ◌≤◌, true, Option}
 use Rattle.crossbeam_queue.specs.Passes.{view, IsPassOf}
 use Rattle.crossbeam_queue.specs.declared.array_queue.Doing.{Doing}
@@ -8,7 +8,8 @@ use Rattle.rbc_board.specs.declared.view.View.{View}
 use Rattle.rbc_board.specs.declared.queue.QueueSeen.{QueueSeen}
 use Rattle.rbc_board.specs.InStep.{Mem}
 
--- its pass is of this queue, and knows what it has noted; who puts has its last number; and no number is above that
+-- Its pass is of this queue, and knows the noted frames. The putting caller has its last number, and no number is above
+-- that.
 pub record IsTied {Q A : Type 0} (q : Slotted (Option Frame) (Doing Frame View) Q A) (s : QueueSeen) : Type 0 where
   pub pass : IsPassOf q s.pass
   pub known : (f : Frame) → Mem f s.known.items → Mem f (view s.pass).known

@@ -5,7 +5,7 @@ use rbc_linkmsg::Frame;
 
 /// Carries the frames of one directed link, each under its number.
 pub trait Carrier {
-    /// What one caller knows of the link.
+    /// The frames of the link that one caller knows.
     type Seen: Drop + Send;
 
     /// A caller's notes are of this link.
@@ -18,8 +18,8 @@ pub trait Carrier {
     ///
     /// # Errors
     ///
-    /// The frame comes back where its own number is another, where a frame stands under that number, where the link has
-    /// no room for the number, and for want of memory. What the caller knew it still knows.
+    /// The frame is returned in four cases. Its own number is another; a frame is under that number already; the link
+    /// has no room for the number; or memory runs out. The caller still knows the frames that it knew.
     fn put(&self, seen: &mut Self::Seen, number: u32, frame: Frame) -> Result<(), Frame>
         requires { is_of self.now seen.old }
         ensures link { is_of self.now seen.new }
@@ -29,7 +29,7 @@ pub trait Carrier {
         ensures back { IfErr result (λ f. f ≡ frame) }
         ensures keeps { (n : ℕ) (f : Frame) → known seen.old n ≡ Some f → known seen.new n ≡ Some f };
 
-    /// The frame under a number, where one was put. A frame that the caller knows is got again.
+    /// The frame under a number, if one was put. A frame that the caller knows can be read again.
     fn get(&self, seen: &mut Self::Seen, number: u32) -> Option<Frame>
         requires { is_of self.now seen.old }
         ensures link { is_of self.now seen.new }

@@ -13,14 +13,14 @@ pub struct CellBoard {
     cells: Vec<OnceBox<Frame>>,
 }
 
-/// What a caller knows of each cell.
+/// The frame of each cell that a caller knows.
 #[derive(Drop)]
 pub struct CellSeen {
     notes: Vec<Note<Frame>>,
 }
 
 impl CellBoard {
-    /// A row of empty cells for one directed link.
+    /// A list of empty cells for one directed link.
     pub fn new(alloc: Global, cells: u32) -> Result<CellBoard, AllocError>
         requires { (1 ≤ cells) × (cells ≤ 65536) }
         ensures { IfOk result (λ b. length b.cells.items ≡ cells) }

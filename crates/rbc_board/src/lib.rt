@@ -1,7 +1,7 @@
 //! Boards that carry frames from one centre to another, in the order of their numbers. Who knows a frame of a link
 //! under a number agrees with all who know one under it.
 //!
-//! Bodies and proofs are free. The clauses of public functions stay, since the crates above stand on them.
+//! Bodies and proofs may change. The clauses of public functions have to stay: the crates above depend on them.
 #![tactic(auto)]
 
 mod carrier;

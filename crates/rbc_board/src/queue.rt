@@ -11,8 +11,8 @@ use rbc_linkmsg::Frame;
 use std::alloc::{AllocError, Global};
 use std::sync::Wait;
 
-/// How many frames stand in a link's queue at most, and how many are taken out of it by one call at most. No clause
-/// says the second.
+/// The greatest number of frames in a link's queue, and of those that one call takes out of it. No clause states the
+/// second.
 const ROOM: usize = 64;
 
 /// A bounded queue of frames for one directed link, in the order of their numbers.
@@ -22,7 +22,7 @@ pub struct QueueCarrier<R: Wait + Drop> {
     queue: RuledArrayQueue<Frame, View, InStep>,
 }
 
-/// What one of the two callers knows of the link: one puts, and the other gets.
+/// The frames of the link that one of the two callers knows: one puts, and the other gets.
 #[derive(Drop)]
 pub struct QueueSeen {
     pass: Pass<Frame, View>,
@@ -72,7 +72,7 @@ impl QueueSeen {
 }
 
 impl<R: Wait + Drop> QueueCarrier<R> {
-    /// An empty queue for one directed link, and what its two callers know: the first alone puts, and the second alone
+    /// An empty queue for one directed link, and the notes of its two callers: only the first puts, and only the second
     /// gets.
     pub fn new(rt: R, alloc: Global) -> Result<(QueueCarrier<R>, QueueSeen, QueueSeen), AllocError>
         ensures { IfOk result (λ r. IsTied r.0.queue r.1 × IsTied r.0.queue r.2) }
@@ -84,8 +84,8 @@ impl<R: Wait + Drop> QueueCarrier<R> {
         Ok((QueueCarrier { rt, queue }, writer, reader))
     }
 
-    // Takes the first frame out of the queue, and notes it. None where the queue is empty, and for want of memory; then
-    // no frame is taken.
+    // Takes the first frame out of the queue, and notes it. `None` if the queue is empty or memory runs out; then no
+    // frame is taken.
     fn take_one(&self, seen: &mut QueueSeen) -> Option<Frame>
         requires tied { IsTied self.now.queue seen.old }
         requires reader { seen.old.puts ≡ false }

@@ -1,5 +1,5 @@
-//! The rule of a link's queue, and the steps that keep it: a frame is put, a frame is taken, a second pass is made, two
-//! passes become one, and a pass learns that no two of its frames have one number.
+//! The rule of a link's queue, and the steps that keep it. A frame is put or taken. A second pass is made, or two
+//! passes become one. A pass learns that no two of its frames have one number.
 ghost use Rattle.std.specs.Prelude.{◌≡◌, ◌∷◌};
 ghost use Rattle.rbc_board.specs.InStep.{viewed, IsUnique};
 
@@ -7,7 +7,8 @@ use crate::view::View;
 use crossbeam_queue::protocol::{Join, Lesson, Outcome, Protocol, Split};
 use rbc_linkmsg::Frame;
 
-/// What is in the queue and what is known was put, each number once. The first pass puts.
+/// One pass puts. All frames that are in the queue or are known were put, each number once. Those in the queue are in
+/// the order of their numbers.
 pub struct InStep;
 
 impl Protocol<Frame, View> for InStep {
@@ -31,7 +32,7 @@ impl Split<View> for Second {
     ghost right = { λ v. viewed false 0 [] };
 }
 
-/// One pass that knows what two did.
+/// One pass that knows the frames of two.
 pub(crate) struct Both;
 
 impl Join<View> for Both {

@@ -1,7 +1,7 @@
 use rbc_linkmsg::Frame;
 use std::collections::LinkedList;
 
-/// What a pass of a link's queue stands for. No value of it is made.
+/// The plain data of a pass of a link's queue. No value of it is made.
 pub struct View {
     /// Its holder is the one that puts frames.
     pub puts: bool,

@@ -1,27 +1,34 @@
--- Laws of runs that are joined, of a run that is used anew, and of a section after all runs.
-use Rattle.std.proofs.Common.{◌⊎◌, subst, ◌≡◌, ℕ, zero, suc, ◌+◌, ◌<◌, ◌≤◌, ◌||◌, inl, inr, Bool, true, false, cond, List, [], ◌∷◌, length, set, Some, refl, ap, sym, ◌∙◌, arith}
+-- Laws of runs that are joined, of a run with a new page, and of a section after all runs.
+use Rattle.std.proofs.Common.{[], ◌+◌, ◌<◌, ◌||◌, ◌∙◌, ◌∷◌, ◌≡◌, ◌≤◌, ◌⊎◌, ap, arith, Bool, cond, false, inl, inr}
+use Rattle.std.proofs.Common.{length, List, refl, set, Some, subst, suc, sym, true, zero, ℕ}
+use Rattle.std.proofs.lemmas.Bool.{cases_lt, or_cases, or_left, or_right}
+use Rattle.std.proofs.lemmas.List.Elements.{All-cons, All-head, All-tail}
 use Rattle.std.specs.List.{remove}
-use Rattle.std.proofs.lemmas.Bool.{cases_lt, or_left, or_right, or_cases}
-use Rattle.std.proofs.lemmas.List.Elements.{All-head, All-tail, All-cons}
-use Rattle.rbc_spec.specs.SectionRuns.{within}
-use Rattle.law_base.proofs.Runs.{within_true, within_from, same_tests}
-use Rattle.rbc_book.specs.Runs.{At, AreInOrder, AreApart, GoesOn, IsFollowed, GoesOnAt, sections_of, sections_in, spot_of, spot_at}
-use Rattle.rbc_book.specs.Edits.{joined, joined_at, AreBefore, IsJoined}
+use Rattle.law_base.proofs.Runs.{same_tests, within_from, within_true}
+use Rattle.rbc_book.proofs.Rows.{at_next, most_is, order_at}
 use Rattle.rbc_book.specs.declared.run.Run.{Run}
-use Rattle.rbc_book.proofs.Rows.{order_at, most_is, at_next}
+use Rattle.rbc_book.specs.Edits.{AreBefore, IsJoined, joined, joined_at}
+use Rattle.rbc_book.specs.Runs.{AreApart, AreInOrder, At, GoesOn, GoesOnAt, IsFollowed, sections_in, sections_of}
+use Rattle.rbc_book.specs.Runs.{spot_at, spot_of}
+use Rattle.rbc_spec.specs.SectionRuns.{within}
 
 -- ## Two runs as one
 
-both : (r q : Run) (k : ℕ) → GoesOn r q → within (sections_of (joined r q)) k ≡ (within (sections_of r) k || within (sections_of q) k)
+both : (r q : Run) (k : ℕ) → GoesOn r q → within (sections_of (joined r q)) k
+    ≡ (within (sections_of r) k || within (sections_of q) k)
 both r q k on = same_tests (within (sections_of (joined r q)) k) (within (sections_of r) k || within (sections_of q) k)
     (λ has. let ends = within_true (sections_of (joined r q)) k has in
     elim (cases_lt k q.first) [
-      | inl low ↦ or_left (within (sections_of r) k) (within (sections_of q) k) (within_from (sections_of r) k ends.0 (omega (arith, on.0)))
-      | inr high ↦ or_right (within (sections_of r) k) (within (sections_of q) k) (within_from (sections_of q) k high (omega (arith, on.0, ends.1)))
+      | inl low ↦ or_left (within (sections_of r) k) (within (sections_of q) k)
+          (within_from (sections_of r) k ends.0 (omega (arith, on.0)))
+      | inr high ↦ or_right (within (sections_of r) k) (within (sections_of q) k)
+          (within_from (sections_of q) k high (omega (arith, on.0, ends.1)))
     ])
     (λ one. elim (or_cases (within (sections_of r) k) (within (sections_of q) k) one) [
-      | inl low ↦ let ends = within_true (sections_of r) k low in within_from (sections_of (joined r q)) k ends.0 (omega (arith, ends.1))
-      | inr high ↦ let ends = within_true (sections_of q) k high in within_from (sections_of (joined r q)) k (omega (arith, on.0, ends.0)) (omega (arith, on.0, ends.1))
+      | inl low ↦ let ends = within_true (sections_of r) k low in
+          within_from (sections_of (joined r q)) k ends.0 (omega (arith, ends.1))
+      | inr high ↦ let ends = within_true (sections_of q) k high in
+          within_from (sections_of (joined r q)) k (omega (arith, on.0, ends.0)) (omega (arith, on.0, ends.1))
     ])
 
 either : {X : Type 0} (whole a b : Bool) (x y z : X) → whole ≡ (a || b) → x ≡ y → cond whole x z ≡ cond a x (cond b y z)
@@ -36,8 +43,10 @@ spots-joined : (i : ℕ) (runs : List Run) (k : ℕ) → GoesOnAt i runs → spo
 spots-joined i [] k on = refl
 spots-joined zero (r ∷ []) k on = refl
 spots-joined zero (r ∷ q ∷ qs) k on =
-    either (within (sections_of (joined r q)) k) (within (sections_of r) k) (within (sections_of q) k) (Some (spot_of r)) (Some (spot_of q)) (spot_at qs k) (both r q k on) (ap (λ spot. Some spot) (same_spot r q on))
-spots-joined (suc i) (r ∷ rs) k on = ap (λ o. cond (within (sections_of r) k) (Some (spot_of r)) o) (spots-joined i rs k on)
+    either (within (sections_of (joined r q)) k) (within (sections_of r) k) (within (sections_of q) k)
+    (Some (spot_of r)) (Some (spot_of q)) (spot_at qs k) (both r q k on) (ap (λ spot. Some spot) (same_spot r q on))
+spots-joined (suc i) (r ∷ rs) k on =
+    ap (λ o. cond (within (sections_of r) k) (Some (spot_of r)) o) (spots-joined i rs k on)
 
 order-joined : (i n : ℕ) (runs : List Run) → GoesOnAt i runs → AreInOrder n runs → AreInOrder n (joined_at i runs)
 order-joined i n [] on order = order
@@ -57,9 +66,13 @@ count-joined (suc i) (r ∷ rs) = ap (λ n. r.count + n) (count-joined i rs)
 before-joined : (i s : ℕ) (runs : List Run) → GoesOnAt i runs → AreBefore s runs → AreBefore s (joined_at i runs)
 before-joined i s [] on all = all
 before-joined zero s (r ∷ []) on all = all
-before-joined zero s (r ∷ q ∷ qs) on all = let next : q.first + q.count ≤ s = All-head (λ r. r.first + r.count ≤ s) q qs (All-tail (λ r. r.first + r.count ≤ s) r (q ∷ qs) all) in
-    All-cons (λ r. r.first + r.count ≤ s) (joined r q) qs (omega (arith, on.0, next)) (All-tail (λ r. r.first + r.count ≤ s) q qs (All-tail (λ r. r.first + r.count ≤ s) r (q ∷ qs) all))
-before-joined (suc i) s (r ∷ rs) on all = All-cons (λ r. r.first + r.count ≤ s) r (joined_at i rs) (All-head (λ r. r.first + r.count ≤ s) r rs all) (before-joined i s rs on (All-tail (λ r. r.first + r.count ≤ s) r rs all))
+before-joined zero s (r ∷ q ∷ qs) on all = let next : q.first + q.count ≤ s =
+    All-head (λ r. r.first + r.count ≤ s) q qs (All-tail (λ r. r.first + r.count ≤ s) r (q ∷ qs) all) in
+    All-cons (λ r. r.first + r.count ≤ s) (joined r q) qs (omega (arith, on.0, next))
+    (All-tail (λ r. r.first + r.count ≤ s) q qs (All-tail (λ r. r.first + r.count ≤ s) r (q ∷ qs) all))
+before-joined (suc i) s (r ∷ rs) on all =
+    All-cons (λ r. r.first + r.count ≤ s) r (joined_at i rs) (All-head (λ r. r.first + r.count ≤ s) r rs all)
+    (before-joined i s rs on (All-tail (λ r. r.first + r.count ≤ s) r rs all))
 
 first-joined : (i : ℕ) (r : Run) (rs : List Run) → IsFollowed r (joined_at i rs) → IsFollowed r rs
 first-joined i r [] h = h
@@ -71,8 +84,9 @@ last-joined : (r q : Run) (qs : List Run) → GoesOn r q → IsFollowed (joined 
 last-joined r q [] on h = h
 last-joined r q (p ∷ ps) on h = (omega (arith, on.0, h.0), sym on.1 ∙ h.1, sym on.2 ∙ h.2)
 
--- two runs of the joined row that could be one could be one before
-seams-joined : (i : ℕ) (runs : List Run) (j : ℕ) → GoesOnAt i runs → GoesOnAt j (joined_at i runs) → ((j < i) × GoesOnAt j runs) ⊎ ((i ≤ j) × GoesOnAt (suc j) runs)
+-- two runs of the joined list that could be one could be one before
+seams-joined : (i : ℕ) (runs : List Run) (j : ℕ) → GoesOnAt i runs → GoesOnAt j (joined_at i runs)
+    → ((j < i) × GoesOnAt j runs) ⊎ ((i ≤ j) × GoesOnAt (suc j) runs)
 seams-joined i [] j on h = absurd on
 seams-joined zero (r ∷ []) j on h = absurd on
 seams-joined zero (r ∷ q ∷ qs) zero on h = inr (omega arith, last-joined r q qs on h)
@@ -83,8 +97,9 @@ seams-joined (suc i) (r ∷ rs) (suc j) on h = elim (seams-joined i rs j on h) [
   | inr high ↦ inr (omega (arith, high.0), high.1)
 ]
 
--- as the row is changed
-pub join-is : (i : ℕ) (runs : List Run) (r q : Run) → At (λ p. p ≡ r) i runs → At (λ p. p ≡ q) (suc i) runs → remove (set runs i (joined r q)) (suc i) ≡ joined_at i runs
+-- as the list is changed
+pub join-is : (i : ℕ) (runs : List Run) (r q : Run) → At (λ p. p ≡ r) i runs → At (λ p. p ≡ q) (suc i) runs
+    → remove (set runs i (joined r q)) (suc i) ≡ joined_at i runs
 join-is i [] r q at next = absurd at
 join-is zero (p ∷ []) r q at next = absurd next
 join-is zero (p ∷ o ∷ os) r q at next = rw (at, next) refl
@@ -116,8 +131,9 @@ joined_before i s old new joins all = elim joins [
   | inr one ↦ subst (AreBefore s) (sym one.0) (before-joined i s old one.1 all)
 ]
 
--- what could be one with the next at a place is so no longer
-pub joined_after : (i : ℕ) (old new : List Run) → IsJoined i old new → ((j : ℕ) → GoesOnAt j old → (j ≡ i) ⊎ (suc j ≡ i)) → (j : ℕ) → GoesOnAt j new → suc j ≡ i
+-- a run that could be one with the next is so no longer
+pub joined_after : (i : ℕ) (old new : List Run) → IsJoined i old new
+    → ((j : ℕ) → GoesOnAt j old → (j ≡ i) ⊎ (suc j ≡ i)) → (j : ℕ) → GoesOnAt j new → suc j ≡ i
 joined_after i old new joins seams j h = elim joins [
   | inl apart ↦
       let on : GoesOnAt j old = subst (GoesOnAt j) apart.0 h in
@@ -137,7 +153,7 @@ joined_after i old new joins seams j h = elim joins [
   ]
 ]
 
--- and no two could be one at last
+-- no two neighbouring runs could be one after the last join
 pub joined_apart : (i : ℕ) (old new : List Run) → IsJoined i old new → ((j : ℕ) → GoesOnAt j old → j ≡ i) → AreApart new
 joined_apart i old new joins seams j h = elim joins [
   | inl apart ↦
@@ -151,17 +167,20 @@ joined_apart i old new joins seams j h = elim joins [
 
 -- ## The code
 
--- two runs that stand one after the other
-pub goes_on_at : (i : ℕ) (runs : List Run) (r q : Run) → At (λ p. p ≡ r) i runs → At (λ p. p ≡ q) (suc i) runs → GoesOn r q → GoesOnAt i runs
+-- two consecutive runs
+pub goes_on_at : (i : ℕ) (runs : List Run) (r q : Run) → At (λ p. p ≡ r) i runs → At (λ p. p ≡ q) (suc i) runs
+    → GoesOn r q → GoesOnAt i runs
 goes_on_at i [] r q at next on = absurd at
 goes_on_at zero (p ∷ []) r q at next on = absurd next
 goes_on_at zero (p ∷ o ∷ os) r q at next on = rw (at, next) on
 goes_on_at (suc i) (p ∷ ps) r q at next on = goes_on_at i ps r q at next on
 
-pub goes_not_on : (i : ℕ) (runs : List Run) (r q : Run) → At (λ p. p ≡ r) i runs → At (λ p. p ≡ q) (suc i) runs → ¬ GoesOn r q → ¬ GoesOnAt i runs
+pub goes_not_on : (i : ℕ) (runs : List Run) (r q : Run) → At (λ p. p ≡ r) i runs → At (λ p. p ≡ q) (suc i) runs
+    → ¬ GoesOn r q → ¬ GoesOnAt i runs
 goes_not_on i [] r q at next not_on on = absurd at
 goes_not_on zero (p ∷ []) r q at next not_on on = absurd next
-goes_not_on zero (p ∷ o ∷ os) r q at next not_on on = not_on (subst (λ x. GoesOn r x) next (subst (λ x. GoesOn x o) at on))
+goes_not_on zero (p ∷ o ∷ os) r q at next not_on on =
+    not_on (subst (λ x. GoesOn r x) next (subst (λ x. GoesOn x o) at on))
 goes_not_on (suc i) (p ∷ ps) r q at next not_on on = goes_not_on i ps r q at next not_on on
 
 pub nothing_after : (i : ℕ) (runs : List Run) → length runs ≤ suc i → ¬ GoesOnAt i runs
@@ -171,20 +190,28 @@ nothing_after zero (p ∷ o ∷ os) short on = let no : ⊥ = omega arith in no
 nothing_after (suc i) (p ∷ ps) short on = nothing_after i ps (omega arith) on
 
 -- the sum of their sections fits
-pub sum_fits : (i n : ℕ) (runs : List Run) (r q : Run) → AreInOrder n runs → At (λ p. p ≡ q) (suc i) runs → GoesOn r q → r.count + q.count ≤ 65535
+pub sum_fits : (i n : ℕ) (runs : List Run) (r q : Run) → AreInOrder n runs → At (λ p. p ≡ q) (suc i) runs → GoesOn r q
+    → r.count + q.count ≤ 65535
 sum_fits i n runs r q order next on = omega (arith, on.0, (order_at n runs (suc i) q order next).bound, most_is)
 
--- what follows the place is taken away
-pub join-removed : (i : ℕ) (runs : List Run) (r q : Run) → At (λ p. p ≡ r) i runs → At (λ p. p ≡ q) (i + 1) runs → GoesOn r q → IsJoined i runs (remove (set runs i (joined r q)) (i + 1))
+-- the run after the position is removed
+pub join-removed : (i : ℕ) (runs : List Run) (r q : Run) → At (λ p. p ≡ r) i runs → At (λ p. p ≡ q) (i + 1) runs
+    → GoesOn r q → IsJoined i runs (remove (set runs i (joined r q)) (i + 1))
 join-removed i runs r q at next on =
     let after = at_next (λ p. p ≡ q) runs i next in
-    inr (ap (remove (set runs i (joined r q))) (let e : i + 1 ≡ suc i = omega arith in e) ∙ join-is i runs r q at after, goes_on_at i runs r q at after on)
+    inr (
+      ap (remove (set runs i (joined r q))) (let e : i + 1 ≡ suc i = omega arith in e)
+          ∙ join-is i runs r q at after,
+      goes_on_at i runs r q at after on,
+    )
 
-pub join-not : (i : ℕ) (runs : List Run) (r q : Run) → At (λ p. p ≡ r) i runs → At (λ p. p ≡ q) (i + 1) runs → ¬ GoesOn r q → IsJoined i runs runs
+pub join-not : (i : ℕ) (runs : List Run) (r q : Run) → At (λ p. p ≡ r) i runs → At (λ p. p ≡ q) (i + 1) runs
+    → ¬ GoesOn r q → IsJoined i runs runs
 join-not i runs r q at next not_on = inl (refl, goes_not_on i runs r q at (at_next (λ p. p ≡ q) runs i next) not_on)
 
 pub join-nothing : (i : ℕ) (runs : List Run) → length runs ≤ i + 1 → IsJoined i runs runs
 join-nothing i runs short = inl (refl, nothing_after i runs (omega (arith, short)))
 
-pub sum_fits_next : (i : ℕ) (runs : List Run) (r q : Run) → AreInOrder 0 runs → At (λ p. p ≡ q) (i + 1) runs → GoesOn r q → r.count + q.count ≤ 65535
+pub sum_fits_next : (i : ℕ) (runs : List Run) (r q : Run) → AreInOrder 0 runs → At (λ p. p ≡ q) (i + 1) runs
+    → GoesOn r q → r.count + q.count ≤ 65535
 sum_fits_next i runs r q order next on = sum_fits i 0 runs r q order (at_next (λ p. p ≡ q) runs i next) on

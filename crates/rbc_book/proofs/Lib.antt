@@ -5,10 +5,5 @@ pub mod Joins
 pub mod Writes
 pub mod Neighbours
 pub mod Appends
-pub mod Opens
-pub mod Uses
 pub mod Sheets
-pub mod Searches
-pub mod Places
 pub mod Alone
-pub mod Changed

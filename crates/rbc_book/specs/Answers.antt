@@ -1,4 +1,4 @@
--- What a book answers.
+-- The answers of a book.
 use Rattle.std.specs.Prelude.{Bool, if◌then◌else◌}
 use Rattle.rbc_spec.specs.Centre.{Entry, is_unused}
 use Rattle.rbc_book.specs.declared.answer.Unset.{Unset}

@@ -1,4 +1,4 @@
--- What becomes of a section, in the words of the rules.
+-- The changes of a section, as the rules have them.
 use Rattle.std.specs.Prelude.{◌≡◌, ◌≤◌, ℕ, Bool, not, true, false, Some, if◌then◌else◌}
 use Rattle.rbc_spec.specs.SectionRuns.{SectionRun, within}
 use Rattle.rbc_spec.specs.Centre.{Entry, Shut, Open, Taken, Out, is_open, is_unused, is_taken_for, is_out_for}
@@ -14,7 +14,7 @@ pub record IsPageOf (pages : Pages) (s : ℕ) (page : Page) : Type 0 where
   pub entry : entry_of page.entry ≡ entry_at pages s
   pub wish : page.is_wished ≡ wish_at pages s
 
--- what it is used for from then on, where it was used so and wished back or not
+-- the entry after the change, by the entry and the wish before it
 abbrev pub entry_after : Change → Entry → Bool → Entry
 entry_after Set entry wish = if is_unused entry then Open else entry
 entry_after Unset entry wish = if is_unused entry then Shut else entry
@@ -43,7 +43,7 @@ pub record IsAfter (change : Change) (old new : Page) : Type 0 where
   pub entry : entry_of new.entry ≡ entry_after change (entry_of old.entry) old.is_wished
   pub wish : new.is_wished ≡ wish_after change (entry_of old.entry) old.is_wished
 
--- sections from one on, at least that one and no more than so many, had one page, which is changed, and nothing else
+-- `size` sections from s on, at least one and at most `most`, had this page, which is changed; nothing else is
 pub record IsPartChanged (s most : ℕ) (change : Change) (page : Page) (size : ℕ) (old new : Sheet) : Type 0 where
   pub some : 1 ≤ size
   pub fits : size ≤ most

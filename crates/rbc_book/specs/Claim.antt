@@ -1,4 +1,4 @@
--- What a claim stands for.
+-- The plain data of a claim.
 use Rattle.std.specs.Prelude.{ℕ, Bool, Option, Some, None, if◌then◌else◌}
 use Rattle.rbc_spec.specs.Centre.{is_taken_for}
 use Rattle.rbc_spec.specs.SectionRuns.{SectionRun}
@@ -26,7 +26,7 @@ claims_train claims = claims.nid_engine
 abbrev pub claims_on : SectionRun → ℕ → Claims
 claims_on r t = record { first = r.first; count = r.count; nid_engine = t }
 
--- where the test holds, and else none
+-- a claim if the test holds, and else none
 abbrev pub claim_if : Bool → ℕ → ℕ → Option Claim
 claim_if test s t = if test then Some (claim_on s t) else None
 

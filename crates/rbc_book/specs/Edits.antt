@@ -1,4 +1,4 @@
--- Changes of a row of runs.
+-- Changes of a list of runs.
 use Rattle.std.specs.Prelude.{◌≡◌, ◌≢◌, ℕ, zero, suc, ◌+◌, ◌⊎◌, ◌<◌, ◌≤◌, ◌==◌, Some, List, [], ◌∷◌, if◌then◌else◌}
 use Rattle.std.specs.List.{All}
 use Rattle.rbc_book.specs.Runs.{run_page, GoesOnAt, AreInOrder, AreApart, sections_in, spot_at}
@@ -21,7 +21,7 @@ joined_at i [] = []
 joined_at zero (r ∷ rs) = joined_with r rs
 joined_at (suc i) (r ∷ rs) = r ∷ joined_at i rs
 
--- a run and the next are one where they can be
+-- a run and the next become one if they can
 abbrev pub IsJoined : ℕ → List Run → List Run → Type 0
 IsJoined i old new = ((new ≡ old) × ¬ GoesOnAt i old) ⊎ ((new ≡ joined_at i old) × GoesOnAt i old)
 
@@ -39,31 +39,31 @@ resized first count r = record { first = first; count = count; track = r.track; 
 abbrev pub with_page : Page → Run → Run
 with_page page r = record { first = r.first; count = r.count; track = r.track; is_wished = page.is_wished; entry = page.entry }
 
--- so many sections from one on
+-- the run of `size` sections from s on
 abbrev pub stretch : ℕ → ℕ → SectionRun
 stretch s size = record { first = s; count = size }
 
--- the run has them
+-- the run has the `size` sections from s on
 abbrev pub Has : ℕ → ℕ → Run → Type 0
 Has s size r = (r.first ≤ s) × (s + size ≤ r.first + r.count)
 
--- they are the whole run
+-- these sections are the whole run
 abbrev pub IsWhole : ℕ → ℕ → Run → Type 0
 IsWhole s size r = (r.first ≡ s) × (r.count ≡ size)
 
--- they are the first of a run of more, which has another page
+-- these sections are the first of a longer run, which has another page
 abbrev pub IsFirst : ℕ → ℕ → Page → Run → Type 0
 IsFirst s size page r = (r.first ≡ s) × (size < r.count) × (run_page r ≢ page)
 
--- they are the last of a run of more, which has another page
+-- these sections are the last of a longer run, which has another page
 abbrev pub IsLast : ℕ → ℕ → Page → Run → Type 0
 IsLast s size page r = (s + size ≡ r.first + r.count) × (size < r.count) × (run_page r ≢ page)
 
--- they are of a run, and not at its ends, and the run has another page
+-- these sections are within a run and not at its ends, and the run has another page
 abbrev pub IsInner : ℕ → ℕ → Page → Run → Type 0
 IsInner s size page r = (r.first < s) × (s + size < r.first + r.count) × (run_page r ≢ page)
 
--- all runs end in front of a section
+-- all runs end before a section
 abbrev pub AreBefore : ℕ → List Run → Type 0
 AreBefore s runs = All (λ r. r.first + r.count ≤ s) runs
 
@@ -75,7 +75,7 @@ pub record IsAppended (s : ℕ) (spot : Spot) (old new : List Run) : Type 0 wher
   pub before : AreBefore (s + 1) new
   pub count : sections_in new ≡ sections_in old + 1
 
--- the page of so many sections from one on is written, and no other; the tracks stay
+-- the page of `size` sections from s on is written, and no other; the tracks stay
 pub record IsWritten (s size : ℕ) (page : Page) (old new : List Run) : Type 0 where
   pub order : AreInOrder 0 new
   pub apart : AreApart new

@@ -1,4 +1,4 @@
--- What the entries of a book stand for.
+-- The plain data of a book's entries.
 use Rattle.rbc_spec.specs.Centre.{Entry, Shut, Open, Taken, Out}
 use Rattle.rbc_book.specs.declared.page.Entry.{Entry as EntryCode}
 use Rattle.rbc_book.specs.declared.page.Entry.TheVariants as code

@@ -1,4 +1,4 @@
--- What runs say of sections, by their numbers over the whole line.
+-- The sheet of runs: the page and track of each section, by its number over the whole line.
 use Rattle.std.specs.Prelude.{ℕ, ◌==◌, Bool, false, List, map, slice_get, Option, Some, None, option_map, option_and_then, if◌then◌else◌}
 use Rattle.std.specs.Option.{option_map_or}
 use Rattle.rbc_spec.specs.Line.{Line, section}
@@ -25,7 +25,7 @@ is_open_in spot = option_map_or (λ s. is_open (entry_of s.page.entry)) spot fal
 abbrev pub is_used_in : ℕ → Option Spot → Bool
 is_used_in t spot = option_map_or (λ s. is_used_for t (entry_of s.page.entry)) spot false
 
--- of each section, by its number, its page and track, where it has one
+-- for each section, by its number, its page and track, if it has one
 abbrev pub Sheet : Type 0
 Sheet = List (Option Spot)
 

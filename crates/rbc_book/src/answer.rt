@@ -2,7 +2,7 @@
 #[derive(Clone, Copy, Debug, PartialEq, Eq)]
 pub struct NotHome;
 
-/// What the interlocking is answered that takes a section back.
+/// The answer to an interlocking that takes a section back.
 #[derive(Clone, Copy, Debug, PartialEq, Eq)]
 pub enum Unset {
     /// The section was in no use, and is shut.
@@ -11,11 +11,11 @@ pub enum Unset {
     Asked,
 }
 
-/// What became of a section that was given back.
+/// The new state of a section that was given back.
 #[derive(Clone, Copy, Debug, PartialEq, Eq)]
 pub enum Back {
     /// It is open.
     Open,
-    /// It was wished back, so it is shut, and the interlocking is to be told.
+    /// It was wished back, so it is shut, and the interlocking gets a report.
     Told,
 }

@@ -37,7 +37,7 @@ impl Book {
     ghost use Rattle.rbc_book.specs.Answers.{unset_answer, back_answer};
     ghost use Rattle.rbc_book.specs.Changes.{IsPageOf, IsTaken, entry_after, wish_after};
 
-    /// The book of a centre of the line at its beginning: every section is shut, and none is wished back.
+    /// The initial book of a centre of the line: every section is shut, and none is wished back.
     pub fn new(alloc: Global, line: &Line, centre: u8) -> Result<Book, AllocError>
         ensures homes { IfOk result (λ b. (k : ℕ) → is_own b k ≡ is_home line.now centre k) }
         ensures entry { IfOk result (λ b. (k : ℕ) → entry_at b k ≡ spec.Shut) }
@@ -55,7 +55,7 @@ impl Book {
         self.runs.page(s).is_some()
     }
 
-    /// What the book has of a section; one of another home, or of no line, is shut.
+    /// The page of a section; one of another home, or not of the line, is shut.
     pub fn page(&self, s: u16) -> Page
         ensures entry { entry_of result.entry ≡ entry_at self.now s }
         ensures wish { result.is_wished ≡ wish_at self.now s }
@@ -64,14 +64,14 @@ impl Book {
         self.runs.page(s).unwrap_or(Page::SHUT)
     }
 
-    /// How many sections from the first on are open, one after another, at most so many.
+    /// The length of the longest run of open sections from the first on, up to the limit.
     pub fn open_run(&self, first: u16, most: u16) -> u16
         ensures { result ≡ longest (λ s. is_open (entry_at self.now s)) first most }
     {
         self.runs.open_run(first, most)
     }
 
-    /// A section that is in use for the train, here or at another centre. None exactly where none is.
+    /// A section that is in use for the train, here or at another centre; `None` if and only if there is none.
     pub fn section_in_use(&self, nid_engine: u32) -> Option<u16>
         ensures some { IfSome result (λ s. is_used_for nid_engine (entry_at self.now s) ≡ true) }
         ensures none { result ≡ None → (s : ℕ) → is_used_for nid_engine (entry_at self.now s) ≡ false }
@@ -79,7 +79,7 @@ impl Book {
         self.runs.section_in_use(nid_engine)
     }
 
-    // Changes the page of a section. The page that it had, where it is of this book's home.
+    // Changes the page of a section, and returns the page before, if it is of this book's home.
     #[inline]
     fn change(&mut self, s: u16, change: Change) -> Option<Page>
         ensures own { is_some result ≡ is_own self.old s }
@@ -135,7 +135,7 @@ impl Book {
         }
     }
 
-    /// Takes a section into use for a train. None exactly where it is not open.
+    /// Takes a section into use for a train; `None` if and only if it is not open.
     pub fn take(&mut self, s: u16, nid_engine: u32) -> Option<Claim>
         ensures claim { result ≡ claim_if (is_open (entry_at self.old s)) s nid_engine }
         ensures homes { (k : ℕ) → is_own self.new k ≡ is_own self.old k }
@@ -153,8 +153,8 @@ impl Book {
         })
     }
 
-    // Takes an open section into use for a train, and those after it that its run has too, at most so many in all:
-    // how many they are.
+    // Takes an open section into use for a train, with those after it in its run, up to the limit; returns their
+    // number.
     #[inline]
     fn take_part(&mut self, s: u16, most: u16, nid_engine: u32) -> u16
         requires some { 1 ≤ most }
@@ -191,8 +191,8 @@ impl Book {
         }
     }
 
-    /// Gives a section back: it becomes open, or shut where it is wished back, and then the wish ends. A claim whose
-    /// section this book does not have as taken for its train changes nothing, and is answered as open.
+    /// Gives a section back. It becomes open, or shut if it is wished back, and then the wish ends. If this book does
+    /// not have the claim's section as taken for its train, nothing changes, and the answer is `Open`.
     pub fn give_back(&mut self, claim: Claim) -> Back
         ensures answer { result ≡ back_answer (is_taken_by self.old claim && wish_at self.old (section_of claim)) }
         ensures homes { (k : ℕ) → is_own self.new k ≡ is_own self.old k }
@@ -216,8 +216,8 @@ impl Book {
         }
     }
 
-    /// Lends a section to another centre, where its train runs on. A claim whose section this book does not have as
-    /// taken for its train changes nothing.
+    /// Lends a section to another centre, at which its train runs on. If this book does not have the claim's section as
+    /// taken for its train, nothing changes.
     pub fn lend(&mut self, claim: Claim)
         ensures homes { (k : ℕ) → is_own self.new k ≡ is_own self.old k }
         ensures entry { (k : ℕ) → entry_at self.new k
@@ -232,7 +232,7 @@ impl Book {
         self.change(section, Change::Lend { nid_engine });
     }
 
-    /// Takes a section of a train back from another centre. None exactly where it is not out for it.
+    /// Takes a section of a train back from another centre; `None` if and only if it is not out for the train.
     pub fn reclaim(&mut self, s: u16, nid_engine: u32) -> Option<Claim>
         ensures claim { result ≡ claim_if (is_out_for nid_engine (entry_at self.old s)) s nid_engine }
         ensures homes { (k : ℕ) → is_own self.new k ≡ is_own self.old k }

@@ -1,6 +1,6 @@
 use crate::page::{Entry, Page};
 
-/// What is done with a section. It changes nothing where the section is not used as it asks.
+/// A change of a section. It changes nothing if the section is not in the state that it requires.
 #[derive(Clone, Copy, Debug)]
 pub(crate) enum Change {
     /// The interlocking releases it.

@@ -1,5 +1,5 @@
-/// The use of a home section for a train, which one holder has. It can't be copied, and not be dropped: it ends in
-/// `Book::give_back` or `Book::lend`, also where its centre is dropped.
+/// The use of a home section for a train, which one holder has. It can't be copied or dropped: it ends in
+/// `Book::give_back` or `Book::lend`, also when its centre ends.
 #[must_use]
 #[derive(Debug)]
 pub struct Claim {
@@ -26,8 +26,8 @@ impl Claim {
     }
 }
 
-/// The claims on consecutive sections for one train, as they come from the book. They can't be copied, and not be
-/// dropped: they go off one by one.
+/// The claims on consecutive sections for one train, as the book hands them out. They can't be copied or dropped: they
+/// are taken out one by one.
 #[must_use]
 #[derive(Debug)]
 pub struct Claims {
@@ -73,7 +73,7 @@ impl Claims {
         }
     }
 
-    /// They end, when none is left.
+    /// Ends the claims, of which none is left.
     pub fn end(self)
         requires { (claimed self).count ≡ 0 }
     {

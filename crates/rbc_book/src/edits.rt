@@ -1,4 +1,4 @@
-//! Changes of a row of runs that stand in order of their first sections. None of them takes memory where there is room.
+//! Changes of a list of runs, in the order of their first sections. None of them takes memory while there is room.
 ghost use Rattle.std.specs.Prelude.{◌≡◌, ◌+◌, ◌<◌, ◌≤◌, length, vec_capacity, OnOk, IfSome, None, slice_get};
 ghost use Rattle.std.specs.List.{insert};
 ghost use Rattle.rbc_book.specs.Runs.{most, At, AreInOrder, AreApart, sections_in};
@@ -9,7 +9,7 @@ use crate::parts::{write_first, write_inside, write_last, write_whole};
 use crate::run::Run;
 use std::alloc::AllocError;
 
-// The run at a place, where one stands there.
+// The run at a position, if there is one.
 pub(crate) fn run_at(runs: &[Run], i: usize) -> Option<Run>
     ensures value { result ≡ slice_get runs.now i }
     ensures within { IfSome result (λ _. i < length runs.now) }
@@ -29,7 +29,7 @@ pub(crate) fn resize(runs: &mut Vec<Run>, i: usize, first: u16, count: u16)
     run.count = count;
 }
 
-// Puts a run at a place of the row, which has room.
+// Inserts a run at a position of the list, which has room.
 pub(crate) fn put(runs: &mut Vec<Run>, i: usize, run: Run)
     requires within { i ≤ length runs.old.items }
     requires room { length runs.old.items < vec_capacity runs.old }
@@ -40,7 +40,7 @@ pub(crate) fn put(runs: &mut Vec<Run>, i: usize, run: Run)
     prove!(inserted.is_ok());
 }
 
-// Joins a run and the next, where that goes on with it.
+// Joins a run and the next one, if the next one continues it.
 #[inline(always)]
 pub(crate) fn join(runs: &mut Vec<Run>, i: usize)
     requires { AreInOrder 0 runs.old.items }
@@ -60,8 +60,8 @@ pub(crate) fn join(runs: &mut Vec<Run>, i: usize)
     runs.remove(i + 1);
 }
 
-// Writes the page of so many sections from one on, which the run at a place has: in that run, or in the one before or
-// after, or in a run of their own.
+// Writes the page of `size` sections from s on, which the run at a position has. They stay in that run, move into the
+// one before or after, or become a run of their own.
 #[inline(never)]
 pub(crate) fn write_at(runs: &mut Vec<Run>, i: usize, s: u16, size: u16, page: Page)
     requires some { 1 ≤ size }
@@ -87,7 +87,7 @@ pub(crate) fn write_at(runs: &mut Vec<Run>, i: usize, s: u16, size: u16, page: P
     }
 }
 
-// Puts a section after all runs, as one of the last run where that can be.
+// Adds a section after all runs, to the last run if that is possible.
 pub(crate) fn append(runs: &mut Vec<Run>, s: u16, track: u8, page: Page) -> Result<(), AllocError>
     requires order { AreInOrder 0 runs.old.items }
     requires apart { AreApart runs.old.items }

@@ -1,9 +1,9 @@
-//! The section book of a radio block centre: what each of its home sections is used for, and the claims on those that
-//! are in use for a train. A section that is taken has one claim: a claim comes only from taking an open section or
-//! from reclaiming one that was lent, and it ends where the section is given back or lent. A centre that is dropped
-//! gives its claims back too: giving back asks for nothing and takes no memory.
+//! The section book of a radio block centre. It has the use of each home section, and the claims on those that are in
+//! use for a train. A section that is taken has one claim. A claim is made only by taking an open section or by
+//! reclaiming a lent one. It ends when the section is given back or lent. When a centre ends it gives its claims back
+//! too: giving back has no premise and takes no memory.
 //!
-//! Bodies and proofs are free. The clauses of public functions stay, since the crates above stand on them.
+//! Bodies and proofs may change. The clauses of public functions have to stay: the crates above depend on them.
 #![tactic(auto)]
 
 mod answer;

@@ -1,6 +1,6 @@
 ghost use Rattle.std.specs.Prelude.{◌≡◌};
 
-/// What a home section is used for.
+/// The use of a home section.
 #[derive(Clone, Copy, Debug, PartialEq, Eq)]
 pub enum Entry {
     /// Not released by the interlocking.
@@ -62,7 +62,7 @@ impl Entry {
     }
 }
 
-/// What a centre's book has of a section.
+/// The page of a section in a centre's book.
 #[derive(Clone, Copy, Debug, PartialEq, Eq)]
 pub struct Page {
     pub entry: Entry,

@@ -1,6 +1,5 @@
-//! The page of consecutive sections is written by where they stand in their run: they are the whole run, its first
-//! sections, its last, or some inside. Where a neighbour of the run goes on with them under that page, that neighbour
-//! takes them in.
+//! Writes the page of consecutive sections, by their position in their run: they are the whole run, its first sections,
+//! its last, or some inside. If a neighbour of the run has that page and the same track, it takes them in.
 ghost use Rattle.std.specs.Prelude.{◌≡◌, ◌+◌, ◌-◌, ◌<◌, ◌≤◌, length, vec_capacity, IfSome, None};
 ghost use Rattle.rbc_book.specs.Runs.{At, AreInOrder, AreApart, GoesOn, sections_in};
 ghost use Rattle.rbc_book.specs.Edits.{changed_at, with_page, IsWhole, IsFirst, IsLast, IsInner, IsWritten};
@@ -9,7 +8,7 @@ use crate::edits::{join, put, resize, run_at};
 use crate::page::Page;
 use crate::run::Run;
 
-// The run before a place, where it goes on with this one.
+// The run before a position, if this run continues it.
 fn ahead_of(runs: &[Run], i: usize, next: Run) -> Option<Run>
     ensures some { IfSome result (λ r. (0 < i) × At (λ q. q ≡ r) (i - 1) runs.now × GoesOn r next) }
     ensures none { result ≡ None → 0 < i → ¬ At (λ r. GoesOn r next) (i - 1) runs.now }
@@ -25,7 +24,7 @@ fn ahead_of(runs: &[Run], i: usize, next: Run) -> Option<Run>
     }
 }
 
-// The run at a place, where it goes on with this one.
+// The run at a position, if it continues this run.
 fn after_of(runs: &[Run], i: usize, run: Run) -> Option<Run>
     ensures some { IfSome result (λ r. At (λ q. q ≡ r) i runs.now × GoesOn run r) }
     ensures none { result ≡ None → ¬ At (λ r. GoesOn run r) i runs.now }

@@ -2,7 +2,7 @@ ghost use Rattle.std.specs.Prelude.{◌≡◌, ◌+◌, MatchBool};
 
 use crate::page::{Entry, Page};
 
-/// Consecutive sections of one track that are used alike.
+/// Consecutive sections of one track with the same entry and wish.
 #[derive(Clone, Copy, Debug)]
 pub(crate) struct Run {
     /// The first of them, numbered over the whole line.
@@ -13,7 +13,7 @@ pub(crate) struct Run {
     pub(crate) track: u8,
     /// The interlocking wishes them back.
     pub(crate) is_wished: bool,
-    /// What they are used for.
+    /// The use of its sections.
     pub(crate) entry: Entry,
 }
 
@@ -21,7 +21,7 @@ impl Run {
     ghost use Rattle.rbc_spec.specs.SectionRuns.{within};
     ghost use Rattle.rbc_book.specs.Runs.{run_page, sections_of, GoesOn};
 
-    /// What the book has of each of them.
+    /// The page of each of its sections.
     #[inline(always)]
     pub(crate) fn page(self) -> Page
         ensures { result ≡ run_page self }
@@ -47,7 +47,8 @@ impl Run {
         self.first <= s && u32::from(s) < self.next_after()
     }
 
-    /// Whether the next run goes on where this one ends, on its track and used alike: the two are one run then.
+    /// Whether the next run begins at the end of this one, on its track and with the same page: the two are one run
+    /// then.
     pub(crate) fn goes_on(self, next: Run) -> bool
         ensures { MatchBool result (GoesOn self next) (¬ GoesOn self next) }
     {

@@ -13,9 +13,9 @@ use rbc_line::Line;
 use std::alloc::{AllocError, Global};
 use std::marker::Model;
 
-/// Pages of sections, kept as runs of sections that are used alike, in order of their first sections. A run does not go
-/// past the end of a track, and of two runs of one track that follow each other at once the pages differ. There is room
-/// for as many runs as there are sections.
+/// Pages of sections, kept as runs of sections with the same page, in the order of their first sections. A run does not
+/// go past the end of a track. Two consecutive runs of one track have different pages. There is room for as many runs
+/// as there are sections.
 #[derive(Debug, Drop)]
 pub(crate) struct Runs {
     runs: Vec<Run>,
@@ -57,7 +57,7 @@ impl Runs {
         Ok(Runs { runs })
     }
 
-    /// The page of a section, where there is one.
+    /// The page of a section, if it has one.
     pub(crate) fn page(&self, s: u16) -> Option<Page>
         ensures { result ≡ page_on self.now s }
     {
@@ -65,7 +65,7 @@ impl Runs {
         Some(run.page())
     }
 
-    /// How many sections from the first on are open, one after another, at most so many.
+    /// The length of the longest run of open sections from the first on, up to the limit.
     pub(crate) fn open_run(&self, first: u16, most: u16) -> u16
         ensures { result ≡ longest (is_open_on self.now) first most }
     {
@@ -90,7 +90,7 @@ impl Runs {
         first_in_use(&self.runs, nid_engine)
     }
 
-    /// Changes the page of a section. The page that it had, where it has one.
+    /// Changes the page of a section, and returns the page before, if it has one.
     #[inline]
     pub(crate) fn change(&mut self, s: u16, change: Change) -> Option<Page>
         ensures page { result ≡ page_on self.old s }
@@ -103,8 +103,8 @@ impl Runs {
         Some(page)
     }
 
-    /// Changes the page of a section, and of those after it that its run has too, at most so many in all: the page
-    /// that they had, and how many they are. None where the section has no page.
+    /// Changes the page of a section, and of those after it in its run, up to the limit. Returns the page before and
+    /// the number of sections; `None` if the section has no page.
     #[inline]
     pub(crate) fn change_part(&mut self, s: u16, most: u16, change: Change) -> Option<(Page, u16)>
         requires some { 1 ≤ most }
@@ -129,7 +129,7 @@ impl Runs {
     }
 }
 
-// The place of the run that has the section: the half is cut off that stands before it or after.
+// The position of the run that has the section. Each step cuts off the half before the section or after it.
 fn find(runs: &[Run], s: u16) -> Option<usize>
     requires { AreInOrder 0 runs.now }
     ensures some { IfSome result (λ i. At (λ r. within (sections_of r) s ≡ true) i runs.now) }
@@ -166,7 +166,7 @@ fn first_in_use(runs: &[Run], nid_engine: u32) -> Option<u16>
     None
 }
 
-// The track of a section, where its home is the centre.
+// The track of a section, if its home is the centre.
 fn home_track(line: &Line, centre: u8, s: u16) -> Option<u8>
     ensures { result ≡ home_track line.now centre s }
 {

@@ -1,24 +1,29 @@
 -- A train at the border, by the acts of the rules.
-use Rattle.std.proofs.Common.{◌≡◌, ℕ, ◌-◌, ◌==◌, ◌&&◌, Bool, true, false, cond, if◌then◌else◌, not, min, nat_lt, [], ◌∷◌, length, take, replicate, Option, Some, None, is_none, option_map, refl, sym, ap, ◌∙◌, arith}
-use Rattle.std.specs.Option.{option_map_or}
+use Rattle.std.proofs.Common.{[], ◌&&◌, ◌-◌, ◌==◌, ◌∙◌, ◌∷◌, ◌≡◌, ap, arith, Bool, cond, false, if◌then◌else◌, is_none}
+use Rattle.std.proofs.Common.{length, min, nat_lt, None, not, Option, option_map, refl, replicate, Some, sym, take}
+use Rattle.std.proofs.Common.{true, ℕ}
 use Rattle.std.proofs.lemmas.List.{append-nil, length-take-le, take-replicate}
-use Rattle.rbc_spec.specs.Maps.{has, put}
-use Rattle.rbc_spec.specs.SectionRuns.{SectionRun, no_run, most_in_hand, within, next_after, is_empty, part_before, part_from, all_of}
-use Rattle.rbc_spec.specs.Line.{Line, is_home}
-use Rattle.rbc_spec.specs.Sections.{is_on}
-use Rattle.rbc_spec.specs.Frame.{RouteAsk, RouteReturn}
-use Rattle.rbc_spec.specs.Centre.{Centre, Mission}
-use Rattle.rbc_spec.specs.Acts.{Reply, ◌>>◌, become, rest, send, change_mission, returned, return_pool, ask_route, propose_if_so}
-use Rattle.rbc_spec.specs.Rules.{choose, ask_route_if_due}
-use Rattle.rbc_spec.specs.Links.{is_of_line, is_wanted, route_told, route_withdrawn}
-use Rattle.law_base.proofs.Puts.{put_same}
+use Rattle.std.specs.Option.{option_map_or}
+use Rattle.law_base.proofs.Lists.{put_same}
 use Rattle.law_base.proofs.Runs.{same_run, within_true}
-use Rattle.rbc_hand.specs.Tokens.{Name}
-use Rattle.rbc_hand.specs.Hands.{Holding}
-use Rattle.rbc_line.specs.SectionRuns.{run_of}
-use Rattle.rbc_border.specs.Border.{BorderState, HasBorder, with_border, IsWayOf, GoesOn, is_due, answers, wants, IsBorder}
-use Rattle.rbc_border.specs.declared.way.Way.{Way}
 use Rattle.rbc_border.proofs.Lists.{and_false}
+use Rattle.rbc_border.specs.Border.{answers, BorderState, GoesOn, HasBorder, is_due, IsBorder, IsWayOf, wants}
+use Rattle.rbc_border.specs.Border.{with_border}
+use Rattle.rbc_border.specs.declared.way.Way.{Way}
+use Rattle.rbc_hand.specs.Hands.{Holding}
+use Rattle.rbc_hand.specs.Tokens.{Name}
+use Rattle.rbc_line.specs.SectionRuns.{run_of}
+use Rattle.rbc_spec.specs.Acts.{◌>>◌, ask_route, become, change_mission, propose_if_so, Reply, rest, return_pool}
+use Rattle.rbc_spec.specs.Acts.{returned, send}
+use Rattle.rbc_spec.specs.Centre.{Centre, Mission}
+use Rattle.rbc_spec.specs.Frame.{RouteAsk, RouteReturn}
+use Rattle.rbc_spec.specs.Line.{is_home, Line}
+use Rattle.rbc_spec.specs.Links.{is_of_line, is_wanted, route_told, route_withdrawn}
+use Rattle.rbc_spec.specs.Maps.{has, put}
+use Rattle.rbc_spec.specs.Rules.{ask_route_if_due, choose}
+use Rattle.rbc_spec.specs.SectionRuns.{all_of, is_empty, most_in_hand, next_after, no_run, part_before, part_from}
+use Rattle.rbc_spec.specs.SectionRuns.{SectionRun, within}
+use Rattle.rbc_spec.specs.Sections.{is_on}
 
 -- ## The same state
 
@@ -42,7 +47,7 @@ module _ (k : Centre) (b : BorderState) (border : HasBorder k b) where
   pub with_question : (o : Option ℕ) → record k { route_ask = put k.route_ask b.engine o } ≡ with_border (record b { asked = o }) k
   with_question o = λ i. record k { mission = λ u. sym (missions u) i; route_ask = put k.route_ask b.engine o }
 
-  -- a change of the pool, where the train has a mission here
+  -- a change of the pool, if the train has a mission here
   pub with_pool : (m : Mission) (change : Mission → SectionRun) (pool : SectionRun) → k.mission b.engine ≡ Some m → change m ≡ pool
       → record k { mission = put k.mission b.engine (option_map (λ (n : Mission). record n { pool = change n }) (k.mission b.engine)) } ≡ with_border (record b { pool = pool }) k
   with_pool m change pool is to = λ i. record k {
@@ -53,7 +58,7 @@ module _ (k : Centre) (b : BorderState) (border : HasBorder k b) where
 -- ## The question
 
 module _ (line : Line) (next : ℕ) (way : Way) (k : Centre) (b : BorderState) (m : Mission) (border : HasBorder k b) (is : k.mission b.engine ≡ Some m) (of : IsWayOf way m) where
-  -- where it is due, by the mission and by its way
+  -- a question is due, by the mission and its track
   abbrev due_at : Mission → Centre → Bool
   due_at n j = ((is_home line next (next_after n.hand) && is_on line n.place.track (next_after n.hand)) && nat_lt n.hand.count most_in_hand) && (is_empty n.pool && is_none (j.route_ask b.engine))
 
@@ -85,7 +90,7 @@ module _ (line : Line) (next : ℕ) (way : Way) (k : Centre) (b : BorderState) (
 
 -- ## The answer
 
--- what was asked for, and what the sections are
+-- the answer to the question, and the properties of the sections
 pub answers_is : (line : Line) (from : ℕ) (r : SectionRun) (b : BorderState) → answers line from r b ≡ (has (λ first. first == r.first) b.asked && ((is_of_line line r && is_home line from r.first) && all_of (is_home line from) r))
 answers_is line from r b = turned (has (λ first. first == r.first) b.asked) (is_of_line line r && is_home line from r.first) (all_of (is_home line from) r)
   where
@@ -102,7 +107,7 @@ not_of_home line from r b is = answers_is line from r b ∙ ap (λ x. has (λ fi
 pub an_answer : (line : Line) (from : ℕ) (r : SectionRun) (b : BorderState) → has (λ first. first == r.first) b.asked ≡ true → ((is_of_line line r && is_home line from r.first) && all_of (is_home line from) r) ≡ true → answers line from r b ≡ true
 an_answer line from r b asked home = answers_is line from r b ∙ (λ i. asked i && home i)
 
--- whether the mission wants the sections, by its way
+-- whether the mission can use the sections, by its track
 pub wanted_is : (line : Line) (r : SectionRun) (way : Option Way) (o : Option Mission) (b : BorderState) → GoesOn way o → ((m : Mission) → o ≡ Some m → m.pool ≡ b.pool) → has (is_wanted line r) o ≡ wants line r way b
 wanted_is line r None None b goes pool = refl
 wanted_is line r None (Some m) b goes pool =
@@ -141,10 +146,10 @@ module _ (line : Line) (c from : ℕ) (r : SectionRun) (way : Option Way) (k : C
   pub unwanted : answers line from r b ≡ true → wants line r way b ≡ false → route_told line c from b.engine r k ≡ (if is_empty r then rest else send from (RouteReturn b.engine r)) (with_border (record b { asked = None }) k)
   unwanted is wants_not = told_so true is ∙ taken_so false wants_not ∙ ap (if is_empty r then rest else send from (RouteReturn b.engine r)) (with_question k b border None)
 
--- ## The pool goes home
+-- ## The pool is returned
 
 module _ (line : Line) (c : ℕ) (k : Centre) (b : BorderState) (m : Mission) (border : HasBorder k b) (is : k.mission b.engine ≡ Some m) where
-  -- a run goes home, and the pool changes
+  -- a run is returned, and the pool changes
   goes_home : (r : SectionRun) (change : Mission → SectionRun) (pool : SectionRun) → change m ≡ pool
       → (returned line c b.engine m.place.track r >> change_mission b.engine (λ n. record n { pool = change n })) k ≡ returned line c b.engine m.place.track r (with_border (record b { pool = pool }) k)
   unfolding ◌>>◌
@@ -186,7 +191,7 @@ parts_at pool s in_pool =
 
 -- ## In memory
 
--- so many of the last names of a pool ended
+-- the last `count` names of a pool ended
 pub cut_border : (t lender first : ℕ) (names new : Holding) (count : ℕ) → IsBorder t lender first names → new ≡ record names { holds = take (length names.holds - count) names.holds } → IsBorder t lender first new
 cut_border t lender first names new count ok cut =
     let n = length names.holds in

@@ -1,28 +1,30 @@
--- Sections of one home on one track, and those of a run that go home to a centre.
-use Rattle.std.proofs.Common.{◌≡◌, ◌≢◌, ℕ, ◌+◌, ◌-◌, ◌<◌, ◌≤◌, ◌==◌, ◌&&◌, ◌||◌, Bool, true, false, cond, length, [], ◌∷◌, Option, Some, None, is_none, IfSome, option_map, refl, sym, ap, ◌∙◌, arith, ⊎_elim, eq-eqb}
-use Rattle.std.specs.Option.{option_map_or}
-use Rattle.std.specs.List.{list_all, range_with_len}
-use Rattle.std.proofs.lemmas.Bool.{false≢true, and_parts, and_from, or_right, or_from, both_ways, cases_lt, cases_eq, ne_eqb}
+-- Sections of one home on one track, and those of a run that return to a centre.
+use Rattle.std.proofs.Common.{[], ⊎_elim, ◌&&◌, ◌+◌, ◌-◌, ◌<◌, ◌==◌, ◌||◌, ◌∙◌, ◌∷◌, ◌≡◌, ◌≢◌, ◌≤◌, ap, arith, Bool}
+use Rattle.std.proofs.Common.{cond, eq-eqb, false, IfSome, is_none, length, None, Option, option_map, refl, Some, sym}
+use Rattle.std.proofs.Common.{true, ℕ}
+use Rattle.std.proofs.lemmas.Bool.{and_from, and_parts, both_ways, cases_eq, cases_lt, false≢true, ne_eqb, or_from}
+use Rattle.std.proofs.lemmas.Bool.{or_right}
 use Rattle.std.proofs.lemmas.Option.{same_Some, slice_get_within}
-use Rattle.rbc_spec.specs.SectionRuns.{SectionRun, within, shared, is_empty, longest, all_of}
-use Rattle.rbc_spec.specs.Line.{Line, Section, IsLine, section, is_home, start}
-use Rattle.rbc_spec.specs.Sections.{is_on, home_run}
-use Rattle.rbc_spec.specs.Frame.{RouteReturn, HasRunRange}
-use Rattle.rbc_spec.specs.Centre.{Centre}
-use Rattle.rbc_spec.specs.Acts.{returned}
-use Rattle.rbc_spec.specs.Links.{is_of_line}
-use Rattle.rbc_spec.proofs.Places.{homes_run}
-use Rattle.rbc_line.specs.Views.{placed_section}
-use Rattle.rbc_line.specs.declared.parts.Section.{Section as SectionRow}
-use Rattle.rbc_line.specs.SectionRuns.{run_of}
-use Rattle.rbc_line.specs.declared.section_run.SectionRun.{SectionRun as SectionRunCode}
-use Rattle.law_base.proofs.Lists.{each_of}
-use Rattle.law_base.proofs.Lines.{on_line}
-use Rattle.law_base.proofs.Runs.{within_true, within_from, within_shared, same_tests, run_only, some_count}
-use Rattle.law_base.proofs.Longest.{longest_is, longest_few, longest_each}
-use Rattle.rbc_border.specs.Homes.{is_of}
+use Rattle.std.specs.List.{list_all, range_with_len}
+use Rattle.std.specs.Option.{option_map_or}
+use Rattle.law_base.proofs.Lists.{each_of, on_line}
+use Rattle.law_base.proofs.Runs.{longest_each, longest_few, longest_is, run_only, same_tests, some_count, within_from}
+use Rattle.law_base.proofs.Runs.{within_shared, within_true}
 use Rattle.rbc_border.proofs.Lists.{both_all}
 use Rattle.rbc_border.proofs.Longest.{full}
+use Rattle.rbc_border.specs.Homes.{is_of}
+use Rattle.rbc_line.specs.declared.parts.Section.{Section as SectionRow}
+use Rattle.rbc_line.specs.declared.section_run.SectionRun.{SectionRun as SectionRunCode}
+use Rattle.rbc_line.specs.SectionRuns.{run_of}
+use Rattle.rbc_line.specs.Views.{placed_section}
+use Rattle.rbc_spec.proofs.Places.{homes_run}
+use Rattle.rbc_spec.specs.Acts.{returned}
+use Rattle.rbc_spec.specs.Centre.{Centre}
+use Rattle.rbc_spec.specs.Frame.{HasRunRange, RouteReturn}
+use Rattle.rbc_spec.specs.Line.{is_home, IsLine, Line, Section, section, start}
+use Rattle.rbc_spec.specs.Links.{is_of_line}
+use Rattle.rbc_spec.specs.SectionRuns.{all_of, is_empty, longest, SectionRun, shared, within}
+use Rattle.rbc_spec.specs.Sections.{home_run, is_on}
 
 -- a section of a home is of the line, below 512
 pub of_line : (line : Line) (home track s : ℕ) → IsLine line → is_of line home track s ≡ true → s < 512
@@ -30,7 +32,7 @@ of_line line home track s ok of =
     let within_line : s < length line.sections = on_line line track s (and_parts (is_home line home s) (is_on line track s) of).1 in
     omega (arith, within_line, ok.limits.sections)
 
--- so many of them are
+-- this many of them are
 pub stretch_within : (line : Line) (home track from most : ℕ) → IsLine line → 0 < longest (is_of line home track) from most → from + longest (is_of line home track) from most ≤ 512
 stretch_within line home track from most ok some =
     let n = longest (is_of line home track) from most in
@@ -45,7 +47,7 @@ home_on_line line home s = by_section (section line s) refl
     by_section None at h = absurd (false≢true h)
     by_section (Some p) at h = slice_get_within line.sections s p at
 
--- what a look-up of the line gives
+-- the result of a look-up of the line
 pub record IsFound (line : Line) (s : ℕ) (row : SectionRow) : Type 0 where
   pub there : Section
   pub at : section line s ≡ Some there
@@ -83,7 +85,7 @@ one_home_is line home r p at =
 pub first_home : (line : Line) (home : ℕ) (r : SectionRun) → ((is_of_line line r && is_home line home r.first) && all_of (is_home line home) r) ≡ true → is_home line home r.first ≡ true
 first_home line home r is = (and_parts (is_of_line line r) (is_home line home r.first) (and_parts (is_of_line line r && is_home line home r.first) (all_of (is_home line home) r) is).0).1
 
--- they are below 512
+-- sections of one home are below 512
 pub one_home_below : (line : Line) (home : ℕ) (r : SectionRun) → IsLine line → ((is_of_line line r && is_home line home r.first) && all_of (is_home line home) r) ≡ true → r.first + r.count ≤ 512
 one_home_below line home r ok is =
     let parts = and_parts (is_of_line line r && is_home line home r.first) (all_of (is_home line home) r) is in
@@ -97,7 +99,7 @@ one_home_below line home r ok is =
 
 -- ## The part of one home
 
--- what stands between two sections of a run is one of them
+-- a section between two sections of a run is one of them
 between : (r : SectionRun) (s m e : ℕ) → s ≤ m → m ≤ e → within r s ≡ true → within r e ≡ true → within r m ≡ true
 between r s m e from to one two =
     let low = within_true r s one in
@@ -122,7 +124,7 @@ module _ (line : Line) (d track : ℕ) (r : SectionRun) (ok : 0 < r.count → Is
       let ends = within_true r s in_run in
       within_shared r (home_run line d track) s ∙ and_from (within r s) (within (home_run line d track) s) in_run (homes_run line d track s (ok (omega arith)) ∙ of)
 
-  -- where no section of the run is of the home there is no part
+  -- if no section of the run is of the home, the part is empty
   pub no_part : ((s : ℕ) → r.first ≤ s → s < r.first + r.count → is_of line d track s ≡ false) → is_empty (shared r (home_run line d track)) ≡ true
   no_part none = ⊎_elim
       (λ (e : part.count ≡ 0). eq-eqb part.count 0 e)
@@ -132,7 +134,7 @@ module _ (line : Line) (d track : ℕ) (r : SectionRun) (ok : 0 < r.count → Is
       absurd (both_ways (is_of line d track part.first) (none part.first ends.0 ends.1) both.1))
       (cases_eq part.count 0)
 
-  -- it begins with the first section of the run that is of the home
+  -- the part begins with the first section of the run that is of the home
   module _ (k n s : ℕ) (at : s ≡ r.first + k) (lt : k < r.count) (before : (j : ℕ) → r.first ≤ j → j < r.first + k → is_of line d track j ≡ false) (of : is_of line d track s ≡ true)
       (long : n ≡ longest (is_of line d track) s (r.count - k)) where
     few : n ≤ r.count - k
@@ -182,7 +184,7 @@ module _ (line : Line) (d track : ℕ) (r : SectionRun) (ok : 0 < r.count → Is
         let last_below : s + n - 1 < 512 = of_line line d track (s + n - 1) (ok (omega arith)) (each (s + n - 1) (omega (arith, some)) (omega (arith, some))) in
         record { first = omega (arith, first_below); count = (some, omega (arith, few)); last = omega (arith, last_below, some) }
 
--- ## The frame that goes home
+-- ## The frame that returns sections
 
 frames_are : (line : Line) (c to t track : ℕ) (r : SectionRun) (k : Centre) (b : Bool) → ((to == c) || is_empty (shared r (home_run line to track))) ≡ b
     → (returned line c t track r k).frames to ≡ cond b [] (RouteReturn t (shared r (home_run line to track)) ∷ [])
@@ -196,7 +198,7 @@ part_there line c to t track r q k other is some =
     frames_are line c to t track r k false (or_from (to == c) _ (ne_eqb to c other) (ap is_empty is ∙ some_count q.count some))
     ∙ ap (λ (x : SectionRun). RouteReturn t x ∷ []) is
 
--- the part of a run that was found goes home, unless the centre itself returns it
+-- the part of a run that was found is returned, unless the centre itself returns it
 pub part_goes : (line : Line) (c to t track most : ℕ) (r : SectionRun) (o : Option SectionRunCode) (k : Centre) → (to ≡ c → ⊥)
     → is_none o ≡ is_empty (shared r (home_run line to track)) → IfSome o (λ p. run_of p ≡ shared r (home_run line to track)) → IfSome o (λ p. HasRunRange 1 most (run_of p))
     → (returned line c t track r k).frames to ≡ option_map_or (λ p. RouteReturn t (run_of p) ∷ []) o []

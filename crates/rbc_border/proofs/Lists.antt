@@ -24,12 +24,12 @@ shuffled true false true y = refl
 shuffled true false false y = refl
 shuffled false b x y = refl
 
--- what passes two tests passes each
+-- all items pass two tests if and only if they pass each
 pub both_all : (a b : ℕ → Bool) (xs : List ℕ) → list_all (λ s. a s && b s) xs ≡ (list_all a xs && list_all b xs)
 both_all a b [] = refl
 both_all a b (x ∷ xs) = ap (λ y. (a x && b x) && y) (both_all a b xs) ∙ shuffled (a x) (b x) (list_all a xs) (list_all b xs)
 
--- a choice that is none, where the test fails
+-- a choice without a value, if the test fails
 pub none_chosen : {X : Type 0} (b : Bool) (x : X) → cond b (Some x) None ≡ None → b ≡ false
 none_chosen true x e = cc
 none_chosen false x e = refl

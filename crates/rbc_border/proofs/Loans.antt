@@ -1,31 +1,32 @@
 -- Sections that a home lends.
-use Rattle.std.proofs.Common.{◌≡◌, ℕ, ◌+◌, ◌<◌, ◌≤◌, ◌==◌, ◌&&◌, ◌||◌, inl, inr, Bool, true, false, cond, if◌then◌else◌, [], ◌∷◌, length, Option, Some, None, is_some, refl, ap, sym, ◌∙◌, arith, ⊎_elim}
+use Rattle.std.proofs.Common.{[], ⊎_elim, ◌&&◌, ◌+◌, ◌<◌, ◌==◌, ◌||◌, ◌∙◌, ◌∷◌, ◌≡◌, ◌≤◌, ap, arith, Bool, cond, false}
+use Rattle.std.proofs.Common.{if◌then◌else◌, inl, inr, is_some, length, None, Option, refl, Some, sym, true, ℕ}
 use Rattle.std.proofs.lemmas.Bool.{cases_Bool, cases_lt}
 use Rattle.std.proofs.lemmas.Bool.Decides.{eqb_tells}
 use Rattle.std.proofs.lemmas.Option.{cond_some, slice_get_within}
-use Rattle.rbc_spec.specs.SectionRuns.{SectionRun, within, longest}
-use Rattle.rbc_spec.specs.Line.{Line, Section, IsLine, section, is_home}
-use Rattle.rbc_spec.specs.Sections.{is_on}
-use Rattle.rbc_spec.specs.Frame.{RouteInfo, HasRunRange}
-use Rattle.rbc_spec.specs.Centre.{Centre, Entry, Taken, Out, is_open, is_taken_for, is_free}
-use Rattle.rbc_spec.specs.Maps.{has as has_section}
-use Rattle.rbc_spec.specs.Acts.{◌>>◌, rest, send, booked}
-use Rattle.rbc_spec.specs.Links.{route_asked, lendable}
-use Rattle.rbc_line.specs.declared.parts.Section.{Section as SectionRow}
-use Rattle.law_base.proofs.Puts.{itself}
-use Rattle.law_base.proofs.Longest.{longest_few}
-use Rattle.rbc_book.specs.Book.{Pages, is_own, entry_at, wish_at}
-use Rattle.rbc_book.specs.Claim.{section_of, train_of, claim_on, claim_if, is_taken_by}
+use Rattle.law_base.proofs.Lists.{itself}
+use Rattle.law_base.proofs.Runs.{longest_few}
+use Rattle.rbc_allocation.proofs.Runs.{within_more, within_none, within_one}
+use Rattle.rbc_book.specs.Book.{entry_at, is_own, Pages, wish_at}
+use Rattle.rbc_book.specs.Claim.{claim_if, claim_on, is_taken_by, section_of, train_of}
 use Rattle.rbc_book.specs.declared.claim.Claim.{Claim}
-use Rattle.rbc_hand.specs.Hands.{one}
-use Rattle.rbc_allocation.proofs.Runs.{within_one, within_none, within_more}
-use Rattle.rbc_border.specs.Homes.{is_of}
-use Rattle.rbc_border.specs.Lending.{LendsRun, HasBook, with_book}
+use Rattle.rbc_border.proofs.HomeParts.{IsFound, stretch_within}
 use Rattle.rbc_border.proofs.Lists.{none_chosen}
 use Rattle.rbc_border.proofs.Longest.{longest_both, longest_same}
-use Rattle.rbc_border.proofs.HomeParts.{IsFound, stretch_within}
+use Rattle.rbc_border.specs.Homes.{is_of}
+use Rattle.rbc_border.specs.Lending.{HasBook, LendsRun, with_book}
+use Rattle.rbc_hand.specs.Hands.{one}
+use Rattle.rbc_line.specs.declared.parts.Section.{Section as SectionRow}
+use Rattle.rbc_spec.specs.Acts.{◌>>◌, booked, rest, send}
+use Rattle.rbc_spec.specs.Centre.{Centre, Entry, is_free, is_open, is_taken_for, Out, Taken}
+use Rattle.rbc_spec.specs.Frame.{HasRunRange, RouteInfo}
+use Rattle.rbc_spec.specs.Line.{is_home, IsLine, Line, Section, section}
+use Rattle.rbc_spec.specs.Links.{lendable, route_asked}
+use Rattle.rbc_spec.specs.Maps.{has as has_section}
+use Rattle.rbc_spec.specs.SectionRuns.{longest, SectionRun, within}
+use Rattle.rbc_spec.specs.Sections.{is_on}
 
--- one section has this entry now where the test holds, and nothing else changed
+-- one section has this entry now if the test holds, and nothing else changed
 pub record Writes (s : ℕ) (test : Bool) (now : Entry) (a b : Pages) : Type 0 where
   pub homes : (k : ℕ) → is_own b k ≡ is_own a k
   pub entry : (k : ℕ) → entry_at b k ≡ cond (test && (k == s)) now (entry_at a k)
@@ -122,7 +123,7 @@ lent_is line c d t from most n k book book' p has at long lends =
       words = [];
     })
 
--- what was looked up and counted where sections are lent
+-- the values looked up and counted while sections are lent
 pub record IsLending (line : Line) (c from most : ℕ) (book : Pages) (row : SectionRow) (on_track count : ℕ) : Type 0 where
   pub rules : IsLine line
   pub first : IsFound line from row
@@ -145,7 +146,7 @@ module _ (line : Line) (c from most : ℕ) (book : Pages) (row : SectionRow) (on
   pub few : count ≤ on_track
   few = omega (arith, lending.released, longest_few (λ s. is_open (entry_at book s)) from on_track)
 
-  -- what is lent is of the line
+  -- lent sections are of the line
   pub lent_range : HasRunRange 0 most (record { first = from; count = count })
   lent_range = record {
     first = omega (arith, first_below);

@@ -1,12 +1,12 @@
 -- The longest run under a test, section by section.
-use Rattle.std.proofs.Common.{◌≡◌, ℕ, zero, suc, ◌+◌, ◌<◌, ◌≤◌, ◌==◌, ◌&&◌, Bool, true, false, cond, refl, sym, ap, ◌∙◌, inl, inr, arith}
+use Rattle.std.proofs.Common.{◌&&◌, ◌+◌, ◌<◌, ◌==◌, ◌∙◌, ◌≡◌, ◌≤◌, ap, arith, Bool, cond, false, inl, inr, refl, suc}
+use Rattle.std.proofs.Common.{sym, true, zero, ℕ}
+use Rattle.std.proofs.lemmas.Bool.{cases_Bool, eq-eqb, eqb-true, ne_eqb}
 use Rattle.std.specs.List.{list_all, range_with_len}
-use Rattle.std.proofs.lemmas.Bool.{cases_Bool, ne_eqb, eqb-true, eq-eqb}
+use Rattle.law_base.proofs.Runs.{longest_is, longest_only, same_tests, within_true}
 use Rattle.rbc_spec.specs.SectionRuns.{longest}
-use Rattle.law_base.proofs.Runs.{within_true, same_tests}
-use Rattle.law_base.proofs.Longest.{longest_is, longest_only}
 
--- so many sections from the first on pass
+-- the first k sections pass
 pub record HasPassed (test : ℕ → Bool) (from k : ℕ) : Type 0 where
   pub each : (s : ℕ) → from ≤ s → s < from + k → test s ≡ true
 
@@ -32,7 +32,7 @@ all_passed test from most k few lt so_far =
     })
     (longest_is test from most)
 
--- all of them pass exactly where the longest run is as long
+-- all of them pass if and only if the longest run has that length
 pub full : (test : ℕ → Bool) (from n : ℕ) → (longest test from n == n) ≡ list_all test (range_with_len from n)
 unfolding longest
 full test from zero = refl

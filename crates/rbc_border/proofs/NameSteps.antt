@@ -1,11 +1,11 @@
--- Names of lent sections that come into a hand, end, and go from one hand to another.
+-- Names of lent sections that are added to a hand, end, and move from one hand to another.
 use Rattle.std.proofs.Common.{◌≡◌, ℕ, ◌+◌, ◌-◌, ◌<◌, ◌++◌, length, take, drop, replicate, sym, ap, ◌∙◌, arith, append_assoc}
 use Rattle.std.proofs.lemmas.List.{length-replicate, take_more, drop_more, drop-drop}
 use Rattle.rbc_hand.specs.Tokens.{Own, Name}
 use Rattle.rbc_hand.specs.Hands.{Holding}
 use Rattle.rbc_border.specs.Names.{PassesOn}
 
--- so many names of sections from a first
+-- the names of k sections from a first
 pub record HasNames (t home from k : ℕ) (hand : Holding) : Type 0 where
   pub begins : 0 < k → hand.first ≡ from
   pub holds : hand.holds ≡ replicate k (Name t home)
@@ -13,7 +13,7 @@ pub record HasNames (t home from k : ℕ) (hand : Holding) : Type 0 where
 pub names_count : (t home from k : ℕ) (hand : Holding) → HasNames t home from k hand → length hand.holds ≡ k
 names_count t home from k hand has = ap length has.holds ∙ length-replicate k (Name t home)
 
--- a hand without so many of its last sections
+-- a hand without its last k sections
 abbrev pub cut_by : ℕ → Holding → Holding
 cut_by k h = record h { holds = take (length h.holds - k) h.holds }
 

@@ -1,33 +1,34 @@
--- Sections that come home.
-use Rattle.std.proofs.Common.{◌≡◌, ℕ, ◌+◌, ◌*◌, ◌<◌, ◌==◌, ◌&&◌, ◌||◌, inl, inr, Bool, true, false, cond, eqb, not, List, [], ◌∷◌, ◌++◌, map, Option, Some, None, refl, ap, sym, ◌∙◌, arith}
-use Rattle.std.specs.List.{filter, range_with_len}
+-- Sections that are returned.
+use Rattle.std.proofs.Common.{[], ◌&&◌, ◌*◌, ◌++◌, ◌+◌, ◌<◌, ◌==◌, ◌||◌, ◌∙◌, ◌∷◌, ◌≡◌, ap, arith, Bool, cond, eqb}
+use Rattle.std.proofs.Common.{false, inl, inr, List, map, None, not, Option, refl, Some, sym, true, ℕ}
 use Rattle.std.proofs.lemmas.Bool.{cases_Bool}
 use Rattle.std.proofs.lemmas.Bool.Decides.{eqb_tells}
 use Rattle.std.proofs.lemmas.List.Elements.{filter-append}
 use Rattle.std.proofs.lemmas.Option.{cond_some}
-use Rattle.rbc_spec.specs.SectionRuns.{SectionRun, within}
-use Rattle.rbc_spec.specs.Line.{Line, is_home}
-use Rattle.rbc_spec.specs.Outcome.{Told}
-use Rattle.rbc_spec.specs.Centre.{Centre, Shut, Open, Taken, is_taken_for, is_out_for}
-use Rattle.rbc_spec.specs.Acts.{freed}
-use Rattle.law_base.proofs.Puts.{itself}
-use Rattle.law_base.proofs.Runs.{within_from, within_after}
-use Rattle.rbc_book.specs.Book.{Pages, is_own, entry_at, wish_at}
-use Rattle.rbc_book.specs.Claim.{section_of, claim_on, claim_if, is_taken_by}
-use Rattle.rbc_book.specs.declared.claim.Claim.{Claim}
-use Rattle.rbc_book.proofs.Pages.{foreign_is_shut}
-use Rattle.rbc_hand.specs.Hands.{one}
-use Rattle.rbc_allocation.specs.Marks.{marked}
-use Rattle.rbc_allocation.proofs.Backs.{back_to, entry_then, wish_then, entry_twice, wish_twice}
+use Rattle.std.specs.List.{filter, range_with_len}
+use Rattle.law_base.proofs.Lists.{itself}
+use Rattle.law_base.proofs.Runs.{within_after, within_from}
+use Rattle.rbc_allocation.proofs.Backs.{back_to, entry_then, entry_twice, wish_then, wish_twice}
 use Rattle.rbc_allocation.proofs.Marks.{marked-more, more_in_range}
-use Rattle.rbc_allocation.proofs.Runs.{within_one, within_none, within_more}
-use Rattle.rbc_border.specs.Lending.{BringsBack, is_lent, told_back, telling, HasBook, with_book}
-use Rattle.rbc_border.proofs.Lists.{and_true, and_false, filter_same, none_chosen}
+use Rattle.rbc_allocation.proofs.Runs.{within_more, within_none, within_one}
+use Rattle.rbc_allocation.specs.Marks.{marked}
+use Rattle.rbc_book.proofs.Pages.{foreign_is_shut}
+use Rattle.rbc_book.specs.Book.{entry_at, is_own, Pages, wish_at}
+use Rattle.rbc_book.specs.Claim.{claim_if, claim_on, is_taken_by, section_of}
+use Rattle.rbc_book.specs.declared.claim.Claim.{Claim}
+use Rattle.rbc_border.proofs.Lists.{and_false, and_true, filter_same, none_chosen}
 use Rattle.rbc_border.proofs.Loans.{Writes}
+use Rattle.rbc_border.specs.Lending.{BringsBack, HasBook, is_lent, telling, told_back, with_book}
+use Rattle.rbc_hand.specs.Hands.{one}
+use Rattle.rbc_spec.specs.Acts.{freed}
+use Rattle.rbc_spec.specs.Centre.{Centre, is_out_for, is_taken_for, Open, Shut, Taken}
+use Rattle.rbc_spec.specs.Line.{is_home, Line}
+use Rattle.rbc_spec.specs.Outcome.{Told}
+use Rattle.rbc_spec.specs.SectionRuns.{SectionRun, within}
 
 -- ## One section
 
--- the claim of a section ends, and its section is open, or shut where it is wished back
+-- the claim of a section ends; its section is open, or shut if it is wished back
 pub record GivesBack (claim : Claim) (a b : Pages) : Type 0 where
   pub homes : (k : ℕ) → is_own b k ≡ is_own a k
   pub entry : (k : ℕ) → entry_at b k ≡ cond (is_taken_by a claim && (k == section_of claim)) (back_to (wish_at a (section_of claim))) (entry_at a k)
@@ -83,7 +84,7 @@ module _ (t s : ℕ) (o : Option Claim) (a m : Pages) (is : o ≡ claim_if (is_o
 pub brings_none : (t from : ℕ) (book : Pages) → BringsBack t (record { first = from; count = 0 }) book book
 brings_none t from book = record { homes = λ s. refl; entry = λ s. rw (within_none from s) refl; wish = λ s. rw (within_none from s) refl }
 
--- a section that came home is out for no train
+-- a returned section is out for no train
 idle : (t : ℕ) (w : Bool) → is_out_for t (back_to w) ≡ false
 idle t true = refl
 idle t false = refl
@@ -114,7 +115,7 @@ module _ (t from k s : ℕ) (a b : Pages) (is : s ≡ from + k) (so_far : Brings
       past : within (record { first = from; count = k }) (from + k) ≡ false
       past = within_after (record { first = from; count = k }) (from + k) (omega arith)
 
--- ## What is told
+-- ## The reports
 
 -- one section more is looked at
 told_more : (t from n : ℕ) (book : Pages) → told_back t (record { first = from; count = n + 1 }) book
@@ -133,7 +134,7 @@ marks_more t from n marks mark book b lt e test so_far =
 -- ## At a centre
 
 module _ (line : Line) (c t : ℕ) (r : SectionRun) (k : Centre) (book : Pages) (has : HasBook line c k book) where
-  -- what is out for a train is of home
+  -- a section that is out for a train is of the home
   out_is : (s : ℕ) → ((within r s && is_home line c s) && is_out_for t (k.book s)) ≡ is_lent t r book s
   out_is s = ap (λ e. (within r s && is_home line c s) && is_out_for t e) (has.has_book s) ∙ elim (cases_Bool (is_home line c s)) [
     | inl home ↦ rw home (ap (λ x. x && is_out_for t (entry_at book s)) (and_true (within r s)))

@@ -12,7 +12,7 @@ use Rattle.rbc_book.proofs.Pages.{foreign_is_shut}
 use Rattle.rbc_border.specs.Lending.{HasBook}
 
 module _ (line : Line) (c t : ℕ) (k : Centre) (book : Pages) (has : HasBook line c k book) where
-  -- what is in use is of home
+  -- a section in use is of the home
   used_is : (s : ℕ) → (is_home line c s && is_used_for t (k.book s)) ≡ is_used_for t (entry_at book s)
   used_is s = ap (λ e. is_home line c s && is_used_for t e) (has.has_book s) ∙ elim (cases_Bool (is_home line c s)) [
     | inl home ↦ rw home refl
@@ -34,7 +34,7 @@ module _ (line : Line) (c t : ℕ) (k : Centre) (book : Pages) (has : HasBook li
         absurd (false≢true (sym (ap (is_used_for t) (foreign_is_shut book s (has.homes s ∙ home))) ∙ used))
   ]
 
-  -- where a book tells of a section in use or of none
+  -- whether the book names a section in use, or none
   pub used_by : (o : Option ℕ) → IfSome o (λ s. is_used_for t (entry_at book s) ≡ true) → (o ≡ None → (s : ℕ) → is_used_for t (entry_at book s) ≡ false) → is_some o ≡ uses_some line c k t
   used_by None some none = sym (none_used (λ s low. none refl s))
   used_by (Some s) some none = sym (one_used s (below s some) some)

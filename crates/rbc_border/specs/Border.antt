@@ -11,8 +11,8 @@ use Rattle.rbc_hand.specs.Hands.{Holding}
 use Rattle.rbc_line.specs.SectionRuns.{run_of}
 use Rattle.rbc_border.specs.declared.way.Way.{Way}
 
--- what a centre has of a train by its NID_ENGINE: the centre that lent its pool, the pool, and the first section that
--- was asked for, of a question without an answer
+-- The state of a train's border at a centre. It has the train's NID_ENGINE, the centre that lent its pool, the pool,
+-- and the first section of a pending question.
 pub record BorderState : Type 0 where
   pub engine : ℕ
   pub lender : ℕ
@@ -42,17 +42,17 @@ pub record IsWayOf (way : Way) (m : Mission) : Type 0 where
   pub on : m.place.track ≡ way.track
   pub sections : m.hand ≡ run_of way.hand
 
--- the way is that of the mission that goes on, and there is none where none goes on
+-- the track and hand of the mission, if it is not ended; `None` if there is none
 abbrev pub GoesOn : Option Way → Option Mission → Type 0
 GoesOn None None = Unit {0}
 GoesOn None (Some m) = m.is_ended ≡ true
 GoesOn (Some way) None = ⊥
 GoesOn (Some way) (Some m) = (m.is_ended ≡ false) × IsWayOf way m
 
--- ## What is asked for, and what is told
+-- ## Requests and answers
 
--- the next section in advance of the hand is of the next centre's home and on the track, the hand has room, the pool is
--- empty, and no question stands
+-- A request is due. The next section in advance of the hand is of the next centre's home and on the track. The hand has
+-- room, the pool is empty, and no question is pending.
 abbrev pub is_due : Line → ℕ → Way → BorderState → Bool
 is_due line next way b =
     ((is_home line next (next_after (run_of way.hand)) && is_on line way.track (next_after (run_of way.hand)))
@@ -65,7 +65,7 @@ answers line from r b =
     (has (λ first. first == r.first) b.asked && (is_of_line line r && is_home line from r.first))
     && all_of (is_home line from) r
 
--- they follow the hand of the mission that goes on, on its track, and the pool is empty
+-- the mission is not ended, the sections follow its hand at once, on its track, and the pool is empty
 abbrev pub wants : Line → SectionRun → Option Way → BorderState → Bool
 wants line r way b = has (λ w. (r.first == next_after (run_of w.hand)) && is_on line w.track r.first) way && is_empty b.pool
 
@@ -75,7 +75,7 @@ abbrev pub border_state : ℕ → ℕ → ℕ → Holding → Option ℕ → Bor
 border_state t lender first names asked =
     record { engine = t; lender = lender; pool = record { first = first; count = length names.holds }; asked = asked }
 
--- the pool is held by names of sections that one home has lent to the train. Its sections are of a line
+-- The pool is held by names of sections that one home has lent to the train. Its sections are of a line.
 pub record IsBorder (t lender first : ℕ) (names : Holding) : Type 0 where
   pub lent : names.holds ≡ replicate (length names.holds) (Name t lender)
   pub begins : 0 < length names.holds → names.first ≡ first

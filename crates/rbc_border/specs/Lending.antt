@@ -22,15 +22,15 @@ pub record LendsRun (t : ℕ) (r : SectionRun) (old new : Pages) : Type 0 where
 abbrev pub is_lent : ℕ → SectionRun → Pages → ℕ → Bool
 is_lent t r book s = within r s && is_out_for t (entry_at book s)
 
--- the sections of the run that were in use for the train at another centre are open, or shut where they were wished
--- back; nothing else changed
+-- The sections of the run that were in use for the train at another centre are open, or shut if they were wished back.
+-- Nothing else changed.
 pub record BringsBack (t : ℕ) (r : SectionRun) (old new : Pages) : Type 0 where
   pub homes : (s : ℕ) → is_own new s ≡ is_own old s
   pub entry : (s : ℕ) → entry_at new s
       ≡ (if is_lent t r old s then (if wish_at old s then Shut else Open) else entry_at old s)
   pub wish : (s : ℕ) → wish_at new s ≡ (not (is_lent t r old s) && wish_at old s)
 
--- those of the run that are in use for the train at another centre and wished back, rising
+-- the sections of the run that are in use for the train at another centre and wished back, in rising order
 abbrev pub told_back : ℕ → SectionRun → Pages → List ℕ
 told_back t r book = filter (λ s. is_out_for t (entry_at book s) && wish_at book s) (range_with_len r.first r.count)
 
@@ -50,6 +50,6 @@ with_book book k = record k { book = entry_at book; wish = wish_at book }
 abbrev pub sending : ℕ → Option Body → Act
 sending d body = option_map_or (send d) body rest
 
--- a reply that leaves this state, and tells the interlocking of these sections
+-- a reply with this state, and with reports of these sections to the interlocking
 abbrev pub telling : List ℕ → Centre → Reply
 telling told k = record { state = k; frames = λ d. []; sayings = []; words = map (λ s. Told s) told }

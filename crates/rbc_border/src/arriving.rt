@@ -18,8 +18,8 @@ pub struct Arrival {
     pub track: u8,
 }
 
-/// Whether each section of a hand may come to this centre with a train that another centre hands over to it (3.15.1):
-/// one of its home is in use for the train elsewhere; any other is not of the next centre on the track.
+/// Whether each section of a hand may arrive with a train that another centre hands over to this one (3.15.1). One of
+/// this home has to be in use for the train elsewhere. Any other must not be of the next centre on the track.
 pub fn may_arrive(line: &Line, centre: u8, book: &Book, train: Arrival, hand: SectionRun) -> bool
     ensures { (k : Centre) → HasBook line.now centre k book.now
         → result ≡ all_of (links.may_arrive line.now centre k train.nid_engine train.track) (run_of hand) }
@@ -33,7 +33,7 @@ pub fn may_arrive(line: &Line, centre: u8, book: &Book, train: Arrival, hand: Se
     true
 }
 
-// Whether the section may come so.
+// Whether the section may arrive so.
 fn arrives(line: &Line, centre: u8, book: &Book, train: Arrival, s: u32) -> bool
     ensures { (k : Centre) → HasBook line.now centre k book.now
         → result ≡ links.may_arrive line.now centre k train.nid_engine train.track s }

@@ -24,16 +24,16 @@ use rbc_line::{Line, SectionRun};
 use std::alloc::{AllocError, Global};
 use std::marker::Model;
 
-/// What a centre has of one train at the border to the next centre (profile): the train's pool, which are lent sections
-/// that follow its hand at once, and whether more sections were asked for without an answer. It can't be copied, and
-/// not be dropped: the names in its pool are spent where their sections go home, or come into the train's hand.
+/// The state of one train at the border to the next centre (profile). It has the train's pool, which are lent sections
+/// that follow its hand at once, and the pending question for further sections. It can't be copied or dropped: the
+/// names in its pool end when their sections are returned, or move into the train's hand.
 #[must_use]
 #[derive(Debug)]
 pub struct Border {
     nid_engine: u32,
     // The centre that lent the pool.
     lender: u8,
-    // Of the pool's first section; of an empty pool, where it became empty.
+    // The first section of the pool. In an empty pool, the section at which it became empty.
     first: u16,
     names: Hand,
     asked: Option<u16>,
@@ -73,7 +73,8 @@ impl Border {
         self.nid_engine
     }
 
-    /// The pool: lent sections that follow the train's hand. Of an empty pool, the first is where it became empty.
+    /// The pool: lent sections that follow the train's hand. The first of an empty pool is the section at which it
+    /// became empty.
     pub fn pool(&self) -> SectionRun
         ensures value { run_of result ≡ self.now.pool }
         ensures most { result.count ≤ 31 }
@@ -85,9 +86,9 @@ impl Border {
         }
     }
 
-    /// The sections in advance of the hand of the train's mission are asked for, where they are due: the first of them
-    /// is of the next centre's home and on the track, the hand has fewer than 32, the pool is empty, and no question
-    /// stands. None exactly where they are not due, and then nothing changes.
+    /// Asks for the sections in advance of the hand of the train's mission, if that is due. It is if the first of them
+    /// is of the next centre's home and on the track, and the hand has fewer than 32. Besides, the pool is empty, and
+    /// no question is pending. `None` if and only if it is not due; then nothing changes.
     pub fn ask(&mut self, line: &Line, next: u8, way: Way) -> Option<Question>
         ensures question { result ≡ (if is_due line.now next way self.old
             then Some (record {
@@ -128,11 +129,11 @@ impl Border {
             && self.asked.is_none()
     }
 
-    /// Another centre tells the sections that it lends, with the way of the train's mission here, where one goes on. It
-    /// has no effect where they were not asked for from their first on, or are not of the line, on one track, and of
-    /// that centre's home. Else the question is answered, and they are the pool where they follow the hand of the
-    /// mission on its track and the pool is empty. The result is those that are not wanted, which have to be returned
-    /// to that centre.
+    /// RouteInfo from another centre names the sections that it lends; `way` is that of the train's mission here, if it
+    /// is not ended. It has an effect only if they answer the pending question from their first on. They must be of the
+    /// line, on one track, and of that centre's home. Then the question ends. They become the pool if they follow the
+    /// hand of the mission on its track and the pool is empty. Else the result is the sections, which have to be
+    /// returned to that centre.
     pub fn info(
         &mut self,
         line: &Line,
@@ -173,7 +174,7 @@ impl Border {
         }
     }
 
-    // Whether a question stands that begins with this section.
+    // Whether a question is pending that begins with this section.
     fn is_asked(&self, first: u16) -> bool
         ensures { result ≡ has (λ asked. asked == first) self.now.asked }
     {
@@ -198,9 +199,9 @@ impl Border {
         }
     }
 
-    /// A section is wished back by the interlocking of its home: it leaves the pool with all that follow it, and these
-    /// have to be returned. None exactly where the pool has it not, and then nothing changes: a section of the hand may
-    /// be proposed to be cut off.
+    /// A section is wished back by the interlocking of its home. If it is in the pool, it leaves the pool with all
+    /// sections after it, and these have to be returned. `None` if and only if it is not in the pool; then nothing
+    /// changes. For a section of the hand a request to shorten may be sent.
     pub fn withdraw(&mut self, s: u16) -> Option<SectionRun>
         ensures run { option_map run_of result
             ≡ (if within self.old.pool s then Some (part_from s self.old.pool) else None) }
@@ -236,8 +237,8 @@ impl Border {
         pool
     }
 
-    /// The train's hand is to be longer by so many sections: those of them that are of the pool come after its last.
-    /// How many have come. What is left of the pool follows the longer hand.
+    /// Extends the train's hand by those of its next `count` sections that are in the pool, and returns their number.
+    /// The rest of the pool follows the longer hand.
     pub fn feed(&mut self, count: u16, hand: &mut Hand) -> u16
         requires hand { 1 ≤ (run hand.old).count }
         requires room { (run hand.old).count + count ≤ 32 }
@@ -263,7 +264,7 @@ impl Border {
         fed
     }
 
-    /// Ends it, where its centre does: the names in the pool end.
+    /// Ends it when its centre ends: the names in the pool end.
     pub fn end(self) {
         let Border {
             nid_engine: _,

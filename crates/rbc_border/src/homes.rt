@@ -25,7 +25,8 @@ pub(crate) fn is_of(line: &Line, home: u8, track: u8, s: u32) -> bool
     }
 }
 
-/// How many sections from the first on are of this home and on this track, one after another, at most so many.
+/// The length of the longest run of sections from the first on that are of this home and on this track, up to the
+/// limit.
 pub(crate) fn stretch(line: &Line, home: u8, track: u8, first: u16, most: u16) -> u16
     ensures { result ≡ longest (is_of line.now home track) first most }
 {
@@ -37,8 +38,8 @@ pub(crate) fn stretch(line: &Line, home: u8, track: u8, first: u16, most: u16) -
     most
 }
 
-/// Whether the sections are of the line and on one track, and all of this home. The first has to be so also where there
-/// are none.
+/// Whether the sections are of the line, on one track, and all of this home. The first has to be so even if the run is
+/// empty.
 pub(crate) fn is_of_one_home(line: &Line, home: u8, sections: SectionRun) -> bool
     ensures value { result
         ≡ ((is_of_line line.now (run_of sections) && is_home line.now home sections.first) && all_of
@@ -55,8 +56,7 @@ pub(crate) fn is_of_one_home(line: &Line, home: u8, sections: SectionRun) -> boo
     }
 }
 
-/// Those of these sections that are of this home and on this track: they follow one another. None exactly where there
-/// are none.
+/// The part of these sections that is of this home and on this track; it is a run. `None` if and only if it is empty.
 pub fn part_at(line: &Line, home: u8, track: u8, sections: SectionRun) -> Option<SectionRun>
     ensures none { is_none result ≡ is_empty (part_at line.now home track (run_of sections)) }
     ensures part { IfSome result (λ part. run_of part ≡ part_at line.now home track (run_of sections)) }
@@ -73,8 +73,8 @@ pub fn part_at(line: &Line, home: u8, track: u8, sections: SectionRun) -> Option
     None
 }
 
-/// Those of these lent sections that go home to a centre: they are of its home and on the track, and follow one
-/// another. None where there are none, and for the centre itself that returns them.
+/// The part of these lent sections that returns to a centre: it is of its home and on the track, and is a run. `None`
+/// if it is empty, and for the centre itself that returns them.
 pub fn part_of(
     line: &Line,
     centre: u8,

@@ -10,7 +10,7 @@ use crate::homes::stretch;
 use rbc_book::Book;
 use rbc_line::{Line, SectionRun};
 
-// Lends a section, where it is open.
+// Lends a section, if it is open.
 fn lend_one(book: &mut Book, nid_engine: u32, s: u16)
     ensures { LendsRun nid_engine (one s) book.old book.new }
 {
@@ -29,9 +29,9 @@ fn lend_run(book: &mut Book, nid_engine: u32, run: SectionRun)
     }
 }
 
-/// The centre is asked for sections for a train at another centre (profile): the longest run of released home sections
-/// from the first on, on one track, at most so many, is in use for the train there from now on. None exactly where the
-/// first is no section of the line, and then nothing changes and there is no answer.
+/// Another centre asks for sections for a train there (profile). They are the longest run of free home sections from
+/// the first on, on one track, up to the limit. They are in use for the train there from now on. `None` if and only if
+/// the first is not a section of the line; then nothing changes and no answer is sent.
 pub fn lend(
     line: &Line,
     centre: u8,

@@ -1,11 +1,11 @@
-//! A train at the border to the next centre. On its train's side a centre asks the next one for the sections in advance
-//! of the train's hand, and keeps the lent names of those that it was told of in the train's pool. On the other side a
-//! centre lends its released sections, and takes them back. What goes from one centre to the other stands in frames,
-//! which are made from runs of sections; the names are spent beside them. Room for the pool is made at the beginning,
-//! and no call takes memory after that. The rules are the profile's, in words of SUBSET-039 (Route Related
-//! Information); what they serve is a movement authority over the border (SUBSET-026 3.8, 3.15.1).
+//! A train at the border to the next centre. On the train's side a centre asks the next one for the sections in advance
+//! of the train's hand. It keeps the names of lent sections in the train's pool. On the other side a centre lends its
+//! free sections, and takes them back. Frames between the centres are made from runs of sections; the names end or
+//! begin beside them. Room for the pool is made at the beginning, and no call takes memory after that. The rules are
+//! the profile's, in words of SUBSET-039 (Route Related Information). They serve a movement authority over the border
+//! (SUBSET-026 3.8, 3.15.1).
 //!
-//! Bodies and proofs are free. The clauses of public functions stay, since the crates above stand on them.
+//! Bodies and proofs may change. The clauses of public functions have to stay: the crates above depend on them.
 #![tactic(auto)]
 
 mod arriving;

@@ -19,7 +19,7 @@ fn spend(token: Token)
     }
 }
 
-// The name of a section comes into a hand, after its last.
+// Adds the name of a section to a hand, after its last.
 fn add(names: &mut Hand, s: u16, nid_engine: u32, home: u8)
     requires { takes (run names.old) s ≡ true }
     ensures { names.new ≡ extended names.old s (Name nid_engine home) }
@@ -30,7 +30,7 @@ fn add(names: &mut Hand, s: u16, nid_engine: u32, home: u8)
     }
 }
 
-/// The names of these sections, which their home has lent to the train, come into an empty hand.
+/// Puts the names of these sections, which their home has lent to the train, into an empty hand.
 pub(crate) fn fill(names: &mut Hand, sections: SectionRun, nid_engine: u32, home: u8)
     requires empty { is_empty (run names.old) ≡ true }
     requires room { sections.count ≤ 32 }
@@ -53,7 +53,7 @@ fn spend_last(names: &mut Hand)
     }
 }
 
-/// So many of the last names end.
+/// The last `count` names end.
 pub(crate) fn spend_back(names: &mut Hand, count: u16)
     requires names { IsAllNames names.old }
     requires some { count ≤ length names.old.holds }
@@ -64,7 +64,7 @@ pub(crate) fn spend_back(names: &mut Hand, count: u16)
     }
 }
 
-// The first name comes after the last section of a hand.
+// Moves the first name to the end of a hand.
 fn pass_first(names: &mut Hand, hand: &mut Hand)
     requires some { 0 < length names.old.holds }
     requires hand { 0 < length hand.old.holds }
@@ -80,7 +80,7 @@ fn pass_first(names: &mut Hand, hand: &mut Hand)
     }
 }
 
-/// So many of the first names come after the last section of a hand.
+/// Moves the first `count` names to the end of a hand.
 pub(crate) fn pass(names: &mut Hand, count: u16, hand: &mut Hand)
     requires some { count ≤ length names.old.holds }
     requires hand { 0 < length hand.old.holds }

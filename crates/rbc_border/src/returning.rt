@@ -11,7 +11,7 @@ use rbc_allocation::Told;
 use rbc_book::{Back, Book};
 use rbc_line::SectionRun;
 
-// Brings a section back, where it is out for the train. Whether the interlocking is to be told.
+// Takes a section back, if it is out for the train. The result is whether the interlocking gets a report.
 fn bring_one(book: &mut Book, nid_engine: u32, s: u16) -> bool
     ensures told { result ≡ (is_out_for nid_engine (entry_at book.old s) && wish_at book.old s) }
     ensures book { BringsBack nid_engine (one s) book.old book.new }
@@ -22,8 +22,9 @@ fn bring_one(book: &mut Book, nid_engine: u32, s: u16) -> bool
     }
 }
 
-/// Sections come home that were in use for the train at another centre (profile): each of them that is out for it is
-/// given back. Those that were wished back, of which the interlocking is to be told, in rising order.
+/// Sections are returned that were in use for the train at another centre (profile). Each of them that is out for the
+/// train is given back. The result is those that were wished back, in rising order; they are reported to the
+/// interlocking.
 pub fn bring_back(book: &mut Book, nid_engine: u32, run: SectionRun) -> Told
     requires most { run.count ≤ 64 }
     requires numbers { run.first + run.count ≤ 65535 }

@@ -5,8 +5,8 @@ ghost use Rattle.rbc_border.specs.Lending.{HasBook};
 use rbc_book::Book;
 use rbc_line::Line;
 
-/// Whether some home section is in use for the train, here or at another centre. As long as one is, the train is not
-/// told to end its session with this centre (3.5.5).
+/// Whether some home section is in use for the train, here or at another centre. While one is, the train gets no order
+/// to end its session with this centre (3.5.5).
 pub fn uses_some(line: &Line, book: &Book, nid_engine: u32) -> bool
     ensures { (c : ℕ) (k : spec.Centre) → HasBook line.now c k book.now
         → result ≡ spec.uses_some line.now c k nid_engine }

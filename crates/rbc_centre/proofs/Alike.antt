@@ -1,4 +1,4 @@
--- Two outcomes that say the same.
+-- Two outcomes that are the same.
 use Rattle.std.proofs.Common.{◌≡◌, Bool, List, [], ◌∷◌, map, ap, refl}
 use Rattle.std.specs.Bool.{Decides}
 use Rattle.std.specs.Cmp.Lexicographic.{pointwise}

@@ -88,7 +88,7 @@ module _ (line : Line) (states : List TrainState) (each : (i : ℕ) (p : TrainSt
     taken = λ d. taken d i;
   }
 
-  -- ## What holds of each train
+  -- ## Properties of each train
 
   no_train : Train
   no_train = record { nid_engine = 0; registrar = 0 }
@@ -100,7 +100,7 @@ module _ (line : Line) (states : List TrainState) (each : (i : ℕ) (p : TrainSt
       let same : q.nid_engine ≡ e = cc in
       sym same ∙ eqb-true q.nid_engine t passes
 
-  -- no session stands with a train that was never heard, and no start of it waits
+  -- a train from which no message was received has no session, and no start of it waits
   each_begins : (c : ℕ) (sessions : Records) → ((u : ℕ) → phase_at sessions u ≡ centre.Closed)
       → (t i : ℕ) (p : TrainState) → train_number line t ≡ Some i → slice_get states i ≡ Some p → IsOfTrain line c sessions t i p
   each_begins c sessions closed t i p number at =

@@ -1,44 +1,47 @@
 -- A frame of another centre, and the links that it leaves.
-use Rattle.std.proofs.Common.{◌≡◌, ℕ, ◌+◌, Bool, true, false, if◌then◌else◌, List, [], length, map, set, slice_get, Option, Some, None, is_some, is_none, nat_le, inl, inr, refl, sym, ap, ◌∙◌, subst, arith, max}
-use Rattle.std.proofs.Math.Nat.{le-max_left}
+use Rattle.std.proofs.Common.{[], ◌+◌, ◌∙◌, ◌≡◌, ap, arith, Bool, false, if◌then◌else◌, inl, inr, is_none, is_some}
+use Rattle.std.proofs.Common.{length, List, map, max, nat_le, None, Option, refl, set, slice_get, Some, subst, sym}
+use Rattle.std.proofs.Common.{true, ℕ}
 use Rattle.std.proofs.lemmas.Bool.Decides.{eqb_tells}
-use Rattle.rbc_spec.specs.Maps.{put}
-use Rattle.rbc_spec.specs.Line.{Line, is_centre, train_number}
-use Rattle.rbc_spec.specs.Frame.{Frame, Body, AskRight, GiveRight, RefuseRight, ReturnRight, RouteAsk, RouteInfo, RouteWithdraw, RouteReturn, Announce, Cancel, TakingOver, Yield, HasBodyRange}
-use Rattle.rbc_spec.specs.Outcome.{Taken, Next, Old, Early, NoLink, Told}
-use Rattle.rbc_spec.specs.Centre as centre
-use Rattle.rbc_spec.specs.Acts.{Act, Reply, become, rest, ◌>>◌}
-use Rattle.rbc_spec.specs.Step as step
-use Rattle.rbc_spec.specs.Step.{Deliver, offered}
-use Rattle.rbc_spec.specs.Links.{received}
-use Rattle.law_base.proofs.Puts.{put_same}
+use Rattle.std.proofs.Math.Nat.{le-max_left}
+use Rattle.law_base.proofs.Lists.{put_same}
 use Rattle.rbc_book.specs.Book.{Pages}
-use Rattle.rbc_link.specs.declared.link.Link.{Link}
-use Rattle.rbc_link.specs.declared.link_answer.LinkAnswer.{LinkAnswer}
-use Rattle.rbc_link.specs.declared.link_answer.LinkAnswer.TheVariants as code
-use Rattle.rbc_link.specs.Inbox.{answer_of, taken_after}
-use Rattle.rbc_link.specs.Links.{has_link, sent_to, taken_from, room_to, KeepsLinks, HasRoom}
-use Rattle.rbc_link.specs.Outgoing.{frames_by}
-use Rattle.rbc_linkmsg.specs.Bodies.{body_of, engine_in}
-use Rattle.rbc_linkmsg.specs.declared.body.Body.{Body as BodyCode}
-use Rattle.rbc_right.specs.Rights.{Rights}
-use Rattle.rbc_handover.specs.Expectations.{expected_from}
-use Rattle.rbc_train.specs.Desk.{HasParts, KeepsTrain, KeepsDesk, with_parts, reply_left}
-use Rattle.rbc_train.specs.Letters.{mail_to}
-use Rattle.rbc_train.specs.Sayings.{told_train}
-use Rattle.rbc_train.specs.declared.heard.Heard.{Heard}
-use Rattle.rbc_train.specs.declared.train.TrainState.{TrainState}
+use Rattle.rbc_centre.proofs.Kept.{left_by, links_still, trains_still}
+use Rattle.rbc_centre.proofs.Posts.{linked_centre, mail_few}
+use Rattle.rbc_centre.proofs.Steps as Steps
+use Rattle.rbc_centre.proofs.Steps.{effect_of, outcome_with, replied, stands_kept, ticked_is}
+use Rattle.rbc_centre.proofs.Trains.{same_count}
+use Rattle.rbc_centre.proofs.Turns.{is_known, left, mail_left, may_be_sent, parts}
+use Rattle.rbc_centre.specs.declared.centre.Centre.{Centre as CentreCode}
 use Rattle.rbc_centre.specs.Kept.{IsCentre}
 use Rattle.rbc_centre.specs.Posts.{MayPost}
 use Rattle.rbc_centre.specs.State.{stands_for}
 use Rattle.rbc_centre.specs.States.{state_of}
-use Rattle.rbc_centre.specs.declared.centre.Centre.{Centre as CentreCode}
-use Rattle.rbc_centre.proofs.Kept.{links_still, trains_still, left_by}
-use Rattle.rbc_centre.proofs.Steps.{ticked_is, stands_kept, replied, effect_of, outcome_with}
-use Rattle.rbc_centre.proofs.Steps as Steps
-use Rattle.rbc_centre.proofs.Posts.{mail_few, linked_centre}
-use Rattle.rbc_centre.proofs.Trains.{same_count}
-use Rattle.rbc_centre.proofs.Turns.{parts, is_known, left, mail_left, may_be_sent}
+use Rattle.rbc_handover.specs.Expectations.{expected_from}
+use Rattle.rbc_link.specs.declared.link.Link.{Link}
+use Rattle.rbc_link.specs.declared.link_answer.LinkAnswer.{LinkAnswer}
+use Rattle.rbc_link.specs.declared.link_answer.LinkAnswer.TheVariants as code
+use Rattle.rbc_link.specs.Inbox.{answer_of, taken_after}
+use Rattle.rbc_link.specs.Links.{has_link, HasRoom, KeepsLinks, room_to, sent_to, taken_from}
+use Rattle.rbc_link.specs.Outgoing.{frames_by}
+use Rattle.rbc_linkmsg.specs.Bodies.{body_of, engine_in}
+use Rattle.rbc_linkmsg.specs.declared.body.Body.{Body as BodyCode}
+use Rattle.rbc_right.specs.Rights.{Rights}
+use Rattle.rbc_spec.specs.Acts.{◌>>◌, Act, become, Reply, rest}
+use Rattle.rbc_spec.specs.Centre as centre
+use Rattle.rbc_spec.specs.Frame.{Announce, AskRight, Body, Cancel, Frame, GiveRight, HasBodyRange, RefuseRight}
+use Rattle.rbc_spec.specs.Frame.{ReturnRight, RouteAsk, RouteInfo, RouteReturn, RouteWithdraw, TakingOver, Yield}
+use Rattle.rbc_spec.specs.Line.{is_centre, Line, train_number}
+use Rattle.rbc_spec.specs.Links.{received}
+use Rattle.rbc_spec.specs.Maps.{put}
+use Rattle.rbc_spec.specs.Outcome.{Early, Next, NoLink, Old, Taken, Told}
+use Rattle.rbc_spec.specs.Step as step
+use Rattle.rbc_spec.specs.Step.{Deliver, offered}
+use Rattle.rbc_train.specs.declared.heard.Heard.{Heard}
+use Rattle.rbc_train.specs.declared.train.TrainState.{TrainState}
+use Rattle.rbc_train.specs.Desk.{HasParts, KeepsDesk, KeepsTrain, reply_left, with_parts}
+use Rattle.rbc_train.specs.Letters.{mail_to}
+use Rattle.rbc_train.specs.Sayings.{told_train}
 
 -- ## A frame
 
@@ -62,7 +65,7 @@ changed_then : (change : centre.Centre → centre.Centre) (act : Act) (k : centr
 unfolding ◌>>◌
 changed_then change act k = refl
 
--- ## What the link says
+-- ## The answer of the link
 
 abbrev pub is_next : Taken → Bool
 is_next Next = true
@@ -84,7 +87,7 @@ pub deliver_stamp : (k : CentreCode) (d : ℕ) (f : Frame) → step.stamp_of (st
 unfolding stands_for
 deliver_stamp k d f = refl
 
--- what is ensured of offering the link of centre d a frame
+-- the facts after the link of centre d was offered a frame
 pub record IsOffered (k : CentreCode) (d : ℕ) (f : Frame) (mid : List (Link BodyCode)) (answer : Taken) : Type 0 where
   pub offer : answer ≡ (if has_link k.links d then offered (taken_from k.links d) f.number else NoLink)
   pub count : length mid ≡ length k.links
@@ -140,7 +143,7 @@ module _ (k : CentreCode) (clock d : ℕ) (f : Frame) (mid : List (Link BodyCode
       ∙ by_answer answer says apart
       ∙ ap (λ (x : centre.Centre). effect_of (replied x (λ e. []) [] []) (Some answer) None) (sym (stands_kept k.line k.number clock k.book k.desk k.links mid k.trains.items (keeps apart)))
 
-  -- the next one is counted, and comes to what its body comes to
+  -- the next frame is counted, and has the effect of its body
   counted_is : answer ≡ Next → record old { taken = put (taken_from k.links) d f.number } ≡ at
   unfolding stands_for
   counted_is next = λ i. record old {
@@ -156,7 +159,7 @@ module _ (k : CentreCode) (clock d : ℕ) (f : Frame) (mid : List (Link BodyCode
       ∙ rw (says ∙ next) (ap (λ (r : Reply). record { reply = r; link = Some Next; silence = None })
       (changed_then (λ j. record j { taken = put j.taken d f.number }) (received k.line k.number d f.body) old ∙ ap (received k.line k.number d f.body) (counted_is next)))
 
-  -- a train of the line takes what it says
+  -- a train of the line takes the effect of the frame
   pub train_takes : answer ≡ Next → (t i : ℕ) (train : TrainState) (number : train_number k.line t ≡ Some i) (here : slice_get k.trains.items i ≡ Some train)
       → (new : TrainState) (book : Pages) (rights : Rights) (kept : KeepsTrain train new) (desk : KeepsDesk train.supervision.number k.book book k.desk.registrar rights) (heard : Heard)
       → ((x : centre.Centre) → HasParts k.line k.number x train k.book k.desk.registrar → is_none (train_number k.line train.supervision.engine) ≡ false
@@ -173,7 +176,7 @@ module _ (k : CentreCode) (clock d : ℕ) (f : Frame) (mid : List (Link BodyCode
       (same_count k.line k.number clock k.book k.desk mid k.trains.items new book rights ∙ left k t i train number here clock mid new book rights k.desk.handovers kept desk))
       ∙ (λ j. effect_of (replied now (λ e. mail_left k t i train number here clock mid new book rights k.desk.handovers kept desk heard.mail e j) (told_train heard.saying heard.order) (map (λ s. Told s) heard.told)) (Some (sym next j)) None)
 
-  -- and a body of no train of the line has no effect
+  -- a body of no train of the line has no effect
   pub ignored : answer ≡ Next → is_some (train_number k.line (engine_in f.body)) ≡ false
       → step.effect k.line k.number (step.ticked clock (state_of k)) (Deliver d f) ≡ effect_of (replied at (λ e. []) [] []) (Some answer) None
   ignored next foreign =
@@ -181,7 +184,7 @@ module _ (k : CentreCode) (clock d : ℕ) (f : Frame) (mid : List (Link BodyCode
       ∙ ap (λ (r : Reply). record { reply = r; link = Some Next; silence = None }) (foreign_body k.line k.number d f.body at foreign)
       ∙ ap (λ (a : Taken). effect_of (replied at (λ e. []) [] []) (Some a) None) (sym next)
 
-  -- what stays true of a centre that sends nothing, of whose trains none has changed
+  -- the invariants of a centre that sends nothing and keeps all trains as they are
   module _ (stamp : step.stamp_of (state_of k) (Deliver d f) ≡ clock) (range : HasBodyRange f.body)
       (effect : step.effect k.line k.number (step.ticked clock (state_of k)) (Deliver d f) ≡ effect_of (replied at (λ e. []) [] []) (Some answer) None) where
     pub silent : (outcome_with clock (λ e. []) [] [] (Some answer) None, at) ≡ step.taken k.line k.number (Deliver d f) (state_of k)
@@ -196,7 +199,7 @@ module _ (k : CentreCode) (clock d : ℕ) (f : Frame) (mid : List (Link BodyCode
         (links_still k.line k.number k.links mid is.count is.linked is.sent k.rules.all_links)
         (trains_still k.line k.number k.clock clock k.sessions k.trains.items (omega (arith, low, now, stamp)) k.rules.all_trains)
 
--- what a frame is heard to leave for other centres may be posted
+-- the frames in return for a frame may be sent
 pub received_may : (k : CentreCode) (d : ℕ) (f : Frame) (clock : ℕ) (mid : List (Link BodyCode)) (x : centre.Centre) (old : TrainState) (e : ℕ → Option centre.Expectation) (heard : Heard) (answer : Taken)
     → step.stamp_of (state_of k) (Deliver d f) ≡ clock → ((e : ℕ) → sent_to mid e ≡ sent_to k.links e)
     → step.effect k.line k.number (step.ticked clock (state_of k)) (Deliver d f)
@@ -227,7 +230,7 @@ offered_next count n said = elim (eqb_tells n (count + 1)) [
   | inr e ↦ absurd (late (nat_le n count) (subst (λ b. (if b then Next else (if nat_le n count then Old else Early)) ≡ Next) (e.0) said))
 ]
 
--- and its number is above that of the last that was taken
+-- the number of the next frame is one above that of the last that was taken
 pub next_number : (k : CentreCode) (d : ℕ) (f : Frame) (mid : List (Link BodyCode)) (answer : Taken) → IsOffered k d f mid answer → answer ≡ Next → f.number ≡ (state_of k).taken d + 1
 unfolding stands_for
 next_number k d f mid answer is next = by (has_link k.links d) (sym is.offer ∙ next)

@@ -1,18 +1,19 @@
 -- Sections that go to no other centre.
-use Rattle.std.proofs.Common.{◌≡◌, ℕ, ◌+◌, ◌<◌, ◌≤◌, ◌==◌, ◌||◌, Bool, true, false, [], ◌∷◌, if◌then◌else◌, nat_lt, nat_le, refl, sym, ap, ◌∙◌, arith, ⊎_elim, eq-eqb}
-use Rattle.std.proofs.lemmas.Bool.{cond-true, and_parts, and_from, or_left, or_right, cases_lt, lt-ltb, le-leb}
-use Rattle.rbc_spec.specs.SectionRuns.{SectionRun, within, is_empty, shared}
-use Rattle.rbc_spec.specs.Line.{Line, IsLine, is_home}
-use Rattle.rbc_spec.specs.Sections.{is_on, home_run}
-use Rattle.rbc_spec.specs.Frame.{RouteReturn}
-use Rattle.rbc_spec.specs.Centre.{beginning}
-use Rattle.rbc_spec.specs.Acts.{returned}
+use Rattle.std.proofs.Common.{[], ⊎_elim, ◌+◌, ◌<◌, ◌==◌, ◌||◌, ◌∙◌, ◌∷◌, ◌≡◌, ◌≤◌, ap, arith, Bool, eq-eqb, false}
+use Rattle.std.proofs.Common.{if◌then◌else◌, nat_le, nat_lt, refl, sym, true, ℕ}
+use Rattle.std.proofs.lemmas.Bool.{and_from, and_parts, cases_lt, cond-true, le-leb, lt-ltb, or_left, or_right}
+use Rattle.law_base.proofs.LocalLemmas.Stays.{all_home, none_returned}
+use Rattle.law_base.proofs.LocalLemmas.Worlds.{is_ordered}
 use Rattle.law_base.specs.Local.Local.{IsOrdered}
-use Rattle.law_base.proofs.LocalLemmas.Ordered.{is_ordered}
-use Rattle.law_base.proofs.LocalLemmas.Simple.{all_home, none_returned}
+use Rattle.rbc_spec.specs.Acts.{returned}
+use Rattle.rbc_spec.specs.Centre.{beginning}
+use Rattle.rbc_spec.specs.Frame.{RouteReturn}
+use Rattle.rbc_spec.specs.Line.{is_home, IsLine, Line}
+use Rattle.rbc_spec.specs.SectionRuns.{is_empty, SectionRun, shared, within}
+use Rattle.rbc_spec.specs.Sections.{home_run, is_on}
 use Rattle.rbc_train.specs.Letters.{going_home}
 
--- those of a centre's own home
+-- sections of a centre's own home go to no other centre
 pub none_goes : (line : Line) (c t track : ℕ) (r : SectionRun) (d : ℕ) → IsLine line → ((s : ℕ) → within r s ≡ true → is_home line c s ≡ true) → going_home line c t track r d ≡ []
 none_goes line c t track r d ok home = by (is_empty r)
   where
@@ -20,7 +21,7 @@ none_goes line c t track r d ok home = by (is_empty r)
     by true = refl
     by false = ap (λ reply. reply.frames d) (none_returned line c t track r (beginning line c) (all_home line c track r (is_ordered line ok) home))
 
--- where two runs share some, the first of what they share is within both
+-- the first of the sections that two runs share is within both
 shared_first : (a b : SectionRun) → 0 < (shared a b).count → (within a (shared a b).first ≡ true) × (within b (shared a b).first ≡ true)
 unfolding within
 shared_first a b some = (
@@ -28,7 +29,7 @@ shared_first a b some = (
   and_from (nat_le b.first (shared a b).first) (nat_lt (shared a b).first (b.first + b.count)) (le-leb b.first (shared a b).first (omega arith)) (lt-ltb (shared a b).first (b.first + b.count) (omega arith)),
 )
 
--- and those of which none is of the home of another
+-- sections of which none is of the home of another centre do not go to that centre
 pub none_goes_to : (line : Line) (c t track : ℕ) (r : SectionRun) (d : ℕ) → IsLine line → ((s : ℕ) → within r s ≡ true → is_home line d s ≡ true → d ≡ c) → going_home line c t track r d ≡ []
 none_goes_to line c t track r d ok home = by (is_empty r)
   where

@@ -1,47 +1,48 @@
--- What stays true of a centre.
-use Rattle.std.proofs.Common.{◌≡◌, ◌≢◌, ℕ, ◌+◌, ◌-◌, ◌*◌, ◌<◌, ◌≤◌, List, length, Some, None, slice_get, set, sym, ◌∙◌, subst, arith, All}
+-- The invariants of a centre.
+use Rattle.std.proofs.Common.{◌*◌, ◌+◌, ◌-◌, ◌<◌, ◌∙◌, ◌≡◌, ◌≢◌, ◌≤◌, All, arith, length, List, None, set, slice_get}
+use Rattle.std.proofs.Common.{Some, subst, sym, ℕ}
 use Rattle.std.proofs.Math.ListN.{length-set}
 use Rattle.std.proofs.Math.Logic.{∥∥₁_elim, ∥∥₁_map, ∥∥₁_map₂}
 use Rattle.std.proofs.Props.{props}
 use Rattle.std.specs.Coded.{le_prop}
-use Rattle.rbc_spec.specs.Line.{Line, IsLine, train_number}
-use Rattle.rbc_spec.specs.Frame.{HasFrameRanges, Body as BodySent, last_stamp}
-use Rattle.rbc_spec.specs.Outcome.{Outcome}
-use Rattle.rbc_spec.specs.Centre as centre
-use Rattle.rbc_spec.specs.Centre.{Mission}
-use Rattle.rbc_spec.specs.Step as step
-use Rattle.rbc_spec.specs.Step.{Event, Train, Set, Unset, Deliver}
-use Rattle.law_base.proofs.Lines.{on_line}
+use Rattle.law_base.proofs.Lists.{on_line}
+use Rattle.law_base.proofs.LocalLemmas.Worlds.{is_ordered}
 use Rattle.law_base.proofs.Runs.{within_from}
 use Rattle.law_base.specs.Local.Local.{IsOrdered}
-use Rattle.law_base.proofs.LocalLemmas.Ordered.{is_ordered}
-use Rattle.law_invariants.specs.Flow.Sound.{IsCentreSound}
-use Rattle.law_invariants.specs.Sound.Stays.{IsInRange}
-use Rattle.law_invariants.proofs.SoundLemmas.Events.{stays_sound}
-use Rattle.law_invariants.proofs.SoundLemmas.Ranges.{range_hand}
-use Rattle.law_invariants.specs.Ranges.Ranges.{HasEventRanges, HasStateRanges, IsSentInRange}
 use Rattle.law_invariants.proofs.RangesLemmas.Steps.{stays_in_range}
-use Rattle.rbc_book.specs.Book.{Pages, is_own}
+use Rattle.law_invariants.proofs.SoundLemmas.Events.{stays_sound}
+use Rattle.law_invariants.proofs.SoundLemmas.Worlds.{range_hand}
+use Rattle.law_invariants.specs.Flow.Sound.{IsCentreSound}
+use Rattle.law_invariants.specs.Ranges.Ranges.{HasEventRanges, HasStateRanges, IsSentInRange}
+use Rattle.law_invariants.specs.Sound.Stays.{IsInRange}
+use Rattle.rbc_book.specs.Book.{is_own, Pages}
+use Rattle.rbc_centre.proofs.SentFrames.{each_frame_after}
+use Rattle.rbc_centre.proofs.States.{each_after, each_train_after, number_within}
+use Rattle.rbc_centre.proofs.Steps.{stands_kept}
+use Rattle.rbc_centre.specs.declared.centre.Centre.{Centre as CentreCode}
+use Rattle.rbc_centre.specs.declared.desk.Desk.{Desk}
+use Rattle.rbc_centre.specs.Kept.{AreLinks, AreTrains, IsCentre}
+use Rattle.rbc_centre.specs.Posts.{MayPost}
+use Rattle.rbc_centre.specs.Ranges.{AreSent-prop}
+use Rattle.rbc_centre.specs.State.{IsOfTrain, stands_for}
+use Rattle.rbc_centre.specs.States.{state_of}
 use Rattle.rbc_link.specs.declared.link.Link.{Link}
 use Rattle.rbc_link.specs.declared.sent.Sent.{Sent}
-use Rattle.rbc_link.specs.Links.{has_link, sent_to, KeepsLinks}
+use Rattle.rbc_link.specs.Links.{has_link, KeepsLinks, sent_to}
 use Rattle.rbc_link.specs.Outgoing.{frames_by}
 use Rattle.rbc_link.specs.Posted.{HasPosted}
 use Rattle.rbc_linkmsg.specs.Bodies.{body_of}
 use Rattle.rbc_linkmsg.specs.declared.body.Body.{Body}
-use Rattle.rbc_train.specs.rbc_mission.Supervisions.{HasRouteForm}
 use Rattle.rbc_session.specs.Sessions.{Records}
+use Rattle.rbc_spec.specs.Centre as centre
+use Rattle.rbc_spec.specs.Centre.{Mission}
+use Rattle.rbc_spec.specs.Frame.{Body as BodySent, HasFrameRanges, last_stamp}
+use Rattle.rbc_spec.specs.Line.{IsLine, Line, train_number}
+use Rattle.rbc_spec.specs.Outcome.{Outcome}
+use Rattle.rbc_spec.specs.Step as step
+use Rattle.rbc_spec.specs.Step.{Deliver, Event, Set, Train, Unset}
 use Rattle.rbc_train.specs.declared.train.TrainState.{TrainState}
-use Rattle.rbc_centre.specs.Kept.{IsCentre, AreLinks, AreTrains}
-use Rattle.rbc_centre.specs.Posts.{MayPost}
-use Rattle.rbc_centre.specs.Ranges.{AreSent-prop}
-use Rattle.rbc_centre.specs.State.{stands_for, IsOfTrain}
-use Rattle.rbc_centre.specs.States.{state_of}
-use Rattle.rbc_centre.specs.declared.centre.Centre.{Centre as CentreCode}
-use Rattle.rbc_centre.specs.declared.desk.Desk.{Desk}
-use Rattle.rbc_centre.proofs.SentFrames.{each_frame_after}
-use Rattle.rbc_centre.proofs.States.{number_within, each_after, each_train_after}
-use Rattle.rbc_centre.proofs.Steps.{stands_kept}
+use Rattle.rbc_train.specs.rbc_mission.Supervisions.{HasRouteForm}
 
 -- ## The line
 
@@ -71,7 +72,7 @@ module _ (line : Line) (c : ℕ) (k : centre.Centre) (rules : ∥ IsLine line �
 
 -- ## The links and the trains
 
--- links that differ in room and in what was taken alone
+-- links that differ only in room and in the counts of taken frames
 pub links_still : (line : Line) (c : ℕ) (old new : List (Link Body)) → length new ≡ length old → ((d : ℕ) → has_link new d ≡ has_link old d) → ((d : ℕ) → sent_to new d ≡ sent_to old d)
     → AreLinks line c old → AreLinks line c new
 links_still line c old new count linked same are = record {
@@ -161,7 +162,7 @@ with_room k sessions links keeps each =
       ranged = subst (λ (x : centre.Centre). ∥ HasStateRanges k.line k.number x ∥₁) (sym is) k.rules.ranged;
     }
 
--- what it sends goes on links, and each field has its range
+-- its frames are sent on links, and each field has its range
 pub sent_in : (line : Line) (c : ℕ) (k : centre.Centre) (event : Event) → ∥ IsLine line ∥₁ → step.refusal line c k event ≡ None → HasEventRanges line c event → ∥ HasStateRanges line c k ∥₁
     → (d : ℕ) → All (IsSentInRange line c d) ((step.effect line c (step.ticked (step.stamp_of k event) k) event).reply.frames d)
 sent_in line c k event rules allowed ranges ranged d =

@@ -1,4 +1,4 @@
--- What a step sends: frames on the links, and the list of them.
+-- The frames of a step: frames on the links, and the list of them.
 use Rattle.std.proofs.Common.{◌≡◌, ◌⊎◌, ℕ, ◌+◌, ◌<◌, ◌≤◌, ◌==◌, ◌&&◌, ◌||◌, not, if◌then◌else◌, nat_lt, Bool, true, false, List, [], ◌∷◌, ◌++◌, length, length-append, append-nil, append_assoc, Option, Some, None, refl, sym, ap, ◌∙◌, subst, arith, inl, inr, ⊎_elim, All, ltb-true}
 use Rattle.std.proofs.lemmas.Bool.{and_parts, and_from, both_ways, cases_Bool, cases_lt, ltb-false}
 use Rattle.std.proofs.lemmas.Bool.Decides.{eqb_tells, nat_tests}
@@ -50,7 +50,7 @@ linked_below line c d linked =
 pub linked_centre : (line : Line) (c d : ℕ) → is_linked line c d ≡ true → is_centre line d ≡ true
 linked_centre line c d linked = (and_parts (is_centre line c) (is_centre line d) (and_parts (is_centre line c && is_centre line d) (not (c == d)) linked).0).1
 
--- where no link is full there are numbers left on each
+-- if no link is full, each has numbers left
 has_numbers : (line : Line) (c d : ℕ) (k : centre.Centre) → is_linked line c d ≡ true → has_full_link line c k ≡ false → length (k.sent d) ≤ 65532
 has_numbers line c d k linked none = elim (cases_Bool (nat_lt 65532 (length (k.sent d)))) [
   | inl full ↦ absurd (both_ways (has_full_link line c k) none
@@ -101,7 +101,7 @@ mail_few line c t e mail d =
     letter_few None = omega arith
     letter_few (Some l) = one_or_none (d == l.to) (body_of l.body)
 
--- bodies that go on links, each in its ranges, may be posted where no link is full and each has room for them
+-- bodies to linked centres, each in its ranges, may be sent if no link is full and each has room for them
 pub may_post : (line : Line) (c clock : ℕ) (pages : Pages) (desk : Desk) (old links : List (Link Body)) (states : List TrainState) (d : ℕ) (bodies : List spec.Body)
     → has_full_link line c (stands_for line c clock pages desk old states) ≡ false → has_link links d ≡ is_linked line c d → sent_to links d ≡ sent_to old d
     → All (IsSentInRange line c d) bodies → length bodies ≤ 4 → (has_link links d ≡ true → length bodies ≤ room_to links d) → MayPost links d bodies
@@ -144,7 +144,7 @@ may_after stamp sent old new d xs ys posted is may =
 pub only_here : (to : ℕ) (bodies : List spec.Body) → only to bodies to ≡ bodies
 only_here to bodies = elim (eqb_tells to to) as (λ _. only to bodies to ≡ bodies) [ inl e ↦ rw (e.0) refl | inr e ↦ absurd (e.1 refl) ]
 
--- where one of four parts has a body, they are not none
+-- if one of four parts has a body, all four together have one
 pub some_of : {R : Type 0} (xs ys zs us : List spec.Body) → 1 ≤ length xs + (length ys + (length zs + length us)) → (xs ++ (ys ++ (zs ++ us)) ≡ []) ⊎ R → R
 some_of xs ys zs us some (inr r) = r
 some_of xs ys zs us some (inl none) =
@@ -154,10 +154,10 @@ some_of xs ys zs us some (inl none) =
     let all = ap length none in
     absurd (omega (arith, outer, inner, inmost, all, some))
 
--- ## What was sent
+-- ## The frames that were sent
 
 module _ (stamp : ℕ) where
-  -- the same in other words
+  -- the same for equal bodies
   pub sent_as : (xs ys : ℕ → List spec.Body) (old new : List (Link Body)) (before after : List SentFrame) → ((d : ℕ) → xs d ≡ ys d) → HasSent stamp xs old new before after → HasSent stamp ys old new before after
   sent_as xs ys old new before after same sent = subst (λ (bodies : ℕ → List spec.Body). HasSent stamp bodies old new before after) (λ i d. same d i) sent
 
@@ -217,11 +217,11 @@ module _ (stamp : ℕ) where
 
 -- ## One centre after another
 
--- what the centres below a number are sent
+-- the bodies for the centres below a number
 abbrev pub below : (ℕ → List spec.Body) → ℕ → ℕ → List spec.Body
 below bodies n d = if nat_lt d n then bodies d else []
 
--- where those below it are sent nothing
+-- if those below it get nothing
 pub none_below : (stamp : ℕ) (bodies : ℕ → List spec.Body) (n : ℕ) (links : List (Link Body)) (list : List SentFrame) → ((d : ℕ) → d < n → bodies d ≡ []) → HasSent stamp (below bodies n) links links list list
 none_below stamp bodies n links list none = sent_as stamp (λ d. []) (below bodies n) links links list list before (none_sent stamp links list)
   where
@@ -262,7 +262,7 @@ one_more stamp bodies n old mid new a b c first second =
           (λ high. let at = later bodies n d high in rw (at.0, at.1, e.0) refl)
     ]
 
--- where no centre from a number on is sent anything
+-- if no centre from a number on gets anything
 pub all_below : (bodies : ℕ → List spec.Body) (n : ℕ) → ((d : ℕ) → n ≤ d → bodies d ≡ []) → (d : ℕ) → below bodies n d ≡ bodies d
 all_below bodies n none d = ⊎_elim
     (λ (low : d < n). let is : nat_lt d n ≡ true = grind (arith, nat_tests, low) in rw is refl)

@@ -44,7 +44,7 @@ pub few_to : (f : Frames) (d : ℕ) → length (frames_to f d) ≤ 4
 unfolding frames_to
 few_to f d = f.few d
 
--- where no centre is sent a frame, there is none
+-- if no centre is sent a frame, the list is empty
 pub none_listed : (list : List SentFrame) → ((d : ℕ) → frames_in list d ≡ []) → list ≡ []
 none_listed [] none = refl
 none_listed (x ∷ xs) none = absurd (some (x.to == x.to) (eq-eqb x.to x.to refl) (none x.to))
@@ -53,7 +53,7 @@ none_listed (x ∷ xs) none = absurd (some (x.to == x.to) (eq-eqb x.to x.to refl
     some true is e = cc
     some false is e = cc
 
--- two that send the same to each of so many centres, and nothing to others
+-- two lists that send the same to each of the first centres, and nothing to others
 pub same_all : (f g : Frames) (n : ℕ) → 8 ≤ n → ((d : ℕ) → d < n → frames_to f d ≡ frames_to g d) → frames_to f ≡ frames_to g
 unfolding frames_to
 same_all f g n all same = λ i d. each d i

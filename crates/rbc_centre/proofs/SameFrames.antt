@@ -1,4 +1,4 @@
--- Two frames are one exactly where `==` says so.
+-- Two frames are equal if and only if `==` gives true.
 use Rattle.std.proofs.Common.{◌≡◌, true, refl, sym, ap, ◌∙◌, subst, rules, eq-eqb}
 use Rattle.std.specs.Bool.{Decides}
 use Rattle.std.specs.Cmp.{booleans_Decides}
@@ -84,7 +84,7 @@ itself (Cancel number t) = search rules
 itself (TakingOver number t) = search rules
 itself (Yield number t yielding) = search (rules, yielding_itself)
 
--- a frame shows its body as the rules have it, and goes back to the one in memory
+-- a body of the rules, and the body in memory that has it
 body_there : (b : spec.Body) → body_of (body_back b) ≡ b
 body_there (spec.AskRight t) = refl
 body_there (spec.GiveRight t) = refl

@@ -25,7 +25,7 @@ in_range stamp count (b ∷ bs) low high few all =
     (record { number = (omega arith, omega (arith, few)); stamp = (low, high); body = All-head HasBodyRange b bs all })
     (in_range stamp (count + 1) bs low high (omega (arith, few)) (All-tail HasBodyRange b bs all))
 
--- each frame of what may be posted is in its ranges
+-- each frame of bodies that may be sent is in its ranges
 pub posted_in_range : (stamp : ℕ) (bodies : ℕ → List spec.Body) (links : List (Link Body)) → 1 ≤ stamp → stamp ≤ last_stamp → ((d : ℕ) → MayPost links d (bodies d))
     → (d : ℕ) → All HasFrameRanges (numbered stamp (length (sent_to links d)) (bodies d))
 posted_in_range stamp bodies links low high may d = of_bodies (bodies d) (may d)
@@ -51,7 +51,7 @@ get-map f [] i = refl
 get-map f (x ∷ xs) zero = refl
 get-map f (x ∷ xs) (suc i) = get-map f xs i
 
--- what is got of the links is the frame of that number
+-- the result of the links is the frame of that number
 pub frame_number-by : (frames : List (Sent Body)) (number : ℕ) → option_map (frame_by body_of) (outgoing.frame_number frames number) ≡ frame_number (frames_by body_of frames) number
 frame_number-by frames number = by_test (number == 0)
   where
@@ -59,7 +59,7 @@ frame_number-by frames number = by_test (number == 0)
     by_test true = refl
     by_test false = sym (get-map (frame_by body_of) frames (number - 1))
 
--- and it is in its ranges
+-- the frame of that number is in its ranges
 pub frame_in_range : (frames : List (Sent Body)) (number : ℕ) (sent : Sent Body) → All HasFrameRanges (frames_by body_of frames) → outgoing.frame_number frames number ≡ Some sent
     → HasFrameRanges (frame_by body_of sent)
 frame_in_range frames number sent all is = by_test (number == 0) is

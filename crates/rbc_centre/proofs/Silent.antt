@@ -1,4 +1,4 @@
--- A train's message by which no other centre is told anything sends nothing.
+-- A train's message without an effect on another centre sends no frame.
 use Rattle.std.proofs.Common.{◌≡◌, ℕ, true, false, [], ◌++◌, Option, Some, None, refl, ap, ◌∙◌}
 use Rattle.std.specs.Option.{option_map_or}
 use Rattle.rbc_spec.specs.Maps.{put}

@@ -1,4 +1,4 @@
--- Laws of what is kept of sections and trains.
+-- Laws of the states of sections and trains.
 use Rattle.std.proofs.Common.{◌≡◌, ℕ, zero, suc, ◌==◌, ◌<◌, ◌≢◌, Bool, false, List, [], ◌∷◌, length, Option, Some, None, slice_get, set, refl, sym, ap, ◌∙◌, subst, inl, inr, arith, option_and_then}
 use Rattle.std.proofs.lemmas.Bool.Decides.{eqb_tells, nat_tests}
 use Rattle.std.proofs.lemmas.List.Quantifiers.{position-Some}
@@ -55,7 +55,7 @@ module _ {X : Type 0} (part : TrainState → X) (none : X) where
   unchanged states i new (Some j) h = ap (λ o. option_map_or part o none) (slice_get-set_other states i j new (λ e. h (ap (λ k. Some k) e)))
   unchanged states i new None h = refl
 
-  -- the state at a train's number changes for that train alone
+  -- a change at a train's number changes only the state of that train
   pub of_trains-set : (line : Line) (states : List TrainState) (t i : ℕ) (state : TrainState)
       → train_number line t ≡ Some i → i < length states → (u : ℕ) → of_trains part none line (set states i state) u ≡ put (of_trains part none line states) t (part state) u
   of_trains-set line states t i state h within u =
@@ -82,7 +82,7 @@ right_turned line old new t i b h turned u = elim (eqb_tells u t) as (λ _. righ
       | inr e ↦ rw (e.0) refl
     ]
 
--- ## What is kept of a train
+-- ## The state of a train
 
 -- the number of a train of the line is one of those kept
 pub number_within : (line : Line) (states : List TrainState) (t i : ℕ) → train_number line t ≡ Some i → length states ≡ length line.trains → i < length states
@@ -95,7 +95,7 @@ part_of_train part none line states t i state number at =
 pub part_of_foreign : {X : Type 0} (part : TrainState → X) (none : X) (line : Line) (states : List TrainState) (t : ℕ) → train_number line t ≡ None → none ≡ of_trains part none line states t
 part_of_foreign part none line states t number = sym (ap (λ n. option_map_or part (option_and_then (λ j. slice_get states j) n) none) number)
 
--- what holds of each state, after a change of one
+-- a property of each state, after a change of one
 pub each_after : (P : ℕ → TrainState → Type 0) (states : List TrainState) (i : ℕ) (new : TrainState) → i < length states → P i new
     → ((j : ℕ) (p : TrainState) → j ≢ i → slice_get states j ≡ Some p → P j p) → (j : ℕ) (p : TrainState) → slice_get (set states i new) j ≡ Some p → P j p
 each_after P states i new within here others j p found = elim (eqb_tells j i) as (λ _. P j p) [
@@ -110,7 +110,7 @@ each_after P states i new within here others j p found = elim (eqb_tells j i) as
 pub other_train : (line : Line) (t u i j : ℕ) → train_number line t ≡ Some i → train_number line u ≡ Some j → j ≢ i → u ≢ t
 other_train line t u i j at_t at_u apart same = apart (let e : Some j ≡ Some i = sym at_u ∙ ap (train_number line) same ∙ at_t in cc)
 
--- what holds of each train of the line, by its number, after a change of one
+-- a property of each train of the line, by its number, after a change of one
 pub each_train_after : (P : ℕ → ℕ → TrainState → Type 0) (line : Line) (states : List TrainState) (t i : ℕ) (state : TrainState) → i < length states → train_number line t ≡ Some i → P t i state
     → ((u j : ℕ) (p : TrainState) → u ≢ t → train_number line u ≡ Some j → slice_get states j ≡ Some p → P u j p)
     → (u j : ℕ) (p : TrainState) → train_number line u ≡ Some j → slice_get (set states i state) j ≡ Some p → P u j p
@@ -120,7 +120,7 @@ each_train_after P line states t i state within at_t here each u j p at_u found 
     (λ n q apart at number. each u n q (other_train line t u i n at_t number apart) number at)
     j p found at_u
 
--- what stands with another train, where one has changed
+-- the state of another train, if one has changed
 pub stands_beside : (line : Line) (c : ℕ) (old new : Records) (s : SessionState) (t u j : ℕ) (p : TrainState) (phase : Phase) → Enters old new s t phase → u ≢ t
     → IsOfTrain line c old u j p → IsOfTrain line c new u j p
 stands_beside line c old new s t u j p phase enters apart is = record {

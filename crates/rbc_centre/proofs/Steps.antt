@@ -29,7 +29,7 @@ use Rattle.rbc_centre.specs.declared.event.Event.TheVariants as code
 use Rattle.rbc_centre.specs.declared.fault.StepFault.{StepFault}
 use Rattle.rbc_centre.specs.declared.fault.StepFault.TheVariants as fault
 
--- ## What the parts of a centre stand for
+-- ## The plain data of a centre's parts
 
 -- a clock that ticks changes nothing else
 pub ticked_is : (line : Line) (c old clock : ℕ) (pages : Pages) (desk : Desk) (links : List (Link Body)) (states : List TrainState)
@@ -37,7 +37,7 @@ pub ticked_is : (line : Line) (c old clock : ℕ) (pages : Pages) (desk : Desk) 
 unfolding stands_for
 ticked_is line c old clock pages desk links states = refl
 
--- links that are the same but for their room stand for the same
+-- links that differ only in their room have the same plain data
 pub stands_kept : (line : Line) (c clock : ℕ) (pages : Pages) (desk : Desk) (old new : List (Link Body)) (states : List TrainState) → KeepsLinks old new
     → stands_for line c clock pages desk new states ≡ stands_for line c clock pages desk old states
 unfolding stands_for
@@ -46,9 +46,9 @@ stands_kept line c clock pages desk old new states keeps = λ i. record (stands_
   taken = λ d. keeps.taken d i;
 }
 
--- ## What an event comes to
+-- ## The effect of an event
 
--- a reply that leaves this state, sends each centre this, and says and tells this
+-- a reply with this state, these bodies to each centre, and these messages and replies
 abbrev pub replied : centre.Centre → (ℕ → List BodySent) → List Saying → List Word → Reply
 replied k bodies sayings words = record { state = k; frames = bodies; sayings = sayings; words = words }
 
@@ -72,7 +72,7 @@ module _ (line : Line) (c before clock : ℕ) (old_book new_book : Pages) (old_d
   unfolding stands_for
   counted same d = ap length (same d) ∙ sym (length-map (sent_to old d) (frame_by body_of))
 
-  -- what the code answers, and the state that it leaves, are those of the step: it had posted nothing in between
+  -- the outcome of the code, and its new state, are those of the step: nothing was sent in between
   pub answers : step.stamp_of k event ≡ clock → ((d : ℕ) → sent_to mid d ≡ sent_to old d) → HasPosted body_of clock bodies mid new
       → (sayings : List Saying) (words : List Word) (link : Option Taken) (silence : Option Reason)
       → step.effect line c (step.ticked clock k) event ≡ effect_of (replied (stands_for line c clock new_book new_desk mid new_states) bodies sayings words) link silence
@@ -104,7 +104,7 @@ module _ (line : Line) (c before clock : ℕ) (old_book new_book : Pages) (old_d
       answers line c before clock old_book new_book old_desk new_desk links mid mid old_states new_states (λ d. []) event stamp same (posted_none body_of clock mid)
       sayings words link silence effect (λ d. []) (λ d. refl) outcome is
 
--- what the interlocking says
+-- an event of the interlocking
 module _ (line : Line) (c clock : ℕ) (old_book new_book : Pages) (desk : Desk) (links : List (Link Body)) (old_states new_states : List TrainState)
     (sayings : List Saying) (words : List Word) (outcome : Outcome) (s : ℕ) (is : outcome ≡ outcome_with (clock + 1) (λ d. []) sayings words None None) where
   abbrev at : centre.Centre
@@ -152,13 +152,13 @@ refused_step line c k event fault.Memory is = absurd is
 refused_step line c k event fault.LinkFull is = rw is refl
 refused_step line c k event fault.ClockEnd is = rw is refl
 
--- a step that is refused wants no memory
+-- a refused step needs no memory
 pub wants_none : {X : Type 0} (line : Line) (c : ℕ) (k : centre.Centre) (event : Event) (f : StepFault) (r : Result X StepFault) → r ≡ Err f → IsRefusalOf f (step.refusal line c k event) → IsWantedBy k event r
 wants_none line c k event fault.Memory r is why = absurd why
 wants_none line c k event fault.LinkFull r is why = rw is tt
 wants_none line c k event fault.ClockEnd r is why = rw is tt
 
--- what a test of the events with this stamp answers, of one of them
+-- the answer for all events with this stamp is that for one of them
 pub ok_allowed : {T : Type 0} (line : Line) (c : ℕ) (k : centre.Centre) (event : Event) (stamp : ℕ) → step.stamp_of k event ≡ stamp + 1 → (r : Result T StepFault)
     → OnOk r ((e : Event) → step.stamp_of k e ≡ stamp + 1 → step.refusal line c k e ≡ None) → OnOk r (step.refusal line c k event ≡ None)
 ok_allowed line c k event stamp is (Ok x) each = each event is

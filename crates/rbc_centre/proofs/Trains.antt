@@ -1,4 +1,4 @@
--- One train at a centre, and the centre that is left where a message or a frame has changed it.
+-- One train at a centre, and the centre after a message or a frame has changed the train.
 use Rattle.std.proofs.Common.{◌≡◌, ℕ, ◌<◌, List, length, Some, None, slice_get, set, sym, ap, ◌∙◌, false, refl}
 use Rattle.std.specs.Option.{option_map_or}
 use Rattle.rbc_spec.specs.Maps.{put}
@@ -21,13 +21,13 @@ use Rattle.rbc_centre.specs.declared.desk.Desk.{Desk}
 use Rattle.rbc_centre.proofs.Kept.{ordered_line, route_form}
 use Rattle.rbc_centre.proofs.States.{of_trains-set, right_turned, part_of_train}
 
--- the last T_TRAIN heard of a train of the line
+-- the last T_TRAIN received from a train of the line
 pub heard_of : (line : Line) (c clock t i : ℕ) (book : Pages) (desk : Desk) (links : List (Link Body)) (states : List TrainState) (state : TrainState)
     → train_number line t ≡ Some i → slice_get states i ≡ Some state → (stands_for line c clock book desk links states).heard t ≡ state.heard
 unfolding stands_for
 heard_of line c clock t i book desk links states state number at = sym (part_of_train (λ p. p.heard) None line states t i state number at)
 
--- and its mission
+-- the mission of a train of the line
 pub mission_of : (line : Line) (c clock t i : ℕ) (book : Pages) (desk : Desk) (links : List (Link Body)) (states : List TrainState) (state : TrainState)
     → train_number line t ≡ Some i → slice_get states i ≡ Some state → (stands_for line c clock book desk links states).mission t ≡ state.supervision.mission
 unfolding stands_for
@@ -38,13 +38,13 @@ pub announced_of : (line : Line) (c clock : ℕ) (book : Pages) (desk : Desk) (l
 unfolding stands_for
 announced_of line c clock book desk links states = refl
 
--- which are as many where none is announced
+-- the count is the same if no handover is announced
 pub same_count : (line : Line) (c clock : ℕ) (book : Pages) (desk : Desk) (links : List (Link Body)) (states : List TrainState) (new : TrainState) (pages : Pages) (rights : Rights)
     → with_parts new pages rights (stands_for line c clock book desk links states) ≡ with_count desk.handovers (with_parts new pages rights (stands_for line c clock book desk links states))
 unfolding stands_for
 same_count line c clock book desk links states new pages rights = refl
 
--- what holds of the train at the centre
+-- the invariants of the train at the centre
 pub kept_at : (line : Line) (c : ℕ) (k : centre.Centre) (sessions : Records) (t i : ℕ) (p : TrainState) → ∥ IsLine line ∥₁ → IsCentreSound line c k → ∥ HasStateRanges line c k ∥₁
     → IsOfTrain line c sessions t i p → k.mission t ≡ p.supervision.mission → IsKeptAt line c p
 kept_at line c k sessions t i p rules sound ranged of_train mission = record {

@@ -51,7 +51,7 @@ use Rattle.rbc_centre.proofs.Trains.{mission_of, announced_of, kept_at, has_trai
 pub sent_in_range : (k : CentreCode) (d : ℕ) → All HasFrameRanges (frames_by body_of (sent_to k.links d))
 sent_in_range k = ∥∥₁_elim k.rules.all_links.frames (AreInRange-prop (λ d. frames_by body_of (sent_to k.links d))) (λ each. each)
 
--- a train of the line, with this number in the line file, and what the centre keeps of it
+-- a train of the line, with this number in the line file, and its state at the centre
 module _ (k : CentreCode) (t i : ℕ) (old : TrainState) (number : train_number k.line t ≡ Some i) (at : slice_get k.trains.items i ≡ Some old) where
   pub within : i < length k.trains.items
   within = number_within k.line k.trains.items t i number k.rules.all_trains.count
@@ -80,7 +80,7 @@ module _ (k : CentreCode) (t i : ℕ) (old : TrainState) (number : train_number 
       (k.rules.sound.mission t m (mission ∙ stands)).hand.on_track s inside
 
   module _ (clock : ℕ) (mid : List (Link Body)) where
-    -- what the centre has of it, by its next clock and these links
+    -- the centre's parts for it, after the tick of the clock, with these links
     pub parts : HasParts k.line k.number (stands_for k.line k.number clock k.book k.desk mid k.trains.items) old k.book k.desk.registrar
     parts =
         has_train k.line k.number clock t i k.book k.desk mid k.trains.items old number at within of_train.engine of_train.number k.rules.line_rules
@@ -95,7 +95,7 @@ module _ (k : CentreCode) (t i : ℕ) (old : TrainState) (number : train_number 
           ≡ stands_for k.line k.number clock book (record { registrar = rights; handovers = n }) mid states
       left = train_left k.line k.number clock t i k.book k.desk mid k.trains.items old number at within of_train.engine of_train.number new book rights n kept desk
 
-      -- what is expected of the train then
+      -- the expected handovers of the train after it
       pub expects_left : (d : ℕ) → (stands_for k.line k.number clock book (record { registrar = rights; handovers = n }) mid states).expects d old.supervision.engine ≡ expected_from new.expectations d
       unfolding stands_for
       expects_left d = sym (part_of_train (λ p. expected_from p.expectations d) None k.line states old.supervision.engine i new
@@ -105,8 +105,8 @@ module _ (k : CentreCode) (t i : ℕ) (old : TrainState) (number : train_number 
           ≡ mail_to k.line k.number old.supervision.engine (expected_from new.expectations) mail e
       mail_left mail e = λ j. mail_to k.line k.number old.supervision.engine (λ d. expects_left d j) mail e
 
--- what a step sends to each centre, on links that are no different, may be posted: there is room for it, or there is
--- none
+-- The frames of a step to each centre may be sent on links with the same state. There is room for them, or there are
+-- none.
 pub may_be_sent : (k : CentreCode) (event : Event) (clock : ℕ) (mid : List (Link Body)) (x : centre.Centre) (bodies : ℕ → List BodySent) (sayings : List Saying) (words : List Word) (link : Option Taken) (silence : Option Reason)
     → step.stamp_of (state_of k) event ≡ clock → ((d : ℕ) → sent_to mid d ≡ sent_to k.links d)
     → step.effect k.line k.number (step.ticked clock (state_of k)) event ≡ effect_of (replied x bodies sayings words) link silence
@@ -144,7 +144,7 @@ pub heard_stamp : (k : CentreCode) (m : TrainMessage) → step.stamp_of (state_o
 unfolding stands_for
 heard_stamp k m = refl
 
--- and of what the interlocking says
+-- the stamp of an event of the interlocking
 pub set_stamp : (k : CentreCode) (s : ℕ) → step.stamp_of (state_of k) (Set s) ≡ k.clock + 1
 unfolding stands_for
 set_stamp k s = refl
@@ -153,7 +153,7 @@ pub unset_stamp : (k : CentreCode) (s : ℕ) → step.stamp_of (state_of k) (Uns
 unfolding stands_for
 unset_stamp k s = refl
 
--- where an event is not refused, the stamp before its own is not the last one
+-- if an event is not refused, the stamp before its own is not the last one
 pub in_time : (k : CentreCode) (event : Event) (stamp : ℕ) → step.stamp_of (state_of k) event ≡ stamp + 1 → step.refusal k.line k.number (state_of k) event ≡ None → stamp < last_stamp
 in_time k event stamp is allowed = let low = (Steps.allowed k.line k.number (state_of k) event allowed).0 in omega (arith, is, low)
 
@@ -163,7 +163,7 @@ heard_early k m = in_time k (Train m) k.clock (heard_stamp k m)
 pub unset_early : (k : CentreCode) (s : ℕ) → step.refusal k.line k.number (state_of k) (Unset s) ≡ None → k.clock < last_stamp
 unset_early k s = in_time k (Unset s) k.clock (unset_stamp k s)
 
--- what a message that is taken comes to, as the effect of the step
+-- the effect of a message that is taken, as the effect of the step
 module _ (k : CentreCode) (event : Event) (t i : ℕ) (old : TrainState) (number : train_number k.line t ≡ Some i) (at : slice_get k.trains.items i ≡ Some old) (clock : ℕ)
     (new : TrainState) (book : Pages) (rights : Rights) (n : ℕ) (kept : KeepsTrain old new) (desk : KeepsDesk old.supervision.number k.book book k.desk.registrar rights) where
   pub takes : (r : Result Heard ReasonCode)
@@ -176,7 +176,7 @@ module _ (k : CentreCode) (event : Event) (t i : ℕ) (old : TrainState) (number
       ∙ exact (stands_for k.line k.number clock k.book k.desk k.links k.trains.items) (parts k t i old number at clock k.links) (is_known k t i old number at) (announced_of k.line k.number clock k.book k.desk k.links k.trains.items)
       ∙ ap (λ (x : centre.Centre). effect_left k.line k.number old.supervision.engine x r) (left k t i old number at clock k.links new book rights n kept desk)
 
-  -- and one that is heard
+  -- and of one with an answer
   pub hears : (heard : Heard)
       → ((x : centre.Centre) → HasParts k.line k.number x old k.book k.desk.registrar → is_none (train_number k.line old.supervision.engine) ≡ false → x.announced ≡ k.desk.handovers
       → step.effect k.line k.number x event ≡ effect_left k.line k.number old.supervision.engine (with_count n (with_parts new book rights x)) (Ok heard))
@@ -190,20 +190,20 @@ module _ (k : CentreCode) (event : Event) (t i : ℕ) (old : TrainState) (number
 
 -- ## Room
 
--- a centre that is the same but for the room of its parts stands for the same
+-- a centre that differs only in the room of its parts has the same state
 pub state_same : (old new : CentreCode) → IsSame old new → state_of new ≡ state_of old
 state_same old new same =
     (λ i. stands_for (same.line i) (same.number i) (same.clock i) (same.book i) (same.desk i) new.links ((same.trains i).items))
     ∙ stands_kept old.line old.number old.clock old.book old.desk old.links new.links old.trains.items same.links
 
--- what holds in any case holds where a call fails
+-- a fact holds if a call fails too
 pub on_err : {T E P : Type 0} (r : Result T E) → P → OnErr r P
 on_err (Ok x) h = tt
 on_err (Err e) h = h
 
--- ## Room for what a message sends
+-- ## Room for the frames of a message
 
--- where it tells no other centre it needs none
+-- a message without an effect on another centre needs none
 pub heard_room : (k : CentreCode) (m : TrainMessage) (clock : ℕ) (x : centre.Centre) (bodies : ℕ → List BodySent) (sayings : List Saying) (words : List Word) (link : Option Taken) (silence : Option Reason)
     → step.effect k.line k.number (step.ticked clock (state_of k)) (Train m) ≡ effect_of (replied x bodies sayings words) link silence → ((d : ℕ) → length (bodies d) ≤ 4)
     → (tells_others m.body ≡ true → HasRoom k.links 4) → (d : ℕ) → has_link k.links d ≡ true → length (bodies d) ≤ room_to k.links d
@@ -215,7 +215,7 @@ heard_room k m clock x bodies sayings words link silence effect few room d linke
         let none : bodies d ≡ [] = sym (ap (λ (e : Effect). e.reply.frames d) effect) ∙ sends_nothing d k.line k.number m (step.ticked clock (state_of k)) silent in
         let count = ap length none in omega (arith, count)
 
--- so what a message is heard to leave for other centres may be posted
+-- the frames of a message with an answer may be sent
 pub heard_may : (k : CentreCode) (m : TrainMessage) (t i : ℕ) (old : TrainState) (number : train_number k.line t ≡ Some i) (at : slice_get k.trains.items i ≡ Some old)
     (new : TrainState) (book : Pages) (rights : Rights) (n : ℕ) (kept : KeepsTrain old new) (desk : KeepsDesk old.supervision.number k.book book k.desk.registrar rights) (heard : Heard)
     → ((x : centre.Centre) → HasParts k.line k.number x old k.book k.desk.registrar → is_none (train_number k.line old.supervision.engine) ≡ false → x.announced ≡ k.desk.handovers
@@ -231,7 +231,7 @@ heard_may k m t i old number at new book rights n kept desk heard exact allowed 
     may_be_sent k (Train m) (k.clock + 1) k.links _ bodies sayings words None None (heard_stamp k m) (λ d. refl) effect allowed (k.rules.of_line, ranges) k.rules.all_links.linked few
     (heard_room k m (k.clock + 1) _ bodies sayings words None None effect few room)
 
--- and there is room for its frames, where it leaves some
+-- there is room for the frames of a message with an answer, if there are some
 pub heard_frames : (k : CentreCode) (m : TrainMessage) (t i : ℕ) (old : TrainState) (number : train_number k.line t ≡ Some i) (at : slice_get k.trains.items i ≡ Some old)
     (new : TrainState) (book : Pages) (rights : Rights) (n : ℕ) (kept : KeepsTrain old new) (desk : KeepsDesk old.supervision.number k.book book k.desk.registrar rights) (heard : Heard)
     → ((x : centre.Centre) → HasParts k.line k.number x old k.book k.desk.registrar → is_none (train_number k.line old.supervision.engine) ≡ false → x.announced ≡ k.desk.handovers
@@ -248,7 +248,7 @@ heard_frames k m t i old number at new book rights n kept desk heard exact room 
         let effect = hears k (Train m) t i old number at (k.clock + 1) new book rights n kept desk heard exact in
         inl (sym (ap (λ (e : Effect). e.reply.frames d) effect) ∙ sends_nothing d k.line k.number m (step.ticked (k.clock + 1) (state_of k)) silent)
 
--- ## What was posted
+-- ## The frames that were sent
 
 -- the mail of a train went on the links, also by another name of the train
 pub sent_by : (line : Line) (c t u stamp : ℕ) (e : ℕ → Option Expectation) (mail : Mail) (old new : List (Link Body)) (frames : ℕ → List Frame) → t ≡ u → IsSent stamp (mail_to line c t e mail) old new frames

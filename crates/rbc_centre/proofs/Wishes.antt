@@ -1,39 +1,41 @@
--- What the interlocking says of a section, as the change of the book and of a train's state.
-use Rattle.std.proofs.Common.{◌≡◌, ℕ, ◌==◌, ◌<◌, ◌&&◌, Bool, true, false, not, if◌then◌else◌, List, [], ◌∷◌, length, Some, None, slice_get, set, refl, sym, ap, ◌∙◌, arith, inl, inr, eq-eqb}
+-- An event of the interlocking for a section, as the change of the book and of a train's state.
+use Rattle.std.proofs.Common.{[], ◌&&◌, ◌<◌, ◌==◌, ◌∙◌, ◌∷◌, ◌≡◌, ap, arith, Bool, eq-eqb, false, if◌then◌else◌, inl}
+use Rattle.std.proofs.Common.{inr, length, List, None, not, refl, set, slice_get, Some, sym, true, ℕ}
 use Rattle.std.proofs.lemmas.Bool.{cases_Bool}
-use Rattle.rbc_spec.specs.Maps.{put}
-use Rattle.rbc_spec.specs.Line.{Line, is_home, train_number}
-use Rattle.rbc_spec.specs.Outcome.{Saying, Done, Asked, NotHome}
-use Rattle.rbc_spec.specs.Centre as centre
-use Rattle.rbc_spec.specs.Centre.{Entry, Shut, Open, Taken, Out, is_unused, is_taken_for}
-use Rattle.rbc_spec.specs.Frame.{RouteWithdraw}
-use Rattle.rbc_spec.specs.Acts.{propose_if_so, ◌>>◌}
-use Rattle.rbc_spec.specs.Step as step
+use Rattle.law_base.proofs.Lists.{put_same}
 use Rattle.law_base.specs.Local.Local.{hand_has}
 use Rattle.law_invariants.specs.Flow.Counts.{wait_has}
 use Rattle.law_invariants.specs.Flow.Sound.{IsCentreSound}
-use Rattle.rbc_book.specs.Book.{Pages, is_own, entry_at, wish_at}
+use Rattle.rbc_book.proofs.Pages.{foreign_is_shut}
 use Rattle.rbc_book.specs.Answers.{unset_answer}
-use Rattle.rbc_book.specs.Entries.{entry_of}
+use Rattle.rbc_book.specs.Book.{entry_at, is_own, Pages, wish_at}
+use Rattle.rbc_book.specs.declared.answer.Unset.TheVariants as Unset
 use Rattle.rbc_book.specs.declared.page.Entry.{Entry as EntryCode}
 use Rattle.rbc_book.specs.declared.page.Entry.TheVariants as entries
-use Rattle.rbc_book.proofs.Pages.{foreign_is_shut}
-use Rattle.rbc_book.specs.declared.answer.Unset.TheVariants as Unset
+use Rattle.rbc_book.specs.Entries.{entry_of}
+use Rattle.rbc_centre.proofs.States.{number_within, of_trains-set, part_of_foreign, part_of_train}
+use Rattle.rbc_centre.proofs.Steps.{replied}
+use Rattle.rbc_centre.specs.declared.centre.Centre.{Centre as CentreCode}
+use Rattle.rbc_centre.specs.declared.desk.Desk.{Desk}
+use Rattle.rbc_centre.specs.Posts.{to_others}
+use Rattle.rbc_centre.specs.State.{of_trains, stands_for}
+use Rattle.rbc_handover.specs.Expectations.{expected_from}
 use Rattle.rbc_link.specs.declared.link.Link.{Link}
 use Rattle.rbc_linkmsg.specs.declared.body.Body.{Body}
-use Rattle.rbc_centre.specs.declared.desk.Desk.{Desk}
 use Rattle.rbc_session.specs.SessionStates.{session_phase}
-use Rattle.rbc_train.specs.Tellings.{wishing}
-use Rattle.rbc_train.proofs.Tellings.{shut_at_once, asked_of_taken, left_at_unset, opened_at_once, kept_in_use, left_at_set}
-use Rattle.rbc_train.specs.Trains.{asked, HasTrain}
-use Rattle.rbc_centre.specs.State.{stands_for, of_trains}
+use Rattle.rbc_spec.specs.Acts.{◌>>◌, propose_if_so}
+use Rattle.rbc_spec.specs.Centre as centre
+use Rattle.rbc_spec.specs.Centre.{Entry, is_taken_for, is_unused, Open, Out, Shut, Taken}
+use Rattle.rbc_spec.specs.Frame.{RouteWithdraw}
+use Rattle.rbc_spec.specs.Line.{is_home, Line, train_number}
+use Rattle.rbc_spec.specs.Maps.{put}
+use Rattle.rbc_spec.specs.Outcome.{Asked, Done, NotHome, Saying}
+use Rattle.rbc_spec.specs.Step as step
+use Rattle.rbc_train.proofs.Tellings.{asked_of_taken, kept_in_use, left_at_set, left_at_unset, opened_at_once}
+use Rattle.rbc_train.proofs.Tellings.{shut_at_once}
 use Rattle.rbc_train.specs.declared.train.TrainState.{TrainState}
-use Rattle.law_base.proofs.Puts.{put_same}
-use Rattle.rbc_handover.specs.Expectations.{expected_from}
-use Rattle.rbc_centre.specs.declared.centre.Centre.{Centre as CentreCode}
-use Rattle.rbc_centre.proofs.States.{of_trains-set, part_of_train, part_of_foreign, number_within}
-use Rattle.rbc_centre.specs.Posts.{to_others}
-use Rattle.rbc_centre.proofs.Steps.{replied}
+use Rattle.rbc_train.specs.Tellings.{wishing}
+use Rattle.rbc_train.specs.Trains.{asked, HasTrain}
 
 -- a section that is out is withdrawn
 withdrawn : (line : Line) (c s t : ℕ) (k : centre.Centre) → is_home line c s ≡ true → k.book s ≡ Out t
@@ -41,14 +43,14 @@ withdrawn : (line : Line) (c s t : ℕ) (k : centre.Centre) → is_home line c s
 unfolding ◌>>◌
 withdrawn line c s t k home out = rw (home, out) refl
 
--- and is of the home
+-- a section that is out is of the home
 pub out_at_home : (pages : Pages) (s t : ℕ) → entry_at pages s ≡ Out t → is_own pages s ≡ true
 out_at_home pages s t out = elim (cases_Bool (is_own pages s)) [
   | inl own ↦ own
   | inr foreign ↦ let no : Shut ≡ Out t = sym (foreign_is_shut pages s foreign) ∙ out in cc
 ]
 
--- what the page of a section shows of it
+-- the state of a section, as its page shows it
 pub shown_out : (e : EntryCode) → ((t : ℕ) → e ≡ entries.Out t → ⊥) → (t : ℕ) → entry_of e ≡ Out t → ⊥
 shown_out entries.Shut apart t is = cc
 shown_out entries.Open apart t is = cc
@@ -149,7 +151,7 @@ module _ (line : Line) (c clock : ℕ) (old new : Pages) (desk : Desk) (links : 
           }) (λ d. []) sayings (Asked s ∷ []))
           ∙ sym (asked_of_taken line c s t k (asked t after sayings (wishing s k)) (sym home ∙ own) taken (asks (wishing s k) wishing_is))
 
-  -- where the centre is sound, a train that a section is in use for is one of the line
+  -- if the centre is sound, a section is in use only for a train of the line
   pub user_number : IsCentreSound line c k → (t : ℕ) → entry_at old s ≡ Taken t → train_number line t ≡ None → ⊥
   unfolding stands_for
   user_number sound t taken foreign = elim (cases_Bool (is_home line c s)) [
@@ -169,7 +171,7 @@ user_stands Open here used = cc
 user_stands (Taken t) here used = (t, refl)
 user_stands (Out t) here used = absurd (here t refl)
 
--- what a book answers to an unset says whether the section is in use
+-- by the answer of a book to an unset, the section is in use or not
 pub done_unused : (e : Entry) → Unset.Done ≡ unset_answer e → is_unused e ≡ true
 done_unused e h = by_test (is_unused e) h
   where

@@ -17,7 +17,7 @@ use Rattle.rbc_centre.proofs.Steps.{effect_of, replied, ticked_is}
 use Rattle.rbc_centre.proofs.Turns.{may_be_sent, unset_stamp}
 use Rattle.rbc_centre.proofs.Wishes.{out_at_home, out_turns}
 
--- each is told at most once
+-- each gets at most one request
 pub told_once : (b : Bool) (body : Body) → length (if b then body ∷ [] else []) ≤ 1
 told_once true body = omega arith
 told_once false body = omega arith
@@ -25,7 +25,7 @@ told_once false body = omega arith
 module _ (k : CentreCode) (s t : ℕ) (book : Pages) (out : entry_at k.book s ≡ Out t)
     (entry : (n : ℕ) → entry_at book n ≡ (if (is_own k.book s && is_unused (entry_at k.book s)) && (n == s) then Shut else entry_at k.book n))
     (wish : (n : ℕ) → wish_at book n ≡ (if is_own k.book s && (n == s) then not (is_unused (entry_at k.book s)) else wish_at k.book n)) where
-  -- what follows of the wish is that the others are asked
+  -- the effect of the wish is a request to all others
   pub withdraws : step.effect k.line k.number (step.ticked (k.clock + 1) (state_of k)) (Unset s)
       ≡ effect_of (replied (stands_for k.line k.number (k.clock + 1) book k.desk k.links k.trains.items) (to_others k.line k.number (RouteWithdraw t s)) [] (Asked s ∷ [])) None None
   withdraws =

@@ -7,7 +7,7 @@ use Rattle.rbc_train.specs.Letters.{tells_others}
 use Rattle.rbc_centre.specs.declared.fault.StepFault.{StepFault}
 use Rattle.rbc_centre.specs.declared.fault.StepFault.TheVariants.{Memory, LinkFull, ClockEnd}
 
--- but for want of memory, where the definition does not refuse the step, the fault is the refusal that it gives
+-- The fault is the refusal of the definition. If memory runs out, the definition does not refuse the step.
 abbrev pub IsRefusal : {Y : Type 0} → StepFault → Result Y step.Refusal → Type 0
 IsRefusal Memory r = IsOk r
 IsRefusal LinkFull r = r ≡ Err step.LinkFull
@@ -19,13 +19,13 @@ IsRefusalOf Memory r = ⊥
 IsRefusalOf LinkFull r = r ≡ Some step.LinkFull
 IsRefusalOf ClockEnd r = r ≡ Some step.ClockEnd
 
--- what a step returned, seen by view, is what the definition gives
+-- the result of a step, seen by `view`, is that of the definition
 abbrev pub Steps : {X Y : Type 0} → (X → Y) → Result X StepFault → Result Y step.Refusal → Type 0
 Steps view (Ok x) r = r ≡ Ok (view x)
 Steps view (Err fault) r = IsRefusal fault r
 
--- memory is wanted only where a train opens a session, where a section is taken back that is out, and where another
--- centre may have to be told something: by a train's message, or by a frame that is the next of its sender
+-- Memory is needed in three cases. A train opens a session; an unset is of a section that is out; or another centre may
+-- get a frame. The last is by a train's message, or by a frame that is the next of its sender.
 abbrev pub TakesMemory : Centre → step.Event → Type 0
 TakesMemory k (step.Train m) = (m.body ≡ InitiationOfSession) ⊎ (tells_others m.body ≡ true)
 TakesMemory k (step.Unset s) = (t : ℕ) × (k.book s ≡ Out t)

@@ -1,4 +1,4 @@
--- What a dispatch or a broadcast has for each centre.
+-- The bodies that a dispatch or a broadcast has for each centre.
 use Rattle.std.specs.Prelude.{ℕ, List}
 use Rattle.rbc_spec.specs.Frame.{Body}
 use Rattle.rbc_handover.specs.Expectations.{expected_from}

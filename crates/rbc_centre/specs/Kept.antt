@@ -1,4 +1,4 @@
--- What holds of a centre between two steps.
+-- The invariants of a centre between two steps.
 use Rattle.std.specs.Prelude.{◌≡◌, ◌≤◌, ◌*◌, ℕ, true, List, length, Some, slice_get, All}
 use Rattle.rbc_spec.specs.Line.{Line, IsLine, is_centre, is_home, is_linked, train_number}
 use Rattle.rbc_spec.specs.Frame.{HasFrameRanges}
@@ -21,7 +21,7 @@ pub record AreLinks (line : Line) (c : ℕ) (links : List (Link Body)) : Type 0 
   pub linked : (d : ℕ) → has_link links d ≡ is_linked line c d
   pub frames : ∥ ((d : ℕ) → All HasFrameRanges (frames_by body_of (sent_to links d))) ∥₁
 
--- the trains are those of the line, and each was told two messages a step at the most
+-- the trains are those of the line, and each was sent at most two messages a step
 pub record AreTrains (line : Line) (c clock : ℕ) (sessions : Records) (states : List TrainState) : Type 0 where
   pub count : length states ≡ length line.trains
   pub each : (t i : ℕ) (p : TrainState) → train_number line t ≡ Some i → slice_get states i ≡ Some p

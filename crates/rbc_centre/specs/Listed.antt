@@ -5,7 +5,7 @@ use Rattle.std.specs.declared.alloc.Global.{Global}
 use Rattle.rbc_spec.specs.Frame.{Frame}
 use Rattle.rbc_centre.specs.declared.sent_frame.SentFrame.{SentFrame}
 
--- those of a list to each centre
+-- the frames of a list to each centre
 abbrev pub frames_in : List SentFrame → ℕ → List Frame
 frames_in list d = map (λ f. f.frame) (filter (λ f. d == f.to) list)
 

@@ -1,4 +1,4 @@
--- What a step sends: bodies that go on the links, and the frames of them.
+-- The frames of a step: bodies that are sent on the links.
 use Rattle.std.specs.Prelude.{◌≡◌, ◌⊎◌, ℕ, ◌+◌, ◌≤◌, ◌==◌, if◌then◌else◌, true, List, [], ◌∷◌, ◌++◌, length, All}
 use Rattle.rbc_spec.specs.Line.{Line, is_linked}
 use Rattle.rbc_spec.specs.Frame as spec
@@ -18,11 +18,11 @@ use Rattle.rbc_centre.specs.Rooms.{HasFrameRoom}
 abbrev pub only : ℕ → List spec.Body → ℕ → List spec.Body
 only to bodies d = if d == to then bodies else []
 
--- this to each other centre of the line
+-- this body to each other centre of the line
 abbrev pub to_others : Line → ℕ → spec.Body → ℕ → List spec.Body
 to_others line c body d = if is_linked line c d then body ∷ [] else []
 
--- there is a link to go on, and the body has a spelling
+-- the centre has a link, and the body has a spelling
 pub record IsFit (links : List (Link Body)) (d : ℕ) (b : spec.Body) : Type 0 where
   pub linked : has_link links d ≡ true
   pub range : HasBodyRange b
@@ -33,7 +33,7 @@ pub record MayPost (links : List (Link Body)) (d : ℕ) (bodies : List spec.Body
   pub room : has_link links d ≡ true → length bodies ≤ room_to links d
   pub numbers : has_link links d ≡ true → length (sent_to links d) + length bodies ≤ 65536
 
--- these bodies went on the links, and the list has their frames, after those that it had
+-- these bodies were sent on the links, and their frames are appended to the list
 pub record HasSent (stamp : ℕ) (bodies : ℕ → List spec.Body) (old new : List (Link Body))
     (before after : List SentFrame) : Type 0 where
   pub posted : HasPosted body_of stamp bodies old new
@@ -47,7 +47,7 @@ pub record MaySend (line : Line) (c stamp : ℕ) (bodies : ℕ → List spec.Bod
   pub may : (d : ℕ) → MayPost links d (bodies d)
   pub room : (d : ℕ) → (bodies d ≡ []) ⊎ HasFrameRoom spare
 
--- these bodies went on the links, and these are their frames
+-- these bodies were sent on the links, and these are their frames
 pub record IsSent (stamp : ℕ) (bodies : ℕ → List spec.Body) (old new : List (Link Body))
     (frames : ℕ → List Frame) : Type 0 where
   pub links : HasPosted body_of stamp bodies old new

@@ -4,6 +4,6 @@ use Rattle.rbc_spec.specs.Frame.{Frame}
 use Rattle.rbc_centre.specs.declared.frames.Frames.{Frames}
 use Rattle.rbc_centre.specs.Listed.{frames_in, list_of}
 
--- those to each centre
+-- the frames to each centre
 unfoldable pub frames_to : Frames → ℕ → List Frame
 frames_to f d = frames_in (list_of f.list) d

@@ -1,4 +1,4 @@
--- What is kept of sections and trains, as functions of numbers.
+-- The states of sections and trains in memory, as functions of numbers.
 use Rattle.std.specs.Prelude.{◌≡◌, ℕ, List, Bool, false, length, Option, Some, None, option_and_then, option_map, slice_get}
 use Rattle.std.specs.Option.{option_map_or}
 use Rattle.rbc_spec.specs.Line.{Line, train_number}
@@ -20,11 +20,11 @@ use Rattle.rbc_train.specs.declared.train.TrainState.{TrainState}
 use Rattle.rbc_train.specs.Trains.{unknown_state}
 use Rattle.rbc_centre.specs.declared.desk.Desk.{Desk}
 
--- what is kept of a train of the line
+-- the state of a train of the line
 abbrev pub state_at : Line → List TrainState → ℕ → Option TrainState
 state_at line trains t = option_and_then (λ i. slice_get trains i) (train_number line t)
 
--- one of its parts, for every engine; a foreign engine has what no train has
+-- one of its parts, for every engine; an engine that is not of the line has the given value
 abbrev pub of_trains : {X : Type 0} → (TrainState → X) → X → Line → List TrainState → ℕ → X
 of_trains part none line trains t = option_map_or part (state_at line trains t) none
 
@@ -32,7 +32,7 @@ of_trains part none line trains t = option_map_or part (state_at line trains t) 
 abbrev pub right_at : Line → Rights → ℕ → Bool
 right_at line rights t = option_map_or (is_here rights) (train_number line t) false
 
--- What a centre's number, clock, pages, rights with the count of its handovers, links and states of trains stand for
+-- the state of a centre with this number, clock, pages, rights with the count of its handovers, links and trains
 unfoldable pub stands_for : Line → ℕ → ℕ → Pages → Desk → List (Link Body) → List TrainState → centre.Centre
 stands_for line number clock pages desk links trains = record (centre.beginning line number) {
   clock = clock;
@@ -52,7 +52,7 @@ stands_for line number clock pages desk links trains = record (centre.beginning 
   taken = taken_from links;
 }
 
--- what centre c keeps of the train with this NID_ENGINE, at its place in the line file
+-- the state of the train with this NID_ENGINE at centre c, at its position in the line file
 pub record IsOfTrain (line : Line) (c : ℕ) (sessions : Records) (t i : ℕ) (p : TrainState) : Type 0 where
   pub number : p.supervision.number ≡ i
   pub engine : p.supervision.engine ≡ t
@@ -62,7 +62,7 @@ pub record IsOfTrain (line : Line) (c : ℕ) (sessions : Records) (t i : ℕ) (p
   pub expected : length p.expectations ≡ length line.centres
   pub session : Stands sessions p.session_state t
 
--- the state is of the train at place i of the line file, which was never heard
+-- the state is of the train at position i of the line file, from which no message was received
 pub record IsUnknown (line : Line) (i : ℕ) (p : TrainState) : Type 0 where
   pub state : p ≡ unknown_state i p.supervision.engine p.expectations
   pub expected : length p.expectations ≡ length line.centres

@@ -1,4 +1,4 @@
--- What a centre stands for: its line, its number, and its state.
+-- The plain data of a centre: its line, its number, and its state.
 use Rattle.std.specs.Prelude.{◌≡◌, ℕ}
 use Rattle.rbc_spec.specs.Line.{Line}
 use Rattle.rbc_spec.specs.Centre as centre

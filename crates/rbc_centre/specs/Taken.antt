@@ -17,12 +17,12 @@ pub record HasRoomToSend (k : Centre) : Type 0 where
   pub links : HasRoom k.links 4
   pub frames : HasFrameRoom k.room
 
--- it is the centre of the same number on the same line
+-- the two centres have the same number on the same line
 pub record KeepsPlace (old new : Centre) : Type 0 where
   pub line : line_of new ≡ line_of old
   pub number : number_of new ≡ number_of old
 
--- the answer and the centre that is left are what the definition gives
+-- the outcome and the new state are those of the definition
 abbrev pub HasTaken : step.Event → Centre → Centre → Outcome → Type 0
 HasTaken event old new out =
     (outcome_of out, state_of new) ≡ step.taken (line_of old) (number_of old) event (state_of old)

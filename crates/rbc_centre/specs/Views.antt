@@ -1,4 +1,4 @@
--- What the types of a step stand for.
+-- The plain data of the types of a step.
 use Rattle.std.specs.Prelude.{ℕ, ◌==◌, ◌-◌, slice_get, if◌then◌else◌, List, [], ◌∷◌, ◌++◌, Option, Some, None, map, option_map, option_and_then}
 use Rattle.rbc_spec.specs.Frame.{Frame}
 use Rattle.rbc_spec.specs.Centre.{Mission, Handing}
@@ -26,14 +26,14 @@ event_of (Set s) = step.Set s
 event_of (Unset s) = step.Unset s
 event_of (Deliver from frame) = step.Deliver from frame
 
--- what the interlocking is told
+-- the reply to the interlocking
 abbrev pub word_of : Word → spec.Word
 word_of (word.Done s) = spec.Done s
 word_of (word.Asked s) = spec.Asked s
 word_of (word.NotHome s) = spec.NotHome s
 word_of (word.Told s) = spec.Told s
 
--- one word or none
+-- at most one reply
 abbrev pub words_of : Option Word → List spec.Word
 words_of (Some w) = word_of w ∷ []
 words_of None = []
@@ -52,7 +52,7 @@ outcome_of o = record {
   silence = option_map reason_of o.silence;
 }
 
--- what a step answers by a message or a frame that came to this, of which each centre was sent these frames
+-- the outcome of a message or frame with this effect, and with these frames to each centre
 abbrev pub outcome_heard : ℕ → Option LinkAnswer → (ℕ → List Frame) → Heard → Outcome
 outcome_heard stamp answer frames h = record {
   stamp = stamp;
@@ -63,7 +63,7 @@ outcome_heard stamp answer frames h = record {
   silence = None;
 }
 
--- the handover that stands with a mission, if there is one
+-- the pending handover of a mission, if there is one
 abbrev pub handing_at : Option Mission → Option Handing
 handing_at mission = option_and_then (λ m. m.handing) mission
 

@@ -37,7 +37,7 @@ use std::cmp::max;
 /// The greatest stamp of a step.
 pub const LAST_STAMP: u32 = 1_073_741_823;
 
-// What is known of a train that was never heard.
+// The view of a train from which no message was received.
 const UNKNOWN: TrainPage = TrainPage {
     phase: Phase::Closed,
     heard: None,
@@ -54,17 +54,17 @@ pub struct Centre {
     pub(crate) number: u8,
     /// The stamp of the last step, 0 before the first.
     pub(crate) clock: u32,
-    /// What its home sections are used for.
+    /// The use of its home sections.
     pub(crate) book: Book,
     /// The supervision rights that are here, and the handovers that were announced.
     pub(crate) desk: Desk,
     /// The communication sessions with its trains.
     pub(crate) sessions: Sessions,
-    /// What came from the other centres, and what was sent to them.
+    /// The frames that arrived from the other centres, and those sent to them.
     pub(crate) links: Links<Body>,
     /// Room for the frames of one step.
     pub(crate) room: FrameRoom,
-    /// What is kept of each train, in the order of the line file.
+    /// The state of each train, in the order of the line file.
     pub(crate) trains: Vec<TrainState>,
     ghost rules: { IsCentre line number clock book desk sessions links trains.items },
 }
@@ -91,7 +91,7 @@ impl Centre {
     ghost use Rattle.rbc_centre.specs.States.{line_of, number_of, state_of, IsSame};
     ghost use Rattle.rbc_centre.specs.Taken.{HasRoomToSend};
 
-    /// A centre of the line at its beginning. It keeps a copy of the line.
+    /// A centre of the line in its initial state. It keeps a copy of the line.
     pub fn new(alloc: Global, line: &Line, number: u8) -> Result<Centre, AllocError>
         requires { is_centre line.now number ≡ true }
         ensures line { IfOk result (λ k. line_of k ≡ line.now) }
@@ -128,7 +128,7 @@ impl Centre {
         self.number
     }
 
-    /// What the centre's book has of a section; a number of no section is shut.
+    /// The page of a section in the centre's book; a number that is not of a section is shut.
     pub fn page(&self, s: u16) -> Page
         ensures entry { entry_of result.entry ≡ (state_of self.now).book s }
         ensures wish { result.is_wished ≡ (state_of self.now).wish s }
@@ -136,7 +136,7 @@ impl Centre {
         self.book.page(s)
     }
 
-    /// What the centre keeps of a train; a foreign engine was never heard.
+    /// The centre's view of a train; an engine that is not of the line has sent no message.
     pub fn train(&self, nid_engine: u32) -> TrainPage
         ensures phase { phase_of result.phase ≡ (state_of self.now).phase nid_engine }
         ensures heard { result.heard ≡ (state_of self.now).heard nid_engine }
@@ -155,7 +155,8 @@ impl Centre {
         }
     }
 
-    /// The frame of this number that was sent to a centre. None exactly for 0 and for a number that was not sent yet.
+    /// The frame of this number that was sent to a centre. It is `None` if and only if the number is 0 or was not sent
+    /// yet.
     pub fn frame(&self, to: u8, number: u32) -> Option<Frame>
         ensures { result ≡ frame_number ((state_of self.now).sent to) number }
     {
@@ -163,22 +164,22 @@ impl Centre {
         Some(Frame::new(sent.number, sent.stamp, sent.body))
     }
 
-    /// How many frames were sent to a centre. It is the number of the last.
+    /// The number of frames sent to a centre. It is the number of the last.
     pub fn sent(&self, to: u8) -> u32
         ensures { result ≡ length ((state_of self.now).sent to) }
     {
         self.links.sent(to)
     }
 
-    /// How many frames of a centre were taken. It is the number of the last.
+    /// The number of frames taken from a centre. It is the number of the last.
     pub fn taken(&self, from: u8) -> u32
         ensures { result ≡ (state_of self.now).taken from }
     {
         self.links.taken(from)
     }
 
-    /// Says whether an event may be taken: it is refused as `ClockEnd` where its stamp would pass the last one, and
-    /// else as `LinkFull` where a link has fewer than four numbers left.
+    /// Whether an event may be taken. It is refused as `ClockEnd` if its stamp would pass the last one. Else it is
+    /// refused as `LinkFull` if a link has fewer than four numbers left.
     pub fn may_step(&self, event: &Event) -> Result<(), StepFault>
         ensures ok { OnOk result
             (refusal (line_of self.now) (number_of self.now) (state_of self.now) (event_of event.now) ≡ None) }
@@ -192,7 +193,7 @@ impl Centre {
         }
     }
 
-    // Makes room for the frames of one step. A refusal changes nothing but the room.
+    // Makes room for the frames of one step. A refusal changes only the room.
     #[inline(always)]
     pub(crate) fn reserve_frames(&mut self) -> Result<(), AllocError>
         ensures same { IsSame self.old self.new }
@@ -202,7 +203,7 @@ impl Centre {
         self.room.reserve()
     }
 
-    // Whether an event may be taken whose stamp is one above this.
+    // Whether an event whose stamp is one above this may be taken.
     #[inline(always)]
     pub(crate) fn may_take(&self, stamp: u32) -> Result<(), StepFault>
         ensures ok { OnOk result ((event : spec.Event) → stamp_of (state_of self.now) event ≡ stamp + 1
@@ -220,9 +221,9 @@ impl Centre {
         Ok(())
     }
 
-    /// Takes an event, and answers it. It is refused where the stamp would pass the last one or a link is nearly full,
-    /// or for want of memory, which only the opening of a session and the sending of a frame take: of the frames that
-    /// come, only one that is the next of its sender. Then nothing changes.
+    /// Takes an event, and answers it. A refused event changes nothing. It is refused if its stamp would pass the last
+    /// one, if a link is nearly full, or if memory runs out. Memory is needed only to open a session and to send
+    /// frames. Of arriving frames, only the next of its sender needs it.
     pub fn step(&mut self, event: &Event) -> Result<Outcome, StepFault>
         ensures line { line_of self.new ≡ line_of self.old }
         ensures number { number_of self.new ≡ number_of self.old }
@@ -238,8 +239,8 @@ impl Centre {
         }
     }
 
-    /// The same step, which writes what it answers over this outcome, and uses its list of frames again. Where it is
-    /// refused, the outcome has no meaning.
+    /// The same step, which writes its outcome over `out`, and uses its list of frames again. If it is refused, `out`
+    /// has no meaning.
     pub fn step_to(&mut self, event: &Event, out: &mut Outcome) -> Result<(), StepFault>
         ensures line { line_of self.new ≡ line_of self.old }
         ensures number { number_of self.new ≡ number_of self.old }

@@ -1,5 +1,5 @@
-//! The step of a frame of another centre: room is made where it is the next, the link says whether it is, and then its
-//! train takes it.
+//! The step of a frame from another centre. If it is the next, room is made. The link decides whether it is the next,
+//! and then its train takes it.
 
 ghost use Rattle.std.specs.Prelude.{◌≡◌, OnOk, OnErr};
 ghost use Rattle.rbc_spec.specs.Step as spec;
@@ -17,8 +17,8 @@ use std::alloc::AllocError;
 use std::cmp::max;
 
 impl Centre {
-    /// The step of a frame, at a centre that does not refuse it. Room for the frames in return is made first, where it
-    /// is the next.
+    /// The step of a frame, at a centre that does not refuse it. If the frame is the next, room for the frames in
+    /// return is made first.
     pub(crate) fn deliver(
         &mut self,
         from: u8,
@@ -36,7 +36,7 @@ impl Centre {
         Ok(())
     }
 
-    // Room for the frames that a frame is answered by, where it is the next of its sender. Nothing else changes.
+    // Makes room for the frames in return, if the frame is the next of its sender. Nothing else changes.
     #[inline(always)]
     fn make_room_for(&mut self, from: u8, frame: &Frame) -> Result<(), AllocError>
         ensures same { IsSame self.old self.new }
@@ -50,7 +50,7 @@ impl Centre {
         self.reserve_frames()
     }
 
-    // The step of a frame. For what a next one is answered by there is room.
+    // The step of a frame. There is room for the frames in return, if it is the next.
     fn take_frame(&mut self, from: u8, frame: &Frame, out: &mut Outcome)
         requires allowed { MayTake self.old (spec.Deliver from frame.now) }
         requires room { TakesMemory (state_of self.old) (spec.Deliver from frame.now) → HasRoomToSend self.old }

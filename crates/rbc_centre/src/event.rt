@@ -1,7 +1,7 @@
 use rbc_linkmsg::Frame;
 use rbc_msgs::TrainMsg;
 
-/// What a step of a centre takes.
+/// An event of a centre.
 #[derive(Debug, Drop)]
 pub enum Event {
     /// A train's message.

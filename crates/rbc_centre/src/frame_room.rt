@@ -26,7 +26,7 @@ impl FrameRoom {
         }
     }
 
-    /// Makes room for the frames of one step, where there is none.
+    /// Makes room for the frames of one step, if there is none.
     #[inline(always)]
     pub fn reserve(&mut self) -> Result<(), AllocError>
         ensures room { OnOk result (HasFrameRoom self.new) }
@@ -35,7 +35,7 @@ impl FrameRoom {
         self.spare.reserve(MOST_FRAMES)
     }
 
-    // An empty list with the room, which is taken, where there is one. This list is the room of a later step.
+    // An empty list with the room, which is taken if there is one. The given list becomes the room of a later step.
     pub(crate) fn swap(&mut self, list: Option<Vec<SentFrame>>) -> Vec<SentFrame>
         ensures items { result.items ≡ [] }
         ensures room { HasFrameRoom self.old → 32 ≤ vec_capacity result }
@@ -49,7 +49,7 @@ impl FrameRoom {
         }
     }
 
-    // An empty list with the room, which is taken, where there is one.
+    // An empty list with the room, which is taken if there is one.
     pub(crate) fn take(&mut self) -> Vec<SentFrame>
         ensures items { result.items ≡ [] }
         ensures room { HasFrameRoom self.old → 32 ≤ vec_capacity result }
@@ -58,7 +58,7 @@ impl FrameRoom {
         mem::replace(&mut self.spare, Vec::new(alloc))
     }
 
-    // An empty list for so many frames: in memory of its own, or else the room.
+    // An empty list for `count` frames: in its own memory, or else in the room.
     pub(crate) fn list_for(&mut self, count: usize) -> Vec<SentFrame>
         requires room { HasFrameRoom self.old }
         requires count { count ≤ 32 }

@@ -11,11 +11,11 @@ use rbc_linkmsg::Frame;
 /// How many centres a line has at the most.
 pub(crate) const MOST_CENTRES: usize = 8;
 
-/// For how many frames to one centre a step makes room: two for sections that go home, one about a handover, and a
-/// letter.
+/// The number of frames to one centre for which a step makes room: two for returned sections, one about a handover, and
+/// a letter.
 pub(crate) const MOST_TO_ONE: usize = 4;
 
-/// The frames that a step sent to other centres. It takes no memory where there are none.
+/// The frames that a step sent to other centres. An empty list takes no memory.
 #[derive(Debug, Drop)]
 pub struct Frames {
     /// By the numbers of the centres, and those to one centre by their numbers on the link.
@@ -37,7 +37,7 @@ impl Frames {
         Frames { list: None }
     }
 
-    /// No frame is left. What memory the list has stays with it.
+    /// Drops all frames. The list keeps its memory.
     #[inline(always)]
     pub(crate) fn clear(&mut self)
         ensures { frames_to self.new ≡ (λ d. []) }
@@ -91,7 +91,7 @@ impl Frames {
         true
     }
 
-    /// Others that are the same. They have memory of their own, or, where there is none, take the room.
+    /// A copy of the frames. If memory runs out, it takes the room.
     pub fn copied(&self, room: &mut FrameRoom) -> Frames
         requires { HasFrameRoom room.old }
         ensures { frames_to result ≡ frames_to self.now }

@@ -1,4 +1,4 @@
-//! The step of a train's message: room is made, then the train takes it, and what it leaves for other centres is sent.
+//! The step of a train's message: room is made, the train takes the message, and the frames to other centres are sent.
 
 ghost use Rattle.std.specs.Prelude.{◌≡◌, OnOk, OnErr, true, false, Some};
 ghost use Rattle.rbc_spec.specs.Line.{train_number};
@@ -42,7 +42,7 @@ impl Centre {
         self.take_from(i, message, out)
     }
 
-    /// Takes a message of the train with this place in the line file: the step of that event.
+    /// Takes a message of the train at this position in the line file: the step of that event.
     #[inline(always)]
     pub fn hear_from(
         &mut self,
@@ -79,8 +79,8 @@ impl Centre {
         Ok(())
     }
 
-    // Room for the frames that a message sends, and for the session that the message of train number i of the line
-    // opens. Nothing else changes.
+    // Room for the frames of a message, and for the session that the message of train number i of the line opens.
+    // Nothing else changes.
     #[inline(always)]
     fn make_room(&mut self, i: usize, message: &TrainMsg) -> Result<(), AllocError>
         requires number { train_number (line_of self.old) message.now.nid_engine ≡ Some i }

@@ -1,4 +1,4 @@
-//! The step of what the interlocking says of a section.
+//! The step of an event of the interlocking for a section.
 
 ghost use Rattle.std.specs.Prelude.{◌≡◌, ◌<◌, ℕ, IfSome, OnOk, OnErr, length};
 ghost use Rattle.rbc_spec.specs.Centre as spec;
@@ -63,8 +63,8 @@ impl Centre {
         }
     }
 
-    /// The interlocking takes a section back. A train that has it in its movement authority is asked for it, and where
-    /// it is lent each other centre. Room for the frames is made first.
+    /// The interlocking takes a section back. A train with the section in its movement authority gets a request to
+    /// shorten. If the section is out, each other centre is asked for it. Room for the frames is made first.
     #[inline(always)]
     pub(crate) fn unset(&mut self, s: u16, out: &mut Outcome) -> Result<(), AllocError>
         requires allowed { MayTake self.old (step.Unset s) }
@@ -83,8 +83,8 @@ impl Centre {
         Ok(())
     }
 
-    // A section is taken back that is out for this train: each other centre is asked for it, as it is not known here
-    // which has it.
+    // An unset of a section that is out for this train. Each other centre is asked for it, since this one does not know
+    // which of them has it.
     fn withdraw(&mut self, s: u16, nid_engine: u32, out: &mut Outcome)
         requires allowed { MayTake self.old (step.Unset s) }
         requires out { entry_at self.old.book s ≡ spec.Out nid_engine }
@@ -107,7 +107,7 @@ impl Centre {
         out.write_sent(self.clock, Word::Asked(s));
     }
 
-    // A section is taken back that is not out, but used so.
+    // An unset of a section with this entry, which is not out.
     #[inline(always)]
     fn unset_here(&mut self, s: u16, entry: Entry, out: &mut Outcome)
         requires allowed { MayTake self.old (step.Unset s) }
@@ -131,7 +131,7 @@ impl Centre {
         }
     }
 
-    // The number in the line file of the train that a section is in use for.
+    // The number in the line file of the train for which a section is in use.
     fn user_of(&self, entry: Entry) -> Option<u8>
         ensures value { (t : ℕ) → entry_of entry ≡ spec.Taken t → result ≡ train_number self.now.line t }
         ensures bound { IfSome result (λ i. i < length self.now.trains.items) }

@@ -1,4 +1,4 @@
-//! What a centre keeps of the trains of its line: made at its beginning, and ended with it.
+//! The states that a centre keeps of the trains of its line: made with the centre, and ended with it.
 
 ghost use Rattle.std.specs.Prelude.{◌≡◌, ◌<◌, ℕ, slice_get, length, IfOk, Some, option_map};
 ghost use Rattle.rbc_centre.specs.State.{IsUnknown};
@@ -10,7 +10,8 @@ use rbc_session::Sessions;
 use rbc_train::TrainState;
 use std::alloc::{AllocError, Global};
 
-/// What is kept of the trains of the line, none of which was ever heard. Where memory runs out, those made end.
+/// The states of the trains of the line, none of which has sent a message. If memory runs out, those already made are
+/// ended.
 pub(crate) fn unknown_trains(
     alloc: Global,
     line: &Line,

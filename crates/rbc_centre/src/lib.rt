@@ -1,14 +1,14 @@
 //! One radio block centre (RBC): its state, and the step from an event to an answer.
 //!
-//! A [`Centre`] supervises its part of a line. [`Centre::step`] takes an [`Event`]: a train's message, a section that
-//! the interlocking releases or takes back, or a frame of another centre. The [`Outcome`] has the messages to trains,
-//! the frames to other centres, the words to the interlocking, and the reason if the centre stays silent. A
+//! A [`Centre`] supervises its part of a line. Its [`Centre::step`] takes an [`Event`]: a train's message, a section
+//! that the interlocking releases or takes back, or a frame from another centre. The [`Outcome`] has the messages to
+//! trains, the frames to other centres, the replies to the interlocking, and the reason if the centre stays silent. A
 //! [`StepFault`] changes nothing. The contract of `Centre::step` is one equation with the step in
 //! `rbc_spec.specs.Centre`.
 //!
-//! Types of the crates below that an outcome has are passed on from here.
+//! The types of an outcome that belong to crates below are passed on from here.
 //!
-//! Bodies and proofs are free. The clauses of public functions stay, since the crates above stand on them.
+//! Bodies and proofs may change. The clauses of public functions have to stay: the crates above depend on them.
 #![tactic(auto)]
 
 mod centre;

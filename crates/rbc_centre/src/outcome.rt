@@ -10,7 +10,7 @@ use arrayvec::ArrayVec;
 use rbc_link::LinkAnswer;
 use rbc_train::{Heard, Reason, Saying, Told};
 
-/// A word to the interlocking of a section, by its number over the whole line.
+/// A reply to the interlocking about a section, by its number over the whole line.
 #[derive(Clone, Copy, Debug, PartialEq, Eq)]
 pub enum Word {
     /// A set or an unset is done.
@@ -24,13 +24,13 @@ pub enum Word {
 }
 
 impl Default for Word {
-    /// What fills the places of a row of words that are not in use.
+    /// The value of unused positions in a list of replies.
     fn default() -> Word {
         Word::Done(0)
     }
 }
 
-/// What a step of a centre answers.
+/// The outcome of a step of a centre.
 #[derive(Debug, Drop)]
 pub struct Outcome {
     /// The stamp of the step, from 1 to 1 073 741 823.
@@ -39,11 +39,11 @@ pub struct Outcome {
     pub sayings: ArrayVec<Saying, 2>,
     /// The frames to other centres.
     pub frames: Frames,
-    /// What the interlocking is answered.
+    /// The reply to the interlocking.
     pub word: Option<Word>,
-    /// The sections that were wished back and are shut now, of which the interlocking is told after that.
+    /// The sections that were wished back and are shut now. They are reported to the interlocking after the reply.
     pub told: Told,
-    /// What the link said to a frame that was delivered.
+    /// The answer of the link to a delivered frame.
     pub link: Option<LinkAnswer>,
     /// Why a train's message was left without an answer.
     pub silence: Option<Reason>,
@@ -75,7 +75,8 @@ impl Outcome {
         }
     }
 
-    /// A step that says nothing. The link has said this to a frame, or a message is silent for this reason.
+    /// A step without messages, replies and frames: a frame with this answer of the link, or a message that is silent
+    /// for this reason.
     #[inline(always)]
     pub(crate) fn write_nothing(
         &mut self,
@@ -102,7 +103,7 @@ impl Outcome {
         self.silence = silence;
     }
 
-    /// A step whose message or frame came to this. Its frames stand here. The link has said this to a frame.
+    /// A step with this effect of its message or frame, and this answer of the link. Its frames are in `self` already.
     #[inline(always)]
     pub(crate) fn write_heard(&mut self, stamp: u32, link: Option<LinkAnswer>, heard: &Heard)
         ensures { outcome_of self.new ≡ outcome_heard stamp link (frames_to self.old.frames) heard.now }
@@ -115,7 +116,7 @@ impl Outcome {
         self.silence = None;
     }
 
-    /// A step that answers the interlocking with one word, and says one message or none to a train.
+    /// A step with one reply to the interlocking, and at most one message to a train.
     #[inline(always)]
     pub(crate) fn write_told(&mut self, stamp: u32, word: Word, saying: Option<Saying>)
         ensures { outcome_of self.new
@@ -132,7 +133,7 @@ impl Outcome {
         self.write_word(stamp, word, saying);
     }
 
-    /// A step that answers the interlocking with one word. Its frames stand here.
+    /// A step with one reply to the interlocking. Its frames are in `self` already.
     pub(crate) fn write_sent(&mut self, stamp: u32, word: Word)
         ensures { outcome_of self.new
             ≡ record {
@@ -147,7 +148,7 @@ impl Outcome {
         self.write_word(stamp, word, None);
     }
 
-    // One word, and one message or none. What frames stand here stay.
+    // One reply, and at most one message. The frames in `self` stay.
     #[inline(always)]
     fn write_word(&mut self, stamp: u32, word: Word, saying: Option<Saying>)
         ensures { outcome_of self.new
@@ -168,7 +169,7 @@ impl Outcome {
         self.silence = None;
     }
 
-    /// The words to the interlocking, in order.
+    /// The replies to the interlocking, in order.
     pub fn words(&self) -> ArrayVec<Word, 65>
         ensures { map word_of result.items ≡ (outcome_of self.now).words }
     {
@@ -184,7 +185,7 @@ impl Outcome {
     }
 }
 
-// The answer and the order after it, where they are, in place of what stood there.
+// Replaces the messages by the answer and the order after it, if there are any.
 #[inline(always)]
 fn write_in_order(
     sayings: &mut ArrayVec<Saying, 2>,

@@ -1,4 +1,4 @@
-//! What a step leaves for other centres goes on its links.
+//! The frames of a step to other centres, sent on its links.
 
 ghost use Rattle.std.specs.Prelude.{◌≡◌, ◌⊎◌, ◌+◌, ◌≤◌, ◌<◌, ℕ, IsTrue, [], Some, length};
 ghost use Rattle.std.specs.Vec.{vec_capacity};
@@ -20,7 +20,7 @@ use rbc_linkmsg::{Body, Frame};
 use rbc_train::{Mail, Notice, part_of};
 use std::cmp::min;
 
-/// The mail of a step, and what goes with it.
+/// The mail of a step, and the values that are sent with it.
 #[derive(Clone, Copy)]
 pub(crate) struct Dispatch<'a> {
     pub(crate) line: &'a Line,
@@ -30,7 +30,7 @@ pub(crate) struct Dispatch<'a> {
     pub(crate) nid_engine: u32,
     /// The stamp of the step.
     pub(crate) stamp: u32,
-    /// What the centre expects of the train.
+    /// The handovers of the train that the centre expects.
     pub(crate) expectations: &'a Expectations,
     pub(crate) mail: &'a Mail,
 }
@@ -40,8 +40,8 @@ impl Dispatch<'_> {
     ghost use Rattle.rbc_train.specs.Letters.{going_home};
     ghost use Rattle.rbc_centre.specs.Dispatches.{bodies_to};
 
-    /// Sends the mail: to each centre first the sections that go to its home, then what it is told of a handover, and
-    /// then its letter. The frames are written in place of those before.
+    /// Sends the mail to each centre: first the sections that return to its home, then the notice of a handover, and
+    /// then the letter. The frames replace those before.
     #[inline(always)]
     pub(crate) fn post(&self, links: &mut Links<Body>, room: &mut FrameRoom, frames: &mut Frames)
         requires { MaySend self.now.line.now self.now.centre self.now.stamp (bodies_to self.now) links.old room.old }
@@ -103,7 +103,7 @@ impl Dispatch<'_> {
         post_one(links, list, stamp, to, letter_to(mail.letter, to));
     }
 
-    // The frame's body in which those sections of a run go home to a centre, where there are some.
+    // The body that returns to a centre those sections of a run that are of its home, if there are some.
     #[inline(always)]
     fn home(&self, to: u8, sections: SectionRun) -> Option<Body>
         ensures { bodies_in result ≡ going_home self.now.line.now self.now.centre self.now.nid_engine
@@ -120,7 +120,7 @@ impl Dispatch<'_> {
     }
 }
 
-/// What each other centre of the line is told.
+/// The same body for each other centre of the line.
 #[derive(Drop)]
 pub(crate) struct Broadcast<'a> {
     pub(crate) line: &'a Line,
@@ -134,7 +134,7 @@ pub(crate) struct Broadcast<'a> {
 impl Broadcast<'_> {
     ghost use Rattle.rbc_centre.specs.Dispatches.{told_by};
 
-    /// Tells each of them. The frames are written in place of those before.
+    /// Sends it to each of them. The frames replace those before.
     pub(crate) fn post(&self, links: &mut Links<Body>, room: &mut FrameRoom, frames: &mut Frames)
         requires { MaySend self.now.line.now self.now.centre self.now.stamp (told_by self.now) links.old room.old }
         ensures { IsSent self.now.stamp (told_by self.now) links.old links.new (frames_to frames.new) }
@@ -146,7 +146,7 @@ impl Broadcast<'_> {
         frames.list = Some(list);
     }
 
-    // What one centre is told, where it is another of the line.
+    // The body for one centre, if it is another centre of the line.
     fn body_to(&self, to: u8) -> Option<Body>
         ensures { bodies_in result ≡ told_by self.now to }
     {
@@ -158,7 +158,7 @@ impl Broadcast<'_> {
     }
 }
 
-// Sends a centre this body, where there is one, as the next frame of its link.
+// Sends a centre this body, if there is one, as the next frame of its link.
 #[inline(always)]
 fn post_one(
     links: &mut Links<Body>,

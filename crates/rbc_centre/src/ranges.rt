@@ -1,4 +1,4 @@
-//! The ranges of what a train's message says: each is one of its type.
+//! The ranges of the fields of a train's message: each value is one of its type.
 
 ghost use Rattle.rbc_msgs.specs.StepMessage.{step_message, position_of};
 ghost use Rattle.law_invariants.specs.Ranges.Ranges.{HasMessageRanges, HasPositionRanges};

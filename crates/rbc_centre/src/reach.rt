@@ -14,7 +14,7 @@ use rbc_line::{Line, SectionRun};
 use rbc_train::{Letter, Notice};
 use std::cmp::{max, min};
 
-/// A stretch of centres by their numbers, from the first to the last: none where the last is below the first.
+/// The centres with the numbers from the first to the last; empty if the last is less than the first.
 #[derive(Clone, Copy, Debug, PartialEq, Eq)]
 pub(crate) struct Reach {
     pub(crate) first: u8,
@@ -91,7 +91,7 @@ impl Reach {
         }
     }
 
-    // Those too that are told of a handover.
+    // With the centres that get a notice of a handover.
     #[inline(always)]
     fn and_notice(self, notice: Notice) -> Reach
         ensures keeps { (d : ℕ) → IsOutside result d → IsOutside self d }
@@ -105,7 +105,7 @@ impl Reach {
         }
     }
 
-    // Those too that are told that this centre is taking over.
+    // With the centres that get the reply that this centre takes over.
     #[inline(always)]
     fn and_told(self, told: Announcers) -> Reach
         ensures keeps { (d : ℕ) → IsOutside result d → IsOutside self d }

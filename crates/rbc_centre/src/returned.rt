@@ -1,4 +1,4 @@
-//! Sections that go to no other centre, and what a letter tells one.
+//! Sections that are not returned to another centre, and the body of a letter to one centre.
 
 ghost use Rattle.std.specs.Prelude.{◌≡◌, ℕ, [], IsTrue};
 ghost use Rattle.rbc_line.specs.SectionRuns.{run_of};
@@ -35,7 +35,7 @@ fn all_stay(line: &Line, centre: u8, sections: SectionRun) -> bool
     true
 }
 
-/// What the letter tells this centre.
+/// The body of the letter to this centre.
 pub(crate) fn letter_to(letter: Option<Letter>, to: u8) -> Option<Body>
     ensures { bodies_in result ≡ letters letter to }
 {

@@ -14,7 +14,7 @@ use rbc_train::{Reason, Saying};
 use std::alloc::{AllocError, Global};
 
 impl Event {
-    /// Whether another event says the same.
+    /// Whether another event is the same.
     pub fn is_same(&self, other: &Event) -> bool
         ensures { IsTrue result ↔ (self.now ≡ other.now) }
     {
@@ -41,8 +41,7 @@ impl Event {
         }
     }
 
-    /// Another event that says the same. Only the packets of a train's message that are kept without being read take
-    /// memory.
+    /// A copy of the event. Only the packets of a train's message that are kept without being read take memory.
     pub fn copied(&self, alloc: Global) -> Result<Event, AllocError>
         ensures { IfOk result (λ event. event ≡ self.now) }
     {
@@ -58,21 +57,21 @@ impl Event {
     }
 }
 
-// Whether the same messages are said, in the same order.
+// Whether the messages are the same, in the same order.
 fn same_sayings(sayings: &[Saying], others: &[Saying]) -> bool
     ensures { IsTrue result ↔ (map saying_of sayings.now ≡ map saying_of others.now) }
 {
     sayings == others
 }
 
-// Whether the same words are told, in the same order.
+// Whether the replies are the same, in the same order.
 fn same_words(words: &[Word], others: &[Word]) -> bool
     ensures { IsTrue result ↔ (map word_of words.now ≡ map word_of others.now) }
 {
     words == others
 }
 
-// Whether the link has said the same.
+// Whether the answer of the link is the same.
 fn same_link(link: Option<LinkAnswer>, other: Option<LinkAnswer>) -> bool
     ensures { IsTrue result ↔ (option_map answer_of link ≡ option_map answer_of other) }
 {
@@ -87,7 +86,7 @@ fn same_silence(silence: Option<Reason>, other: Option<Reason>) -> bool
 }
 
 impl Outcome {
-    /// Whether another outcome says the same.
+    /// Whether another outcome is the same.
     pub fn is_same(&self, other: &Outcome) -> bool
         ensures { IsTrue result ↔ (outcome_of self.now ≡ outcome_of other.now) }
     {
@@ -99,7 +98,7 @@ impl Outcome {
             && same_silence(self.silence, other.silence)
     }
 
-    /// Another outcome that says the same. Its frames have memory of their own, or, where there is none, take the room.
+    /// A copy of the outcome. If memory runs out, its frames take the room.
     pub fn copied(&self, room: &mut FrameRoom) -> Outcome
         requires { HasFrameRoom room.old }
         ensures { outcome_of result ≡ outcome_of self.now }

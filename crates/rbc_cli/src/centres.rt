@@ -4,7 +4,10 @@ use crate::record::lock_journals;
 use cli_commands::disk::Disk;
 use cli_commands::line_file::{LineFile, line_file_in};
 use cli_commands::words::ServeWords;
-use serve_line::{Endpoints, NoNotes, Notes, Record, ServeFault, ServeOptions, StderrNotes, serve};
+use serve_line::{
+    Endpoints, NoNotes, Notes, Record, ServeFault, ServeOptions, SocketFault, StderrNotes,
+    free_path, serve,
+};
 use std::fs::File;
 use std::io::{Eprint, Write};
 use std::net::{Net, TcpListener, TcpStream};
@@ -46,9 +49,38 @@ pub fn run_centres<
     }
 }
 
+// Serves, and then frees the path of the interlocking's socket.
+fn run_noted<
+    R: Threads
+        + Wait
+        + Sync
+        + Net<Stream = TcpStream, Listener = TcpListener>
+        + Clock
+        + Files<File = File>
+        + AllocGlobal,
+    N: Notes + Sync,
+    O: Write,
+>(
+    rt: &R,
+    given: &LineFile,
+    port: u16,
+    words: &ServeWords<'_>,
+    notes: &N,
+    out: &mut O,
+) -> Result<(), ServeFault> {
+    let done = run_opened(rt, given, port, words, notes, out);
+    if let Some(path) = words.control {
+        // Another program may have its own file there by now.
+        if let Err(SocketFault::Io(error)) = free_path(rt, path) {
+            notes.note(format_args!("control: {path} can't be removed: {error}"));
+        }
+    }
+    done
+}
+
 // Locks and reads the journals, opens the ports, begins the journals, and serves. A refusal before it serves leaves
 // the journals as they were.
-fn run_noted<
+fn run_opened<
     R: Threads
         + Wait
         + Sync
@@ -70,10 +102,7 @@ fn run_noted<
         Some(journal) => Some(lock_journals(rt, given, journal, notes)?),
         None => None,
     };
-    let mut endpoints = Endpoints::open(rt, rt.alloc(), &given.line, port, notes)?;
-    if let Some(page) = words.page {
-        endpoints = endpoints.and_page(rt, page, notes)?;
-    }
+    let endpoints = opened(rt, given, port, words, notes)?;
     let record = match journals {
         Some(journals) => journals.begun(rt, given, notes)?,
         None => Record::none(rt.alloc()),
@@ -90,11 +119,38 @@ fn run_noted<
     )
 }
 
+// Opens the ports, and the interlocking's socket if it has one.
+fn opened<
+    R: Net<Stream = TcpStream, Listener = TcpListener> + Files<File = File> + AllocGlobal,
+    N: Notes,
+>(
+    rt: &R,
+    given: &LineFile,
+    port: u16,
+    words: &ServeWords<'_>,
+    notes: &N,
+) -> Result<Endpoints, ServeFault> {
+    let (alloc, line) = (rt.alloc(), &given.line);
+    let endpoints = match words.control {
+        Some(path) => {
+            Endpoints::open_centres(rt, alloc, line, port, notes)?.and_socket(
+                rt, alloc, path, notes,
+            )?
+        }
+        None => Endpoints::open(rt, alloc, line, port, notes)?,
+    };
+    match words.page {
+        Some(page) => endpoints.and_page(rt, page, notes),
+        None => Ok(endpoints),
+    }
+}
+
 // The options of the arguments.
 fn manner_of(words: &ServeWords<'_>) -> ServeOptions {
     let mut options = ServeOptions {
         is_telling: words.is_telling,
         shows_life: words.shows_life,
+        is_bound: words.is_bound,
         ..ServeOptions::default()
     };
     if let Some(per_second) = words.per_second {

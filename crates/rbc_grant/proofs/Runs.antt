@@ -46,7 +46,7 @@ last_holds false b h = absurd (false≢true h)
 at_most : (x y : ℕ) → nat_le x y ≡ true → x ≤ y
 at_most x y h = grind (arith, nat_tests)
 
--- where each section that follows may follow, the hand's end has room in L_ENDSECTION as before
+-- if each next section may follow, the hand's end is within the range of L_ENDSECTION as before
 pub has_room : (line : Line) (book : Pages) (pool : SectionRun) (place : Place) (hand : SectionRun) (n : ℕ) → ((k : ℕ) → k < n → may_follow line book pool place (next_after hand + k) ≡ true) → may_request line hand place ≡ true
     → end line (next_after hand + n - 1) ≤ group_start line place + 32767
 has_room line book pool place hand zero each asked =

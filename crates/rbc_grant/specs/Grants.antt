@@ -1,4 +1,4 @@
--- What a request for a movement authority may be given (3.8).
+-- The answer to a request for a movement authority (3.8).
 use Rattle.std.specs.Prelude.{ℕ, ◌+◌, ◌-◌, ◌*◌, Bool, ◌&&◌, ◌||◌, nat_le}
 use Rattle.rbc_spec.specs.SectionRuns.{SectionRun, next_after, within}
 use Rattle.rbc_spec.specs.Line.{Line, end}

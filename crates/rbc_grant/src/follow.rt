@@ -15,8 +15,7 @@ use rbc_place::{Place, is_on, section_end};
 /// The greatest distance from a balise group at which a movement authority may end, in metres.
 pub(crate) const MOST_METRES: u32 = 32_767;
 
-/// How many sections follow the hand, one after another, with at most 32 in the hand, where the place's group is at
-/// this start.
+/// The number of sections that may extend the hand, up to 32 in the hand. The place's group is at this start.
 #[inline(always)]
 pub(crate) fn following(
     line: &Line,
@@ -45,7 +44,7 @@ pub(crate) fn following(
     room
 }
 
-// How many sections in advance of the hand are open in this book, one after another, at most so many.
+// The number of consecutive open sections in advance of the hand, up to the limit.
 fn open_ahead(book: &Book, hand: SectionRun, most: u16) -> u16
     ensures { (k : ℕ) → k < result → is_open (entry_at book.now (next_after (run_of hand) + k)) ≡ true }
 {
@@ -56,8 +55,9 @@ fn open_ahead(book: &Book, hand: SectionRun, most: u16) -> u16
     book.open_run(first as u16, most)
 }
 
-// Whether the section may follow in the hand of a train at this place: on its track, open in this book or of the pool,
-// and its end not too far from the group, which is at this start. Where it is known to be open, the book is not asked.
+// Whether the section may follow in the hand of a train at this place. It must be on its track, and open in this book
+// or in the pool. Its end must be in range of the group, which is at this start. The book is not asked about a section
+// that is known to be open.
 #[inline(always)]
 fn may_follow(
     line: &Line,

@@ -14,13 +14,13 @@ use rbc_place::{Place, group_start, section_end};
 /// The answer to a request: by how many sections the hand is extended, and L_ENDSECTION of the authority.
 #[derive(Clone, Copy, Debug, PartialEq, Eq)]
 pub struct Grant {
-    /// How many sections follow the hand; 0 where none may.
+    /// The number of sections that extend the hand; 0 if none may.
     pub sections: u16,
-    /// Where the extended hand ends, in metres from the balise group of the train's place.
+    /// The end of the extended hand, in metres from the balise group of the train's place.
     pub end: u32,
 }
 
-/// Where the last section of the hand ends, in metres from the start of its track.
+/// The end of the last section of the hand, in metres from the start of its track.
 pub fn hand_end(line: &Line, hand: SectionRun) -> u32
     ensures value { result ≡ end line.now (next_after (run_of hand) - 1) }
     ensures bound { result ≤ 1024000 }
@@ -28,7 +28,7 @@ pub fn hand_end(line: &Line, hand: SectionRun) -> u32
     section_end(line, hand.next_after().saturating_sub(1))
 }
 
-/// Whether a request from this place may be answered: the safe front end is not past the hand's end, which is at most
+/// Whether a request from this place may be answered. The safe front end is not past the hand's end, which is at most
 /// 32 767 metres past the balise group of the place.
 #[inline(always)]
 pub fn may_request(line: &Line, hand: SectionRun, place: &Place) -> bool
@@ -38,9 +38,9 @@ pub fn may_request(line: &Line, hand: SectionRun, place: &Place) -> bool
     place.front <= 10 * end && end <= group_start(line, place) + MOST_METRES
 }
 
-/// The answer to a request (message 132 answered by message 3): the hand is extended by the longest run of sections
-/// that follow it on the train's track, each open in this centre's book or of the train's pool, with at most 32
-/// sections in the hand and an end at most 32 767 metres past the balise group of the place.
+/// The answer to a request: message 3 to message 132. The hand is extended by the longest run of sections that follow
+/// it on the train's track. Each of them is open in this centre's book or is in the train's pool. The hand has at most
+/// 32 sections then, and its end is at most 32 767 metres past the balise group of the place.
 #[inline(always)]
 pub fn answer_request(
     line: &Line,
@@ -61,7 +61,7 @@ pub fn answer_request(
         ≡ end line.now (next_after (run_of hand) + result.sections - 1)
         - spec.group_start line.now (place_of place.now) }
     ensures line { IsLine line.now }
-    // L_ENDSECTION has room for it, where the request may be answered.
+    // The end is in the range of L_ENDSECTION, if the request may be answered.
     ensures fits { grants.may_request line.now (run_of hand) (place_of place.now) ≡ true → result.end ≤ 32767 }
 {
     let start = group_start(line, place);

@@ -1,7 +1,7 @@
-//! The answer to a request for a movement authority (SUBSET-026 3.8): how many sections follow a train's hand, and
-//! where its authority then ends. Nothing here takes memory.
+//! The answer to a request for a movement authority (SUBSET-026 3.8). It is the number of sections that extend a
+//! train's hand, and the end of its authority. Nothing here takes memory.
 //!
-//! Bodies and proofs are free. The clauses of public functions stay, since the crates above stand on them.
+//! Bodies and proofs may change. The clauses of public functions have to stay: the crates above depend on them.
 #![tactic(auto)]
 
 mod follow;

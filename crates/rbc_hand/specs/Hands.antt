@@ -1,12 +1,12 @@
--- Hands: consecutive sections, and what is held of each.
+-- Hands: consecutive sections, and the token of each.
 use Rattle.std.specs.Prelude.{◌≡◌, ℕ, zero, suc, ◌+◌, ◌-◌, ◌≤◌, ◌==◌, Bool, ◌&&◌, ◌||◌, List, [], ◌∷◌, ◌++◌, length, map, take, drop, if◌then◌else◌, Option, option_map, nat_lt, slice_get}
 use Rattle.std.specs.List.{AllByRecursion}
 use Rattle.rbc_spec.specs.SectionRuns.{SectionRun, next_after, is_empty}
 use Rattle.rbc_hand.specs.declared.token.Token.{Token}
 use Rattle.rbc_hand.specs.Tokens.{Held, Own, section_of, held_of, token_of}
 
--- the first section, and what is held of it and of each that follows. An empty hand has the first that it had when it
--- became so
+-- The first section, and the tokens of it and of each section after it. An empty hand keeps the first that it had when
+-- it became empty.
 pub record Holding : Type 0 where
   pub first : ℕ
   pub holds : List Held
@@ -34,7 +34,7 @@ without_front h = if length h.holds == 0 then h else record { first = h.first + 
 abbrev pub without_back : Holding → Holding
 without_back h = record h { holds = take (length h.holds - 1) h.holds }
 
--- the same of its run
+-- the run of a hand without its first section
 abbrev pub shorter_in_front : SectionRun → SectionRun
 shorter_in_front r = record { first = r.first + 1; count = r.count - 1 }
 
@@ -44,8 +44,8 @@ run_without_front r = if is_empty r then r else shorter_in_front r
 abbrev pub run_without_back : SectionRun → SectionRun
 run_without_back r = record r { count = r.count - 1 }
 
--- the section may come after the last of a hand: there is room, and it follows it, or the hand is empty. No line has a
--- section 65 535
+-- The section may be added after the last of a hand: there is room, and it follows the last, or the hand is empty. No
+-- line has a section 65 535.
 unfoldable pub takes : SectionRun → ℕ → Bool
 takes r s = (nat_lt r.count 32 && nat_lt s 65535) && (is_empty r || (s == next_after r))
 
@@ -70,12 +70,12 @@ abbrev pub Follow : ℕ → List Token → Type 0
 Follow first [] = Unit {0}
 Follow first (token ∷ tokens) = (section_of token ≡ first) × Follow (first + 1) tokens
 
--- the tokens of so many own sections, from a first, for a train
+-- the tokens of n own sections from a first, for a train
 abbrev pub own_tokens : ℕ → ℕ → ℕ → List Token
 own_tokens first zero t = []
 own_tokens first (suc n) t = token_of first (Own t) ∷ own_tokens (first + 1) n t
 
--- what is held by these tokens, from a first
+-- the holding of these tokens, from a first
 abbrev pub holding : ℕ → List Token → Holding
 holding first tokens = record { first = first; holds = map held_of tokens }
 

@@ -1,4 +1,4 @@
--- What a centre holds of the sections in a train's movement authority.
+-- The tokens that a centre has for the sections in a train's movement authority.
 use Rattle.std.specs.Prelude.{ℕ}
 use Rattle.rbc_book.specs.Claim as claim
 use Rattle.rbc_hand.specs.declared.lent.Lent.{Lent}
@@ -18,7 +18,7 @@ lent_train lent = lent.nid_engine
 abbrev pub lent_home : Lent → ℕ
 lent_home lent = lent.home
 
--- what is held of a section: the claim of its home for a train, or the name that another home has lent to the train
+-- the token of a section: the claim of its home for a train, or the name that another home has lent to the train
 pub data Held : Type 0 where
   Own : (t : ℕ) → Held
   Name : (t home : ℕ) → Held

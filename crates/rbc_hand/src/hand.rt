@@ -11,13 +11,13 @@ use std::alloc::{AllocError, Global};
 use std::collections::VecDeque;
 use std::marker::Model;
 
-/// The consecutive sections that a train has in its movement authority, or that wait for it, at most 32: of each the
-/// token that the centre holds. Room for all is made at the beginning, and no call takes memory after that. A hand
-/// can't be copied, and not be dropped: its tokens are cut off, and then it ends.
+/// The consecutive sections that a train has in its movement authority, or that wait for it, at most 32. For each it
+/// has the token that the centre holds. Room for all is made at the beginning, and no call takes memory after that. A
+/// hand can't be copied or dropped: its tokens are cut off, and then it ends.
 #[must_use]
 #[derive(Debug)]
 pub struct Hand {
-    // Of the first token; of an empty hand, where it became empty.
+    // The section of the first token. In an empty hand, the section at which it became empty.
     first: u16,
     tokens: VecDeque<Token>,
 }
@@ -72,7 +72,7 @@ impl Hand {
         tokens.destroy_empty();
     }
 
-    /// Its sections. Of an empty hand, the first is where it became empty.
+    /// Its sections. The first of an empty hand is the section at which it became empty.
     pub fn run(&self) -> SectionRun
         ensures { run_of result ≡ run self.now }
     {
@@ -96,8 +96,8 @@ impl Hand {
         self.run().is_empty()
     }
 
-    /// Whether a section may come after the last: there is room, and it is the next in number, or the hand is empty. A
-    /// section 65 535, which no line has, may not.
+    /// Whether a section may be added after the last: there is room, and it is the next in number, or the hand is
+    /// empty. A section 65 535, which no line has, may not.
     #[tactic(auto, unfolding(crate::specs::Hands::takes))]
     pub fn takes(&self, section: u16) -> bool
         ensures { result ≡ takes (run self.now) section }
@@ -115,14 +115,14 @@ impl Hand {
         if self.is_empty() { section } else { self.first }
     }
 
-    /// Adds a section after the last, or begins an empty hand with it. A token that may not come there is handed back.
+    /// Adds a section after the last, or begins an empty hand with it. A token that may not be added is handed back.
     pub fn extend(&mut self, token: Token) -> Result<(), Token>
         ensures answer { result ≡ (if takes (run self.old) (section_of token) then Ok tt else Err token) }
         ensures hand { self.new ≡ (if takes (run self.old) (section_of token)
             then extended self.old (section_of token) (held_of token) else self.old) }
         ensures run { run self.new ≡ (if takes (run self.old) (section_of token)
             then joined (run self.old) (one (section_of token)) else run self.old) }
-        // A section that follows the last at once is taken where there is room, and any where the hand is empty.
+        // A section that follows the last at once is accepted if there is room. An empty hand accepts any section.
         ensures follows { (run self.old).count < 32 → section_of token < 65535
             → section_of token ≡ next_after (run self.old)
             → IsOk result × (run self.new ≡ longer (run self.old)) }
@@ -153,7 +153,7 @@ impl Hand {
         push_claims(&mut self.tokens, claims);
     }
 
-    /// Cuts off the first section: its token. None exactly where there is none, and then nothing changes.
+    /// Cuts off the first section and returns its token. `None` if and only if there is none; then nothing changes.
     pub fn cut_front(&mut self) -> Option<Token>
         ensures token { result ≡ front self.old }
         ensures some { is_some result ≡ not (is_empty (run self.old)) }
@@ -171,7 +171,7 @@ impl Hand {
         token
     }
 
-    /// Cuts off the last section: its token. None exactly where there is none, and then nothing changes.
+    /// Cuts off the last section and returns its token. `None` if and only if there is none; then nothing changes.
     pub fn cut_back(&mut self) -> Option<Token>
         ensures token { result ≡ back self.old }
         ensures some { is_some result ≡ not (is_empty (run self.old)) }
@@ -185,7 +185,7 @@ impl Hand {
         self.tokens.pop_back()
     }
 
-    /// Forgets where an empty hand became empty. A hand that has a section stays as it is.
+    /// Forgets the section at which an empty hand became empty. A hand that has a section stays as it is.
     pub fn forget_end(&mut self)
         ensures hand { self.new ≡ (if is_empty (run self.old) then nothing else self.old) }
         ensures run { run self.new ≡ (if is_empty (run self.old) then no_run else run self.old) }

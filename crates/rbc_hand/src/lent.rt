@@ -1,8 +1,8 @@
 ghost use Rattle.std.specs.Prelude.{◌≡◌};
 ghost use Rattle.rbc_hand.specs.Tokens.{lent_on, lent_section, lent_train};
 
-/// The name of a section of another home, which its centre has lent to a train here. It can't be copied, and not be
-/// dropped: it ends where it is sent home or further on, also where its centre is dropped.
+/// The name of a section of another home, which its centre has lent to a train here. It can't be copied or dropped. It
+/// ends when the section is returned or handed over, or when its centre ends.
 #[must_use]
 #[derive(Debug)]
 pub struct Lent {
@@ -12,7 +12,7 @@ pub struct Lent {
 }
 
 impl Lent {
-    /// The name of a section that has come in a frame.
+    /// The name of a section that has arrived in a frame.
     pub fn arrive(section: u16, nid_engine: u32, home: u8) -> Lent
         ensures { result ≡ lent_on section nid_engine home }
     {
@@ -23,7 +23,7 @@ impl Lent {
         }
     }
 
-    /// Ends it, where its section goes into a frame: the number of the section.
+    /// Ends it, as its section is written into a frame; returns the number of the section.
     pub fn send(self) -> u16
         ensures { result ≡ lent_section self }
     {

@@ -4,7 +4,7 @@ ghost use Rattle.rbc_hand.specs.Tokens.{section_of};
 use crate::lent::Lent;
 use rbc_book::Claim;
 
-/// What a centre holds of a section in a train's movement authority. It can't be copied, and not be dropped.
+/// The token of a section in a train's movement authority. It can't be copied or dropped.
 #[must_use]
 #[derive(Debug)]
 pub enum Token {

@@ -1,19 +1,22 @@
--- What a centre expects of the others, after what one of them has announced is another, and by the acts of the rules.
-use Rattle.std.proofs.Common.{◌≡◌, ℕ, zero, suc, ◌<◌, ◌≤◌, ◌||◌, Bool, true, false, cond, List, [], ◌∷◌, ◌++◌, length, set, get_or, map, slice_get, Option, Some, None, is_none, is_some, refl, sym, ap, ◌∙◌, inl, inr, arith}
-use Rattle.std.specs.Option.{option_and_then}
-use Rattle.std.specs.List.{list_any}
+-- The expectations of a centre after a change of one of them, and by the acts of the rules.
+use Rattle.std.proofs.Common.{[], ◌++◌, ◌<◌, ◌||◌, ◌∙◌, ◌∷◌, ◌≡◌, ◌≤◌, ap, arith, Bool, cond, false, get_or, inl, inr}
+use Rattle.std.proofs.Common.{is_none, is_some, length, List, map, None, Option, refl, set, slice_get, Some, suc, sym}
+use Rattle.std.proofs.Common.{true, zero, ℕ}
 use Rattle.std.proofs.lemmas.Bool.Decides.{eqb_tells}
-use Rattle.std.proofs.lemmas.List.{length-map, map-set, get_or-map, get_or-set_same, get_or-set_other, get_or_past}
-use Rattle.rbc_spec.specs.Maps.{put, put_pair}
-use Rattle.rbc_spec.specs.Line.{Line}
-use Rattle.rbc_spec.specs.Centre.{Centre, Expectation}
-use Rattle.rbc_spec.specs.Acts.{rest}
-use Rattle.rbc_spec.specs.Links.{expect, announced, cancelled, is_under}
-use Rattle.law_base.proofs.Puts.{put_here, put_other, put_same}
+use Rattle.std.proofs.lemmas.List.{get_or-map, get_or-set_other, get_or-set_same, get_or_past, length-map, map-set}
+use Rattle.std.specs.List.{list_any}
+use Rattle.std.specs.Option.{option_and_then}
+use Rattle.law_base.proofs.Lists.{put_here, put_other, put_same}
+use Rattle.rbc_handover.specs.Acceptings.{expectation_of}
 use Rattle.rbc_handover.specs.declared.accepting.AcceptingState.{AcceptingState}
 use Rattle.rbc_handover.specs.declared.accepting.AcceptingState.TheVariants.{Nothing}
-use Rattle.rbc_handover.specs.Acceptings.{expectation_of}
-use Rattle.rbc_handover.specs.Expectations.{expected_from, announced_as, ended_under, HasExpectations, with_expectations}
+use Rattle.rbc_handover.specs.Expectations.{announced_as, ended_under, expected_from, HasExpectations}
+use Rattle.rbc_handover.specs.Expectations.{with_expectations}
+use Rattle.rbc_spec.specs.Acts.{rest}
+use Rattle.rbc_spec.specs.Centre.{Centre, Expectation}
+use Rattle.rbc_spec.specs.Line.{Line}
+use Rattle.rbc_spec.specs.Links.{announced, cancelled, expect, is_under}
+use Rattle.rbc_spec.specs.Maps.{put, put_pair}
 
 -- ## In memory
 
@@ -29,21 +32,21 @@ expected_set e i o within d = elim (eqb_tells d i) as (λ _. expected_from (set 
   | inr x ↦ rw (x.0) (get_or-set_other e i d o None x.1)
 ]
 
--- what is expected by these states
+-- the expectations of these states
 abbrev pub by_states : List AcceptingState → List (Option Expectation)
 by_states xs = map expectation_of xs
 
 within_by_states : (xs : List AcceptingState) (i : ℕ) → i < length xs → i < length (by_states xs)
 within_by_states xs i within = let long : length (by_states xs) ≡ length xs = length-map xs expectation_of in omega (arith, long, within)
 
--- a place of what is expected is one of the states
+-- a position of the expectations is one of the states
 pub within_states : (xs : List AcceptingState) (e : List (Option Expectation)) (i : ℕ) → by_states xs ≡ e → i < length e → i < length xs
 within_states xs e i view within = let long : length e ≡ length xs = ap length (sym view) ∙ length-map xs expectation_of in omega (arith, long, within)
 
 pub past_states : (xs : List AcceptingState) (e : List (Option Expectation)) (i : ℕ) → by_states xs ≡ e → length xs ≤ i → length e ≤ i
 past_states xs e i view past = let long : length e ≡ length xs = ap length (sym view) ∙ length-map xs expectation_of in omega (arith, long, past)
 
--- what is looked up
+-- the expectation that is looked up
 pub looked_up : (xs : List AcceptingState) (i : ℕ) → option_and_then expectation_of (slice_get xs i) ≡ expected_from (by_states xs) i
 unfolding expected_from
 looked_up [] i = refl
@@ -83,7 +86,7 @@ module _ (xs : List AcceptingState) (i : ℕ) (old new : AcceptingState) (within
       → (d : ℕ) → expected_from (by_states (set xs i new)) d ≡ put (expected_from (by_states xs)) i (f (expected_from (by_states xs) i)) d
   changed f is = state_set (f (expected_from (by_states xs) i)) (is ∙ ap f (sym state_at))
 
--- a change of what is none changes nothing
+-- a change of a missing expectation changes nothing
 pub none_changed : (e : List (Option Expectation)) (i : ℕ) (o : Option Expectation) → length e ≤ i → o ≡ None → (d : ℕ) → expected_from e d ≡ put (expected_from e) i o d
 none_changed e i o past none d = sym (put_same i o (expected_from e) (expected_past e i past ∙ sym none) d)
 

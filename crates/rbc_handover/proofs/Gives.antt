@@ -1,19 +1,20 @@
 -- The handover of a train that a centre supervises, by the acts of the rules.
-use Rattle.std.proofs.Common.{◌≡◌, ℕ, ◌+◌, ◌==◌, ◌&&◌, true, false, cond, not, if◌then◌else◌, List, [], ◌∷◌, ◌++◌, Option, Some, None, is_none, is_some, option_map, refl, sym, ap, ◌∙◌}
-use Rattle.std.specs.Option.{option_map_or, option_and_then}
+use Rattle.std.proofs.Common.{[], ◌&&◌, ◌++◌, ◌+◌, ◌==◌, ◌∙◌, ◌∷◌, ◌≡◌, ap, cond, false, if◌then◌else◌, is_none}
+use Rattle.std.proofs.Common.{is_some, List, None, not, Option, option_map, refl, Some, sym, true, ℕ}
 use Rattle.std.proofs.lemmas.Bool.{false≢true}
 use Rattle.std.proofs.lemmas.List.{append-nil}
-use Rattle.rbc_spec.specs.Maps.{has}
-use Rattle.rbc_spec.specs.SectionRuns.{is_empty}
-use Rattle.rbc_spec.specs.Line.{Line}
-use Rattle.rbc_spec.specs.Frame.{Body, Announce, Cancel}
-use Rattle.rbc_spec.specs.Centre.{Centre, Mission, Handing}
-use Rattle.rbc_spec.specs.Acts.{Reply, rest, send, part_at, announce, cancel, change_mission, ◌>>◌}
-use Rattle.rbc_spec.specs.Rules.{announce_if_due}
-use Rattle.law_base.proofs.Puts.{put_same}
+use Rattle.std.specs.Option.{option_and_then, option_map_or}
+use Rattle.law_base.proofs.Lists.{put_same}
 use Rattle.rbc_handover.specs.declared.handing.HandoverName.{HandoverName}
+use Rattle.rbc_handover.specs.Giving.{announcing, begun, cancelling, HasMission, with_count, with_handover}
 use Rattle.rbc_handover.specs.Handings.{handover_name}
-use Rattle.rbc_handover.specs.Giving.{begun, HasMission, with_handover, with_count, announcing, cancelling}
+use Rattle.rbc_spec.specs.Acts.{◌>>◌, announce, cancel, change_mission, part_at, Reply, rest, send}
+use Rattle.rbc_spec.specs.Centre.{Centre, Handing, Mission}
+use Rattle.rbc_spec.specs.Frame.{Announce, Body, Cancel}
+use Rattle.rbc_spec.specs.Line.{Line}
+use Rattle.rbc_spec.specs.Maps.{has}
+use Rattle.rbc_spec.specs.Rules.{announce_if_due}
+use Rattle.rbc_spec.specs.SectionRuns.{is_empty}
 
 -- a centre that has a handover is the same with it
 pub same_handover : (t : ℕ) (k : Centre) (h : Option Handing) → option_and_then (λ (m : Mission). m.handing) (k.mission t) ≡ h → with_handover t h k ≡ k
@@ -34,7 +35,7 @@ module _ (line : Line) (t d : ℕ) (m : Mission) (k : Centre) where
       ap (λ o. option_map_or (λ n. cond (is_none n.handing && not (is_empty (part_at line d n.place.track n.hand))) (announce line t n.place.group d n k) (rest k)) o (rest k)) is.mission
       ∙ ap announcing_if is.handing
 
-  -- where one stands, no other is announced
+  -- if a handover is pending, no other is announced
   pub stands_already : (h : Handing) → HasMission t k m (Some h) → announce_if_due line t d k ≡ rest k
   stands_already h is = at_mission (Some h) is
 
@@ -51,7 +52,7 @@ module _ (line : Line) (t d : ℕ) (m : Mission) (k : Centre) where
         frames = λ e. three_times (if e == d then Announce (k.announced + 1) t m.place.track ∷ [] else []) i;
       })
 
-  -- where one stands, nothing changes
+  -- if a handover is pending, nothing changes
   pub announces_no_more : (h : Option Handing) (n : ℕ) → is_some h ≡ true → HasMission t k m h → k.announced ≡ n
       → announce_if_due line t d k ≡ rest (with_handover t h (with_count n k))
   announces_no_more None n stands is counted = absurd (false≢true stands)
@@ -60,7 +61,7 @@ module _ (line : Line) (t d : ℕ) (m : Mission) (k : Centre) where
       ∙ ap rest ((λ i. record k { announced = counted i })
       ∙ sym (same_handover t (with_count n k) (Some h) (ap (option_and_then (λ (x : Mission). x.handing)) is.mission ∙ is.handing)))
 
-  -- where none stands, the next number is announced
+  -- if none is pending, the next number is announced
   pub announces_next : (h now : Option Handing) (n number count : ℕ) → is_some h ≡ false → HasMission t k m h → k.announced ≡ n
       → is_empty (part_at line d m.place.track m.hand) ≡ false → number ≡ n + 1 → now ≡ Some (begun d (n + 1)) → count ≡ n + 1
       → announce_if_due line t d k ≡ announcing line t d m (Some number) (with_handover t now (with_count count k))

@@ -1,26 +1,29 @@
--- A centre says that it is taking over: each centre that has announced the train, and was not told, is told once.
-use Rattle.std.proofs.Common.{◌≡◌, ℕ, suc, ◌+◌, ◌<◌, ◌≤◌, ◌&&◌, ◌||◌, Bool, true, false, cond, not, List, [], ◌∷◌, length, set, get_or, Option, Some, None, is_some, option_map, refl, sym, ap, ◌∙◌, inl, inr, arith}
-use Rattle.std.specs.Option.{option_map_or}
-use Rattle.std.specs.List.{list_any, range_with_len}
+-- A centre takes over: each centre that has announced the train, and had no TakingOver yet, gets one.
+use Rattle.std.proofs.Common.{[], ◌&&◌, ◌+◌, ◌<◌, ◌||◌, ◌∙◌, ◌∷◌, ◌≡◌, ◌≤◌, ap, arith, Bool, cond, false, get_or, inl}
+use Rattle.std.proofs.Common.{inr, is_some, length, List, None, not, Option, option_map, refl, set, Some, suc, sym}
+use Rattle.std.proofs.Common.{true, ℕ}
 use Rattle.std.proofs.lemmas.Bool.{cases_lt, ltb-false}
 use Rattle.std.proofs.lemmas.Bool.Decides.{eqb_tells}
-use Rattle.std.proofs.lemmas.List.{get_or-set_same, get_or-set_other}
+use Rattle.std.proofs.lemmas.List.{get_or-set_other, get_or-set_same}
 use Rattle.std.proofs.lemmas.Option.{none-some}
-use Rattle.rbc_spec.specs.Maps.{has, put}
-use Rattle.rbc_spec.specs.Line.{Line, is_centre}
-use Rattle.rbc_spec.specs.Frame.{TakingOver}
-use Rattle.rbc_spec.specs.Centre.{Centre, Expectation, is_expected}
-use Rattle.rbc_spec.specs.Rules.{taking, take_over}
-use Rattle.law_base.proofs.Puts.{put_same}
+use Rattle.std.specs.List.{list_any, range_with_len}
+use Rattle.std.specs.Option.{option_map_or}
+use Rattle.law_base.proofs.Lists.{put_same}
+use Rattle.rbc_handover.proofs.Expects.{by_states, expected_past, state_at, state_set}
+use Rattle.rbc_handover.specs.Acceptings.{expectation_of}
 use Rattle.rbc_handover.specs.declared.accepting.AcceptingState.{AcceptingState}
 use Rattle.rbc_handover.specs.declared.announcers.Announcers.{Announcers}
-use Rattle.rbc_handover.specs.Acceptings.{expectation_of}
-use Rattle.rbc_handover.specs.Expectations.{expected_from, is_to_be_told, is_told, HasExpectations, with_expectations, telling}
-use Rattle.rbc_handover.proofs.Expects.{by_states, expected_past, state_at, state_set}
+use Rattle.rbc_handover.specs.Expectations.{expected_from, HasExpectations, is_to_be_told, is_told, telling}
+use Rattle.rbc_handover.specs.Expectations.{with_expectations}
+use Rattle.rbc_spec.specs.Centre.{Centre, Expectation, is_expected}
+use Rattle.rbc_spec.specs.Frame.{TakingOver}
+use Rattle.rbc_spec.specs.Line.{is_centre, Line}
+use Rattle.rbc_spec.specs.Maps.{has, put}
+use Rattle.rbc_spec.specs.Rules.{take_over, taking}
 
 -- ## One centre after another
 
--- up to a number the centres have been told
+-- the centres below a number have got it
 pub record HasTold (old new : List (Option Expectation)) (i : ℕ) (are_told : List Bool) : Type 0 where
   pub told : (d : ℕ) → d < i → get_or are_told d false ≡ is_to_be_told (expected_from old d)
   pub not_told : (d : ℕ) → i ≤ d → get_or are_told d false ≡ false

@@ -1,4 +1,4 @@
--- A handover that another centre has announced, as it stands in memory: what its type says, and its number.
+-- A handover that another centre has announced, in memory: the phase of its type, and its number.
 use Rattle.std.specs.Prelude.{ℕ, true, false, Option, Some, None}
 use Rattle.rbc_spec.specs.Centre.{Expectation}
 use Rattle.rbc_handover.specs.declared.accepting.Accepting.{Accepting}
@@ -8,7 +8,7 @@ use Rattle.rbc_handover.specs.declared.accepting.AcceptingState.TheVariants.{Not
 abbrev pub accepted_number : {S : Type 0} → Accepting S → ℕ
 accepted_number accepting = accepting.number
 
--- what a centre keeps of it
+-- the expectation of a centre's state
 abbrev pub expectation_of : AcceptingState → Option Expectation
 expectation_of Nothing = None
 expectation_of (Expected accepting) = Some (record { number = accepting.number; is_taking = false })

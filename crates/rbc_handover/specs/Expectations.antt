@@ -1,4 +1,4 @@
--- What a centre has of the handovers of one train that other centres have announced to it, by their numbers.
+-- The handovers of one train that other centres have announced to a centre, by their numbers.
 use Rattle.std.specs.Prelude.{◌≡◌, ℕ, ◌==◌, Bool, false, ◌&&◌, not, if◌then◌else◌, List, [], ◌∷◌, length, slice_index_or, Option, Some, None, is_none}
 use Rattle.std.specs.Option.{option_map_or}
 use Rattle.rbc_spec.specs.Maps.{has, put}
@@ -9,27 +9,27 @@ use Rattle.rbc_spec.specs.Acts.{Reply}
 use Rattle.rbc_spec.specs.Links.{is_under}
 use Rattle.rbc_handover.specs.declared.announcers.Announcers.{Announcers}
 
--- what is expected from centre d; from one that is none of the line, nothing
+-- the expectation from centre d; none from a centre that is not of the line
 unfoldable pub expected_from : List (Option Expectation) → ℕ → Option Expectation
 expected_from e d = slice_index_or e d None
 
--- what is expected from a centre that has announced a handover under this number: what was, where there was something
+-- the expectation after an announcement with this number: the one before, if there was one
 abbrev pub announced_as : ℕ → Option Expectation → Option Expectation
 announced_as number o = if is_none o then Some (record { number = number; is_taking = false }) else o
 
--- what is expected from a centre that has cancelled the handover of this number
+-- the expectation after the handover of this number was cancelled
 abbrev pub ended_under : ℕ → Option Expectation → Option Expectation
 ended_under number o = if is_under number o then None else o
 
--- it is expected under this number, and it was answered that this centre is taking over
+-- a handover is expected under this number, and this centre has replied TakingOver
 abbrev pub is_taking_under : ℕ → Option Expectation → Bool
 is_taking_under number o = has (λ e. (e.number == number) && e.is_taking) o
 
--- it is expected, and its announcer was not told that this centre is taking over
+-- a handover is expected, and its announcer has had no TakingOver
 abbrev pub is_to_be_told : Option Expectation → Bool
 is_to_be_told o = has (λ e. not e.is_taking) o
 
--- centre d is one of those that are told
+-- centre d gets a TakingOver
 abbrev pub is_told : Announcers → ℕ → Bool
 is_told told d = slice_index_or told.are_told d false
 
@@ -44,13 +44,13 @@ pub record HasExpectations (line : Line) (t : ℕ) (k : Centre) (e : List (Optio
 abbrev pub with_expectations : ℕ → List (Option Expectation) → Centre → Centre
 with_expectations t e k = record k { expects = λ d. put (k.expects d) t (expected_from e d) }
 
--- ## What it replies
+-- ## The replies
 
--- what these centres are told of train t that expect it so: that this one is taking over
+-- the TakingOver of train t for these centres, with these expectations
 abbrev pub claims : ℕ → Announcers → (ℕ → Option Expectation) → ℕ → List Body
 claims t told e d =
     if is_told told d then option_map_or (λ (x : Expectation). TakingOver x.number t ∷ []) (e d) [] else []
 
--- these centres are told so, and nothing else
+-- a reply with only these frames
 abbrev pub telling : ℕ → Announcers → (ℕ → Option Expectation) → Centre → Reply
 telling t told e k = record { state = k; frames = claims t told e; sayings = []; words = [] }

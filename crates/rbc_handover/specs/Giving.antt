@@ -1,4 +1,4 @@
--- What the centre that hands over does with the handover of a train.
+-- The acts of the handing-over centre on the handover of a train.
 use Rattle.std.specs.Prelude.{◌≡◌, ℕ, ◌-◌, ◌==◌, Bool, ◌&&◌, if◌then◌else◌, [], ◌∷◌, Option, Some, None, option_map}
 use Rattle.rbc_spec.specs.Maps.{put}
 use Rattle.rbc_spec.specs.Line.{Line, start}
@@ -14,7 +14,7 @@ use Rattle.rbc_handover.specs.declared.handing.HandoverName.{HandoverName}
 abbrev pub begun : ℕ → ℕ → Handing
 begun d number = record { number = number; to = d }
 
--- the handover stands under this number to centre d, which claims it
+-- the handover is pending under this number to centre d, which claims it
 abbrev pub is_due : ℕ → ℕ → Handing → Bool
 is_due d number h = (h.number == number) && (h.to == d)
 
@@ -25,19 +25,19 @@ pub record HasMission (t : ℕ) (k : Centre) (m : Mission) (h : Option Handing) 
   pub mission : k.mission t ≡ Some m
   pub handing : m.handing ≡ h
 
--- the centre with this handover of the train, where it has a mission of it
+-- the centre with this handover of the train, if it has a mission of it
 abbrev pub with_handover : ℕ → Option Handing → Centre → Centre
 with_handover t h k =
     record k { mission = put k.mission t (option_map (λ (m : Mission). record m { handing = h }) (k.mission t)) }
 
--- the centre with so many handovers announced
+-- the centre with this count of announced handovers
 abbrev pub with_count : ℕ → Centre → Centre
 with_count n k = record k { announced = n }
 
--- ## What it replies
+-- ## The replies
 
--- a handover of the mission to centre d is announced under this number, if there is one: a frame goes there, and the
--- train is told where the border is
+-- A handover of the mission to centre d is announced under this number, if there is one. A frame goes there, and the
+-- train gets the distance to the border.
 abbrev pub announcing : Line → ℕ → ℕ → Mission → Option ℕ → Centre → Reply
 announcing line t d m None k = rest k
 announcing line t d m (Some number) k =

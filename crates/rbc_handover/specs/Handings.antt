@@ -1,4 +1,4 @@
--- The handover of a train that a centre supervises, as it stands in memory: what it goes by.
+-- The handover of a train that a centre supervises, in memory: its name.
 use Rattle.std.specs.Prelude.{ℕ, Option, Some, None}
 use Rattle.rbc_spec.specs.Centre.{Handing}
 use Rattle.rbc_handover.specs.declared.handing.HandoverName.{HandoverName}
@@ -20,11 +20,11 @@ name_of handing = record { number = handing.number; to = handing.to }
 abbrev pub kept_as : HandingCode → Handing
 kept_as handing = record { number = handing.number; to = handing.to }
 
--- what a mission keeps
+-- the handover in the state of a mission
 abbrev pub handing_of : Handover → Option Handing
 handing_of handover.None = None
 handing_of (handover.Announced handing) = Some (kept_as handing)
 
--- what a handover that is kept goes by
+-- the name of a handover
 abbrev pub handover_name : Handing → HandoverName
 handover_name h = record { number = h.number; to = h.to }

@@ -6,17 +6,16 @@ ghost use Rattle.rbc_handover.specs.Expectations.{announced_as, ended_under, is_
 
 use std::mem;
 
-/// The handover was announced, and this centre has not said that it is taking over.
+/// The handover was announced, and this centre has not replied yet that it takes over.
 #[derive(Clone, Copy, Debug, PartialEq, Eq)]
 pub struct Expected;
 
-/// This centre has said that it is taking over.
+/// This centre has replied that it takes over.
 #[derive(Clone, Copy, Debug, PartialEq, Eq)]
 pub struct Taking;
 
-/// A handover of a train that another centre has announced to this one, which one holder has. It can't be copied, and
-/// not be dropped: it ends where it is cancelled or taken, also where its centre is dropped. Its phase is `Expected` or
-/// `Taking`.
+/// A handover of a train that another centre has announced to this one, which one holder has. It can't be copied or
+/// dropped: it ends when it is cancelled or taken, or when its centre ends. Its phase is `Expected` or `Taking`.
 #[must_use]
 #[derive(Debug)]
 pub struct Accepting<S> {
@@ -24,7 +23,7 @@ pub struct Accepting<S> {
     phase: S,
 }
 
-/// What a centre has of a train's handover from one other centre.
+/// The state of a train's handover from one other centre.
 #[must_use]
 #[derive(Debug)]
 pub enum AcceptingState {
@@ -62,7 +61,7 @@ impl Accepting<Expected> {
         }
     }
 
-    // This centre says that it is taking over.
+    // This centre replies that it takes over.
     fn take_over(self) -> Accepting<Taking>
         ensures { accepted_number result ≡ accepted_number self }
     {
@@ -100,7 +99,7 @@ impl AcceptingState {
         }
     }
 
-    // Whether it is expected under this number, and this centre has said that it is taking over.
+    // Whether it is expected under this number, and this centre has replied that it takes over.
     pub(crate) fn may_take(&self, number: u32) -> bool
         ensures { result ≡ is_taking_under number (expectation_of self.now) }
     {
@@ -111,7 +110,7 @@ impl AcceptingState {
         }
     }
 
-    // A handover is announced under this number. One that stands stays.
+    // A handover is announced under this number. A pending one stays.
     pub(crate) fn announced(&mut self, number: u32)
         ensures { expectation_of self.new ≡ announced_as number (expectation_of self.old) }
     {
@@ -120,7 +119,7 @@ impl AcceptingState {
         }
     }
 
-    // Its number, where it is expected.
+    // Its number, if it is expected.
     pub(crate) fn number(&self) -> Option<u32>
         ensures { result ≡ option_map (λ e. e.number) (expectation_of self.now) }
     {
@@ -131,8 +130,8 @@ impl AcceptingState {
         }
     }
 
-    // This centre says that it is taking over. Whether it says so now: not where nothing is expected, nor where it has
-    // said so.
+    // This centre takes over. The result is whether it has to reply so now: not if nothing is expected, nor if it has
+    // replied before.
     pub(crate) fn take_over(&mut self) -> bool
         ensures told { result ≡ is_to_be_told (expectation_of self.old) }
         ensures state { expectation_of self.new ≡ option_map taking (expectation_of self.old) }
@@ -165,7 +164,7 @@ impl AcceptingState {
         hold(self, AcceptingState::Nothing);
     }
 
-    /// Ends it, where its centre does.
+    /// Ends it when its centre ends.
     pub fn end(self) {
         match self {
             AcceptingState::Nothing => {}
@@ -179,7 +178,7 @@ impl AcceptingState {
     }
 }
 
-// Holds what is expected. What was held ends.
+// Replaces the state. The state before ends.
 fn hold(held: &mut AcceptingState, state: AcceptingState)
     ensures { held.new ≡ state }
 {

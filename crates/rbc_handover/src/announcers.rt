@@ -1,7 +1,7 @@
 ghost use Rattle.std.specs.Prelude.{◌≡◌};
 ghost use Rattle.rbc_handover.specs.Expectations.{is_told};
 
-/// Centres that are told that this one is taking over.
+/// The centres that get the reply that this one takes over.
 #[derive(Clone, Copy, Debug, PartialEq, Eq)]
 pub struct Announcers {
     /// Of each centre, by its number in the line file.
@@ -9,7 +9,7 @@ pub struct Announcers {
 }
 
 impl Announcers {
-    /// Whether the centre is told.
+    /// Whether the centre gets it.
     pub fn has(self, centre: u8) -> bool
         ensures { result ≡ is_told self centre }
     {

@@ -3,9 +3,9 @@ ghost use Rattle.rbc_spec.specs.Frame.{last_stamp};
 
 use std::marker::Model;
 
-/// How many handovers a centre has announced, over all its trains: each takes the next number, from 1 on. It only
-/// rises, and can't be copied, so no number comes again. A centre announces at most one a step, and it makes at most 1
-/// 073 741 823 steps, so the numbers do not end before the steps do.
+/// The count of handovers that a centre has announced, over all its trains: each takes the next number, from 1 on. It
+/// only rises, and can't be copied, so no number is used twice. A centre announces at most one a step, and it makes at
+/// most 1 073 741 823 steps. So the numbers do not end before the steps do.
 #[derive(Debug, Drop)]
 pub struct HandoverCount {
     announced: u32,

@@ -15,9 +15,8 @@ use rbc_line::Line;
 use std::alloc::{AllocError, Global};
 use std::marker::Model;
 
-/// What a centre has of the handovers of one train that other centres have announced to it: of each centre of the line
-/// one at the most. Room is made at the beginning, and no call takes memory after that. It can't be copied, and not be
-/// dropped.
+/// The handovers of one train that other centres have announced to a centre: at most one from each centre of the line.
+/// Room is made at the beginning, and no call takes memory after that. It can't be copied or dropped.
 #[must_use]
 #[derive(Debug)]
 pub struct Expectations {
@@ -62,8 +61,8 @@ impl Expectations {
         some_stands(self.states.as_slice())
     }
 
-    /// The centre has announced the train under this number. Where it is expected from there already, that stays as it
-    /// was.
+    /// The centre has announced the train under this number. If the train is expected from there already, that stays as
+    /// it was.
     pub fn announced(&mut self, from: u8, number: u32)
         requires { from < length self.old }
         ensures count { length self.new ≡ length self.old }
@@ -75,8 +74,8 @@ impl Expectations {
         self.states[from as usize].announced(number);
     }
 
-    /// The centre has cancelled the handover of this number: the train is not expected from there. Where it is expected
-    /// under another number, or not at all, nothing changes.
+    /// The centre has cancelled the handover of this number: the train is not expected from there any more. If it is
+    /// expected under another number, or not at all, nothing changes.
     pub fn cancelled(&mut self, from: u8, number: u32)
         ensures count { length self.new ≡ length self.old }
         ensures expected { (d : ℕ) → expected_from self.new d
@@ -90,16 +89,16 @@ impl Expectations {
         self.states[from as usize].cancelled(number);
     }
 
-    /// The number under which the train is expected from the centre. None exactly where it is not expected from there.
+    /// The number under which the train is expected from the centre; `None` if and only if it is not expected from
+    /// there.
     pub fn number(&self, from: u8) -> Option<u32>
         ensures { result ≡ option_map (λ e. e.number) (expected_from self.now from) }
     {
         number_at(self.states.as_slice(), from as usize)
     }
 
-    /// The train has reported in this centre's area (3.15.1): the centres that are told now that this one is taking
-    /// over, each under the number that it gave. They are those that have announced the train, and were not told
-    /// before.
+    /// The train has reported in this centre's area (3.15.1). The result is the centres that get a TakingOver now, each
+    /// under the number that it gave. They are those that have announced the train, and have had none before.
     pub fn take_over(&mut self) -> Announcers
         ensures told { (d : ℕ) → is_told result d ≡ is_to_be_told (expected_from self.old d) }
         ensures count { length self.new ≡ length self.old }
@@ -110,8 +109,8 @@ impl Expectations {
         take_over_each(&mut self.states)
     }
 
-    /// Whether a handover from the centre may be taken under this number: the train is expected from there under it,
-    /// and the centre was told that this one is taking over.
+    /// Whether a handover from the centre may be taken under this number. The train is expected from there under it,
+    /// and the centre has had a TakingOver.
     pub fn may_take(&self, from: u8, number: u32) -> bool
         ensures value { result ≡ is_taking_under number (expected_from self.now from) }
         ensures exact { (line : track.Line) (t : ℕ) (k : spec.Centre) → HasExpectations line t k self.now
@@ -133,7 +132,7 @@ impl Expectations {
         self.states[from as usize].forget();
     }
 
-    /// Ends it, where its centre does.
+    /// Ends it when its centre ends.
     pub fn end(self) {
         let Expectations { mut states } = self;
         while let Some(state) = states.pop() {
@@ -171,8 +170,7 @@ fn number_at(states: &[AcceptingState], i: usize) -> Option<u32>
     }
 }
 
-// This centre says to each centre that has announced the train, and was not told, that it is taking over: those
-// centres.
+// This centre takes over. The result is each centre that has announced the train, and had no TakingOver before.
 fn take_over_each(states: &mut Vec<AcceptingState>) -> Announcers
     requires { length states.old.items ≤ 8 }
     ensures told { (d : ℕ)

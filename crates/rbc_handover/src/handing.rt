@@ -1,7 +1,7 @@
 ghost use Rattle.std.specs.Prelude.{◌≡◌};
 ghost use Rattle.rbc_handover.specs.Handings.{number_of, centre_of, name_of};
 
-/// What a handover goes by in the frames to the accepting centre.
+/// The name of a handover in the frames to the accepting centre.
 #[derive(Clone, Copy, Debug, PartialEq, Eq)]
 pub struct HandoverName {
     /// Its number at the centre that announced it, from 1.
@@ -10,8 +10,8 @@ pub struct HandoverName {
     pub to: u8,
 }
 
-/// A handover of a train that its centre has announced, which one holder has. It can't be copied, and not be dropped:
-/// it is yielded or cancelled, the latter also where its centre is dropped.
+/// A handover of a train that its centre has announced, which one holder has. It can't be copied or dropped: it is
+/// yielded or cancelled. It is cancelled also when its centre ends.
 #[must_use]
 #[derive(Debug)]
 pub struct Handing {
@@ -42,7 +42,7 @@ impl Handing {
         self.to
     }
 
-    /// What it goes by.
+    /// Its name.
     pub fn name(&self) -> HandoverName
         ensures { result ≡ name_of self.now }
     {
@@ -52,7 +52,7 @@ impl Handing {
         }
     }
 
-    /// Ends it, where it is cancelled: what it went by, for the frame that tells the accepting centre.
+    /// Ends it by a cancellation; returns its name for the frame to the accepting centre.
     pub fn cancel(self) -> HandoverName
         ensures { result ≡ name_of self }
     {
@@ -60,8 +60,7 @@ impl Handing {
         HandoverName { number, to }
     }
 
-    /// Ends it, where the supervision is yielded: what it went by, for the frame that carries the mission to the
-    /// accepting centre.
+    /// Ends it by a Yield; returns its name for the frame that carries the mission to the accepting centre.
     pub fn yield_to(self) -> HandoverName
         ensures { result ≡ name_of self }
     {

@@ -13,7 +13,7 @@ use crate::count::HandoverCount;
 use crate::handing::{Handing, HandoverName};
 use std::mem;
 
-/// What a centre has of the handover of a train that it supervises. It can't be copied, and not be dropped.
+/// The handover of a train that a centre supervises. It can't be copied or dropped.
 #[must_use]
 #[derive(Debug)]
 pub enum Handover {
@@ -27,7 +27,7 @@ impl Handover {
     ghost use Rattle.rbc_handover.specs.Handings.{handing_of, handover_name, kept_as};
     ghost use Rattle.rbc_handover.specs.Giving.{begun, is_due, HasMission, with_handover, with_count, announcing, cancelling};
 
-    /// What the handover that stands goes by. None exactly where none stands.
+    /// The name of the pending handover; `None` if and only if none is pending.
     pub fn name(&self) -> Option<HandoverName>
         ensures { result ≡ option_map handover_name (handing_of self.now) }
     {
@@ -37,22 +37,22 @@ impl Handover {
         }
     }
 
-    /// Whether one stands: it was announced, and neither cancelled nor yielded.
+    /// Whether one is pending: it was announced, and neither cancelled nor yielded.
     pub fn stands(&self) -> bool
         ensures { result ≡ is_some (handing_of self.now) }
     {
         self.name().is_some()
     }
 
-    /// Announces a handover to this centre (3.15.1), where none stands: it has the next number, which is answered. None
-    /// exactly where one stands, and then nothing changes.
+    /// Announces a handover to this centre (3.15.1), if none is pending, and returns its number, which is the next one.
+    /// `None` if and only if one is pending; then nothing changes.
     pub fn announce(&mut self, count: &mut HandoverCount, to: u8) -> Option<u32>
         requires { count.old < last_stamp }
         ensures number { result ≡ (if is_some (handing_of self.old) then None else Some (count.old + 1)) }
         ensures handover { handing_of self.new
             ≡ (if is_some (handing_of self.old) then handing_of self.old else Some (begun to (count.old + 1))) }
         ensures count { count.new ≡ (if is_some (handing_of self.old) then count.old else count.old + 1) }
-        // By the rules, where the hand has a section of that centre.
+        // By the rules, if the hand has a section of that centre.
         ensures exact { (line : track.Line) (t : ℕ) (m : spec.Mission) (k : spec.Centre)
             → HasMission t k m (handing_of self.old) → k.announced ≡ count.old
             → is_empty (acts.part_at line to m.place.track m.hand) ≡ false
@@ -67,9 +67,8 @@ impl Handover {
         Some(number)
     }
 
-    /// The centre says that it is taking over under this number: takes the handover out, if it stands under this number
-    /// to that centre, so that the supervision is yielded (3.15.1). None exactly where it does not, and then nothing
-    /// changes.
+    /// The centre takes over under this number. Takes the handover out, if it is pending under this number to that
+    /// centre, so that the supervision is yielded (3.15.1). `None` if and only if it is not; then nothing changes.
     pub fn claim(&mut self, from: u8, number: u32) -> Option<Handing>
         ensures due { option_map kept_as result
             ≡ (if has (is_due from number) (handing_of self.old) then handing_of self.old else None) }
@@ -92,7 +91,7 @@ impl Handover {
         }
     }
 
-    /// Cancels the handover that stands: what it went by. None exactly where none stands.
+    /// Cancels the pending handover and returns its name; `None` if and only if none is pending.
     pub fn cancel(&mut self) -> Option<HandoverName>
         ensures name { result ≡ option_map handover_name (handing_of self.old) }
         ensures handover { handing_of self.new ≡ None }
@@ -105,7 +104,7 @@ impl Handover {
         }
     }
 
-    /// Ends it, where its centre does.
+    /// Ends it when its centre ends.
     pub fn end(self) {
         match self {
             Handover::None => {}

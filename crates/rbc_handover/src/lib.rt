@@ -1,9 +1,9 @@
 //! The two sides of a handover of one train between radio block centres (SUBSET-026 3.15.1), as values that can't be
-//! copied or dropped. The centre that hands over has announced it, and yields it where the accepting centre claims
-//! it. The accepting centre expects the train of the centre that announced it, and then
-//! says once that it is taking over. A handover goes by its number, so what belongs to an older one does nothing.
+//! copied or dropped. The handing-over centre announces it, and yields it when the accepting centre claims it. The
+//! accepting centre expects the train from the announcing centre, and replies once that it takes over. A handover is
+//! identified by its number, so a frame of an older one has no effect.
 //!
-//! Bodies and proofs are free. The clauses of public functions stay, since the crates above stand on them.
+//! Bodies and proofs may change. The clauses of public functions have to stay: the crates above depend on them.
 #![tactic(auto)]
 
 mod accepting;

@@ -1,4 +1,4 @@
--- The rows of a line, one at a time.
+-- The lists of a line, one item at a time.
 use Rattle.std.proofs.Common.{◌≡◌, ◌≢◌, ℕ, zero, suc, ◌+◌, ◌*◌, ◌<◌, ◌≤◌, ◌==◌, inl, inr, Bool, true, false, not, cond, ◌||◌, List, Bor, [], ◌∷◌, ◌++◌, length, get_or, take, set, map, Some, None, option_map, unwrap_or, refl, ap, sym, subst, ◌∙◌, arith, get_or-set_other, get_or-set_same}
 use Rattle.std.specs.List.{list_any, position, slice_get, filter, sum_by}
 use Rattle.std.specs.Str.{bytes_eq}
@@ -39,9 +39,9 @@ known_has_place centres name known none =
 pub centre_number-at : (centres : List FileCentre) (name : List ℕ) (c : ℕ) → Some c ≡ position (λ c. bytes_eq c.name name) centres → c ≡ centre_number centres name
 centre_number-at centres name c found = ap (λ o. unwrap_or o 0) found
 
--- ## Rows
+-- ## Items
 
--- one more row that stands for the next item
+-- one more item, which is made from the next one of the file
 pub made_more : {R A B C : Type 0} (f : R → C) (g : B → C) (h : A → B) (rows more : List R) (row : R) (xs : List A) (i : ℕ) (d : A)
     → i < length xs → more ≡ rows ++ row ∷ [] → f row ≡ g (h (get_or xs i d)) → map f rows ≡ map g (map h (take i xs)) → map f more ≡ map g (map h (take (i + 1) xs))
 made_more f g h rows more row xs i d within pushed same before =
@@ -73,7 +73,7 @@ slice_get-before [] ys s within = absurd (omega arith)
 slice_get-before (z ∷ zs) ys zero within = refl
 slice_get-before (z ∷ zs) ys (suc s) within = slice_get-before zs ys s (omega arith)
 
--- one more row that starts where those of its track end
+-- one more section, which starts at the end of those of its track
 pub starts_more : (rows more : List Section) (row : Section) → more ≡ rows ++ row ∷ [] → HasOwnStarts rows → row.start ≡ sum_by (λ q. q.metres) (filter (λ q. q.track == row.track) rows) → HasOwnStarts more
 starts_more rows more row pushed before own = subst HasOwnStarts (sym pushed) (λ s r at.
     elim (cases_lt s (length rows)) [
@@ -87,7 +87,7 @@ starts_more rows more row pushed before own = subst HasOwnStarts (sym pushed) (�
           (own ∙ ap (λ xs. sum_by (λ q. q.metres) (filter (λ q. q.track == row.track) xs)) (sym all))
     ])
 
--- where the tracks end after one more row
+-- the ends of the tracks after one more section
 pub ends_more : (rows more : List Section) (row : Section) (ends : List ℕ) → more ≡ rows ++ row ∷ [] → length ends ≡ 4 → row.track < 4
     → ((k : ℕ) → k < 4 → get_or ends k 0 ≡ sum_by (λ q. q.metres) (filter (λ q. q.track == k) rows))
     → (k : ℕ) → k < 4 → get_or (set ends row.track (get_or ends row.track 0 + row.metres)) k 0 ≡ sum_by (λ q. q.metres) (filter (λ q. q.track == k) more)

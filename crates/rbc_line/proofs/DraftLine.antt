@@ -1,4 +1,4 @@
--- The rows of a tested line file, and the faults of a text.
+-- The lists of a tested line file, and the faults of a text.
 use Rattle.std.proofs.Common.{◌≡◌, ℕ, ◌+◌, ◌==◌, true, not, inl, inr, List, [], ◌∷◌, length, map, take, filter, sum_by, Some, option_map, MatchOption, refl, ap, sym, ◌∙◌, arith}
 use Rattle.std.specs.List.{slice_get, list_any}
 use Rattle.std.specs.Str.{bytes_eq}
@@ -24,13 +24,13 @@ use Rattle.rbc_line.proofs.Numbered.{Ascends-order}
 use Rattle.rbc_line.proofs.Sound.{centre_number-found}
 use Rattle.rbc_line.proofs.BuildSteps.{true_of_not}
 
--- ## Rows and what the file says
+-- ## Lists and the content of the file
 
 pub sections_same : (rows : Rows) (file : LineFile) → line_of_rows rows ≡ line_of file → map section_of rows.sections.items ≡ map (line_section file.centres) file.tracks.sections
 unfolding line_of
 sections_same rows file same = ap (λ line. line.sections) same
 
--- the section of the file that a row was made from
+-- the section of the file from which a section in memory was made
 pub written : (file : LineFile) (rows : List SectionRow) (s : ℕ) (p : SectionRow) → map section_of rows ≡ map (line_section file.centres) file.tracks.sections → slice_get rows s ≡ Some p
     → (x : FileSection) × (slice_get file.tracks.sections s ≡ Some x) × (line_section file.centres x ≡ section_of p)
 written file rows s p same at =

@@ -52,7 +52,7 @@ All-made P f [] holds k d h = absurd (omega arith)
 All-made P f (x ∷ xs) holds zero d h = holds 0 x refl
 All-made P f (x ∷ xs) holds (suc k) d h = All-made P f xs (λ i. holds (suc i)) k d (omega arith)
 
--- ## Values that stand once
+-- ## Values that occur once
 
 pub some_at : {X : Type 0} (p : X → Bool) (xs : List X) (i : ℕ) (x : X) → slice_get xs i ≡ Some x → p x ≡ true → list_any p xs ≡ true
 some_at p [] i x at holds = absurd (none-some x at)
@@ -67,7 +67,7 @@ twice_at same (z ∷ zs) zero (suc j) x y before at_i at_j equal =
 twice_at same (z ∷ zs) (suc i) (suc j) x y before at_i at_j equal =
     or_right (list_any (same z) zs) (has_twice same zs) (twice_at same zs i j x y (omega arith) at_i at_j equal)
 
--- a list with no value twice tells its elements apart
+-- in a list without a value twice, elements with the same value are the same
 pub AreDistinct-from : {X K : Type 0} (same : K → K → Bool) (key : X → K) (xs : List X) → ((k l : K) → k ≡ l → same k l ≡ true) → has_twice same (map key xs) ≡ false → AreDistinct key xs
 AreDistinct-from same key xs reflexive none = λ i j x y at_i at_j equal.
     let in_i = slice_get-map key xs i ∙ ap (option_map key) at_i in
@@ -80,7 +80,7 @@ AreDistinct-from same key xs reflexive none = λ i j x y at_i at_j equal.
       ]
     ]
 
--- ## What is made from an element
+-- ## Values that are made from an element
 
 made_from : {X Y : Type 0} (f : X → Y) (o : Option X) (y : Y) → option_map f o ≡ Some y → (x : X) × (o ≡ Some x) × (f x ≡ y)
 made_from f None y h = absurd (none-some y h)

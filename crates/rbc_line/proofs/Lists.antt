@@ -19,14 +19,14 @@ position-map p f xs =
     let m : length (map f xs) ≡ length xs = length-map xs f in
     rw (e, m)
 
--- a search finds nothing where there is no place
+-- without a position a search finds nothing
 pub find-position_none : {X : Type 0} (p : X → Bool) (xs : List X) → position p xs ≡ None → find p xs ≡ None
 find-position_none p xs none =
     let within = prefix_len-le-length (λ x. not (p x)) xs in
     let past : length xs ≤ position_or_len p xs = grind (arith, nat_tests) in
     find_at p xs ∙ slice_get_past xs (position_or_len p xs) past
 
--- a search finds what stands at the place
+-- a search finds the element at the position
 pub find-position_some : {X : Type 0} (p : X → Bool) (xs : List X) (i : ℕ) → position p xs ≡ Some i → find p xs ≡ slice_get xs i
 find-position_some p xs i found =
     find_at p xs ∙ ap (slice_get xs) (cond_some (ltb (position_or_len p xs) (length xs)) (position_or_len p xs) i found).1
@@ -71,7 +71,7 @@ none_later true o h = absurd (none-some 0 (sym h))
 none_later false None h = refl
 none_later false (Some x) h = absurd (none-some (suc x) (sym h))
 
--- one more element, where the search has found nothing yet if that element passes
+-- one more element, if the search has found nothing before and that element passes
 pub position_more : {X : Type 0} (p : X → Bool) (xs : List X) (i : ℕ) (x : X) → slice_get xs i ≡ Some x → (p x ≡ true → position p (take i xs) ≡ None) → cond (p x) (Some i) (position p (take i xs)) ≡ position p (take (suc i) xs)
 position_more p [] i x at none = absurd (none-some x at)
 position_more p (y ∷ ys) zero x at none =

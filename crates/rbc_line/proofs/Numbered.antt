@@ -72,7 +72,7 @@ tracks_ascend k high (item d ds) t h le =
     subst (λ v. Ascends k high v.sections) e
     (Ascends-append k high own.1 more.sections (omega (arith, names)) (track_on_track k d own read_own) (tracks_ascend (k + 1) high ds more read_more (omega (arith, names))))))
 
--- what the tables of a text say has its sections in order
+-- the content of the tables of a text has its sections in order
 pub file_ascends : (ms : Members) (file : LineFile) → line_file ms ≡ Some file → Ascends 0 (length file.tracks.names) file.tracks.sections
 unfolding line_file
 file_ascends ms file h =

@@ -1,4 +1,4 @@
--- Reading the items of an array one after another.
+-- The items of an array are read in order.
 use Rattle.std.proofs.Common.{◌≡◌, ℕ, suc, ◌+◌, ◌≢◌, ◌<◌, ◌≤◌, List, [], ◌∷◌, ◌++◌, length, get_or, drop, Option, Some, None, option_map, refl, ap, sym, ◌∙◌, append_assoc, append-nil, true, false, ◌==◌, arith, map}
 use Rattle.std.proofs.lemmas.List.{drop_all, map-append}
 use Rattle.toml.specs.Data.{Data}
@@ -8,7 +8,7 @@ use Rattle.toml.specs.declared.value.Value.{Value}
 use Rattle.toml.proofs.Views.{Entry, items_view-drop}
 use Rattle.rbc_line.specs.LineFile.{each_of, key_count, with_keys, FileSection, FileTracks, file_track, tracks_from}
 
--- what stands before joined to what a reading gives
+-- the items before, joined to the items that are read
 abbrev pub joined : {A : Type 0} → List A → Option (List A) → Option (List A)
 joined xs o = option_map (λ ys. xs ++ ys) o
 
@@ -73,7 +73,7 @@ pub tracks_end : (whole : Option FileTracks) (vs : List Value) (i : ℕ) (names 
     → whole ≡ joined_tracks names sections (tracks_from i (items_view (drop i vs))) → Some (record { names = names; sections = sections }) ≡ whole
 tracks_end whole vs i names sections past so_far = sym (so_far ∙ rw (drop_all i vs past) (joined_tracks-none names sections))
 
--- ## A table of so many keys
+-- ## A table of n keys
 
 key_count-view : (es : List Entry) → key_count (members_view es) ≡ length es
 key_count-view [] = refl

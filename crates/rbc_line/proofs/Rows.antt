@@ -1,4 +1,4 @@
--- Rows in memory beside the line that they stand for.
+-- Lists in memory, and their line.
 use Rattle.std.proofs.Common.{◌≡◌, ℕ, ◌+◌, ◌*◌, ◌<◌, ◌≤◌, ◌==◌, ◌⊎◌, inl, inr, Bool, true, false, not, ◌&&◌, List, length, get_or, take, drop, map, Option, Some, None, IfSome, option_map, refl, ap, sym, subst, ◌∙◌, arith}
 use Rattle.std.specs.List.{slice_get, All}
 use Rattle.std.proofs.lemmas.Bool.Decides.{nat_tests}
@@ -18,14 +18,14 @@ at_index P xs i x holds found =
     let same : get_or xs i x ≡ x = get_or_from_slice_get xs i x x found in
     subst P same (holds i x (slice_get_within xs i x found))
 
--- what every section of a line keeps
+-- the ranges of every section of a line
 abbrev pub InRange : Line → Section → Type 0
 InRange line p = (p.track < length line.tracks) × (100 ≤ p.metres) × (p.metres ≤ 2000) × (p.home < length line.centres) × (p.balise ≤ 16382)
 
 pub section-in_range : (line : Line) (s : ℕ) (p : Section) → IsLine line → section line s ≡ Some p → InRange line p
 section-in_range line s p rules found = at_index (InRange line) line.sections s p rules.ranges.sections found
 
--- where a section starts, no length is above 2 000 metres
+-- the start of a section is at most 2 000 metres for each section before it
 start-le : (line : Line) (s : ℕ) (p : Section) → IsLine line → section line s ≡ Some p → start line s ≤ 2000 * length (take s line.sections)
 unfolding start
 start-le line s p rules found =
@@ -40,7 +40,7 @@ section_ends line s p rules found =
     let own = section-in_range line s p rules found in
     omega (arith, length-take s line.sections, own.2, rules.limits.sections)
 
--- a row in memory ends within 1 024 kilometres
+-- a section in memory ends within 1 024 kilometres
 pub row_ends : (line : Line) (rows : List SectionRow) (s : ℕ) (o : Option SectionRow) → IsLine line → line.sections ≡ map section_of rows → HasStarts line rows → o ≡ slice_get rows s → IfSome o (λ row. row.start + row.metres ≤ 1024000)
 row_ends line rows s None rules same starts found = tt
 row_ends line rows s (Some row) rules same starts found =
@@ -83,13 +83,13 @@ registrar-at line t i placed =
 pub registrar-none : (line : Line) (t : ℕ) → None ≡ train_number line t → None ≡ registrar line t
 registrar-none line t none = sym (ap (option_map (λ p. p.registrar)) (find-position_none (λ p. p.nid_engine == t) line.trains (sym none)))
 
--- the row that has the engine is the train's place
+-- the item with the engine is the train's position
 pub train_number-at : (line : Line) (rows : List TrainRow) (i t : ℕ) (row : TrainRow) → IsLine line → line.trains ≡ map train_of rows → slice_get rows i ≡ Some row → row.nid_engine ≡ t → Some i ≡ train_number line t
 train_number-at line rows i t row rules same at engine =
     let is_train : slice_get line.trains i ≡ Some (train_of row) = rw same (slice_get-map train_of rows i ∙ ap (option_map train_of) at) in
     sym (key_at (λ p. p.nid_engine) line.trains i (train_of row) t rules.distinct.engines is_train engine)
 
--- the row that has the balise group is its section
+-- the item with the balise group is its section
 pub section_of_group-at : (line : Line) (rows : List SectionRow) (s q : ℕ) (row : SectionRow) → IsLine line → line.sections ≡ map section_of rows → slice_get rows s ≡ Some row → line.nid_c * 16384 + row.balise ≡ q → Some s ≡ section_of_group line q
 section_of_group-at line rows s q row rules same at group =
     let is_section : slice_get line.sections s ≡ Some (section_of row) = rw same (slice_get-map section_of rows s ∙ ap (option_map section_of) at) in

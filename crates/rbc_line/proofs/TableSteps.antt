@@ -67,7 +67,7 @@ guess_more {X} key xs i d guesses len within before =
           ],
     )
 
--- two rows as the sections that they stand for
+-- two sections in memory, as plain data
 abbrev pair_of : SectionRow × SectionRow → Section × Section
 pair_of seam = (section_of seam.0, section_of seam.1)
 
@@ -75,7 +75,7 @@ home_of_next : (o : Option (SectionRow × SectionRow)) → option_map (λ seam. 
 home_of_next None = refl
 home_of_next (Some seam) = refl
 
--- the next centre by rows in memory
+-- the next centre, by the lists in memory
 pub next_centre_of_rows : (rows : Rows) (c k : ℕ)
     → option_map (λ seam. seam.1.home) (find (λ seam. (((seam.0.track == seam.1.track) && (seam.0.track == k)) && (seam.0.home == c)) && not (seam.1.home == c)) (zip rows.sections.items (drop 1 rows.sections.items)))
     ≡ next_centre (line_of_rows rows) c k

@@ -1,4 +1,4 @@
--- Values that stand twice, and names.
+-- Values that occur twice, and names.
 use Rattle.std.proofs.Common.{◌≡◌, ℕ, zero, suc, ◌+◌, ◌<◌, ◌≤◌, Bool, true, false, not, cond, ◌==◌, ◌||◌, leb, ltb, IsTrue, Bor, map, ℤ, pos, List, [], ◌∷◌, length, get_or, take, drop, refl, ap, sym, ◌∙◌, inl, inr, arith}
 use Rattle.std.specs.Char.{is_ascii_alphanumeric}
 use Rattle.std.specs.List.{list_any, list_all}
@@ -30,7 +30,7 @@ or_false true b h = absurd (false≢true (sym h))
 or_false false b h = (refl, h)
 
 module _ {K : Type 0} (same : K → K → Bool) where
-  -- a value that stands before this place too
+  -- a value that also occurs before this position
   pub has_twice-seen : (xs : List K) (i : ℕ) (d : K) → i < length xs → list_any (λ y. same y (get_or xs i d)) (take i xs) ≡ true → has_twice same xs ≡ true
   has_twice-seen [] i d within seen = absurd (omega arith)
   has_twice-seen (x ∷ xs) zero d within seen = absurd (false≢true seen)
@@ -40,7 +40,7 @@ module _ {K : Type 0} (same : K → K → Bool) where
         | inr other ↦ or_true (list_any (same x) xs) (has_twice same xs) (has_twice-seen xs i d (omega arith) (rw other at seen))
       ]
 
-  -- one more value, which does not stand before
+  -- one more value, which does not occur before
   pub has_twice-more : (xs : List K) (i : ℕ) (d : K) → i < length xs → has_twice same (take i xs) ≡ false → list_any (λ y. same y (get_or xs i d)) (take i xs) ≡ false → has_twice same (take (suc i) xs) ≡ false
   has_twice-more [] i d within before new = absurd (omega arith)
   has_twice-more (x ∷ xs) zero d within before new = refl
@@ -86,7 +86,7 @@ cond_or true false = refl
 cond_or false true = refl
 cond_or false false = refl
 
--- a number that stands before this place too
+-- a number that also occurs before this position
 pub number_seen : (xs : List ℤ) (i : ℕ) (contains : ℤ → Bool) (k : ℤ) (b : Bool) → i < length xs → ((q : ℤ) → contains q ≡ list_any (λ x. int_eq x q) (take i xs))
     → b ≡ not (contains k) → b ≡ false → k ≡ get_or xs i (pos 0) → true ≡ has_twice int_eq xs
 number_seen xs i contains k b within before added old at =

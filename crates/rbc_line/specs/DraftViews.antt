@@ -1,4 +1,4 @@
--- What a draft in memory says.
+-- The content of a draft in memory.
 use Rattle.std.specs.Prelude.{ℕ, List, map}
 use Rattle.toml.specs.View.{array_view}
 use Rattle.rbc_line.specs.LineFile.{FileCentre, FileSection, FileTrain, FileTracks, FileParts, LineFile}
@@ -41,7 +41,7 @@ abbrev pub tracks_view : DraftTracks → FileTracks
 tracks_view tracks =
     record { names = map (λ name. name.now) tracks.names.items; sections = map section_view tracks.sections.items }
 
--- all that a draft says
+-- the whole content of a draft
 abbrev pub file_view : Draft → LineFile
 file_view draft =
     record {

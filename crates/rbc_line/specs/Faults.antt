@@ -67,7 +67,7 @@ has_number_fault file =
     || list_any (λ s. is_outside 0 16382 s.balise) file.tracks.sections
     || list_any (λ t. is_outside 0 16777215 t.engine) file.trains
 
--- what has to stand for one thing stands for two
+-- a value that must be unique occurs twice
 unfoldable pub has_twice_fault : LineFile → Bool
 has_twice_fault file =
     has_twice bytes_eq (map (λ c. c.name) file.centres)
@@ -90,7 +90,7 @@ HasOrderFault file =
     × (slice_get file.tracks.sections e ≡ Some q)
     × (p.track ≡ q.track) × (p.home ≡ q.home) × (n.home ≢ p.home)
 
--- the fault applies to what the tables say
+-- the fault applies to the content of the tables
 abbrev pub AppliesToFile : LineFile → LineFault → Type 0
 AppliesToFile file Memory = ⊥
 AppliesToFile file Text = ⊥
@@ -105,11 +105,11 @@ AppliesToFile file Twice = IsTrue (has_twice_fault file)
 AppliesToFile file Home = IsTrue (has_home_fault file)
 AppliesToFile file Order = HasOrderFault file
 
--- the fault applies to the tables of a text: they are of another shape, or what they say breaks a limit
+-- the fault applies to the tables of a text: they have another shape, or their content breaks a limit
 abbrev pub AppliesToTables : Members → LineFault → Type 0
 AppliesToTables ms fault = MatchOption (line_file ms) (fault ≡ Shape) (λ file. AppliesToFile file fault)
 
--- the fault applies to the text: it is no TOML, or the fault applies to its tables
+-- the fault applies to the text: it is not TOML, or the fault applies to its tables
 abbrev pub Applies : List ℕ → LineFault → Type 0
 Applies text fault = MatchOption (parse_document text) (fault ≡ Text) (λ ms. AppliesToTables ms fault)
 

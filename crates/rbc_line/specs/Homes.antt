@@ -2,7 +2,7 @@
 use Rattle.std.specs.Prelude.{◌≡◌, ◌≢◌, ℕ, ◌<◌, ◌≤◌, ◌==◌, List, take, filter, sum_by, Some, slice_get}
 use Rattle.rbc_line.specs.declared.parts.Section.{Section}
 
--- sections stand track by track
+-- sections are in order, track by track
 abbrev pub IsAscending : List Section → Type 0
 IsAscending rows =
     (s e : ℕ) (p q : Section) → s ≤ e → slice_get rows s ≡ Some p → slice_get rows e ≡ Some q → p.track ≤ q.track
@@ -14,14 +14,14 @@ IsSplit rows =
     × (slice_get rows e ≡ Some q)
     × (p.track ≡ q.track) × (p.home ≡ q.home) × (n.home ≢ p.home)
 
--- between two sections of one home and track stand those of that home alone
+-- between two sections of one home and track are only sections of that home
 abbrev pub IsUnsplit : List Section → Type 0
 IsUnsplit rows =
     (s m e : ℕ) (p n q : Section) → s ≤ m → m ≤ e → slice_get rows s ≡ Some p → slice_get rows m ≡ Some n
     → slice_get rows e ≡ Some q
     → p.track ≡ q.track → p.home ≡ q.home → n.home ≡ p.home
 
--- each starts where the sections before it on its track end
+-- each starts at the end of the sections before it on its track
 abbrev pub HasOwnStarts : List Section → Type 0
 HasOwnStarts rows =
     (s : ℕ) (row : Section) → slice_get rows s ≡ Some row

@@ -1,4 +1,4 @@
--- What a line file says before any limit is tested: numbers as they are written, homes and registrars by name.
+-- The content of a line file before any limit is tested: numbers as they are written, homes and registrars by name.
 use Rattle.std.specs.Prelude.{ℕ, suc, ◌+◌, ◌==◌, if◌then◌else◌, ℤ, pos, negsuc, List, [], ◌∷◌, ◌++◌, map, position, Option, Some, None, option_map, option_and_then, unwrap_or, codes}
 use Rattle.std.specs.Str.{bytes_eq}
 use Rattle.toml.specs.Data.{Data, Items, no_items, item, Members, no_members, member, get_member, as_str, as_integer, as_array, as_table}
@@ -26,7 +26,7 @@ pub record FileTrain : Type 0 where
   pub engine : ℤ
   pub registrar : List ℕ
 
--- all that the tables say
+-- the content of the tables
 pub record LineFile : Type 0 where
   pub nid_c : ℤ
   pub centres : List FileCentre
@@ -48,7 +48,7 @@ key_count (member k d ms) = suc (key_count ms)
 abbrev pub at : {A : Type 0} → (Data → Option A) → List ℕ → Members → Option A
 at read key ms = get_member key ms >>= read
 
--- the table, if it has this many keys: where each of so many keys is found, there is no other
+-- the table, if it has this many keys: if each of n keys is found, it has no other
 unfoldable pub with_keys : ℕ → Members → Option Members
 with_keys n ms = if key_count ms == n then Some ms else None
 
@@ -56,7 +56,7 @@ with_keys n ms = if key_count ms == n then Some ms else None
 abbrev pub table_with : ℕ → Data → Option Members
 table_with n d = as_table d >>= with_keys n
 
--- what the items of an array read as; none if one of them does not read
+-- the values of the items of an array; `None` if one of them is not readable
 abbrev pub each_of : {A : Type 0} → (Data → Option A) → Items → Option (List A)
 each_of read no_items = Some []
 each_of read (item d ds) = read d >>= (λ x. option_map (λ xs. x ∷ xs) (each_of read ds))
@@ -120,7 +120,7 @@ file_parts ms =
     option_map (λ trains. record { nid_c = nid_c; centres = centres; tracks = tracks; trains = trains })
     (at as_array (codes "train") ms)))))
 
--- what the tables of a text say; none if a key is missing, unknown, or of another type
+-- the content of the tables of a text; `None` if a key is missing, unknown, or of another type
 unfoldable pub line_file : Members → Option LineFile
 line_file ms =
     file_parts ms >>= (λ parts.
@@ -131,7 +131,7 @@ line_file ms =
 
 -- ## The line that it names
 
--- the number itself where it is not negative
+-- the number itself if it is not negative
 abbrev pub number : ℤ → ℕ
 number (pos n) = n
 number (negsuc n) = 0
@@ -153,7 +153,7 @@ line_section centres s =
 abbrev pub line_train : List FileCentre → FileTrain → Train
 line_train centres t = record { nid_engine = number t.engine; registrar = centre_number centres t.registrar }
 
--- the line of all that the tables say
+-- the line of the whole content
 unfoldable pub line_of : LineFile → Line
 line_of file =
     record {

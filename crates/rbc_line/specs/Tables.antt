@@ -1,4 +1,4 @@
--- The look-up tables that stand beside a line.
+-- The look-up tables of a line.
 use Rattle.std.specs.Prelude.{◌≡◌, ℕ, ◌+◌, ◌*◌, ◌%◌, ◌<◌, List, get_or, Option, Some, slice_get, nat_eq}
 use Rattle.std.specs.HashMap.{HashMap, get}
 use Rattle.std.specs.declared.hash.FoldHasher.{FoldHasher}
@@ -10,7 +10,7 @@ use Rattle.rbc_line.specs.declared.parts.Section.{Section as SectionRow}
 abbrev pub Numbers : Type 0
 Numbers = HashMap ℕ ℕ (BuildHasherDefault FoldHasher)
 
--- each row has the start of its section
+-- each section in memory has its start
 abbrev pub HasStarts : Line → List SectionRow → Type 0
 HasStarts line rows = (s : ℕ) (row : SectionRow) → slice_get rows s ≡ Some row → row.start ≡ start line s
 

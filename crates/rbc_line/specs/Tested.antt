@@ -1,4 +1,4 @@
--- What a line file keeps to which no fault below the order of its homes applies.
+-- The properties of a line file to which no fault below the order of its homes applies.
 use Rattle.std.specs.Prelude.{◌≡◌, ℕ, ◌<◌, ◌≤◌, ◌==◌, ◌||◌, true, false, not, List, [], ◌∷◌, length, map}
 use Rattle.std.specs.List.{list_any}
 use Rattle.std.specs.Ordering.{int_eq}
@@ -15,7 +15,7 @@ Ascends low high (p ∷ ps) = (low ≤ p.track) × (p.track < high) × Ascends p
 abbrev pub IsKnown : List FileCentre → List ℕ → Type 0
 IsKnown centres name = list_any (λ c. bytes_eq c.name name) centres ≡ true
 
--- what the tests below the order of homes have found
+-- the results of the tests below the order of homes
 pub record IsTested (file : LineFile) : Type 0 where
   pub centres : (2 ≤ length file.centres) × (length file.centres ≤ 8)
   pub tracks : (1 ≤ length file.tracks.names) × (length file.tracks.names ≤ 4)

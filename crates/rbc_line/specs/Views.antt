@@ -1,4 +1,4 @@
--- What the parts of a `Line` in memory stand for.
+-- The plain data of the parts of a `Line` in memory.
 use Rattle.std.specs.Prelude.{ℕ, map, Option, option_map, slice_get, string_bytes}
 use Rattle.rbc_spec.specs.Line.{Line, Centre, Section, Train, section, start}
 use Rattle.rbc_line.specs.declared.parts.Centre.{Centre as CentreRow}
@@ -10,7 +10,7 @@ use Rattle.rbc_line.specs.declared.parts.Train.{Train as TrainRow}
 abbrev pub centre_of : CentreRow → Centre
 centre_of row = record { name = string_bytes row.name; nid_rbc = row.nid_rbc }
 
--- its start is no part of the line's data: the lengths give it
+-- without its start, which follows from the lengths
 abbrev pub section_of : SectionRow → Section
 section_of row = record { track = row.track; metres = row.metres; home = row.home; balise = row.balise }
 
@@ -18,7 +18,7 @@ section_of row = record { track = row.track; metres = row.metres; home = row.hom
 abbrev pub train_of : TrainRow → Train
 train_of row = record { nid_engine = row.nid_engine; registrar = row.registrar }
 
--- the line of these rows
+-- the line of these lists
 abbrev pub line_of_rows : Rows → Line
 line_of_rows rows =
     record {

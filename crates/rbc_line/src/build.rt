@@ -1,4 +1,4 @@
-//! From a tested draft to the rows of a line.
+//! From a tested draft to the lists of a line.
 ghost use Rattle.std.specs.Prelude.{◌≡◌, ◌<◌, ◌≤◌, IfOk, Some, false, length, map, position, string_bytes};
 ghost use Rattle.rbc_line.specs.DraftViews.{centre_view, section_view, train_view, file_view};
 ghost use Rattle.rbc_line.specs.Faults.{is_outside};
@@ -131,7 +131,7 @@ fn train_rows(alloc: Global, draft: &Draft) -> Result<Vec<Train>, AllocError>
     Ok(rows)
 }
 
-/// The rows of the line that a tested draft names.
+/// The lists of the line that a tested draft names.
 #[tactic(auto, unfolding(crate::specs::LineFile::line_of))]
 pub(crate) fn rows_of(alloc: Global, draft: &Draft) -> Result<Rows, AllocError>
     requires tested { IsTested (file_view draft.now) }

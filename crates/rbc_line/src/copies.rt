@@ -5,7 +5,7 @@ use crate::parts::{Centre, Rows};
 use std::alloc::{AllocError, Global};
 
 impl Rows {
-    /// A copy that stands for the same line.
+    /// A copy of the lists, of the same line.
     pub(crate) fn copied(&self, alloc: Global) -> Result<Rows, AllocError>
         ensures line { IfOk result (λ rows. line_of_rows rows ≡ line_of_rows self.now) }
         ensures sections { IfOk result (λ rows. rows.sections.items ≡ self.now.sections.items) }

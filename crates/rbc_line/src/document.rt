@@ -51,8 +51,8 @@ fn line_of_draft(alloc: Global, draft: &Draft) -> Result<Line, LineFault>
 }
 
 impl Line {
-    /// Reads a line file. A text that no fault applies to gives the line that its tables name; for any other the
-    /// lowest fault that applies is named. `Memory` comes where an allocation was refused, in place of any answer.
+    /// Reads a line file. If no fault applies to the text, the result is the line of its tables, and else the lowest
+    /// fault that applies. If an allocation is refused, the result is `Memory`.
     pub fn from_toml(alloc: Global, text: &str) -> Result<Line, LineFault>
         ensures ok { IfOk result (λ line. Names text.now line) }
         ensures line { IfOk result IsLine }
@@ -71,8 +71,8 @@ impl Line {
         Ok(line)
     }
 
-    /// Reads the tables of a line file. Those that no fault applies to give the line that they name; for any others
-    /// the lowest fault that applies is named. `Memory` comes where an allocation was refused, in place of any answer.
+    /// Reads the tables of a line file. If no fault applies to them, the result is their line, and else the lowest
+    /// fault that applies. If an allocation is refused, the result is `Memory`.
     pub fn from_table(alloc: Global, table: &Table) -> Result<Line, LineFault>
         ensures named { IfOk result
             (λ line. MatchOption (line_file (table_view table.now)) ⊥ (λ file. line ≡ line_of file)) }

@@ -46,7 +46,7 @@ pub(crate) struct DraftTracks<'a> {
     pub(crate) sections: Vec<DraftSection<'a>>,
 }
 
-/// What a line file says, before any limit is tested.
+/// The content of a line file, before any limit is tested.
 #[derive(Drop)]
 pub(crate) struct Draft<'a> {
     pub(crate) nid_c: i64,

@@ -23,7 +23,7 @@ pub enum LineFault {
     Length,
     /// 9: a number out of its range, or a centre's or track's name that is not 1 to 16 ASCII letters or digits.
     Number,
-    /// 10: a centre's name, a track's name, an NID_RBC, a balise group or an engine that stands twice.
+    /// 10: a centre's name, a track's name, an NID_RBC, a balise group or an engine occurs twice.
     Twice,
     /// 11: a home or a registrar that names no centre.
     Home,

@@ -138,7 +138,7 @@ fn engines(alloc: Global, trains: &[DraftTrain]) -> Result<Vec<i64>, AllocError>
     trains.iter().map(|train| train.engine).collect(alloc)
 }
 
-/// What has to stand for one thing stands for two.
+/// Whether a value that must be unique occurs twice.
 pub(crate) fn has_twice_fault(alloc: Global, draft: &Draft) -> Result<bool, AllocError>
     ensures { IfOk result (λ found. found ≡ has_twice_fault (file_view draft.now)) }
 {

@@ -3,11 +3,11 @@ ghost use Rattle.std.specs.Prelude.{◌≡◌, ◌%◌, IfOk, replicate, get_or,
 use std::alloc::{AllocError, Global};
 use std::marker::Model;
 
-/// How many guesses there are. So many numbers in a row have one each.
+/// The number of guesses. This many consecutive numbers have one each.
 const ROOM: usize = 1024;
 
-/// For each remainder of a number, the row where a number of that remainder may stand. It is a guess: whoever takes it
-/// looks whether the number is that of the row.
+/// For each remainder of a number, the index at which a number of that remainder may be found. It is a guess: the
+/// caller checks whether the number is at that index.
 #[derive(Drop)]
 pub(crate) struct Guesses {
     rows: Vec<u16>,
@@ -24,7 +24,7 @@ impl Model for Guesses {
 }
 
 impl Guesses {
-    /// Every number may stand in the first row.
+    /// Every number may be at index 0.
     pub(crate) fn new(alloc: Global) -> Result<Guesses, AllocError>
         ensures { IfOk result (λ guesses. guesses ≡ replicate 1024 0) }
     {
@@ -33,14 +33,14 @@ impl Guesses {
         })
     }
 
-    /// The number stands in this row.
+    /// Notes that the number is at this index.
     pub(crate) fn note(&mut self, number: u32, row: u16)
         ensures { self.new ≡ set self.old (number % 1024) row }
     {
         self.rows[number as usize % ROOM] = row;
     }
 
-    /// The row where the number may stand.
+    /// The index at which the number may be.
     #[inline(always)]
     pub(crate) fn of(&self, number: u32) -> u16
         ensures { result ≡ get_or self.now (number % 1024) 0 }

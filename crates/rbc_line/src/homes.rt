@@ -14,8 +14,8 @@ fn stands_before(sections: &[Section], section: Section) -> bool
         .any(|p| p.track == section.track && p.home == section.home)
 }
 
-/// On one track, between two sections of one home, stands a section of another. Until one is found, each home
-/// begins at most once on a track, so the sections before are searched at most eight times a track.
+/// Whether on one track a section of another home is between two sections of one home. Until one is found, each home
+/// begins at most once on a track. So the sections before are searched at most eight times a track.
 pub(crate) fn has_split_home(sections: &[Section]) -> bool
     requires { IsAscending sections.now }
     ensures { MatchBool result (IsSplit sections.now) (IsUnsplit sections.now) }

@@ -36,7 +36,7 @@ impl Line {
     ghost use Rattle.rbc_line.specs.Tables.{HasStarts, HasNextCentres};
     ghost use Rattle.rbc_line.specs.Views.{line_of_rows};
 
-    /// The line of these rows, with its look-up tables.
+    /// The line of these lists, with its look-up tables.
     pub(crate) fn with_tables(alloc: Global, rows: Rows) -> Result<Line, AllocError>
         requires line { IsLine (line_of_rows rows) }
         requires starts { HasStarts (line_of_rows rows) rows.sections.items }
@@ -46,7 +46,7 @@ impl Line {
         Line::with_centre_tables(alloc, rows, next_centres)
     }
 
-    /// The line of these rows, where the tables of its centres are made.
+    /// The line of these lists, after the tables of its centres were made.
     fn with_centre_tables(
         alloc: Global,
         rows: Rows,
@@ -197,7 +197,7 @@ impl Line {
         }
     }
 
-    /// The section whose balise group has this NID_LRBG, where the guess is none.
+    /// The section whose balise group has this NID_LRBG, if the guess fails.
     #[inline(never)]
     fn mapped_section(&self, nid_lrbg: u32) -> Option<u16>
         ensures { result ≡ section_of_group self.now nid_lrbg }
@@ -218,7 +218,7 @@ impl Line {
         }
     }
 
-    /// The place of a train in the line file, where the guess is none.
+    /// The position of a train in the line file, if the guess fails.
     #[inline(never)]
     fn listed_number(&self, nid_engine: u32) -> Option<u8>
         ensures { result ≡ train_number self.now nid_engine }
@@ -241,7 +241,7 @@ impl Line {
         item(&self.rows.trains, i as usize)
     }
 
-    /// The centre where the train's supervision right is registered.
+    /// The centre at which the train's supervision right is registered.
     pub fn registrar(&self, nid_engine: u32) -> Option<u8>
         ensures { result ≡ registrar self.now nid_engine }
     {

@@ -1,7 +1,7 @@
 //! The line file: from a text of tables to the line that the centres supervise, and the look-ups on it. A `Line` keeps
 //! every rule of a line, so nothing above tests one again.
 //!
-//! Bodies and proofs are free. The clauses of public functions stay, since the crates above stand on them.
+//! Bodies and proofs may change. The clauses of public functions have to stay: the crates above depend on them.
 #![tactic(auto)]
 
 mod build;

@@ -1,4 +1,4 @@
-//! The tests of the limits that a line file keeps. Each limit is a range, with both its ends in it.
+//! The tests of the limits that a line file keeps. Each limit is a range that includes both its ends.
 ghost use Rattle.std.specs.Prelude.{◌≡◌};
 ghost use Rattle.rbc_line.specs.Faults.{is_outside, is_name, has_count_fault};
 
@@ -20,7 +20,7 @@ pub fn is_name(name: &str) -> bool
     bytes.iter().all(|b| b.is_ascii_alphanumeric())
 }
 
-/// Whether there are fewer than the fewest or more than the most of what a line has a limited number of.
+/// Whether a count is below its minimum or above its maximum.
 #[tactic(auto, unfolding(crate::specs::Faults::has_count_fault))]
 pub fn has_count_fault(low: usize, high: usize, n: usize) -> bool
     ensures { result ≡ has_count_fault low high n }

@@ -3,7 +3,7 @@
 pub struct Section {
     /// Number of the track in the line file, from 0.
     pub track: u8,
-    /// Where the section starts, in metres from the start of its track.
+    /// The start of the section, in metres from the start of its track.
     pub start: u32,
     /// Length in metres.
     pub metres: u16,
@@ -13,7 +13,7 @@ pub struct Section {
     pub balise: u16,
 }
 
-/// A train, and the centre where its supervision right is registered.
+/// A train, and the centre at which its supervision right is registered.
 #[derive(Clone, Copy, PartialEq, Eq, Debug)]
 pub struct Train {
     /// NID_ENGINE of the train (SUBSET-026 7.5).
@@ -29,7 +29,7 @@ pub(crate) struct Centre {
     pub(crate) nid_rbc: u16,
 }
 
-/// What a line is made of.
+/// The lists of a line.
 #[derive(Drop)]
 pub(crate) struct Rows {
     pub(crate) nid_c: u16,

@@ -200,7 +200,7 @@ fn read_file_parts(table: &Table) -> Option<Parts<'_>>
     })
 }
 
-/// What the tables of a text say; none if a key is missing, unknown, or of another type.
+/// The content of the tables of a text; `None` if a key is missing, unknown, or of another type.
 #[tactic(auto, unfolding(crate::specs::LineFile::line_file))]
 pub(crate) fn read_draft(alloc: Global, table: &Table) -> Result<Option<Draft<'_>>, AllocError>
     ensures { IfOk result (λ o. option_map file_view o ≡ line_file (table_view table.now)) }

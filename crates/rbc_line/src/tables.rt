@@ -1,4 +1,4 @@
-//! The look-up tables of a line, each made once from its rows.
+//! The look-up tables of a line, each made once from its lists.
 ghost use Rattle.std.specs.Prelude.{◌≡◌, ℕ, ◌+◌, ◌*◌, ◌<◌, ◌≤◌, ◌==◌, ◌&&◌, length, position, find, Some, IfOk, nat_eq};
 ghost use Rattle.std.specs.List.{zip, All};
 ghost use Rattle.std.specs.HashMap.{get};
@@ -39,7 +39,7 @@ pub(crate) fn groups_of(
     Ok(groups)
 }
 
-/// A guess of the section of each balise group, by NID_BG: it is right where no other group has the same remainder.
+/// A guess of the section of each balise group, by NID_BG. It is right if no other group has the same remainder.
 pub(crate) fn group_guesses_of(alloc: Global, sections: &[Section]) -> Result<Guesses, AllocError>
     requires few { length sections.now ≤ 512 }
     ensures { IfOk result (λ g. HasGuessesOf (length sections.now) (λ p. p.balise) sections.now g) }
@@ -51,7 +51,7 @@ pub(crate) fn group_guesses_of(alloc: Global, sections: &[Section]) -> Result<Gu
     Ok(guesses)
 }
 
-/// A guess of the place of each train, by NID_ENGINE: it is right where no other train has the same remainder.
+/// A guess of the position of each train, by NID_ENGINE. It is right if no other train has the same remainder.
 pub(crate) fn engine_guesses_of(alloc: Global, trains: &[Train]) -> Result<Guesses, AllocError>
     requires few { length trains.now ≤ 64 }
     ensures { IfOk result (λ g. HasGuessesOf (length trains.now) (λ p. p.nid_engine) trains.now g) }

@@ -1,4 +1,4 @@
--- What a link says to a frame, and what it has taken then.
+-- The answer of a link to a frame, and the count of taken frames after it.
 use Rattle.std.specs.Prelude.{ℕ}
 use Rattle.rbc_spec.specs.Outcome.{Taken, Next, Old, Early, NoLink}
 use Rattle.rbc_link.specs.declared.link_answer.LinkAnswer.{LinkAnswer}
@@ -11,7 +11,7 @@ answer_of code.Old = Old
 answer_of code.Early = Early
 answer_of code.NoLink = NoLink
 
--- how many frames were taken after an answer to frame number n, where so many were taken before
+-- the count of taken frames after this answer to frame number n, with the count before
 abbrev pub taken_after : Taken → ℕ → ℕ → ℕ
 taken_after Next taken n = n
 taken_after answer taken n = taken

@@ -17,7 +17,7 @@ taken_from links d = option_map_or (λ l. l.inbox) (slice_get links d) 0
 unfoldable pub sent_to : {B : Type 0} → List (Link B) → ℕ → List (Sent B)
 sent_to links d = option_map_or (λ l. l.outbox.frames) (slice_get links d) []
 
--- for how many more frames to the centre there is room
+-- how many further frames to the centre have room
 unfoldable pub room_to : {B : Type 0} → List (Link B) → ℕ → ℕ
 room_to links d = option_map_or (λ l. l.outbox.room) (slice_get links d) 0
 
@@ -29,7 +29,7 @@ pub record KeepsLinks {B : Type 0} (old new : List (Link B)) : Type 0 where
   pub sent : (d : ℕ) → sent_to new d ≡ sent_to old d
   pub room : (d : ℕ) → room_to old d ≤ room_to new d
 
--- on each link there is room for so many frames more
+-- each link has room for `count` further frames
 abbrev pub HasRoom : {B : Type 0} → List (Link B) → ℕ → Type 0
 HasRoom links count = (d : ℕ) → has_link links d ≡ true → count ≤ room_to links d
 
@@ -38,7 +38,7 @@ abbrev pub is_some_full : {B : Type 0} → List (Link B) → Bool
 is_some_full links =
     list_any (λ d. has_link links d && nat_lt 65532 (length (sent_to links d))) (range_with_len 0 (length links))
 
--- a step may send what it has to: no link is full, and each has room for four frames more
+-- a step may send its frames: no link is full, and each has room for four further frames
 pub record IsReady {B : Type 0} (links : List (Link B)) : Type 0 where
   pub room : HasRoom links 4
   pub numbers : is_some_full links ≡ false

@@ -1,9 +1,9 @@
--- What was sent on a link.
+-- The frames sent on a link.
 use Rattle.std.specs.Prelude.{◌≡◌, ℕ, ◌+◌, ◌-◌, ◌≤◌, ◌==◌, if◌then◌else◌, List, length, map, Option, Some, None, slice_get}
 use Rattle.rbc_spec.specs.Frame.{Frame, Body, last_stamp}
 use Rattle.rbc_link.specs.declared.sent.Sent.{Sent}
 
--- the frames in order, and for how many more there is room
+-- the frames in order, and how many further ones have room
 pub record Outgoing (B : Type 0) : Type 0 where
   pub frames : List (Sent B)
   pub room : ℕ
@@ -25,7 +25,7 @@ pub record AreFrames {B : Type 0} (frames : List (Sent B)) : Type 0 where
   pub count : length frames ≤ 65536
   pub each : (i : ℕ) (f : Sent B) → slice_get frames i ≡ Some f → IsNumber (i + 1) f
 
--- a frame as one of the rules, where a body means this
+-- a frame as one of the rules, with this meaning of its body
 abbrev pub frame_by : {B : Type 0} → (B → Body) → Sent B → Frame
 frame_by meaning f = record { number = f.number; stamp = f.stamp; body = meaning f.body }
 

@@ -1,4 +1,4 @@
--- The links of a centre, after the frames of one step were posted one after another.
+-- The links of a centre, after the frames of one step were sent in order.
 use Rattle.std.specs.Prelude.{ℕ, ◌≡◌, ◌+◌, List, ◌++◌, length}
 use Rattle.rbc_spec.specs.Frame.{Body}
 use Rattle.rbc_spec.specs.Step.{numbered}
@@ -6,7 +6,7 @@ use Rattle.rbc_link.specs.declared.link.Link.{Link}
 use Rattle.rbc_link.specs.Outgoing.{frames_by}
 use Rattle.rbc_link.specs.Links.{has_link, taken_from, sent_to, room_to}
 
--- to each centre these bodies were sent, numbered in order after what was sent before; each took the room of one
+-- each centre was sent these bodies, numbered in order after the frames sent before; each took the room of one
 pub record HasPosted {B : Type 0} (meaning : B → Body) (stamp : ℕ) (bodies : ℕ → List Body)
     (old new : List (Link B)) : Type 0 where
   pub count : length new ≡ length old

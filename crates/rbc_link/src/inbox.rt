@@ -4,8 +4,8 @@ ghost use Rattle.rbc_spec.specs.Step.{offered};
 use crate::link_answer::LinkAnswer;
 use std::marker::Model;
 
-/// What has come on a link from another centre: how many of its frames were taken, which are those numbered from 1 on.
-/// A link carries at most 65 536 frames, so no more are ever taken.
+/// The frames that arrived on a link from another centre: the count of those that were taken, numbered from 1. A link
+/// carries at most 65 536 frames, so the count never exceeds that.
 #[derive(Debug, Drop)]
 pub struct Inbox {
     taken: u32,

@@ -1,7 +1,7 @@
-//! The links of a radio block centre with other centres: of each the frames that were sent on it, numbered from 1, and
-//! how many of the frames that come on it were taken, each after the one before and each once.
+//! The links of a radio block centre with other centres. Each has the frames that were sent on it, numbered from 1, and
+//! the count of arriving frames that were taken. These are taken in order, each once.
 //!
-//! Bodies and proofs are free. The clauses of public functions stay, since the crates above stand on them.
+//! Bodies and proofs may change. The clauses of public functions have to stay: the crates above depend on them.
 #![tactic(auto)]
 
 mod inbox;

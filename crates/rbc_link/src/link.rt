@@ -10,7 +10,7 @@ use crate::link_answer::LinkAnswer;
 use crate::outbox::Outbox;
 use std::alloc::{AllocError, Global};
 
-/// What a centre has of another: whether they are linked, and if so what came on the link and what was sent on it.
+/// Whether two centres are linked, and if so the frames that arrived on the link and those sent on it.
 #[derive(Drop)]
 pub struct Link<B> {
     /// The two centres exchange frames.
@@ -43,7 +43,7 @@ impl<B> Link<B> {
         self.inbox.offer(number)
     }
 
-    // Makes room in the outbox, where the centres are linked.
+    // Makes room in the outbox, if the centres are linked.
     pub(crate) fn reserve(&mut self, count: usize) -> Result<(), AllocError>
         ensures link { self.new ≡ record self.old { outbox = record self.old.outbox { room = self.new.outbox.room } } }
         ensures room { OnOk result (self.old.is_linked ≡ true → count ≤ self.new.outbox.room) }

@@ -1,12 +1,12 @@
-/// What a link says to a frame (profile).
+/// The answer of a link to a frame (profile).
 #[derive(Clone, Copy, Debug, PartialEq, Eq)]
 pub enum LinkAnswer {
     /// It is the one after the last that was taken, and is taken.
     Next,
     /// One with its number was taken before.
     Old,
-    /// One before it has not come yet.
+    /// An earlier frame has not arrived yet.
     Early,
-    /// There is no link with its sender.
+    /// The centre has no link with its sender.
     NoLink,
 }

@@ -17,7 +17,7 @@ use rbc_line::Line;
 use std::alloc::{AllocError, Global};
 use std::marker::Model;
 
-/// The links of one centre with the others of its line, which go by their numbers. `B` is the type of a frame's body.
+/// The links of one centre with the others of its line, by their numbers. `B` is the type of a frame's body.
 #[derive(Drop)]
 pub struct Links<B> {
     /// Of each centre of the line, itself too.
@@ -43,7 +43,7 @@ impl<B> Model for Links<B> {
 impl<B> Links<B> {
     ghost use Rattle.rbc_link.specs.Links.{has_link, taken_from, sent_to, room_to, KeepsLinks, HasRoom};
 
-    /// The links of a centre of the line at the beginning: no frame was taken or sent.
+    /// The initial links of a centre of the line: no frame was taken or sent.
     pub fn new(alloc: Global, line: &Line, centre: u8) -> Result<Links<B>, AllocError>
         ensures count { IfOk result (λ l. length l ≡ length line.now.centres) }
         ensures linked { IfOk result (λ l. (d : ℕ) → has_link l d ≡ is_linked line.now centre d) }
@@ -94,7 +94,7 @@ impl<B> Links<B> {
         }
     }
 
-    /// The frame of this number that was sent to a centre. None exactly for 0 and for a number that was not sent yet.
+    /// The frame of this number that was sent to a centre; `None` if and only if the number is 0 or was not sent yet.
     #[tactic(auto, unfolding(crate::specs::Links::sent_to))]
     pub fn get(&self, to: u8, number: u32) -> Option<&Sent<B>>
         ensures { option_copied result ≡ frame_number (sent_to self.now to) number }
@@ -136,8 +136,8 @@ impl<B> Links<B> {
         is_some_full(self.links.as_slice())
     }
 
-    /// Makes room for so many frames more on each link, so that sending them takes no memory. A refusal changes nothing
-    /// but the room.
+    /// Makes room for `count` further frames on each link, so that sending them takes no memory. A refusal changes only
+    /// the room.
     #[inline(always)]
     pub fn reserve(&mut self, count: usize) -> Result<(), AllocError>
         ensures keeps { KeepsLinks self.old self.new }
@@ -150,7 +150,7 @@ impl<B> Links<B> {
         self.make_ready(count)
     }
 
-    // Makes the room, and looks at all links.
+    // Makes the room, and tests all links.
     #[inline(never)]
     fn make_ready(&mut self, count: usize) -> Result<(), AllocError>
         ensures keeps { KeepsLinks self.old self.new }
@@ -191,7 +191,7 @@ impl<B> Links<B> {
 // How many frames a step sends on one link at the most.
 const FRAMES_TO_ONE: usize = 4;
 
-// How many numbers a link has left, at the least, where a step is taken.
+// The least number of frame numbers that each link must have left for a step.
 const NUMBERS_LEFT: u32 = 4;
 
 // Whether some link has fewer numbers left than that.

@@ -10,8 +10,8 @@ use std::marker::Model;
 /// How many frames a link carries at most.
 pub const MOST_FRAMES: usize = 65_536;
 
-/// What was sent on a link to another centre: its frames in order, numbered from 1. Each can be got again at any time.
-/// `B` is the type of a frame's body.
+/// The frames that were sent on a link to another centre, in order, numbered from 1. Each can be read again at any
+/// time. `B` is the type of a frame's body.
 #[derive(Drop)]
 pub struct Outbox<B> {
     frames: Vec<Sent<B>>,
@@ -50,7 +50,7 @@ impl<B> Outbox<B> {
         self.frames.len() as u32
     }
 
-    /// The frame of this number. None exactly for 0 and for a number that was not sent yet.
+    /// The frame of this number; `None` if and only if the number is 0 or was not sent yet.
     pub fn get(&self, number: u32) -> Option<&Sent<B>>
         ensures value { option_copied result ≡ frame_number self.now.frames number }
         ensures frames { AreFrames self.now.frames }
@@ -66,15 +66,14 @@ impl<B> Outbox<B> {
         self.count() + count > MOST_FRAMES as u32
     }
 
-    // Whether there is room for so many frames more.
+    // Whether there is room for `count` further frames.
     pub(crate) fn has_room(&self, count: usize) -> bool
         ensures { IsTrue result → count ≤ self.now.room }
     {
         count <= self.frames.capacity() - self.frames.len()
     }
 
-    /// Makes room for so many frames more, so that sending them takes no memory. Where that is refused, the room stays
-    /// as it was.
+    /// Makes room for `count` further frames, so that sending them takes no memory. A refusal does not change the room.
     pub fn reserve(&mut self, count: usize) -> Result<(), AllocError>
         ensures frames { self.new.frames ≡ self.old.frames }
         ensures room { OnOk result (count ≤ self.new.room) }

@@ -1,4 +1,4 @@
-/// A frame as it was sent on a link. `B` is the type of its body.
+/// A frame that was sent on a link. `B` is the type of its body.
 #[derive(Debug, Drop)]
 pub struct Sent<B> {
     /// Its number on the link, 1 to 65 536.

@@ -1,15 +1,14 @@
--- A frame is told by its bytes.
-use Rattle.std.proofs.Common.{◌≡◌, ℕ, ◌^◌, ◌<◌, List, ◌++◌, Ok, refl, sym, ap, ◌∙◌, arith}
+-- The bytes of a frame determine it.
+use Rattle.std.proofs.Common.{◌++◌, ◌<◌, ◌^◌, ◌∙◌, ◌≡◌, ap, arith, List, Ok, refl, sym, ℕ}
 use Rattle.std.specs.Prelude.{Result}
 use Rattle.byteorder.specs.Endian.{big_bytes}
-use Rattle.rbc_spec.specs.Frame.{Frame, Body, HasFrameRanges}
+use Rattle.rbc_linkmsg.proofs.Bodies.{one_body, one_number}
+use Rattle.rbc_linkmsg.specs.declared.fault.FrameFault.{FrameFault}
 use Rattle.rbc_linkmsg.specs.declared.kind.FrameKind.{FrameKind}
 use Rattle.rbc_linkmsg.specs.declared.kind.FrameKind.TheVariants as kinds
-use Rattle.rbc_linkmsg.specs.declared.fault.FrameFault.{FrameFault}
 use Rattle.rbc_linkmsg.specs.Kinds.{kind_number, kind_with}
-use Rattle.rbc_linkmsg.specs.Spelling.{spelled, kind_of, body_fields, frame_fields, Spells}
-use Rattle.rbc_linkmsg.proofs.Fields.{one_number}
-use Rattle.rbc_linkmsg.proofs.Bodies.{one_body}
+use Rattle.rbc_linkmsg.specs.Spelling.{body_fields, frame_fields, kind_of, spelled, Spells}
+use Rattle.rbc_spec.specs.Frame.{Body, Frame, HasFrameRanges}
 
 pub kind_again : (k : FrameKind) → kind_with (kind_number k) ≡ Ok k
 unfolding kind_with
@@ -47,7 +46,8 @@ kind-fits kinds.TakingOver = omega arith
 kind-fits kinds.Yield = omega arith
 
 -- the header's three numbers, and the body after them
-pub frame_parts : (f : Frame) → spelled (frame_fields f) ≡ big_bytes 4 f.number ++ (big_bytes 4 f.stamp ++ (big_bytes 1 (kind_number (kind_of f.body)) ++ spelled (body_fields f.body)))
+pub frame_parts : (f : Frame) → spelled (frame_fields f) ≡ big_bytes 4 f.number
+    ++ (big_bytes 4 f.stamp ++ (big_bytes 1 (kind_number (kind_of f.body)) ++ spelled (body_fields f.body)))
 unfolding spelled
 frame_parts f = refl
 
@@ -58,12 +58,16 @@ pub same_frame : (n m s r : ℕ) (a b : Body) → n ≡ m → s ≡ r → a ≡ 
 same_frame n m s r a b p q e = rw (p, q, e) refl
 
 -- no two frames share a spelling
-pub one_spelled : (a b : Frame) → HasFrameRanges a → HasFrameRanges b → spelled (frame_fields a) ≡ spelled (frame_fields b) → a ≡ b
+pub one_spelled : (a b : Frame) → HasFrameRanges a → HasFrameRanges b
+    → spelled (frame_fields a) ≡ spelled (frame_fields b) → a ≡ b
 one_spelled a b p q e =
-    let number = one_number 4 a.number b.number _ _ (omega (arith, p.number.1)) (omega (arith, q.number.1)) (sym (frame_parts a) ∙ e ∙ frame_parts b) in
+    let number = one_number 4 a.number b.number _ _ (omega (arith, p.number.1)) (omega (arith, q.number.1))
+    (sym (frame_parts a) ∙ e ∙ frame_parts b) in
     let stamp = one_number 4 a.stamp b.stamp _ _ (omega (arith, p.stamp.1)) (omega (arith, q.stamp.1)) number.1 in
-    let kind = one_number 1 (kind_number (kind_of a.body)) (kind_number (kind_of b.body)) _ _ (kind-fits (kind_of a.body)) (kind-fits (kind_of b.body)) stamp.1 in
-    same_frame a.number b.number a.stamp b.stamp a.body b.body number.0 stamp.0 (one_body a.body b.body p.body q.body (one_kind (kind_of a.body) (kind_of b.body) kind.0) kind.1)
+    let kind = one_number 1 (kind_number (kind_of a.body)) (kind_number (kind_of b.body)) _ _
+    (kind-fits (kind_of a.body)) (kind-fits (kind_of b.body)) stamp.1 in
+    same_frame a.number b.number a.stamp b.stamp a.body b.body number.0 stamp.0
+    (one_body a.body b.body p.body q.body (one_kind (kind_of a.body) (kind_of b.body) kind.0) kind.1)
 
 pub one_frame_of : (bytes : List ℕ) (a b : Frame) → Spells bytes a → Spells bytes b → a ≡ b
 one_frame_of bytes a b p q = one_spelled a b p.ranges q.ranges (sym p.text ∙ q.text)

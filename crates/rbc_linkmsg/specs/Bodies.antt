@@ -1,4 +1,4 @@
--- What the bodies of frames say, as the rules of a centre have it.
+-- The bodies of frames, as the rules of a centre have them.
 use Rattle.std.specs.Prelude.{ℕ}
 use Rattle.rbc_spec.specs.Frame as said
 use Rattle.rbc_spec.specs.SectionRuns.{SectionRun}
@@ -32,7 +32,7 @@ body_of (code.TakingOver number t) = said.TakingOver number t
 body_of (code.Yield number t y) =
     said.Yield number t y.heard y.has_data y.is_ended (place_of y.place) (run_of y.hand)
 
--- and back
+-- the body in memory for a body that a centre's step knows
 abbrev pub body_back : said.Body → Body
 body_back (said.AskRight t) = code.AskRight t
 body_back (said.GiveRight t) = code.GiveRight t

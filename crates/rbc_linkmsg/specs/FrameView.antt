@@ -1,4 +1,4 @@
--- What the fields of a frame stand for, and their ranges.
+-- The plain data of a frame, and the ranges of its fields.
 use Rattle.std.specs.Prelude.{◌≡◌, refl}
 use Rattle.std.proofs.Common.{ap}
 use Rattle.rbc_spec.specs.Frame.{Frame, HasFrameRanges}
@@ -11,7 +11,7 @@ use Rattle.rbc_linkmsg.specs.declared.frame.Frame.TheInside.{Inside}
 abbrev pub frame_of : Inside → Frame
 frame_of f = record { number = f.number; stamp = f.stamp; body = body_of f.body }
 
--- and back
+-- the frame in memory for a frame that a centre's step knows
 abbrev pub frame_inside : Frame → Inside
 frame_inside f = record { number = f.number; stamp = f.stamp; body = body_back f.body }
 

@@ -1,4 +1,4 @@
--- The numbers of a Yield as they stand in its bytes.
+-- The numbers of a Yield in its bytes.
 use Rattle.std.specs.Prelude.{ℕ, List, [], ◌∷◌, ◌++◌, drop, ◌/◌, ◌%◌, ◌==◌, Bool, Option, None, Some, ℤ, nat_lt, if◌then◌else◌}
 use Rattle.std.specs.Int.{w32, cast_signed}
 use Rattle.byteorder.specs.Endian.{big_number}
@@ -28,6 +28,6 @@ has_data_at bytes = number_at 1 22 bytes % 2 == 1
 abbrev pub is_ended_at : List ℕ → Bool
 is_ended_at bytes = number_at 1 22 bytes / 2 % 2 == 1
 
--- a rear that is known where the flags say so
+-- the rear, if the flags mark it as known
 abbrev pub rear_from : ℕ → ℕ → Option ℤ
 rear_from n rear = if nat_lt n 4 then None else Some (cast_signed w32 rear)

@@ -1,4 +1,4 @@
--- How a frame is spelled: its fields in order, each a number of so many bytes, the highest byte first (profile).
+-- The spelling of a frame: its fields in order, each a number of n bytes, the highest byte first (profile).
 use Rattle.std.specs.Prelude.{◌≡◌, ℕ, ◌+◌, ◌^◌, Bool, List, [], ◌∷◌, ◌++◌, Option, None, Some, ℤ, ◌<◌, if◌then◌else◌, is_some}
 use Rattle.std.specs.Int.{w32, cast_unsigned}
 use Rattle.byteorder.specs.Endian.{big_bytes}
@@ -39,7 +39,7 @@ run_fields run = (2, run.first) ∷ (1, run.count) ∷ []
 abbrev pub bit : ℕ → Bool → ℕ
 bit n b = if b then n else 0
 
--- what a Yield says by bits: its data are known, its mission has ended, the rear is known
+-- the flags of a Yield: its train data are known, its mission is ended, the rear is known
 abbrev pub flags : Bool → Bool → Option ℤ → ℕ
 flags has_data is_ended rear = bit 1 has_data + bit 2 is_ended + bit 4 (is_some rear)
 
@@ -47,18 +47,18 @@ flags has_data is_ended rear = bit 1 has_data + bit 2 is_ended + bit 4 (is_some 
 abbrev pub distance : ℤ → ℕ
 distance z = cast_unsigned w32 z
 
--- the rear, 0 where it is not known
+-- the rear, or 0 if it is not known
 abbrev pub rear_distance : Option ℤ → ℕ
 rear_distance None = 0
 rear_distance (Some z) = distance z
 
--- a place and what stands in its flags
+-- a place with its flags
 abbrev pub place_fields : Bool → Bool → YieldedPlace → List Field
 place_fields has_data is_ended place =
     (1, place.track) ∷ (1, flags has_data is_ended place.rear) ∷ (4, place.group) ∷ (4, distance place.front)
     ∷ (4, rear_distance place.rear) ∷ []
 
--- the fields after the kind, which begin with the handover's number, where there is one, and NID_ENGINE
+-- the fields after the kind: the handover's number if there is one, NID_ENGINE, and the others
 abbrev pub body_fields : Body → List Field
 body_fields (AskRight t) = (4, t) ∷ []
 body_fields (GiveRight t) = (4, t) ∷ []

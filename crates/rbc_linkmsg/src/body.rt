@@ -11,14 +11,14 @@ pub struct YieldedPlace {
     pub group: u32,
     /// The safe front end, in decimetres from the start of the track.
     pub front: i32,
-    /// The safe rear end, in decimetres from the start of the track, where it is known.
+    /// The safe rear end, in decimetres from the start of the track, if it is known.
     pub rear: Option<i32>,
 }
 
-/// What goes over with the supervision of a train.
+/// The mission that is handed over with the supervision of a train.
 #[derive(Clone, Copy, Debug, PartialEq, Eq)]
 pub struct Yielding {
-    /// T_TRAIN of the message that was heard last.
+    /// T_TRAIN of the last message that was received.
     pub heard: u32,
     /// Whether the data of the train are known.
     pub has_data: bool,
@@ -30,7 +30,7 @@ pub struct Yielding {
     pub hand: SectionRun,
 }
 
-/// What a centre says to another (profile; the words for a handover are those of SUBSET-039).
+/// The body of a frame between centres (profile; the words for a handover are those of SUBSET-039).
 #[derive(Clone, Copy, Debug, PartialEq, Eq)]
 pub enum Body {
     /// The registrar is asked for the supervision right of the train.
@@ -45,11 +45,11 @@ pub enum Body {
     RefuseRight {
         engine: u32,
     },
-    /// The right goes back to the registrar.
+    /// The right is returned to the registrar.
     ReturnRight {
         engine: u32,
     },
-    /// Sections are asked for, from the first on, at most so many.
+    /// Asks for sections: from the first on, at most `most`.
     RouteAsk {
         engine: u32,
         first: u16,
@@ -65,7 +65,7 @@ pub enum Body {
         engine: u32,
         section: u16,
     },
-    /// Lent sections come home.
+    /// Lent sections are returned.
     RouteReturn {
         engine: u32,
         run: SectionRun,

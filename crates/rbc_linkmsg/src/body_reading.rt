@@ -80,7 +80,7 @@ pub(crate) fn read_body(kind: FrameKind, bytes: &[u8]) -> Body
     }
 }
 
-// NID_ENGINE alone.
+// Only NID_ENGINE.
 #[tactic(auto, unfolding(crate::specs::Spelling::spelled))]
 fn read_engine(bytes: &[u8]) -> u32
     requires { length bytes.now ≡ 4 }

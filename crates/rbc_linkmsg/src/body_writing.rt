@@ -73,7 +73,7 @@ pub(crate) fn put_body(bytes: &mut Vec<u8>, body: Body) -> Result<(), AllocError
     }
 }
 
-// NID_ENGINE alone.
+// Only NID_ENGINE.
 #[inline(always)]
 #[tactic(auto, unfolding(crate::specs::Spelling::spelled))]
 fn engine_bytes(engine: u32) -> [u8; 4]
@@ -157,7 +157,7 @@ fn yield_bytes(handover: u32, engine: u32, yielding: Yielding) -> [u8; 29]
     bytes
 }
 
-// A place, and the flags, of which one says whether its rear is known.
+// A place, and the flags. One of them marks the rear as known.
 #[inline(always)]
 #[tactic(auto, unfolding(crate::specs::Spelling::spelled))]
 fn write_place(bytes: &mut [u8], has_data: bool, is_ended: bool, place: YieldedPlace)
@@ -206,7 +206,7 @@ fn flags(has_data: bool, is_ended: bool, has_rear: bool) -> u8
     data + ended + rear
 }
 
-/// The rear, 0 where it is not known.
+/// The rear, or 0 if it is not known.
 pub(crate) fn rear_distance(rear: Option<i32>) -> u32
     ensures { result ≡ spelling.rear_distance rear }
 {

@@ -1,5 +1,5 @@
-//! Bytes as a frame: the kind is told first, and each kind's frame is read by code of its own. The choice is inlined,
-//! so that a caller finds the frame where that code wrote it, and no copy is made on the way.
+//! Bytes as a frame. The kind is tested first, and each kind has its own code. The choice is inlined. So a caller finds
+//! the frame in the place to which that code wrote it, and no copy is made on the way.
 
 ghost use Rattle.std.specs.Prelude.{◌≡◌, ◌≢◌, ◌≤◌, Ok, length, slice_index, IfOk, OnOk, IfErr};
 ghost use Rattle.rbc_spec.specs.Frame as spec;

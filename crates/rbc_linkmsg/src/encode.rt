@@ -11,7 +11,7 @@ use std::alloc::{AllocError, Global};
 // A Yield is the longest frame.
 const LONGEST: usize = 38;
 
-/// The bytes that spell the frame. They take the only memory, and nothing but its want is a fault.
+/// The bytes that spell the frame. They are the only memory, and the only fault is that it runs out.
 #[tactic(auto, unfolding(crate::specs::Spelling::spelled))]
 pub fn encode_frame(alloc: Global, frame: &Frame) -> Result<Vec<u8>, AllocError>
     ensures spelled { IfOk result (λ bytes. Spells bytes.items frame.now) }

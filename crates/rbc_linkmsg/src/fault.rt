@@ -3,7 +3,7 @@ ghost use Rattle.rbc_linkmsg.specs.FaultNumbers.{frame_fault_number};
 
 use thiserror::Error;
 
-/// Why bytes are no frame.
+/// Why bytes are not a frame.
 #[derive(Clone, Copy, Debug, PartialEq, Eq, Error)]
 pub enum FrameFault {
     /// Fewer bytes than the frame has.

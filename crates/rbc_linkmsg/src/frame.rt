@@ -30,7 +30,7 @@ impl Model for Frame {
 }
 
 impl Default for Frame {
-    /// What fills the places of a row of frames that are not in use.
+    /// The value of unused positions in a list of frames.
     fn default() -> Frame {
         Frame::new(1, 1, Body::AskRight { engine: 0 })
     }
@@ -67,7 +67,7 @@ impl Frame {
         self.stamp
     }
 
-    /// What it says.
+    /// Its body.
     pub fn body(&self) -> Body
         ensures value { body_of result ≡ self.now.body }
         ensures range { HasBodyRange (body_of result) }

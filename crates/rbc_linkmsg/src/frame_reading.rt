@@ -1,6 +1,6 @@
-//! The frame of a kind that is known, read from bytes of its length. A function that reads a frame stands once for each
-//! kind and is not inlined, so that a result is written to its place at once: where the ways of all kinds join, each
-//! would carry the words of the largest.
+//! The frame of a known kind, read from bytes of its length. The function that reads a frame exists once for each kind
+//! and is not inlined, so a result is written to its place at once. If the paths of all kinds joined, each would carry
+//! the words of the largest.
 
 ghost use Rattle.std.specs.Prelude.{◌≡◌, ◌≢◌, ◌+◌, ◌^◌, ◌<◌, ◌≤◌, ◌++◌, Ok, length, slice_index, IfOk, OnOk, IfErr};
 ghost use Rattle.byteorder.specs.Endian.{big_bytes};
@@ -62,7 +62,7 @@ pub(crate) fn frame_of_yield(bytes: &[u8]) -> Result<Frame, FrameFault>
     Ok(frame)
 }
 
-// Whether the bytes are as many as frames of the kind have.
+// Tests that the number of bytes is that of a frame of this kind.
 #[inline(always)]
 #[tactic(auto, unfolding(crate::specs::Faults::first_fault))]
 fn check_length(kind: FrameKind, bytes: &[u8]) -> Result<(), FrameFault>

@@ -1,4 +1,4 @@
-//! What holds of all spellings, whatever code reads or writes them.
+//! Laws of all spellings, independent of the code that reads or writes them.
 
 ghost use Rattle.std.specs.Prelude.{◌≡◌, ℕ, List};
 ghost use Rattle.rbc_spec.specs.Frame.{Frame};

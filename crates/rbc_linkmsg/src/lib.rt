@@ -1,7 +1,7 @@
 //! The frames that centres exchange: a numbered and stamped body as a value and as bytes (profile). Each frame has one
 //! spelling, and no two frames share one.
 //!
-//! Bodies and proofs are free. The clauses of public functions stay, since the crates above stand on them.
+//! Bodies and proofs may change. The clauses of public functions have to stay: the crates above depend on them.
 #![tactic(auto)]
 
 mod body;

@@ -16,7 +16,7 @@ use crate::ranges::is_engine;
 use byteorder::{BigEndian, ByteOrder};
 use rbc_line::SectionRun;
 
-/// The body that the bytes of a Yield spell after the kind. It is none where they spell none.
+/// The body that the bytes of a Yield spell after the kind; `None` if they spell none.
 #[inline(always)]
 #[tactic(auto, unfolding(crate::specs::Spelling::spelled))]
 pub(crate) fn read_yield(bytes: &[u8]) -> Option<Body>
@@ -45,7 +45,7 @@ pub(crate) fn read_yield(bytes: &[u8]) -> Option<Body>
     })
 }
 
-// What goes over with the supervision.
+// The mission that is handed over with the supervision.
 #[inline(always)]
 #[tactic(auto, unfolding(crate::specs::Spelling::spelled))]
 fn read_yielding(bytes: &[u8]) -> Option<Yielding>
@@ -77,7 +77,7 @@ fn read_yielding(bytes: &[u8]) -> Option<Yielding>
     })
 }
 
-// The place, whose rear the flags say to be known or not.
+// The place; the flags mark its rear as known or not.
 #[inline(always)]
 #[tactic(auto, unfolding(crate::specs::Spelling::spelled))]
 fn read_place(bytes: &[u8]) -> Option<YieldedPlace>
@@ -114,7 +114,7 @@ fn read_place(bytes: &[u8]) -> Option<YieldedPlace>
     })
 }
 
-// The rear, where the flags say that it is known.
+// The rear, if the flags mark it as known.
 #[inline(always)]
 fn rear_from(flags: u8, rear: u32) -> Option<i32>
     ensures { result ≡ readings.rear_from flags rear }

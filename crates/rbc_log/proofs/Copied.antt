@@ -37,12 +37,12 @@ module _ {X : Type 0} (logs : List X) (log_of : X → LogValue) (i : ℕ) (log :
       ∙ sym (map-append written_of (all_entries (map log_of (take i logs))) (log_of log).entries)
       ∙ ap (map written_of) (sym entries_more)
 
-  -- and what holds of each log
+  -- a property of each log holds with one log more
   pub each_more : (P : LogValue → Type 0) → All P (map log_of (take i logs)) → P (log_of log) → All P (map log_of (take (i + 1) logs))
   each_more P all here =
       subst (All P) (sym seam) (All-append P (map log_of (take i logs)) (log_of log ∷ []) all (All-cons P (log_of log) [] here (All-nil P)))
 
-  -- where one log has an entry, all of them have one
+  -- if one log has an entry, all of them together have one
   pub some_entry : 0 < length (log_of log).entries → 0 < length (all_entries (map log_of logs))
   some_entry some =
       let entries : LogValue → List Entry = λ l. l.entries in

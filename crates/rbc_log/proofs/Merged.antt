@@ -1,24 +1,24 @@
 -- A sorted list of all entries is a merge, and one run.
-use Rattle.std.proofs.Common.{◌≡◌, ℕ, ◌≤◌, List, [], ◌∷◌, length, map, All, Bool, false, slice_index_or, sym, subst, arith, IsPermutation}
-use Rattle.std.specs.List.Sorted.{IsSortedBy}
-use Rattle.std.specs.Ordering.{nat_cmp, ordering_then, is_lt}
-use Rattle.std.specs.Cmp.{IsStrictWeakOrder}
-use Rattle.std.proofs.lemmas.Cmp.{then_total, on_total, nat_cmp_total}
+use Rattle.std.proofs.Common.{[], ◌∷◌, ◌≡◌, ◌≤◌, All, arith, Bool, false, IsPermutation, length, List, map}
+use Rattle.std.proofs.Common.{slice_index_or, subst, sym, ℕ}
+use Rattle.std.proofs.lemmas.Bool.Decides.{nat_tests}
+use Rattle.std.proofs.lemmas.Cmp.{nat_cmp_total, on_total, then_total}
 use Rattle.std.proofs.lemmas.List.{get_or-map, length-map}
 use Rattle.std.proofs.lemmas.List.Sorted.{ranks_by, sorted_far}
-use Rattle.std.proofs.lemmas.Bool.Decides.{nat_tests}
-use Rattle.law_logs.specs.Logs.{LogEntry, IsInOrder, ComesBefore, IsMerge, IsWorldRun, happened, answered}
-use Rattle.law_logs.proofs.Sorted.{merges}
+use Rattle.std.specs.Cmp.{IsStrictWeakOrder}
+use Rattle.std.specs.List.Sorted.{IsSortedBy}
+use Rattle.std.specs.Ordering.{is_lt, nat_cmp, ordering_then}
 use Rattle.law_logs.proofs.Merged.{family}
-use Rattle.rbc_spec.specs.ReadOff.{IsLineRun}
+use Rattle.law_logs.proofs.Sorted.{merges}
+use Rattle.law_logs.specs.Logs.{answered, ComesBefore, happened, IsInOrder, IsMerge, IsWorldRun, LogEntry}
 use Rattle.law_promises.proofs.Pieces.{run_safe}
-use Rattle.law_refinement.proofs.Lines.{the_run}
-use Rattle.law_refinement.proofs.Promises.{run_sound}
-use Rattle.rbc_log.specs.Entries.{entry_of, written_of}
-use Rattle.rbc_log.specs.Log.{LogValue, IsReplaying}
-use Rattle.rbc_log.specs.Merge.{AreOfCentres, AreOfOneLine, logs_by, ends_by, all_entries, IsMerged, MakesOneRun}
+use Rattle.law_refinement.proofs.Promises.{run_sound, the_run}
+use Rattle.rbc_log.proofs.Sides.{are_logs, by_centre, moved}
 use Rattle.rbc_log.specs.declared.entry.Entry.{Entry}
-use Rattle.rbc_log.proofs.Sides.{by_centre, are_logs, moved}
+use Rattle.rbc_log.specs.Entries.{entry_of, written_of}
+use Rattle.rbc_log.specs.Log.{IsReplaying, LogValue}
+use Rattle.rbc_log.specs.Merge.{all_entries, AreOfCentres, AreOfOneLine, ends_by, IsMerged, logs_by, MakesOneRun}
+use Rattle.rbc_spec.specs.ReadOff.{IsLineRun}
 
 -- ## By stamp and centre
 
@@ -45,7 +45,7 @@ ordered (e ∷ es) up i j d under within =
     not_earlier _ _ _ _ (sorted_far entry_before entries_order all up i j e (omega (arith, under)) (omega (arith, within, long))) in
     subst (λ (a : LogEntry). ComesBefore a (slice_index_or (map entry_of all) j d)) (sym at_i) (subst (λ (b : LogEntry). ComesBefore (entry_of (slice_index_or all i e)) b) (sym at_j) before)
 
--- ## What merging gives
+-- ## The result of a merge
 
 pub merged : (logs : List LogValue) (es : List Entry) → AreOfCentres logs → AreOfOneLine logs → All IsReplaying logs → IsPermutation (map written_of (all_entries logs)) (map written_of es)
     → IsInOrder (map entry_of es) → IsMerged logs es

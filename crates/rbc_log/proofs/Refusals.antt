@@ -4,19 +4,16 @@ use Rattle.rbc_spec.specs.Step.{Event, refusal}
 use Rattle.rbc_centre.specs.Answer.{IsRefusalOf}
 use Rattle.rbc_centre.specs.States.{line_of, number_of, state_of}
 use Rattle.rbc_centre.specs.declared.fault.StepFault.{StepFault}
-use Rattle.rbc_centre.specs.declared.fault.StepFault.TheVariants as fault
+use Rattle.rbc_centre.specs.declared.fault.StepFault.TheVariants.{Memory}
 use Rattle.rbc_centre.proofs.Steps.{refused_step, taken_step}
 use Rattle.rbc_log.specs.Log.{LogValue, IsRefusal, most_entries}
-use Rattle.rbc_log.specs.Faults.{commit_fault}
-use Rattle.rbc_log.specs.declared.fault.CommitFault.TheVariants.{Memory}
+use Rattle.rbc_log.specs.declared.fault.CommitFault.TheVariants.{Step}
 
--- where the centre refuses the event, the fault of the log says so
+-- if the centre refuses the event, the fault of the log is that refusal
 pub refused_as : (l : LogValue) (event : Event) (f : StepFault) → length l.entries < most_entries → IsRefusalOf f (refusal (line_of l.core) (number_of l.core) (state_of l.core) event)
-    → IsRefusal l event (commit_fault f)
-refused_as l event fault.Memory room is = absurd is
-refused_as l event fault.LinkFull room is = (room, refused_step (line_of l.core) (number_of l.core) (state_of l.core) event fault.LinkFull is)
-refused_as l event fault.ClockEnd room is = (room, refused_step (line_of l.core) (number_of l.core) (state_of l.core) event fault.ClockEnd is)
+    → IsRefusal l event (Step f)
+refused_as l event f room is = (room, refused_step (line_of l.core) (number_of l.core) (state_of l.core) event f is)
 
--- and where memory runs out, it does not
-pub no_memory : (l : LogValue) (event : Event) → length l.entries < most_entries → refusal (line_of l.core) (number_of l.core) (state_of l.core) event ≡ None → IsRefusal l event Memory
+-- if memory runs out, the centre does not refuse the event
+pub no_memory : (l : LogValue) (event : Event) → length l.entries < most_entries → refusal (line_of l.core) (number_of l.core) (state_of l.core) event ≡ None → IsRefusal l event (Step Memory)
 no_memory l event room none = (room, rw (taken_step (line_of l.core) (number_of l.core) (state_of l.core) event none) refl)

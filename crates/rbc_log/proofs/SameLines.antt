@@ -1,4 +1,4 @@
--- Two lines are the same where they say the same of everything at each number.
+-- Two lines are the same if all getters return the same at each number.
 use Rattle.std.proofs.Common.{◌≡◌, ℕ, suc, ◌+◌, ◌<◌, ◌==◌, List, [], ◌∷◌, length, take, Option, Some, None, slice_get, option_map, refl, sym, ap, ◌∙◌, arith, below_more}
 use Rattle.std.specs.List.{filter, sum_by}
 use Rattle.std.specs.Option.{option_map_or}
@@ -37,7 +37,7 @@ unfolding start
 same_start a b s e =
     ap (λ (ps : List Section). option_map_or (λ (p : Section). sum_by (λ (q : Section). q.metres) (filter (λ (q : Section). q.track == p.track) (take s ps))) (slice_get ps s) 0) e
 
--- what a getter says of a section tells the section, and the sections of the line tell what it says
+-- the getter of a section determines the section, and the sections of the line determine its result
 pub same_section : (a b : Line) (s : ℕ) → placed_section a s ≡ placed_section b s → slice_get a.sections s ≡ slice_get b.sections s
 same_section a b s e = sym (bare (start a s) (section a s)) ∙ ap (option_map section_of) e ∙ bare (start b s) (section b s)
 

@@ -1,22 +1,23 @@
--- What a log's centre has sent, by the log's entries.
-use Rattle.std.proofs.Common.{◌≡◌, ℕ, ◌-◌, ◌==◌, List, map, Contains, Option, Some, None, slice_get, if◌then◌else◌, subst, ◌∙◌, arith, ne_eqb, inl, inr}
+-- The frames that a log's centre has sent, by the log's entries.
+use Rattle.std.proofs.Common.{◌-◌, ◌==◌, ◌∙◌, ◌≡◌, arith, Contains, if◌then◌else◌, inl, inr, List, map, ne_eqb, None}
+use Rattle.std.proofs.Common.{Option, slice_get, Some, subst, ℕ}
 use Rattle.std.proofs.lemmas.Bool.{cond-false}
 use Rattle.std.proofs.lemmas.Bool.Decides.{eqb_tells}
-use Rattle.std.proofs.lemmas.Option.{slice_get_within, get_or_from_slice_get}
-use Rattle.rbc_spec.specs.Frame.{Frame}
-use Rattle.rbc_spec.specs.Centre.{beginning}
+use Rattle.std.proofs.lemmas.Option.{get_or_from_slice_get, slice_get_within}
+use Rattle.law_logs.proofs.Sorted.{sent_replayed, sent_under}
 use Rattle.law_logs.specs.Logs.{sent_to}
-use Rattle.law_logs.proofs.Parts.{sent_replayed, sent_under}
 use Rattle.rbc_centre.specs.States.{line_of, number_of, state_of}
 use Rattle.rbc_centre.specs.Views.{frame_number}
 use Rattle.rbc_log.specs.Entries.{entry_of}
-use Rattle.rbc_log.specs.Log.{LogValue, IsReplaying}
+use Rattle.rbc_log.specs.Log.{IsReplaying, LogValue}
+use Rattle.rbc_spec.specs.Centre.{beginning}
+use Rattle.rbc_spec.specs.Frame.{Frame}
 
 pub sent_is : (l : LogValue) → IsReplaying l → (d : ℕ) → (state_of l.core).sent d ≡ sent_to d (map entry_of l.entries)
 unfolding beginning
 sent_is l r d = sent_replayed (line_of l.core) (number_of l.core) d (beginning (line_of l.core) (number_of l.core)) (map entry_of l.entries) (state_of l.core) r
 
--- a frame of the log stands under its number
+-- a frame of the log is found under its number
 pub sent_number : (l : LogValue) → IsReplaying l → (d : ℕ) (f : Frame) → Contains (sent_to d (map entry_of l.entries)) f → frame_number (sent_to d (map entry_of l.entries)) f.number ≡ Some f
 sent_number l r d f there =
     let frames : List Frame = sent_to d (map entry_of l.entries) in

@@ -1,4 +1,4 @@
--- Logs side by side: what each centre took, and where it ends.
+-- Logs side by side: the entries of each centre, and its last state.
 use Rattle.std.proofs.Common.{◌≡◌, ℕ, zero, suc, ◌==◌, List, [], ◌∷◌, ◌++◌, length, map, All, Bool, true, false, ◌||◌, IsTrue, Some, None, if◌then◌else◌, slice_get, refl, sym, ap, subst, ◌∙◌, arith, inl, inr, append-nil, IsPermutation}
 use Rattle.std.specs.List.{list_any}
 use Rattle.std.specs.Option.{option_map_or}
@@ -48,7 +48,7 @@ or_parts : (a b : Bool) → (a || b) ≡ false → (a ≡ false) × (b ≡ false
 or_parts true b h = absurd cc
 or_parts false b h = (refl, h)
 
--- a log of the centre is found, and none where there is none
+-- a log of the centre is found, and none if there is none
 has_log_at : (c : ℕ) (logs : List LogValue) (j : ℕ) (m : LogValue) → slice_get logs j ≡ Some m → number_of m.core ≡ c → has_log c logs ≡ true
 has_log_at c [] j m at is = absurd cc
 has_log_at c (l ∷ ls) zero m at is =
@@ -100,7 +100,7 @@ pub distinct_tail : (l : LogValue) (ls : List LogValue) → AreOfCentres (l ∷ 
 distinct_tail l ls all i j x y at_i at_j same =
     let next : suc i ≡ suc j = all (suc i) (suc j) x y at_i at_j same in omega (arith, next)
 
--- ## What the tests of merging tell
+-- ## The results of the tests of a merge
 
 module _ (logs : List LogValue) (l : LogValue) (ls : List LogValue) (is : logs ≡ l ∷ ls) where
   pub distinct_then : (c : ℕ) (found answer : Bool) → c ≡ number_of l.core → found ≡ has_log c ls → found ≡ false → (IsTrue answer → AreOfCentres ls) × (AreOfCentres ls → IsTrue answer)
@@ -176,7 +176,7 @@ module _ (line : Line) where
             (replays_by ls (All-tail (λ (m : LogValue). line_of m.core ≡ line) l ls same) (All-tail IsReplaying l ls r) c)
       ]
 
-  -- no log is of a number that is no centre's
+  -- no log is of a number that is not a centre's
   no_other : (logs : List LogValue) → AreOfLine line logs → (c : ℕ) → is_centre line c ≡ false → logs_by logs c ≡ []
   no_other [] same c none = refl
   no_other (l ∷ ls) same c none =
@@ -192,7 +192,7 @@ module _ (line : Line) where
   pub are_logs : (logs : List LogValue) → AreOfLine line logs → All IsReplaying logs → AreLogs line (logs_by logs) (ends_by line logs)
   are_logs logs same r = record { replays = λ c is. replays_by logs same r c; no_other = no_other logs same }
 
--- ## What is written tells what an entry says
+-- ## A written entry determines its plain data
 
 abbrev said : Written → LogEntry
 said w = record { centre = w.centre; event = event_of w.event; outcome = w.outcome }

@@ -1,4 +1,4 @@
--- What an entry in memory stands for.
+-- The plain data of an entry in memory.
 use Rattle.std.specs.Prelude.{ℕ}
 use Rattle.rbc_spec.specs.Outcome.{Outcome}
 use Rattle.rbc_centre.specs.Views.{event_of, outcome_of}
@@ -9,7 +9,7 @@ use Rattle.rbc_log.specs.declared.entry.Entry.{Entry}
 abbrev pub entry_of : Entry → LogEntry
 entry_of e = record { centre = e.centre; event = event_of e.event; outcome = outcome_of e.outcome }
 
--- the same with the event whole, so with the packets of a message that no step reads
+-- an entry with the whole event, so with the packets of a message that no step reads
 pub record Written : Type 0 where
   pub centre : ℕ
   pub event : Event

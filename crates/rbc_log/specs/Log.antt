@@ -1,8 +1,9 @@
 -- A centre with its log.
-use Rattle.std.specs.Prelude.{◌≡◌, ℕ, ◌≤◌, ◌<◌, List, [], ◌∷◌, ◌++◌, length, map, Ok, Err, IsOk}
+use Rattle.std.specs.Prelude.{◌≡◌, ℕ, ◌≤◌, ◌<◌, List, [], ◌∷◌, ◌++◌, length, map, Ok}
 use Rattle.rbc_spec.specs.Outcome.{Outcome}
 use Rattle.rbc_spec.specs.Centre.{beginning}
-use Rattle.rbc_spec.specs.Step.{Event, step, ClockEnd as AtClockEnd, LinkFull as AtLinkFull}
+use Rattle.rbc_spec.specs.Step.{Event, step}
+use Rattle.rbc_centre.specs.Answer.{IsRefusal as IsStepRefusal}
 use Rattle.rbc_centre.specs.States.{line_of, number_of, state_of}
 use Rattle.rbc_centre.specs.Views.{event_of}
 use Rattle.rbc_centre.specs.declared.centre.Centre.{Centre}
@@ -11,7 +12,7 @@ use Rattle.law_logs.specs.Logs.{Replays}
 use Rattle.rbc_log.specs.Entries.{entry_of}
 use Rattle.rbc_log.specs.declared.entry.Entry.{Entry}
 use Rattle.rbc_log.specs.declared.fault.CommitFault.{CommitFault}
-use Rattle.rbc_log.specs.declared.fault.CommitFault.TheVariants.{Memory, LinkFull, ClockEnd, LogFull}
+use Rattle.rbc_log.specs.declared.fault.CommitFault.TheVariants.{Step, LogFull}
 
 pub record LogValue : Type 0 where
   pub core : Centre
@@ -21,14 +22,14 @@ pub record LogValue : Type 0 where
 abbrev pub most_entries : ℕ
 most_entries = 1000000
 
--- the entries lead from the centre's beginning to the centre as it is
+-- the entries lead from the centre's initial state to its present state
 abbrev pub IsReplaying : LogValue → Type 0
 IsReplaying l =
     Replays (line_of l.core) (number_of l.core) (beginning (line_of l.core) (number_of l.core)) (map entry_of l.entries)
     (state_of l.core)
 
--- the event was taken: it follows the entries, whole, with the outcome of the centre's step, and the centre is as
--- that step leaves it
+-- The event was taken. It is appended to the entries with the outcome of the centre's step. The centre has the new
+-- state of that step.
 pub record Appends (old new : LogValue) (event : EventInMemory) (outcome : Outcome) : Type 0 where
   pub room : length old.entries < most_entries
   pub entries : map entry_of new.entries
@@ -47,15 +48,10 @@ pub record IsUnchanged (old new : LogValue) : Type 0 where
   pub line : line_of new.core ≡ line_of old.core
   pub number : number_of new.core ≡ number_of old.core
 
--- when a fault comes: LogFull exactly where no entry has room, else the refusal of the step, and Memory only where it
--- is not refused
+-- When each fault is returned. `LogFull`: if and only if the log is full. Else the refusal of the step, whose `Memory`
+-- is returned only if the rules do not refuse the step.
 abbrev pub IsRefusal : LogValue → Event → CommitFault → Type 0
-IsRefusal l event Memory =
-    (length l.entries < most_entries) × IsOk (step (line_of l.core) (number_of l.core) event (state_of l.core))
-IsRefusal l event LinkFull =
+IsRefusal l event (Step fault) =
     (length l.entries < most_entries)
-    × (step (line_of l.core) (number_of l.core) event (state_of l.core) ≡ Err AtLinkFull)
-IsRefusal l event ClockEnd =
-    (length l.entries < most_entries)
-    × (step (line_of l.core) (number_of l.core) event (state_of l.core) ≡ Err AtClockEnd)
+    × IsStepRefusal fault (step (line_of l.core) (number_of l.core) event (state_of l.core))
 IsRefusal l event LogFull = most_entries ≤ length l.entries

@@ -1,4 +1,4 @@
--- What it is to merge logs.
+-- The merge of logs.
 use Rattle.std.specs.Prelude.{◌≡◌, ◌<◌, ℕ, ◌==◌, List, [], length, map, Option, All}
 use Rattle.std.specs.List.{find, flat_map}
 use Rattle.std.specs.List.Sorted.{IsPermutation}
@@ -30,7 +30,7 @@ AreOfLine line logs = All (λ l. line_of l.core ≡ line) logs
 abbrev pub AreOfOneLine : List LogValue → Type 0
 AreOfOneLine logs = (line : Line) × AreOfLine line logs
 
--- the one that is of centre c, if there is one
+-- the log of centre c, if it has one
 abbrev pub log_of : ℕ → List LogValue → Option LogValue
 log_of c logs = find (λ l. number_of l.core == c) logs
 
@@ -38,7 +38,7 @@ log_of c logs = find (λ l. number_of l.core == c) logs
 abbrev pub logs_by : List LogValue → ℕ → List LogEntry
 logs_by logs c = option_map_or (λ l. map entry_of l.entries) (log_of c logs) []
 
--- and where each ends; a centre that has none is at its beginning
+-- the last state of each centre; a centre without a log is in its initial state
 abbrev pub ends_by : Line → List LogValue → ℕ → Centre
 ends_by line logs c = option_map_or (λ l. state_of l.core) (log_of c logs) (beginning line c)
 
@@ -48,30 +48,30 @@ all_entries logs = flat_map (λ l. l.entries) logs
 
 -- ## The merged list
 
--- Each entry of each log stands in the list once, with its event whole. It is a merge of the logs: each log's entries
--- have their order, and all are in the order of stamps, of one stamp by centre
+-- Each entry of each log is in the list once, with its whole event. The list is a merge of the logs: the entries of
+-- each log keep their order. All are in the order of stamps, and for one stamp in that of centres.
 pub record IsMerged (logs : List LogValue) (es : List Entry) : Type 0 where
   pub centres : AreOfCentres logs
   pub line : AreOfOneLine logs
   pub once : IsPermutation (map written_of (all_entries logs)) (map written_of es)
   pub merge : IsMerge (logs_by logs) (map entry_of es)
 
--- The entries are one run. The world answers their events as they have it, from its beginning, and each centre ends
--- where its log does. That is a run of the one line centre, what the world outside sees of it is safe, and the world is
--- sound: no section and no right is lost or in two places
+-- The entries are one run. The world, from its initial state, answers their events as the entries do, and each centre
+-- ends as its log does. That is a run of the one line centre. The view from outside is safe, and the world is sound: no
+-- section and no right is lost or in two places.
 pub record IsOneRun (line : Line) (es : List LogEntry) (ends : ℕ → Centre) : Type 0 where
   pub world : IsWorldRun line es ends
   pub line_centre : IsLineRun line (map happened es) (map answered es) world.last
   pub outside : IsSafeOutside line (sees_all line (map happened es) (map spoken_of (map answered es)) nothing_seen)
   pub sound : IsSound line world.last
 
--- so it is where each frame that was delivered stands in its sender's log
+-- the entries are one run if each delivered frame is in its sender's log
 abbrev pub MakesOneRun : List LogValue → List Entry → Type 0
 MakesOneRun logs es =
     (line : Line) → IsLine line → AreOfLine line logs → IsLegal (logs_by logs)
     → IsOneRun line (map entry_of es) (ends_by line logs)
 
--- when a fault comes: Twice is looked for first, then OtherLine; memory is wanted only where there is an entry
+-- When each fault is returned. `Twice` is tested first, then `OtherLine`; memory is needed only if there is an entry.
 abbrev pub IsMergeRefusal : List LogValue → MergeFault → Type 0
 IsMergeRefusal logs Memory = AreOfCentres logs × AreOfOneLine logs × (0 < length (all_entries logs))
 IsMergeRefusal logs Twice = AreOfCentres logs → ⊥

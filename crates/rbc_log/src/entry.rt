@@ -3,7 +3,7 @@ ghost use Rattle.std.specs.Prelude.{◌≡◌, IfOk};
 use rbc_centre::{Event, FrameRoom, Outcome};
 use std::alloc::{AllocError, Global};
 
-/// An event that a centre took, and what it answered.
+/// An event that a centre took, and its outcome.
 #[derive(Debug, Drop)]
 pub struct Entry {
     /// The number of the centre.
@@ -16,7 +16,7 @@ impl Entry {
     ghost use Rattle.rbc_centre.specs.Rooms.{HasFrameRoom};
     ghost use Rattle.rbc_log.specs.Entries.{written_of};
 
-    /// Another entry that says the same. Its frames have memory of their own, or, where there is none, take the room.
+    /// A copy of the entry. If memory for its frames runs out, they take the room.
     pub fn copied(&self, alloc: Global, room: &mut FrameRoom) -> Result<Entry, AllocError>
         requires { HasFrameRoom room.old }
         ensures { IfOk result (λ e. written_of e ≡ written_of self.now) }

@@ -1,6 +1,7 @@
 ghost use Rattle.std.specs.Prelude.{◌≡◌};
-ghost use Rattle.rbc_log.specs.Faults.{commit_fault, number_of_fault};
-ghost use Rattle.rbc_log.specs.declared.fault.CommitFault.TheVariants.{Memory};
+ghost use Rattle.rbc_centre.specs.declared.fault.StepFault.TheVariants.{Memory};
+ghost use Rattle.rbc_log.specs.Faults.{number_of_fault};
+ghost use Rattle.rbc_log.specs.declared.fault.CommitFault.TheVariants.{Step};
 
 use rbc_centre::StepFault;
 use std::alloc::AllocError;
@@ -8,41 +9,36 @@ use std::alloc::AllocError;
 /// Why a commit was refused. A refused commit changes nothing.
 #[derive(Clone, Copy, Debug, PartialEq, Eq)]
 pub enum CommitFault {
-    /// Memory ran out.
-    Memory = 1,
-    /// A link to another centre has too few numbers left.
-    LinkFull = 2,
-    /// The stamp of the step would pass the last one.
-    ClockEnd = 3,
-    /// The log holds as many entries as it may. It is looked for first.
-    LogFull = 4,
+    /// The centre refused the step, or memory ran out.
+    Step(StepFault),
+    /// The log is full. This is tested first.
+    LogFull,
 }
 
 impl CommitFault {
-    /// The number that is printed.
+    /// The number that is printed: that of the step's fault, or 4.
     pub fn number(self) -> u8
         ensures { result ≡ number_of_fault self }
     {
-        self as u8
+        match self {
+            CommitFault::Step(fault) => fault.number(),
+            CommitFault::LogFull => 4,
+        }
     }
 }
 
 impl From<AllocError> for CommitFault {
-    ghost from_gives = { λ _ fault. fault ≡ Memory };
+    ghost from_gives = { λ _ fault. fault ≡ Step Memory };
 
     fn from(_error: AllocError) -> CommitFault {
-        CommitFault::Memory
+        CommitFault::Step(StepFault::Memory)
     }
 }
 
 impl From<StepFault> for CommitFault {
-    ghost from_gives = { λ step fault. fault ≡ commit_fault step };
+    ghost from_gives = { λ step fault. fault ≡ Step step };
 
     fn from(fault: StepFault) -> CommitFault {
-        match fault {
-            StepFault::Memory => CommitFault::Memory,
-            StepFault::LinkFull => CommitFault::LinkFull,
-            StepFault::ClockEnd => CommitFault::ClockEnd,
-        }
+        CommitFault::Step(fault)
     }
 }

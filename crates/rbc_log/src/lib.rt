@@ -1,8 +1,8 @@
-//! The log of a centre: each event that it took, with what it answered. The type keeps that the entries, replayed from
-//! the centre's beginning, give the centre as it is and the answers that are stored. The logs of a line's centres,
+//! The log of a centre: each event that it took, with its outcome. The type keeps this invariant: the entries, replayed
+//! from the centre's initial state, give the centre's state and the stored outcomes. The logs of a line's centres,
 //! merged by their stamps, are one run.
 //!
-//! Bodies and proofs are free. The clauses of public functions stay, since the crates above stand on them.
+//! Bodies and proofs may change. The clauses of public functions have to stay: the crates above depend on them.
 #![tactic(auto)]
 
 mod entry;

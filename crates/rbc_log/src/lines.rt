@@ -3,7 +3,7 @@ ghost use Rattle.rbc_line.specs.Views.{placed_section};
 
 use rbc_line::Line;
 
-/// Whether two lines are the same: all that a line file says of them.
+/// Whether two lines are the same, in the whole content of a line file.
 pub(crate) fn is_same_line(a: &Line, b: &Line) -> bool
     ensures { IsTrue result ↔ (a.now ≡ b.now) }
 {

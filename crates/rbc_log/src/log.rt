@@ -14,10 +14,10 @@ use rbc_line::Line;
 use std::alloc::{AllocError, Global};
 use std::marker::Model;
 
-/// How many entries a log holds at most.
+/// The greatest number of entries in a log.
 pub const MOST_ENTRIES: usize = 1_000_000;
 
-/// A centre, and the log of all that it took.
+/// A centre, and the log of all events that it took.
 #[derive(Drop)]
 pub struct CentreLog {
     line: Line,
@@ -41,7 +41,7 @@ impl Model for CentreLog {
 }
 
 impl CentreLog {
-    /// A centre of the line at its beginning, which has taken nothing. A copy of the line is kept.
+    /// A centre of the line in its initial state, with an empty log. A copy of the line is kept.
     pub fn new(alloc: Global, line: &Line, centre: u8) -> Result<CentreLog, AllocError>
         requires { is_centre line.now centre ≡ true }
         ensures line { IfOk result (λ l. line_of l.core ≡ line.now) }
@@ -57,7 +57,7 @@ impl CentreLog {
         })
     }
 
-    /// The line that the centre is of.
+    /// The line of the centre.
     pub fn line(&self) -> &Line
         ensures value { result.now ≡ line_of self.now.core }
         ensures replays { IsReplaying self.now }
@@ -65,7 +65,7 @@ impl CentreLog {
         &self.line
     }
 
-    /// Whether the centre is of this line: all that a line file says is the same.
+    /// Whether the centre is of this line. All data of the line are compared.
     pub fn is_of_line(&self, line: &Line) -> bool
         ensures { IsTrue result ↔ (line_of self.now.core ≡ line.now) }
     {
@@ -87,7 +87,7 @@ impl CentreLog {
         &self.core
     }
 
-    /// What it took, in order.
+    /// The entries, in order.
     pub fn entries(&self) -> &[Entry]
         ensures value { result.now ≡ self.now.entries }
         ensures replays { IsReplaying self.now }
@@ -95,8 +95,8 @@ impl CentreLog {
         self.entries.as_slice()
     }
 
-    /// The frame of this number that the centre has sent to another. None exactly for 0 and for a number that was not
-    /// sent yet.
+    /// The frame of this number that the centre has sent to another. It is `None` if and only if the number is 0 or was
+    /// not sent yet.
     pub fn frame(&self, to: u8, number: u32) -> Option<Frame>
         ensures value { result ≡ frame_number (sent_to to (map entry_of self.now.entries)) number }
         ensures replays { IsReplaying self.now }
@@ -104,7 +104,7 @@ impl CentreLog {
         self.core.frame(to, number)
     }
 
-    /// The centre takes the event, and the log has it with what was answered. Room for the entry is made first.
+    /// The centre takes the event, and the log gets it with its outcome. Room for the entry is made first.
     pub fn commit(&mut self, event: Event) -> Result<Outcome, CommitFault>
         ensures appends { IfOk result (λ o. Appends self.old self.new event (outcome_of o)) }
         ensures refused { IfErr result (IsRefusal self.old (event_of event)) }

@@ -14,9 +14,9 @@ use rbc_centre::FrameRoom;
 use rbc_line::Line;
 use std::alloc::{AllocError, Global};
 
-/// All entries of the logs, by their stamps, and those of one stamp by their centres. Each log keeps its order. Where
-/// each frame that was delivered stands in its sender's log, the entries are one run: of the world of the line, and of
-/// the one line centre. It takes as long as a stable sort of the entries, and no memory where there is none.
+/// All entries of the logs, by their stamps, and for one stamp by their centres. Each log keeps its order. If each
+/// delivered frame is in its sender's log, the entries are one run: of the line's world, and of the one line centre. It
+/// takes as long as a stable sort of the entries, and without entries no memory.
 pub fn merge(alloc: Global, logs: &[&CentreLog]) -> Result<Vec<Entry>, MergeFault>
     ensures merged { IfOk result (λ es. IsMerged (map (λ l. l.now) logs.now) es.items) }
     ensures run { IfOk result (λ es. MakesOneRun (map (λ l. l.now) logs.now) es.items) }

@@ -34,7 +34,7 @@ module _ (k : Centre) (number engine : ℕ) (facts : Option MissionFacts) (hand 
       of_pool None m e = absurd (none-some m e)
       of_pool (Some f) m e = ap (λ (x : Mission). x.pool) (sym (same_Some _ m e))
 
-  -- and as it is left
+  -- the centre with the border as it is after the act
   pub border_after : (b' : BorderState) → b'.engine ≡ b.engine → with_border b' k ≡ with_supervision (supervision_state number engine facts hand b' g) k
   border_after b' same = λ i. record k {
     mission = put k.mission ((same ∙ train) i) (mission i);
@@ -48,9 +48,9 @@ module _ (k : Centre) (number engine : ℕ) (facts : Option MissionFacts) (hand 
       mission : option_map (λ (m : Mission). record m { pool = b'.pool }) (k.mission b'.engine) ≡ option_map (mission_of (run hand) b'.pool g) facts
       mission = ap (λ t. option_map (λ (m : Mission). record m { pool = b'.pool }) (k.mission t)) same ∙ ap (option_map (λ (m : Mission). record m { pool = b'.pool })) there ∙ by facts
 
--- ## What a call leaves
+-- ## The state after a call
 
--- the train is the same; the pool stays where no mission stands, and is not too long
+-- the train is the same; without a mission the pool stays, and it is not too long
 pub record KeepsBorder (facts : Option MissionFacts) (b b' : BorderState) : Type 0 where
   pub train : b'.engine ≡ b.engine
   pub none : facts ≡ None → b'.pool ≡ b.pool
@@ -71,7 +71,7 @@ kept number engine facts hand right b b' g is keeps = record {
   handed = is.handed;
 }
 
--- what was told
+-- after a RouteInfo
 pub told : (line : Line) (from : ℕ) (r : SectionRun) (way : Option Way) (facts : Option MissionFacts) (b b' : BorderState) → r.count ≤ 31 → (facts ≡ None → way ≡ None)
     → (answers line from r b ≡ false → b' ≡ b) → (answers line from r b ≡ true → wants line r way b ≡ true → b' ≡ record b { lender = from; pool = r; asked = None })
     → (answers line from r b ≡ true → wants line r way b ≡ false → b' ≡ record b { asked = None }) → KeepsBorder facts b b'

@@ -13,7 +13,7 @@ use Rattle.rbc_allocation.specs.Sections.{TakesRun, next_of, IsHeldBy}
 use Rattle.rbc_allocation.proofs.Held.{held_more}
 use Rattle.rbc_mission.specs.Supervisions.{MayGrow}
 
--- what is in use for the train of a part of a run is so of the run, where the other sections are not open
+-- if a part of a run is taken for the train, the run is so too, if its other sections are not open
 pub widened : (t : ℕ) (r q : SectionRun) (a b : Pages) → ((s : ℕ) → within q s ≡ true → within r s ≡ true) → ((s : ℕ) → within r s ≡ true → within q s ≡ false → is_open (entry_at a s) ≡ false) → TakesRun t q a b → TakesRun t r a b
 widened t r q a b inside shut takes = record {
   homes = takes.homes;
@@ -30,7 +30,7 @@ widened t r q a b inside shut takes = record {
       ]
     ]
 
--- a hand that was fed with so many names of its pool
+-- a hand that got `fed` names of its pool
 module _ (m : Mission) (count fed : ℕ) (book : Pages) (hand fed_hand : Holding) (name : Held) (is : m.hand ≡ run hand) (grows : MayGrow m count book) (most : fed ≡ min count m.pool.count)
     (came : fed_hand ≡ record hand { holds = hand.holds ++ replicate fed name }) where
   pub fed_run : run fed_hand ≡ record { first = hand.first; count = length hand.holds + fed }
@@ -51,7 +51,7 @@ module _ (m : Mission) (count fed : ℕ) (book : Pages) (hand fed_hand : Holding
       let ends = within_true still s here in
       within_from (next_of count m.hand) s (omega (arith, ends, begins, goes_on)) (omega (arith, ends, begins, goes_on, most))
 
-  -- and not of the pool
+  -- the sections that are still to be added are open, and not of the pool
   pub still_open : (s : ℕ) → within still s ≡ true → is_open (entry_at book s) ≡ true
   still_open s here = grows.free s (still_inside s here) (elim (cases_lt 0 m.pool.count) [
     | inl some ↦

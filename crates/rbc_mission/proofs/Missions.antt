@@ -17,7 +17,7 @@ use Rattle.rbc_mission.specs.declared.facts.MissionFacts.{MissionFacts}
 use Rattle.rbc_mission.specs.declared.held.HeldRight.{HeldRight}
 use Rattle.rbc_mission.specs.Supervisions.{SupervisionState, supervision_state, IsSupervision, HasRouteForm, mission_of, hand_of, pool_of, handing_in, next_sections, claims_on}
 
--- ## What stands
+-- ## The mission
 
 module _ (number engine : ℕ) (facts : Option MissionFacts) (hand : Holding) (b : BorderState) (g : Option Handing) (c : SupervisionState) (view : supervision_state number engine facts hand b g ≡ c) where
   pub none_stands : facts ≡ None → c.mission ≡ None
@@ -48,7 +48,7 @@ module _ (number engine : ℕ) (facts : Option MissionFacts) (hand : Holding) (b
       by (Some f) e = λ i. Some (mission_of (ap (λ o. option_map_or (λ (m : Mission). m.hand) o no_run) (stands f e) i) (ap (λ o. option_map_or (λ (m : Mission). m.pool) o no_run) (stands f e) i)
           (ap (option_and_then (λ (m : Mission). m.handing)) (stands f e) i) f)
 
-  -- a mission that stands has its form
+  -- a mission has its form
   pub route_form : (right : HeldRight) → IsSupervision number engine facts hand right b g → (m : Mission) → c.mission ≡ Some m → HasRouteForm m
   route_form right is m mission = by facts refl (ap (λ (x : SupervisionState). x.mission) view ∙ mission)
     where
@@ -84,7 +84,7 @@ frees_nothing t r book none = subst (λ (n : ℕ). FreesRun t (record { first = 
 
 -- ## A mission begins
 
--- a hand of claims alone
+-- a hand of only claims
 all_claims : (t : ℕ) (xs : List Held) → AllByRecursion (λ held. held ≡ Own t) xs → xs ≡ replicate (length xs) (Own t)
 all_claims t [] all = refl
 all_claims t (x ∷ xs) all = λ i. all.0 i ∷ all_claims t xs all.1 i
@@ -92,7 +92,7 @@ all_claims t (x ∷ xs) all = λ i. all.0 i ∷ all_claims t xs all.1 i
 pub own_claims : (t : ℕ) (r : SectionRun) (hand : Holding) → IsAllOwn t hand → run hand ≡ r → hand ≡ claims_on t r
 own_claims t r hand own is = λ i. record { first = (is i).first; holds = (all_claims t hand.holds own ∙ ap (λ (q : SectionRun). replicate q.count (Own t)) is) i }
 
--- they are held for the train
+-- the claims of a hand of only claims are held for the train
 pub claims_held : (t : ℕ) (r : SectionRun) (is_home : ℕ → Bool) (hand : Holding) → hand ≡ claims_on t r → IsHeldAt t is_home hand
 claims_held t r is_home hand is =
     subst (IsHeldAt t is_home) (sym is) (own_held t is_home (claims_on t r) (own_more t r.count (record { first = r.first; holds = [] }) (claims_on t r) tt refl))

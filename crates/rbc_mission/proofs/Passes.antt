@@ -1,4 +1,4 @@
--- Sections that pass to another centre with a train, and come with one.
+-- Sections that pass to another centre with a train, and arrive with one.
 use Rattle.std.proofs.Common.{◌≡◌, ℕ, zero, suc, ◌+◌, ◌<◌, ◌==◌, ◌&&◌, ◌||◌, ◌⊎◌, inl, inr, Bool, true, false, cond, not, List, [], ◌∷◌, ◌++◌, length, drop, Option, Some, None, option_map, slice_get, refl, ap, sym, subst, ◌∙◌, arith}
 use Rattle.std.proofs.lemmas.Bool.{cases_Bool, false≢true, eqb-true}
 use Rattle.std.proofs.lemmas.Bool.Decides.{eqb_tells, nat_tests}
@@ -80,7 +80,7 @@ passes_name t s (Name u home) token lent book name is so = booked_idle (is_taken
   | inr foreign ↦ foreign
 ])))
 
--- what is held of the first section
+-- the token of the first section
 record IsFront (h : Holding) (token : Token) : Type 0 where
   held : Held
   at : slice_get h.holds 0 ≡ Some held
@@ -93,7 +93,7 @@ front_is h token o is some = by (slice_get h.holds 0) refl (sym is ∙ some)
     by None at e = absurd (none-some token e)
     by (Some x) at e = record { held = x; at = at; is = sym (same_Some (token_of (h.first + 0) x) token e) }
 
--- what passes a token that is held so, passes the first section
+-- to pass a token with these holdings is to pass the first section
 pub passes_front : (t : ℕ) (h : Holding) (token : Token) (o : Option Token) (a b : Pages) → o ≡ token_at h 0 → o ≡ Some token → IsHeldBy t h a
     → ((s t : ℕ) (held : Held) → token ≡ token_of s held → is_held_as t (is_own a s) held ≡ true → IsBooked (is_taken_for t) (Out t) (one s) a b)
     → IsBooked (is_taken_for t) (Out t) (one h.first) a b
@@ -102,12 +102,12 @@ passes_front t h token o a b is some so passes =
     let there : h.first + 0 ≡ h.first = omega arith in
     subst (λ n. IsBooked (is_taken_for t) (Out t) (one n) a b) there (passes (h.first + 0) t found.held found.is (so 0 found.held found.at))
 
--- ## So many pass
+-- ## After k sections have passed
 
 hand_by : (h : Holding) (first : ℕ) (holds : List Held) → h.first ≡ first → h.holds ≡ holds → h ≡ record { first = first; holds = holds }
 hand_by h first holds a b i = record { first = a i; holds = b i }
 
--- so many sections at the front of the hand have passed
+-- the first k sections of the hand have passed
 pub record HasPassed (t k : ℕ) (before now : Holding) (old new : Pages) : Type 0 where
   pub hand : now ≡ hand_rest k before
   pub book : IsBooked (is_taken_for t) (Out t) (record { first = before.first; count = k }) old new
@@ -123,9 +123,9 @@ more_passed t k first now next a b c so_far cut passes =
       book = booked_then (is_taken_for t) (Out t) _ (one now.first) _ a b c (λ j. within_more first.first k j ∙ ap (λ x. within (record { first = first.first; count = k }) j || within (one x) j) (sym begins)) so_far.book passes;
     }
 
--- ## So many come
+-- ## After k sections have arrived
 
--- so many sections from a first are in the hand
+-- the first k sections are in the hand
 pub record HasCome (t first k : ℕ) (hand : Holding) (old new : Pages) : Type 0 where
   pub count : length hand.holds ≡ k
   pub begins : 0 < k → hand.first ≡ first
@@ -180,7 +180,7 @@ more_come t first k s x hand more a b c is before longer so next = record {
         let there : more.first + i ≡ s = omega (arith, begins, new.0, before.count, is) in
         (λ j. is_held_as t (is_own a (there j)) (sym new.1 j)) ∙ ap (λ own. is_held_as t own x) (sym (before.book.homes s)) ∙ so
 
--- the next section is one of those that come, and nothing is booked for it yet
+-- the next section is one of the arriving ones, and nothing is booked for it yet
 pub next_within : (first k count : ℕ) → k < count → within (record { first = first; count = count }) (first + k) ≡ true
 unfolding within
 next_within first k count lt = grind (nat_tests, arith, lt)
@@ -203,7 +203,7 @@ inside : (first k count j : ℕ) → j ≡ first + k → k < count → within (r
 unfolding within
 inside first k count j e lt = grind (arith, nat_tests)
 
--- ## What is held of a section that comes
+-- ## The token of an arriving section
 
 pub held_claim : (t s : ℕ) (b : Bool) (own : Bool) (claim : Claim) (o : Option Claim) → o ≡ claim_if b s t → o ≡ Some claim → (section_of claim ≡ s) × (is_held_as t own (Own (train_of claim)) ≡ true)
 held_claim t s b own claim o is some =

@@ -10,8 +10,8 @@ use Rattle.rbc_place.specs.Places.{place_of}
 use Rattle.rbc_mission.specs.Supervisions.{SupervisionState}
 use Rattle.rbc_mission.specs.declared.handing_over.Yielded.{Yielded}
 
--- a mission that is yielded goes off: the pool goes home, then the mission goes in one frame, with the last T_TRAIN
--- heard, and a train that is no more to come here is told to end its session
+-- A mission is yielded. The pool is returned, and the mission goes in one frame, with the last T_TRAIN received. A
+-- train that will not return to this centre is ordered to end its session.
 abbrev pub sends_off : Line → ℕ → ℕ → Yielded → Act
 sends_off line c t y k =
     ((returned line c t y.mission.place.track (run_of y.pool)
@@ -20,7 +20,7 @@ sends_off line c t y k =
     (yielded_place (place_of y.mission.place)) (run_of y.hand)))
     >> (if y.is_gone then end_order line c t else rest)) k
 
--- it was this mission, whose handover stood
+-- the yielded mission was this mission, with a pending handover
 pub record WasHandedOver (c : SupervisionState) (y : Yielded) : Type 0 where
   pub mission : Mission
   pub there : c.mission ≡ Some mission

@@ -1,4 +1,4 @@
--- Sections that pass to another centre with a train, and come with one.
+-- Sections that pass to another centre with a train, and arrive with one.
 use Rattle.std.specs.Prelude.{◌≡◌, ℕ, Bool, ◌&&◌, if◌then◌else◌}
 use Rattle.rbc_spec.specs.SectionRuns.{SectionRun, within}
 use Rattle.rbc_spec.specs.Centre.{Entry}

@@ -1,4 +1,4 @@
--- What a centre has of a train's mission, in memory and by the rules.
+-- The state of a train's mission at a centre, in memory and by the rules.
 use Rattle.std.specs.Prelude.{◌≡◌, ℕ, ◌+◌, ◌==◌, ◌≤◌, ◌<◌, ◌&&◌, true, false, if◌then◌else◌, length, replicate, Option, Some, None, option_map, option_and_then, is_some, is_none}
 use Rattle.std.specs.Option.{option_map_or}
 use Rattle.rbc_spec.specs.Maps.{has, put}
@@ -23,9 +23,9 @@ use Rattle.rbc_mission.specs.declared.facts.MissionFacts.{MissionFacts}
 use Rattle.rbc_mission.specs.declared.held.HeldRight.{HeldRight}
 use Rattle.rbc_mission.specs.declared.held.HeldRight.TheVariants.{Nothing, Held}
 
--- a train of the line, by its place in the line file and its NID_ENGINE; its mission where one stands, what is held of
--- the sections of its hand, and the first section that was asked for over the border, of a question without an answer.
--- The question may outlive the mission
+-- A train of the line, by its position in the line file and its NID_ENGINE. `mission` is its mission, if there is one,
+-- and `hand` the tokens of its hand. `asked` is the first section of a pending question over the border. The question
+-- may outlive the mission.
 pub record SupervisionState : Type 0 where
   pub number : ℕ
   pub engine : ℕ
@@ -49,25 +49,25 @@ mission_of hand pool handing m = record {
   handing = handing;
 }
 
--- the sections of its movement authority, and those of its pool; none where no mission stands
+-- the sections of its movement authority, and those of its pool; empty without a mission
 abbrev pub hand_of : SupervisionState → SectionRun
 hand_of c = option_map_or (λ m. m.hand) c.mission no_run
 
 abbrev pub pool_of : SupervisionState → SectionRun
 pool_of c = option_map_or (λ m. m.pool) c.mission no_run
 
--- its handover, where one stands
+-- its pending handover
 abbrev pub handing_in : SupervisionState → Option spec.Handing
 handing_in c = option_and_then (λ (m : spec.Mission). m.handing) c.mission
 
--- what holds of each mission that stands so
+-- the invariants of a mission
 pub record HasRouteForm (m : spec.Mission) : Type 0 where
   pub some : 1 ≤ m.hand.count
   pub most : m.hand.count ≤ 32
   pub numbers : next_after m.hand ≤ 65535
   pub few : m.pool.count ≤ 31
 
--- ## What is done to it
+-- ## Changes
 
 -- a mission that begins at this place, with these sections
 abbrev pub mission_at : Place → SectionRun → spec.Mission
@@ -86,18 +86,18 @@ mission_at place hand =
 abbrev pub claims_on : ℕ → SectionRun → Holding
 claims_on t r = record { first = r.first; holds = replicate r.count (Own t) }
 
--- the mission without so many of its first sections, at this place; none where no section is left
+-- the mission without its first `count` sections, at this place; `None` if no section is left
 abbrev pub without_front : Place → ℕ → spec.Mission → Option spec.Mission
 without_front place count m =
     if count == m.hand.count then None else Some (record m { place = place; hand = rest_of count m.hand })
 
--- the handover that stands of a mission on this track with this hand: none where the hand has no section of the
--- accepting centre
+-- The handover that stays pending for a mission on this track with this hand; `None` if the hand has no section of the
+-- accepting centre.
 abbrev pub still_handing : Line → ℕ → SectionRun → Option spec.Handing → Option spec.Handing
 still_handing line track hand handing =
     if has (λ (h : spec.Handing). is_empty (part_at line h.to track hand)) handing then None else handing
 
--- the mission with so many of its first sections alone, and neither pool nor request; none where no section is left
+-- the mission with only its first `count` sections, without pool and request; `None` if no section is left
 abbrev pub with_front : Line → ℕ → spec.Mission → Option spec.Mission
 with_front line count m =
     if count == 0 then None
@@ -108,16 +108,16 @@ with_front line count m =
       handing = still_handing line m.place.track (front_of count m.hand) m.handing;
     })
 
--- the mission at this place, with so many more sections in its hand: first those of its pool
+-- the mission at this place, with `count` further sections in its hand: first those of its pool
 abbrev pub with_next : Place → ℕ → spec.Mission → spec.Mission
 with_next place count m = extended_by (next_of count m.hand) (record m { place = place })
 
--- so many sections in advance of the hand of the mission; none where no mission stands
+-- the `count` sections in advance of the hand of the mission; empty without a mission
 abbrev pub next_sections : ℕ → SupervisionState → SectionRun
 next_sections count c = option_map_or (λ m. next_of count m.hand) c.mission no_run
 
--- so many sections in advance of the hand of a mission may be added to it: the pool follows the hand and has no section
--- of the book's home, and each that is not of the pool is open
+-- The hand of a mission may be extended by `count` sections. The pool follows the hand and has no section of the book's
+-- home, and each section outside the pool is open.
 pub record MayGrow (m : spec.Mission) (count : ℕ) (book : Pages) : Type 0 where
   pub most : m.hand.count + count ≤ 32
   pub numbers : next_after m.hand + count ≤ 65535
@@ -126,28 +126,28 @@ pub record MayGrow (m : spec.Mission) (count : ℕ) (book : Pages) : Type 0 wher
   pub free : (s : ℕ) → within (next_of count m.hand) s ≡ true → within m.pool s ≡ false
       → is_open (entry_at book s) ≡ true
 
--- what leaves where so many of the first sections are cleared: with the last section of the hand the pool goes
+-- the sections that leave if the first `count` are cleared: the pool leaves with the last section of the hand
 abbrev pub cleared_run : ℕ → SupervisionState → SectionRun
 cleared_run count c = if count == (hand_of c).count then joined (hand_of c) (pool_of c) else front_of count (hand_of c)
 
--- what leaves where so many of the first sections are kept: the pool goes with what is cut off
+-- the sections that leave if the first `keep` are kept: the pool leaves with those that are cut off
 abbrev pub cut_run : ℕ → SupervisionState → SectionRun
 cut_run keep c = joined (rest_of keep (hand_of c)) (pool_of c)
 
--- the right of the train is given back where its mission has closed
+-- the right of the train, if its mission has closed
 abbrev pub right_left : SupervisionState → SupervisionState → HeldRight
 right_left old new = if is_some old.mission && is_none new.mission then Held (right_of old.number) else Nothing
 
--- what the handover goes by that stood and stands no more
+-- the name of the handover that was pending and is not any more
 abbrev pub handover_left : SupervisionState → SupervisionState → Option HandoverName
 handover_left old new = if is_some (handing_in new) then None else option_map handover_name (handing_in old)
 
--- with another handover or none, where a mission stands
+-- with another handover or none, if there is a mission
 abbrev pub with_handing : Option spec.Handing → SupervisionState → SupervisionState
 with_handing handing c =
     record c { mission = option_map (λ (m : spec.Mission). record m { handing = handing }) c.mission }
 
--- with another pool, where a mission stands
+-- with another pool, if there is a mission
 abbrev pub with_pool : SectionRun → SupervisionState → SupervisionState
 with_pool pool c = record c { mission = option_map (λ (m : spec.Mission). record m { pool = pool }) c.mission }
 
@@ -180,12 +180,12 @@ supervision_state number engine mission hand border handing =
       asked = border.asked;
     }
 
--- the right is held exactly where a mission stands
+-- the right is held if and only if there is a mission
 abbrev pub held_for : ℕ → Option MissionFacts → HeldRight
 held_for number None = Nothing
 held_for number (Some m) = Held (right_of number)
 
--- and so are sections; the border is that of the train, with a pool where a mission stands alone, and so is a handover
+-- So are sections. The border is that of the train; it has a pool only if there is a mission, and so has the handover.
 pub record IsSupervision (number engine : ℕ) (mission : Option MissionFacts) (hand : Holding) (held : HeldRight)
     (border : BorderState) (handing : Option spec.Handing) : Type 0 where
   pub right : held ≡ held_for number mission

@@ -21,9 +21,9 @@ use rbc_line::{Line, SectionRun};
 impl Supervision {
     ghost use Rattle.rbc_mission.specs.Supervisions.{pool_of, with_pool, without_section, HasSupervision, with_supervision};
 
-    /// The next centre is asked for the sections in advance of the hand of the mission, where they are due: the first
-    /// of them is of its home and on the track, the hand has fewer than 32, the pool is empty, and no question stands.
-    /// None exactly where they are not due or no mission stands, and then nothing changes.
+    /// Asks the next centre for the sections in advance of the hand of the mission, if that is due. It is if the first
+    /// of them is of its home and on the track, and the hand has fewer than 32. Besides, the pool is empty, and no
+    /// question is pending. `None` if and only if it is not due, or without a mission; then nothing changes.
     pub fn ask(&mut self, line: &Line, next: u8) -> Option<Question>
         ensures state { self.new ≡ option_map_or (λ q. record self.old { asked = Some q.first }) result self.old }
         ensures range { IfSome result (λ q. HasRunRange 1 31 (record { first = q.first; count = q.most })) }
@@ -42,10 +42,10 @@ impl Supervision {
         self.border.ask(line, next, way)
     }
 
-    /// Another centre tells the sections that it lends. It has no effect where they were not asked for from their first
-    /// on, or are not of the line, on one track, and of that centre's home. Else the question is answered, and they are
-    /// the pool where they follow the hand of a mission that goes on, on its track, and its pool is empty. The result
-    /// is those that are not wanted, which have to be returned to that centre.
+    /// RouteInfo from another centre names the sections that it lends. It has an effect only if they answer the pending
+    /// question from their first on. They must be of the line, on one track, and of that centre's home. Then the
+    /// question ends. They become the pool if they follow the hand of a mission that is not ended, on its track, and
+    /// its pool is empty. Else the result is the sections, which have to be returned to that centre.
     pub fn info(&mut self, line: &Line, from: u8, sections: SectionRun) -> Option<SectionRun>
         requires { sections.count ≤ 31 }
         ensures state { self.new ≡ record self.old { mission = self.new.mission; asked = self.new.asked } }
@@ -59,7 +59,7 @@ impl Supervision {
         self.border.info(line, from, sections, way)
     }
 
-    // The way of the mission, where one goes on.
+    // The track and the next section of the mission, if it is not ended.
     fn way(&self) -> Option<Way>
         ensures { GoesOn result self.now.mission }
     {
@@ -75,9 +75,9 @@ impl Supervision {
         })
     }
 
-    /// A section is wished back by the interlocking of its home: it leaves the pool with all that follow it, and these
-    /// have to be returned. None exactly where the pool has it not, and then nothing changes: a section of the hand may
-    /// be proposed to be cut off.
+    /// A section is wished back by the interlocking of its home. If it is in the pool, it leaves the pool with all
+    /// sections after it, and these have to be returned. `None` if and only if it is not in the pool; then nothing
+    /// changes. For a section of the hand a request to shorten may be sent.
     pub fn withdraw(&mut self, s: u16) -> Option<SectionRun>
         ensures run { option_map run_of result
             ≡ (if within (pool_of self.old) s then Some (part_from s (pool_of self.old)) else None) }

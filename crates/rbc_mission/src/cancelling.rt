@@ -1,4 +1,4 @@
-//! Where a handover is cancelled.
+//! The cancellation of a handover.
 
 ghost use Rattle.std.specs.Prelude.{◌≡◌, not, None, option_map, if◌then◌else◌};
 ghost use Rattle.rbc_spec.specs.Maps.{has};
@@ -11,7 +11,7 @@ use rbc_border::part_at;
 use rbc_handover::{Handover, HandoverName};
 use rbc_line::{Line, SectionRun};
 
-/// Whether a hand on this track still has a section of the accepting centre of the handover, if one stands.
+/// Whether a hand on this track still has a section of the accepting centre of the handover, if one is pending.
 pub(crate) fn keeps_border(line: &Line, handover: &Handover, track: u8, hand: SectionRun) -> bool
     ensures { result ≡ not
         (has (λ h. is_empty (acts.part_at line.now h.to track (run_of hand))) (handing_of handover.now)) }
@@ -22,7 +22,7 @@ pub(crate) fn keeps_border(line: &Line, handover: &Handover, track: u8, hand: Se
     }
 }
 
-/// The handover that stands is cancelled, unless it stays: what it went by.
+/// Cancels the pending handover, unless it stays, and returns its name.
 pub(crate) fn cancel_unless(handover: &mut Handover, stays: bool) -> Option<HandoverName>
     ensures name { result ≡ (if stays then None else option_map handover_name (handing_of handover.old)) }
     ensures handover { handing_of handover.new ≡ (if stays then handing_of handover.old else None) }

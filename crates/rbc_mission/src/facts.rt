@@ -3,16 +3,16 @@ ghost use Rattle.std.specs.Prelude.{◌≡◌, false, Some, None, if◌then◌el
 use rbc_place::Place;
 use rbc_shorten::Proposal;
 
-/// What a mission has beside its hand.
+/// The facts of a mission beside its hand.
 #[derive(Clone, Copy, Debug, PartialEq, Eq)]
 pub struct MissionFacts {
-    /// Where the train was last reported.
+    /// The last reported place of the train.
     pub place: Place,
     /// Its train data are known.
     pub has_data: bool,
     /// The train has ended it.
     pub is_ended: bool,
-    /// The request to shorten the movement authority that stands (3.8.6).
+    /// The pending request to shorten the movement authority (3.8.6).
     pub proposal: Option<Proposal>,
 }
 
@@ -29,7 +29,7 @@ impl MissionFacts {
         }
     }
 
-    /// They stay, where the mission does.
+    /// The facts, if the mission stays.
     pub(crate) fn stay(self, is_left: bool) -> Option<MissionFacts>
         ensures { result ≡ (if is_left then Some self else None) }
     {
@@ -37,7 +37,7 @@ impl MissionFacts {
     }
 }
 
-/// The mission closes, unless it is left.
+/// Closes the mission if it has no section left.
 #[inline(always)]
 pub(crate) fn close_unless(mission: &mut Option<MissionFacts>, is_left: bool)
     ensures { mission.new ≡ (if is_left then mission.old else None) }

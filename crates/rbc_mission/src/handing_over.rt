@@ -38,14 +38,14 @@ pub struct Announcement {
 /// A mission that is yielded to the accepting centre.
 #[derive(Clone, Copy, Debug, PartialEq, Eq)]
 pub struct Yielded {
-    /// What its handover goes by.
+    /// The name of its handover.
     pub handover: HandoverName,
     pub mission: MissionFacts,
     /// The sections of its movement authority.
     pub hand: SectionRun,
     /// The lent sections that followed them, which have to be returned.
     pub pool: SectionRun,
-    /// No section of the hand is of this centre's home: the train is no more to come here.
+    /// No section of the hand is of this centre's home: the train will not return to this centre.
     pub is_gone: bool,
 }
 
@@ -54,8 +54,8 @@ impl Supervision {
     ghost use Rattle.rbc_mission.specs.Passing.{IsBooked};
     ghost use Rattle.rbc_mission.specs.Handovers.{sends_off, WasHandedOver};
 
-    /// A handover to this centre is announced, where the hand of the mission has a section of its home and no handover
-    /// stands. None exactly where that is not so or no mission stands, and then nothing changes.
+    /// Announces a handover to this centre, if the hand of the mission has a section of its home and no handover is
+    /// pending. `None` if and only if that is not so, or without a mission; then nothing changes.
     pub fn announce(
         &mut self,
         line: &Line,
@@ -85,10 +85,10 @@ impl Supervision {
         })
     }
 
-    /// The accepting centre says that it is taking over under this number: the mission is yielded, if its handover
-    /// stands under this number to that centre. Then no mission stands here: sections of this home are out for the
-    /// train, the names of the others and the right go there, and the pool has to be returned. None exactly where none
-    /// stands so, and then nothing changes.
+    /// The accepting centre takes over under this number. The mission is yielded if its handover to that centre is
+    /// pending under this number. Then the mission leaves this centre. Sections of this home are out for the train. The
+    /// names of the others and the right go there, and the pool has to be returned. `None` if and only if no such
+    /// handover is pending; then nothing changes.
     pub fn yield_to(
         &mut self,
         line: &Line,
@@ -126,7 +126,7 @@ impl Supervision {
     }
 
     /// A mission that another centre has yielded goes on here, with these sections and with the right to supervise the
-    /// train: sections of this home, which are out for the train, are in use for it here again.
+    /// train. Sections of this home, which were out for the train, are in use for it here again.
     pub fn take_up(
         &mut self,
         line: &Line,

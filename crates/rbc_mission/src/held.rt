@@ -3,7 +3,7 @@ ghost use Rattle.std.specs.Prelude.{◌≡◌, if◌then◌else◌};
 use rbc_right::Right;
 use std::mem;
 
-/// The right to supervise a train, where it is held. It can't be copied, and not be dropped.
+/// The right to supervise a train, if it is held. It can't be copied or dropped.
 #[must_use]
 #[derive(Debug)]
 pub enum HeldRight {
@@ -12,7 +12,7 @@ pub enum HeldRight {
 }
 
 impl HeldRight {
-    /// Ends it, where its centre does.
+    /// Ends it when its centre ends.
     pub fn end(self) {
         match self {
             HeldRight::Held(right) => {
@@ -31,7 +31,7 @@ pub(crate) fn hold(held: &mut HeldRight, right: Right)
     before.end();
 }
 
-/// Lets go what is held, unless it stays.
+/// Hands out the held right, unless it stays.
 pub(crate) fn let_go(held: &mut HeldRight, stays: bool) -> HeldRight
     ensures gone { result ≡ (if stays then HeldRight.Nothing else held.old) }
     ensures held { held.new ≡ (if stays then held.old else HeldRight.Nothing) }

@@ -1,11 +1,11 @@
-//! What a radio block centre has of one train's mission: the sections of its movement authority, those that are lent to
-//! it over the border and follow them, the right to supervise it, the facts, and the handover to the next centre that
-//! was announced. A mission begins with sections and with the right, and closes where its last section leaves, with the
-//! right handed out: it has both or neither. What leaves it is a run of sections: those of the centre's home are given
-//! back here, and the others have to be returned. A mission that is yielded goes on at the accepting centre, with its
-//! sections and its right (SUBSET-026 3.15.1).
+//! One train's mission at a radio block centre. It has the sections of the movement authority, the lent sections in
+//! advance of them, and the right to supervise the train. It also has the facts and the announced handover to the next
+//! centre. A mission begins with sections and with the right, and has both or neither. When its last section leaves, it
+//! is closed, and the right is handed out. The sections that leave are a run: those of the centre's home are given back
+//! here, and the others have to be returned. A yielded mission goes on at the accepting centre, with its sections and
+//! its right (SUBSET-026 3.15.1).
 //!
-//! Bodies and proofs are free. The clauses of public functions stay, since the crates above stand on them.
+//! Bodies and proofs may change. The clauses of public functions have to stay: the crates above depend on them.
 #![tactic(auto)]
 
 mod border;

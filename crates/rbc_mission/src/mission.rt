@@ -65,8 +65,8 @@ impl Supervision {
         }
     }
 
-    /// The mission goes on from this place as a new one: its train data are not known, it is not ended, and no request
-    /// stands.
+    /// The mission goes on from this place as a new one. Its train data are not known, it is not ended, and no request
+    /// is pending.
     pub fn begin_again(&mut self, place: Place)
         ensures { self.new ≡ record self.old {
           mission = option_map (λ (m : spec.Mission). record m {
@@ -96,7 +96,7 @@ impl Supervision {
         }
     }
 
-    /// This request to shorten stands (3.8.6).
+    /// Sets the pending request to shorten (3.8.6).
     pub fn propose(&mut self, proposal: Proposal)
         ensures { self.new ≡ record self.old {
           mission = option_map
@@ -111,7 +111,7 @@ impl Supervision {
         }
     }
 
-    /// No request to shorten stands (3.8.6).
+    /// Drops the pending request to shorten (3.8.6).
     pub fn forget_proposal(&mut self)
         ensures { self.new ≡ record self.old {
           mission = option_map (λ (m : spec.Mission). record m { proposal = None }) self.old.mission;
@@ -125,7 +125,7 @@ impl Supervision {
         }
     }
 
-    /// The train has ended the mission. It keeps its sections, and no request to shorten stands.
+    /// The train has ended the mission. It keeps its sections, and a pending request to shorten is dropped.
     pub fn end_mission(&mut self)
         ensures { self.new ≡ record self.old {
           mission = option_map (λ (m : spec.Mission). record m { is_ended = true; proposal = None }) self.old.mission;
@@ -140,7 +140,7 @@ impl Supervision {
         }
     }
 
-    /// The train is at this place, and so many sections come after its last: first those of its pool, and then open
+    /// The train is at this place, and its hand is extended by `count` sections: first those of its pool, and then open
     /// ones.
     #[inline(always)]
     pub fn lengthen(&mut self, place: Place, count: u16, book: &mut Book)
@@ -162,8 +162,8 @@ impl Supervision {
         }
     }
 
-    /// The train is at this place, and so many of its first sections leave. Where no section is left the mission
-    /// closes, its pool leaves too, and its handover is cancelled.
+    /// The train is at this place, and its first `count` sections leave. If no section is left the mission is closed,
+    /// its pool leaves too, and its handover is cancelled.
     #[inline(always)]
     pub fn clear_front(&mut self, place: Place, count: u16, book: &mut Book) -> Released
         requires some { count ≤ (hand_of self.old).count }
@@ -199,8 +199,8 @@ impl Supervision {
         }
     }
 
-    /// All but so many of the first sections leave (3.8.6), and so does the pool; no request to shorten stands. Where
-    /// no section is left the mission closes. Its handover is cancelled where no section of the accepting centre is
+    /// All sections but the first `keep` leave (3.8.6), and so does the pool; a pending request to shorten is dropped.
+    /// If no section is left the mission is closed. Its handover is cancelled if no section of the accepting centre is
     /// left.
     pub fn shorten(&mut self, line: &Line, keep: u16, book: &mut Book) -> Released
         requires some { keep ≤ (hand_of self.old).count }

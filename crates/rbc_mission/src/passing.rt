@@ -1,4 +1,4 @@
-//! Sections that pass to another centre with a train, and come with one.
+//! Sections that pass to another centre with a train, and arrive with one.
 
 ghost use Rattle.std.specs.Prelude.{◌≡◌, ◌+◌, ◌≤◌, ◌<◌, ℕ, length, true, false, if◌then◌else◌};
 ghost use Rattle.rbc_spec.specs.Centre.{Taken, Out, is_taken_for, is_out_for};
@@ -39,8 +39,8 @@ fn pass_first(hand: &mut Hand, nid_engine: u32, book: &mut Book)
     }
 }
 
-/// All sections of a hand pass to another centre: those of the book's home are out for the train, and the names of the
-/// others end.
+/// Passes all sections of a hand to another centre. Those of the book's home are out for the train, and the names of
+/// the others end.
 pub(crate) fn pass_all(hand: &mut Hand, nid_engine: u32, book: &mut Book)
     requires held { IsHeldBy nid_engine hand.old book.old }
     ensures hand { hand.new ≡ hand_rest (length hand.old.holds) hand.old }
@@ -61,8 +61,8 @@ fn home_of(line: &Line, s: u16) -> u8
     }
 }
 
-// What is held of a section that comes with a train from another centre: its claim, where it is of the book's home and
-// was out for the train, and else its name.
+// The token of a section that arrives with a train from another centre. It is a claim if the section is of the book's
+// home and was out for the train, and else a name.
 fn token_from(line: &Line, s: u16, nid_engine: u32, book: &mut Book) -> Token
     requires line { s < length line.now.sections }
     requires own { is_own book.old s ≡ true → is_out_for nid_engine (entry_at book.old s) ≡ true }
@@ -76,7 +76,7 @@ fn token_from(line: &Line, s: u16, nid_engine: u32, book: &mut Book) -> Token
     }
 }
 
-// A section comes after the last of the hand.
+// Adds a section after the last of the hand.
 fn add(hand: &mut Hand, token: Token, book: &mut Book)
     requires { takes (run hand.old) (section_of token) ≡ true }
     ensures hand { hand.new ≡ extended hand.old (section_of token) (held_of token) }
@@ -100,8 +100,8 @@ fn end_token(token: Token, book: &mut Book) {
     }
 }
 
-/// Sections that come with a train from another centre are in an empty hand: those of the book's home, which were out
-/// for the train, by their claims, and the others by their names.
+/// Puts sections that arrive with a train from another centre into an empty hand. Those of the book's home, which were
+/// out for the train, are in it by their claims, and the others by their names.
 pub(crate) fn come_all(
     hand: &mut Hand,
     line: &Line,

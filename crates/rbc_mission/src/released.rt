@@ -8,10 +8,10 @@ use rbc_border::Border;
 use rbc_handover::HandoverName;
 use rbc_line::SectionRun;
 
-/// What leaves a mission: the sections that were wished back and are shut now, of which the interlocking is to be told,
-/// in rising order; the right to supervise the train, where the mission has closed; the run of sections that left, hand
-/// before pool, of which those of other homes have to be returned; and what its handover goes by, where it has to be
-/// cancelled. The right can't be dropped: it goes home.
+/// The parts that leave a mission. `told` are the sections that were wished back and are shut now, in rising order;
+/// they are reported to the interlocking. `right` is the right to supervise the train, if the mission has closed. It
+/// can't be dropped: it has to be returned. `returned` is the run of sections that left, the hand before the pool, of
+/// which those of other homes have to be returned. The last field is the name of the handover that has to be cancelled.
 #[must_use]
 #[derive(Debug)]
 pub struct Released {
@@ -38,7 +38,7 @@ impl Released {
     }
 }
 
-/// What leaves with these sections of a hand: the pool after them too, unless it stays.
+/// The run of these sections of a hand, with the pool after them unless it stays.
 pub(crate) fn leaving(sections: SectionRun, border: &mut Border, stays: bool) -> SectionRun
     requires hand { sections.count ≤ 32 }
     requires pool { border.old.pool.count ≤ 31 }

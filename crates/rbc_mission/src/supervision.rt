@@ -12,11 +12,11 @@ use rbc_line::SectionRun;
 use std::alloc::{AllocError, Global};
 use std::marker::Model;
 
-/// What a centre supervises of one train of the line: its mission (the facts, the sections of its movement authority,
-/// those of its pool, the right to supervise it, and its handover where one stands), or that no mission stands; and
-/// whether sections were asked for over the border without an answer. Room for 32 sections of the hand and for the pool
-/// is made at the beginning, and no call takes memory after that. It can't be copied, and not be dropped: its sections
-/// go back to the book or home, and its right to the registrar.
+/// The supervision of one train of the line at a centre: its mission, if it has one, and the pending question for
+/// sections. A mission has the facts, the sections of its movement authority and of its pool, the right to supervise
+/// the train, and the pending handover. Room for 32 sections of the hand and for the pool is made at the beginning, and
+/// no call takes memory after that. It can't be copied or dropped: its sections return to the book or to their home,
+/// and its right to the registrar.
 #[must_use]
 #[derive(Debug)]
 pub struct Supervision {
@@ -81,7 +81,7 @@ impl Supervision {
         self.nid_engine
     }
 
-    /// The facts of the mission. None exactly where none stands.
+    /// The facts of the mission; `None` if and only if there is none.
     pub fn mission(&self) -> Option<MissionFacts>
         ensures value { option_map (mission_of (hand_of self.now) (pool_of self.now) (handing_in self.now)) result
             ≡ self.now.mission }
@@ -90,7 +90,7 @@ impl Supervision {
         self.mission
     }
 
-    /// The sections of the movement authority; none where no mission stands.
+    /// The sections of the movement authority; empty without a mission.
     pub fn hand(&self) -> SectionRun
         ensures value { run_of result ≡ hand_of self.now }
         ensures most { result.count ≤ 32 }
@@ -102,7 +102,7 @@ impl Supervision {
         self.hand.run()
     }
 
-    /// The lent sections that follow the hand; none where no mission stands.
+    /// The lent sections in advance of the hand; empty without a mission.
     pub fn pool(&self) -> SectionRun
         ensures value { run_of result ≡ pool_of self.now }
         ensures most { result.count ≤ 31 }
@@ -110,8 +110,8 @@ impl Supervision {
         self.border.pool()
     }
 
-    /// Ends it, where its centre does: its sections go back to the book, and the names of lent ones end, and so does
-    /// its handover.
+    /// Ends it when its centre ends. Its sections return to the book, the names of lent ones end, and so does its
+    /// handover.
     pub fn end(self, book: &mut Book) {
         let Supervision {
             number: _,

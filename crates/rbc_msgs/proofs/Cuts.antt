@@ -24,7 +24,7 @@ both-bytes : (old new : List TrainText) (kept a b r : List ℕ) → Adds old new
 both-bytes old new kept a b r p =
     subst (λ x. Adds old new x (r ++ b)) (append_assoc kept a b) (adds-after old new (kept ++ a) r b p)
 
--- the messages of the first piece, and then those of what it left and the second
+-- the messages of the first piece, and then those of its rest and the second piece
 pub adds-both : (old mid new : List TrainText) (a b r s : List ℕ) → Adds old mid a r → Adds mid new (r ++ b) s → Adds old new (a ++ b) s
 adds-both old mid new a b r s p q = adds-then old mid new (a ++ b) (r ++ b) s (adds-after old mid a r b p) q
 
@@ -62,7 +62,7 @@ fault-then before after a b old new (Message fault) p =
     record { kept = p.kept; was = p.was; now = p.now; halts = then-halts old new p.kept a b fault p.halts }
 fault-then before after a b old new Failed p = p
 
--- ---- what a call gives is one
+-- ---- the result of a call is one
 
 -- two calls from one rest
 same-bytes : (before : Option (List ℕ)) (piece x y : List ℕ) → before ≡ Some x → before ≡ Some y → y ++ piece ≡ x ++ piece

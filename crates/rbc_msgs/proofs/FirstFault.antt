@@ -1,4 +1,4 @@
--- The fault of a stream is that of a decoder which sees the bytes come.
+-- The fault of a stream is that of a decoder to which the bytes arrive in order.
 use Rattle.std.proofs.Common.{◌≡◌, ◌≢◌, inl, inr, ℕ, ◌<◌, ◌≤◌, Bool, true, false, ltb, List, length, take, drop, Result, Ok, Err, refl, sym, ap, ◌∙◌, length-take, arith}
 use Rattle.std.proofs.lemmas.Bool.{lt-ltb, le-ltb, cases_lt}
 use Rattle.std.proofs.lemmas.List.{take-append-drop}
@@ -19,7 +19,7 @@ refused-as fault = Err fault
 not-short : (fault : MsgFault) → fault ≢ Short → refused-as fault ≢ refused-as Short
 not-short fault ne e = ne (cc e)
 
--- ---- what a decoder of whole messages answers, by the start of the bytes
+-- ---- the answer of a decoder of whole messages, by the start of the bytes
 
 abbrev failed : MsgFault → Result ℕ MsgFault
 failed fault = Err fault
@@ -52,7 +52,7 @@ early-by bytes fault (Err other) s-at e =
 read-early : (bytes : List ℕ) (fault : MsgFault) → l_message_at bytes ≡ Err fault → read_train bytes ≡ Err fault
 read-early bytes fault e = early-by bytes fault (start_at bytes) refl e
 
--- fewer bytes than L_MESSAGE says
+-- fewer bytes than L_MESSAGE
 read-short : (bytes : List ℕ) (n : ℕ) → Announces bytes n → length bytes < n → read_train bytes ≡ Err Short
 unfolding read_train whole_at
 read-short bytes n h few =
@@ -97,7 +97,7 @@ rest-by bytes (Ok n) many at e =
           ]
     ]
 
--- what a decoder calls too short
+-- the bytes that a decoder calls too short
 pub read-rest : (bytes : List ℕ) → read_train bytes ≡ Err Short → IsRest bytes
 read-rest bytes e =
     elim (cases_lt (length bytes) 3) [

@@ -1,4 +1,4 @@
--- Further packets, one after another.
+-- Further packets, in order.
 use Rattle.std.proofs.Common.{◌≡◌, ◌≢◌, ℕ, zero, suc, ◌<◌, ◌≤◌, Bool, true, false, ltb, List, [], ◌∷◌, ◌++◌, length, All, Result, Ok, Err, refl, sym, ap, ◌∙◌, append_assoc, length-append, arith}
 use Rattle.std.specs.List.{flat_map, AllByRecursion}
 use Rattle.std.proofs.lemmas.Bool.{lt-ltb, le-ltb}
@@ -15,7 +15,7 @@ use Rattle.rbc_msgs.specs.TrainSpelling.{packet_bits, TrainBodyFits, IsFurther}
 use Rattle.rbc_msgs.specs.TrainReading.{further_packet_at, further_at}
 use Rattle.rbc_msgs.proofs.TrainLaws.{length-packet}
 
--- ---- what a message keeps
+-- ---- the packets that a message keeps
 
 pub its-packets : (b : TrainBody) → TrainBodyFits b → HasItsPackets b
 its-packets (TrainData position packet) h = h.1
@@ -47,9 +47,9 @@ pub bits-more : (ps : List Packet) (p : Packet) → flat_map packet_bits (ps ++ 
 bits-more ps p =
     flat_map-append packet_bits ps (p ∷ []) ∙ ap (λ t. flat_map packet_bits ps ++ t) (flat_map-cons packet_bits p [] ∙ append-nil (packet_bits p))
 
--- ---- reading them one after another
+-- ---- reading them in order
 
--- what stands in front of what is still to be read
+-- the packets before those still to be read
 abbrev ahead : List Packet → Result (List Packet × List Bool) MsgFault → Result (List Packet × List Bool) MsgFault
 ahead front read = read >>= λ x. Ok (front ++ x.0, x.1)
 

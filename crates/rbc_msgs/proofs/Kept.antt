@@ -1,4 +1,4 @@
--- What can follow a packet that is kept.
+-- The fields that can follow a packet that is kept.
 use Rattle.std.proofs.Common.{◌≡◌, ◌≢◌, inl, inr, ℕ, zero, suc, ◌≤◌, Bool, true, false, ltb, leb, eqb, not, List, [], ◌∷◌, ◌++◌, length, Result, Ok, Err, refl, ap, length-append, arith}
 use borrow.Author.Tests.{ltb-false}
 use Rattle.std.specs.Result.{IfErr}
@@ -35,7 +35,7 @@ keeps-then : {A B : Type 0} (packets : B → List Packet) (r : Result A MsgFault
 keeps-then packets (Ok x) f p q = q x
 keeps-then packets (Err fault) f p q = p
 
--- the step that met it, and what follows
+-- the step that met it, and the steps after it
 met-then : {A B : Type 0} (first : A → List Packet) (packets : B → List Packet) (r : Result A MsgFault) (f : A → Result B MsgFault) → MayKeep first r → ((x : A) → first x ≢ [] → MayKeep packets (f x)) → MayKeep packets (r >>= f)
 met-then first packets (Ok x) f p q = q x p
 met-then first packets (Err fault) f p q = p
@@ -75,7 +75,7 @@ after-further (suc n) bits =
           rw t (after-then (further_packet_at bits) _ (after-further_packet bits (ltb-false _ _ t)) (λ first. after-then (further_at n first.1) _ (after-further n first.1) (λ others. tt)))
     ]
 
--- where 8 or more bits are left, a further packet is kept, or has a fault
+-- if 8 or more bits are left, a further packet is kept, or has a fault
 keeps-further : (n : ℕ) (bits : List Bool) → 8 ≤ length bits → length bits ≤ n → MayKeep (λ x. x.0) (further_at n bits)
 unfolding further_at
 keeps-further zero bits long enough = absurd (omega arith)
@@ -104,17 +104,17 @@ one-after [] back ne = ne
 one-after (p ∷ front) back ne = some-packet p (front ++ back)
 
 module _ (t_train nid_engine : ℕ) where
-  -- what is tested after the body
+  -- the tests after the body
   abbrev ended : TrainBody → List Packet × List Bool → Result TrainText MsgFault
   ended body further = end_at faults.Packet further.1 >>= λ _. Ok (record { t_train = t_train; nid_engine = nid_engine; body = body; further = further.0 })
 
-  -- the further packets were wanted
+  -- the further packets needed memory
   pub keeps-after : (body : TrainBody) (bits : List Bool) → MayKeep (λ x. x.0) (further_at (length bits) bits)
       → MayKeep kept_packets (further_at (length bits) bits >>= λ further. ended body further)
   keeps-after body bits h =
       met-then (λ x. x.0) kept_packets (further_at (length bits) bits) _ h (λ further ne. keeps-then kept_packets (end_at faults.Packet further.1) _ (after-end further.1) (λ _. one-after (data_packets body) further.0 ne))
 
-  -- the train data were wanted
+  -- the train data needed memory
   pub keeps-data : (read : Result (TrainBody × List Bool) MsgFault) → MayKeep (λ x. data_packets x.0) read
       → MayKeep kept_packets (read >>= λ body. further_at (length body.1) body.1 >>= λ further. ended body.0 further)
   keeps-data read h =

@@ -1,17 +1,18 @@
 -- How many bytes a train's message takes.
-use Rattle.std.proofs.Common.{◌≡◌, ℕ, ◌+◌, ◌/◌, ◌<◌, ◌≤◌, List, ◌∷◌, ◌++◌, length, take, drop, refl, sym, ap, ◌∙◌, length-append, arith}
-use Rattle.std.specs.List.{flat_map}
+use Rattle.std.proofs.Common.{◌++◌, ◌+◌, ◌/◌, ◌<◌, ◌∙◌, ◌∷◌, ◌≡◌, ◌≤◌, ap, arith, drop, length, length-append, List}
+use Rattle.std.proofs.Common.{refl, sym, take, ℕ}
 use Rattle.std.proofs.lemmas.List.{take-append-drop}
 use Rattle.std.proofs.lemmas.List.Concat.{flat_map-append}
+use Rattle.std.specs.List.{flat_map}
+use Rattle.rbc_msgs.proofs.TrainLaws.{length-position, train_length-is}
+use Rattle.rbc_msgs.specs.declared.train_body.TrainBody.{TrainBody}
+use Rattle.rbc_msgs.specs.TrainSpelling.{packet_bits, position_packet, train_body_bits, train_length}
+use Rattle.rbc_msgs.specs.TrainText.{TrainText}
+use Rattle.rbc_packets.proofs.Again.{length-joined}
+use Rattle.rbc_packets.specs.declared.position.Position.{Position}
 use Rattle.rbc_packets.specs.Layout.{joined, widths}
 use Rattle.rbc_packets.specs.Packet.{Packet}
 use Rattle.rbc_packets.specs.PositionSpelling.{position_fields}
-use Rattle.rbc_packets.specs.declared.position.Position.{Position}
-use Rattle.rbc_packets.proofs.Joined.{length-joined}
-use Rattle.rbc_msgs.specs.declared.train_body.TrainBody.{TrainBody}
-use Rattle.rbc_msgs.specs.TrainText.{TrainText}
-use Rattle.rbc_msgs.specs.TrainSpelling.{position_packet, packet_bits, train_body_bits, train_length}
-use Rattle.rbc_msgs.proofs.TrainLaws.{train_length-is, length-position}
 
 -- the first packets have no more bits than all
 pub front-shorter : (i : ℕ) (ps : List Packet) → length (flat_map packet_bits (take i ps)) ≤ length (flat_map packet_bits ps)
@@ -29,7 +30,7 @@ pub too-long : (m : TrainText) (body : TrainBody) (ps : List Packet) (k : ℕ) �
 too-long m body ps k body-is ps-is k-is many =
     omega (arith, counted m body ps k (74 + k + length (flat_map packet_bits ps)) body-is ps-is k-is refl)
 
--- ---- what stands between the header and the further packets
+-- ---- the fields between the header and the further packets
 
 pub position-alone : (b : TrainBody) (p : Position) (l : ℕ) → train_body_bits b ≡ joined (position_packet p) → l ≡ 21 + widths (position_fields p) → l ≡ length (train_body_bits b)
 position-alone b p l e l-is = omega (arith, ap length e, length-position p)

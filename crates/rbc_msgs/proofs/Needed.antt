@@ -1,23 +1,27 @@
--- How many bytes of a message have to be there, and what its first bytes settle.
-use Rattle.std.proofs.Common.{◌≡◌, inl, inr, ℕ, ◌^◌, ◌<◌, ◌≤◌, Bool, true, false, ltb, List, ◌++◌, length, take, Result, Ok, Err, refl, sym, ap, ◌∙◌, subst, length-append, arith}
-use borrow.Author.Tests.{ltb-false}
-use Rattle.std.proofs.lemmas.Bool.{lt-ltb, le-ltb, cases_lt}
+-- The number of bytes that a message needs, and the decisions that its first bytes allow.
+use Rattle.std.proofs.Common.{◌++◌, ◌<◌, ◌^◌, ◌∙◌, ◌≡◌, ◌≤◌, ap, arith, Bool, Err, false, inl, inr, length}
+use Rattle.std.proofs.Common.{length-append, List, ltb, Ok, refl, Result, subst, sym, take, true, ℕ}
+use Rattle.std.proofs.lemmas.Bool.{cases_lt, le-ltb, lt-ltb}
 use Rattle.std.proofs.lemmas.List.{take-append-le}
+use borrow.Author.Tests.{ltb-false}
+use Rattle.rbc_bits.proofs.Fields.{field_at_ok}
 use Rattle.rbc_bits.specs.Bits.{bits_of}
 use Rattle.rbc_bits.specs.Reading.{field_at}
-use Rattle.rbc_bits.proofs.Taking.{field_at_ok}
-use Rattle.rbc_packets.specs.Steps.{◌>>=◌, refuse}
-use Rattle.rbc_msgs.specs.TrainText.{TrainText}
-use Rattle.rbc_msgs.specs.Numbers.{train_of_number, least_train_length}
-use Rattle.rbc_msgs.specs.Reading.{start_at}
-use Rattle.rbc_msgs.specs.TrainSpelling.{SpellsTrain}
-use Rattle.rbc_msgs.specs.TrainReading.{read_train}
-use Rattle.rbc_msgs.specs.Streams.{l_message_at, needed_at, IsRest, ShowsFault}
-use Rattle.rbc_msgs.specs.declared.fault.MsgFault.{MsgFault}
-use Rattle.rbc_msgs.specs.declared.fault.MsgFault.TheVariants.{Short, Length}
-use Rattle.rbc_msgs.specs.declared.number.TrainNumber.{TrainNumber}
-use Rattle.rbc_msgs.specs.declared.number.TrainNumber.TheVariants.{TrainData, Request, Report, ShorteningGranted, ShorteningRejected, EndOfMission, InitiationOfSession, TerminationOfSession, StartOfMission, SessionEstablished}
 use Rattle.rbc_msgs.proofs.TrainLaws.{l_message_at-again}
+use Rattle.rbc_msgs.specs.declared.fault.MsgFault.{MsgFault}
+use Rattle.rbc_msgs.specs.declared.fault.MsgFault.TheVariants.{Length, Short}
+use Rattle.rbc_msgs.specs.declared.number.TrainNumber.{TrainNumber}
+use Rattle.rbc_msgs.specs.declared.number.TrainNumber.TheVariants.{EndOfMission, InitiationOfSession, Report, Request}
+use Rattle.rbc_msgs.specs.declared.number.TrainNumber.TheVariants.{SessionEstablished, ShorteningGranted}
+use Rattle.rbc_msgs.specs.declared.number.TrainNumber.TheVariants.{ShorteningRejected, StartOfMission}
+use Rattle.rbc_msgs.specs.declared.number.TrainNumber.TheVariants.{TerminationOfSession, TrainData}
+use Rattle.rbc_msgs.specs.Numbers.{least_train_length, train_of_number}
+use Rattle.rbc_msgs.specs.Reading.{start_at}
+use Rattle.rbc_msgs.specs.Streams.{IsRest, l_message_at, needed_at, ShowsFault}
+use Rattle.rbc_msgs.specs.TrainReading.{read_train}
+use Rattle.rbc_msgs.specs.TrainSpelling.{SpellsTrain}
+use Rattle.rbc_msgs.specs.TrainText.{TrainText}
+use Rattle.rbc_packets.specs.Steps.{◌>>=◌, refuse}
 
 -- ---- steps back
 
@@ -130,16 +134,16 @@ pub needed-front : (a b : List ℕ) → 3 ≤ length a → needed_at (a ++ b) �
 needed-front a b many =
     needed-many (a ++ b) (omega (arith, length-append a b)) ∙ l_message-front a b many ∙ sym (needed-many a many)
 
--- where something is wrong with them, they are there
+-- if they have a fault, they are there
 pub err-many : (bytes : List ℕ) (fault : MsgFault) → needed_at bytes ≡ Err fault → 3 ≤ length bytes
 err-many bytes fault e =
     elim (cases_lt (length bytes) 3) [ inl few ↦ (let no : 3 ≤ length bytes = cc (needed-few bytes few) in no) | inr many ↦ many ]
 
--- and so are they where no more bytes are needed
+-- and so are they if no more bytes are needed
 pub whole-many : (bytes : List ℕ) (n : ℕ) → needed_at bytes ≡ Ok n → n ≤ length bytes → 3 ≤ length bytes
 whole-many bytes n e whole = let range = needed-range bytes n e in omega arith
 
--- ---- faults, whatever follows
+-- ---- faults, with any bytes after them
 
 pub shows-front : (a b : List ℕ) (fault : MsgFault) → ShowsFault a fault → ShowsFault (a ++ b) fault
 shows-front a b fault (inl e) = inl (needed-front a b (err-many a fault e) ∙ e)
@@ -154,7 +158,7 @@ shows-front a b fault (inr h) =
 
 -- ---- spellings
 
--- as many bytes are needed as there are, also where more follow
+-- as many bytes are needed as there are, also if more follow
 pub spelled-needed : (first later : List ℕ) (m : TrainText) → SpellsTrain first m → needed_at (first ++ later) ≡ Ok (length first)
 spelled-needed first later m s =
     let l = l_message_at-again first m s in

@@ -1,31 +1,33 @@
--- A message of as many bytes as L_MESSAGE says is not called too short.
-use Rattle.std.proofs.Common.{◌≡◌, ◌≢◌, ◌⊎◌, inl, inr, ℕ, zero, suc, ◌+◌, ◌*◌, ◌≤◌, Bool, true, false, ltb, leb, eqb, not, List, length, take, Option, Some, None, Result, Ok, Err, refl, sym, ap, ◌∙◌, length-append, length-take, arith}
-use borrow.Author.Tests.{ltb-false}
-use Rattle.std.specs.Prelude.{◌==◌}
-use Rattle.std.specs.Option.{ok_or}
-use Rattle.std.specs.List.{find}
+-- A message with as many bytes as L_MESSAGE names is not called too short.
+use Rattle.std.proofs.Common.{◌*◌, ◌+◌, ◌∙◌, ◌≡◌, ◌≢◌, ◌≤◌, ◌⊎◌, ap, arith, Bool, eqb, Err, false, inl, inr, leb}
+use Rattle.std.proofs.Common.{length, length-append, length-take, List, ltb, None, not, Ok, Option, refl, Result, Some}
+use Rattle.std.proofs.Common.{suc, sym, take, true, zero, ℕ}
 use Rattle.std.proofs.lemmas.Bool.{le-ltb}
-use Rattle.rbc_spec.specs.Message.{unknown_time}
-use Rattle.rbc_bits.specs.Bits.{field, bits_of}
-use Rattle.rbc_bits.specs.Reading.{field_at}
+use Rattle.std.specs.List.{find}
+use Rattle.std.specs.Option.{ok_or}
+use Rattle.std.specs.Prelude.{◌==◌}
+use borrow.Author.Tests.{ltb-false}
 use Rattle.rbc_bits.proofs.Bytes.{length-bits_of}
-use Rattle.rbc_bits.proofs.Fields.{length-field}
-use Rattle.rbc_bits.proofs.Taking.{field_at_ok}
-use Rattle.rbc_vars.specs.Values.{q_status_of}
-use Rattle.rbc_packets.specs.Steps.{◌>>=◌, refuse}
-use Rattle.rbc_packets.specs.PositionReading.{position_at}
-use Rattle.rbc_packets.specs.OpaqueReading.{opaque_at}
-use Rattle.rbc_packets.specs.declared.fault.PacketFault.{PacketFault}
-use Rattle.rbc_packets.specs.declared.fault.PacketFault.TheVariants as packet
-use Rattle.rbc_msgs.specs.Numbers.{train_number_value, train_numbers, train_of_number, least_train_length}
-use Rattle.rbc_msgs.specs.Streams.{l_message_at, needed_at}
-use Rattle.rbc_msgs.proofs.Needed.{bind-ok, not-refused, least-some, announced, needed-many, needed-range}
-use Rattle.rbc_msgs.specs.Reading.{start_at, whole_at, time_at, required_at, packet_read, end_at}
-use Rattle.rbc_msgs.specs.TrainReading.{position_packet_at, data_packet_at, train_data_at, request_at, answered_at, start_of_mission_at, train_body_at, further_packet_at, further_at, read_train}
+use Rattle.rbc_bits.proofs.Fields.{field_at_ok, length-field}
+use Rattle.rbc_bits.specs.Bits.{bits_of, field}
+use Rattle.rbc_bits.specs.Reading.{field_at}
+use Rattle.rbc_msgs.proofs.Needed.{announced, bind-ok, least-some, needed-many, needed-range, not-refused}
 use Rattle.rbc_msgs.specs.declared.fault.MsgFault.{MsgFault}
 use Rattle.rbc_msgs.specs.declared.fault.MsgFault.TheVariants as faults
 use Rattle.rbc_msgs.specs.declared.number.TrainNumber.{TrainNumber}
 use Rattle.rbc_msgs.specs.declared.number.TrainNumber.TheVariants as number
+use Rattle.rbc_msgs.specs.Numbers.{least_train_length, train_number_value, train_numbers, train_of_number}
+use Rattle.rbc_msgs.specs.Reading.{end_at, packet_read, required_at, start_at, time_at, whole_at}
+use Rattle.rbc_msgs.specs.Streams.{l_message_at, needed_at}
+use Rattle.rbc_msgs.specs.TrainReading.{answered_at, data_packet_at, further_at, further_packet_at, position_packet_at}
+use Rattle.rbc_msgs.specs.TrainReading.{read_train, request_at, start_of_mission_at, train_body_at, train_data_at}
+use Rattle.rbc_packets.specs.declared.fault.PacketFault.{PacketFault}
+use Rattle.rbc_packets.specs.declared.fault.PacketFault.TheVariants as packet
+use Rattle.rbc_packets.specs.OpaqueReading.{opaque_at}
+use Rattle.rbc_packets.specs.PositionReading.{position_at}
+use Rattle.rbc_packets.specs.Steps.{◌>>=◌, refuse}
+use Rattle.rbc_spec.specs.Message.{unknown_time}
+use Rattle.rbc_vars.specs.Values.{q_status_of}
 
 -- ---- steps
 
@@ -46,7 +48,7 @@ long-refuse : (b : Bool) (fault : MsgFault) → fault ≢ faults.Short → IsLon
 long-refuse true fault ne = long-err fault ne
 long-refuse false fault ne = long-ok tt
 
--- a test, and what follows it
+-- a test, and the steps after it
 long-tested : {B : Type 0} (b : Bool) (fault : MsgFault) (r : Result B MsgFault) → fault ≢ faults.Short → (b ≡ false → IsLong r) → IsLong (refuse b fault >>= λ _. r)
 long-tested true fault r ne q = long-err fault ne
 long-tested false fault r ne q = q refl
@@ -58,12 +60,12 @@ ltb-by m n false e = inr e
 pub ltb-cases : (m n : ℕ) → (ltb m n ≡ true) ⊎ (ltb m n ≡ false)
 ltb-cases m n = ltb-by m n (ltb m n) refl
 
--- a field that lies whole in the bits
+-- a field that is wholly within the bits
 long-field : (n : ℕ) (bits : List Bool) → n ≤ length bits → IsLong (field_at faults.Short n bits)
 unfolding field_at
 long-field n bits le = let t : ltb (length bits) n ≡ false = le-ltb _ _ le in rw t (long-ok _)
 
--- what it leaves
+-- the rest after it
 left-of : (n : ℕ) (bits : List Bool) (x : ℕ × List Bool) → field_at faults.Short n bits ≡ Ok x → length bits ≡ n + length x.1
 left-of n bits x e =
     let parts = (field_at_ok faults.Short n bits x.0 x.1 e).0 in
@@ -171,7 +173,7 @@ time-left-by : (bits : List Bool) (x : ℕ × List Bool) (r : Result (ℕ × Lis
 time-left-by bits x (Ok y) f e = time-left-tested bits x y (eqb y.0 unknown_time) f e
 time-left-by bits x (Err fault) f e = cc
 
--- what T_TRAIN leaves
+-- the rest after T_TRAIN
 time-left : (bits : List Bool) (x : ℕ × List Bool) → time_at bits ≡ Ok x → length bits ≡ 32 + length x.1
 unfolding time_at
 time-left bits x e = time-left-by bits x (field_at faults.Short 32 bits) refl e

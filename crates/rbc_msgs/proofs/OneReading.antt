@@ -9,7 +9,7 @@ use Rattle.rbc_msgs.specs.declared.fault.MsgFault.{MsgFault}
 use Rattle.rbc_msgs.proofs.TrainLaws.{read_train-again, one_train_message, train_spellings-apart}
 use Rattle.rbc_msgs.proofs.Needed.{spelled-needed}
 
--- what is needed is one number
+-- the needed number of bytes is unique
 one-needed : (bytes : List ℕ) (m n : ℕ) → needed_at bytes ≡ Ok m → needed_at bytes ≡ Ok n → m ≡ n
 one-needed bytes m n p q = cc
 
@@ -55,7 +55,7 @@ one-fault bytes e f (inr p) (inr q) =
     let there : read_train (take q.l_message bytes) ≡ Err e = ap (λ n. read_train (take n bytes)) (sym same) ∙ p.refused in
     cc (there, q.refused)
 
--- ---- one row of messages
+-- ---- a list of messages
 
 pub one-row : (bytes r s : List ℕ) (ms ns : List TrainText) → Spell bytes ms r → Spell bytes ns s → IsEnd r → IsEnd s → (ms ≡ ns) × (r ≡ s)
 one-row bytes r s [] [] p q r-ends s-ends = (refl, sym p ∙ q)

@@ -1,16 +1,16 @@
--- Two rows of bits compared word by word.
+-- Two lists of bits compared word by word.
 use Rattle.std.proofs.Common.{◌≡◌, ◌≢◌, ℕ, ◌^◌, ◌<◌, Bool, List, ◌++◌, length, take, drop, min, sym, ap, ◌∙◌, length-append, arith}
 use Rattle.std.proofs.lemmas.List.{take_at, drop_at}
 use Rattle.rbc_bits.specs.Bits.{field}
 use Rattle.rbc_bits.proofs.Fields.{length-field, field-injective}
 
--- what is left of both is as long, and the same where all of both is
+-- the rests of both have one length, and are equal if and only if the whole lists are
 pub record AreSame (all-a all-b a b : List Bool) : Type 0 where
   pub lengths : length a ≡ length b
   pub onward : all-a ≡ all-b → a ≡ b
   pub back : a ≡ b → all-a ≡ all-b
 
--- rows of one length that begin with a word of n bits
+-- lists of one length that begin with a word of n bits
 words-same : (a b a-rest b-rest : List Bool) (n x y : ℕ) → a ≡ field n x ++ a-rest → b ≡ field n y ++ b-rest → x < 2 ^ n → y < 2 ^ n → a ≡ b → (x ≡ y) × (a-rest ≡ b-rest)
 words-same a b a-rest b-rest n x y a-is b-is x-fits y-fits e =
     let same : field n x ++ a-rest ≡ field n y ++ b-rest = sym a-is ∙ e ∙ b-is in

@@ -1,14 +1,16 @@
 -- The bytes that bits fill up, and NID_MESSAGE and L_MESSAGE at their front.
-use Rattle.std.proofs.Common.{◌≡◌, ℕ, ◌+◌, ◌*◌, ◌^◌, ◌<◌, ◌≤◌, Bool, false, List, ◌++◌, length, take, drop, replicate, refl, sym, ap, ◌∙◌, append_assoc, length-append, arith}
-use Rattle.std.proofs.Math.Seq.{take-append-add}
-use Rattle.std.proofs.lemmas.List.{take-append-drop, take_at, drop_at, length-replicate}
-use Rattle.std.specs.Int.{bytes_high_first}
+use Rattle.std.proofs.Common.{◌*◌, ◌++◌, ◌+◌, ◌<◌, ◌^◌, ◌∙◌, ◌≡◌, ◌≤◌, ap, append_assoc, arith, Bool, drop, false}
+use Rattle.std.proofs.Common.{length, length-append, List, refl, replicate, sym, take, ℕ}
+use Rattle.std.proofs.lemmas.List.{drop_at, length-replicate, take-append-drop, take_at}
 use Rattle.std.proofs.lemmas.List.Elements.{All-from_recursion}
-use Rattle.rbc_bits.specs.Bits.{field, bits_of, value_of, filling, filled}
-use Rattle.rbc_bits.proofs.Fields.{length-field, field-append, field-injective}
-use Rattle.rbc_bits.proofs.Bytes.{length-bits_of, bits_of-append, take-bits_of, bits_of-made, bytes_high_first-fit, length-bytes_high_first}
-use Rattle.rbc_packets.proofs.Filled.{filled-parts}
-use Rattle.rbc_msgs.specs.Layout.{Begins, IsFilling, IsBytes}
+use Rattle.std.proofs.Math.Seq.{take-append-add}
+use Rattle.std.specs.Int.{bytes_high_first}
+use Rattle.rbc_bits.proofs.Bytes.{bits_of-append, bits_of-made, bytes_high_first-fit, length-bits_of}
+use Rattle.rbc_bits.proofs.Bytes.{length-bytes_high_first, take-bits_of}
+use Rattle.rbc_bits.proofs.Fields.{field-append, field-injective, length-field}
+use Rattle.rbc_bits.specs.Bits.{bits_of, field, filled, filling, value_of}
+use Rattle.rbc_msgs.specs.Layout.{Begins, IsBytes, IsFilling}
+use Rattle.rbc_packets.proofs.Again.{filled-parts}
 
 -- ---- filling bits
 
@@ -17,7 +19,7 @@ is-filling bits =
     let l = length-replicate (filling (length bits)) false in
     (omega (arith, l), ap (λ n. replicate n false) (sym l))
 
--- what stands before the filling bits of whole bytes
+-- the bits before the filling bits of whole bytes
 pub filled-from : (bytes : List ℕ) (bits rest : List Bool) → bits_of bytes ≡ bits ++ rest → IsFilling rest → bits_of bytes ≡ filled bits
 filled-from bytes bits rest e h =
     let l : length rest ≡ filling (length bits) = omega (arith, h.0, ap length e, length-append bits rest, length-bits_of bytes) in
@@ -64,7 +66,7 @@ l_message-at a x n rest e =
     bits_of-append a x ∙ ap (λ t. t ++ bits_of x) e ∙ append_assoc (field 8 n) (len ++ rest) (bits_of x) ∙ ap (λ t. field 8 n ++ t) (append_assoc len rest (bits_of x)) in
     ap (λ t. take 10 (drop 8 t)) whole ∙ ap (take 10) (drop_at (field 8 n) (len ++ (rest ++ bits_of x)) 8 (length-field 8 n)) ∙ take_at len (rest ++ bits_of x) 10 (length-field 10 (length a))
 
--- no spelling begins another, since L_MESSAGE stands where it does
+-- no spelling is the start of another, since L_MESSAGE is at the same position in both
 pub starts-apart : (a b x y : List ℕ) (m n : ℕ) (p q : List Bool) → length a < 2 ^ 10 → length b < 2 ^ 10 → starts a m p → starts b n q → a ++ x ≡ b ++ y → (a ≡ b) × (x ≡ y)
 starts-apart a b x y m n p q a-fits b-fits a-starts b-starts e =
     let len : length a ≡ length b =

@@ -1,18 +1,18 @@
--- What is spelled so is read, for each part that all messages have.
-use Rattle.std.proofs.Common.{◌≡◌, ℕ, ◌+◌, ◌*◌, ◌^◌, ◌<◌, ◌≤◌, Bool, true, false, eqb, ltb, leb, List, [], ◌∷◌, ◌++◌, length, take, replicate, Ok, refl, sym, ap, ◌∙◌, eq-eqb, arith}
+-- A spelled value is read, for each part that all messages have.
+use Rattle.std.proofs.Common.{[], ◌*◌, ◌++◌, ◌+◌, ◌<◌, ◌^◌, ◌∙◌, ◌∷◌, ◌≡◌, ◌≤◌, ap, arith, Bool, eq-eqb, eqb, false}
+use Rattle.std.proofs.Common.{leb, length, List, ltb, Ok, refl, replicate, sym, take, true, ℕ}
 use Rattle.std.proofs.lemmas.Bool.{le-ltb, lt-leb, ne_eqb}
+use Rattle.std.proofs.lemmas.List.{append-nil, length-append, nil_from_length}
 use Rattle.std.proofs.lemmas.Nat.{pow_pos}
-use Rattle.std.proofs.lemmas.List.{append-nil, nil_from_length, length-append}
-use Rattle.rbc_spec.specs.Message.{unknown_time}
+use Rattle.rbc_bits.proofs.Fields.{field-zero, field_at-field, length-field}
 use Rattle.rbc_bits.specs.Bits.{field}
 use Rattle.rbc_bits.specs.Reading.{field_at}
-use Rattle.rbc_bits.proofs.Fields.{length-field, field-zero}
-use Rattle.rbc_bits.proofs.Taking.{field_at-field}
+use Rattle.rbc_msgs.proofs.Spelled.{start-front, start-whole, starts}
 use Rattle.rbc_msgs.specs.declared.fault.MsgFault.{MsgFault}
-use Rattle.rbc_msgs.specs.declared.fault.MsgFault.TheVariants.{Short, Missing}
+use Rattle.rbc_msgs.specs.declared.fault.MsgFault.TheVariants.{Missing, Short}
 use Rattle.rbc_msgs.specs.Layout.{IsFilling}
-use Rattle.rbc_msgs.specs.Reading.{start_at, whole_at, time_at, fixed_at, required_at, end_at}
-use Rattle.rbc_msgs.proofs.Spelled.{starts, start-whole, start-front}
+use Rattle.rbc_msgs.specs.Reading.{end_at, fixed_at, required_at, start_at, time_at, whole_at}
+use Rattle.rbc_spec.specs.Message.{unknown_time}
 
 pub start_at-again : (bytes : List ℕ) (number : ℕ) (rest : List Bool) → 3 ≤ length bytes → length bytes < 2 ^ 10 → number < 2 ^ 8 → starts bytes number rest
     → start_at bytes ≡ Ok (number, length bytes)

@@ -12,7 +12,7 @@ use Rattle.rbc_msgs.specs.declared.fault.MsgFault.{MsgFault}
 use Rattle.rbc_msgs.specs.declared.fault.MsgFault.TheVariants.{Memory}
 use Rattle.rbc_msgs.proofs.Needed.{needed-few, needed-front, needed-range, shows-front}
 
--- ---- rows of spellings
+-- ---- lists of spellings
 
 spell-then : (ms ns : List TrainText) (a r s : List ℕ) → Spell a ms r → Spell r ns s → Spell a (ms ++ ns) s
 spell-then [] ns a r s p q = subst (λ x. Spell x ns s) (sym p) q
@@ -32,7 +32,7 @@ pub adds-one : (old new : List TrainText) (bytes first later : List ℕ) (m : Tr
 adds-one old new bytes first later m e s parts =
     record { messages = m ∷ []; added = e; spelled = (first, later, parts, s, refl) }
 
--- those of what was left come after
+-- those of the rest follow
 pub adds-then : (old mid new : List TrainText) (a r s : List ℕ) → Adds old mid a r → Adds mid new r s → Adds old new a s
 adds-then old mid new a r s p q =
     record {
@@ -41,7 +41,7 @@ adds-then old mid new a r s p q =
       spelled = spell-then p.messages q.messages a r s p.spelled q.spelled;
     }
 
--- whatever follows
+-- with any bytes after it
 pub adds-after : (old new : List TrainText) (a r b : List ℕ) → Adds old new a r → Adds old new (a ++ b) (r ++ b)
 adds-after old new a r b p =
     record { messages = p.messages; added = p.added; spelled = spell-after p.messages a r b p.spelled }
@@ -63,13 +63,12 @@ pub halts-after : (old new : List TrainText) (a b : List ℕ) (fault : MsgFault)
 halts-after old new a b fault h =
     record { rest = h.rest ++ b; adds = adds-after old new a h.rest b h.adds; shows = λ ne. shows-front h.rest b fault (h.shows ne) }
 
--- ---- nothing has come
+-- ---- nothing has arrived
 
 pub rest-none : IsRest []
 rest-none = record { needed = 3; at = needed-few [] (omega arith); fewer = omega arith }
 
--- ---- a rest that is completed: r1 is the rest with its first bytes, r2 with all that are needed, or as far as the
--- piece goes
+-- ---- a rest that is completed: r1 is the rest with its first bytes, r2 with all needed bytes, or with the whole piece
 
 glue : (rest piece r1 : List ℕ) (first : ℕ) → r1 ≡ rest ++ take first piece → r1 ++ drop first piece ≡ rest ++ piece
 glue rest piece r1 first e =
@@ -84,7 +83,7 @@ pub halts-early : (old : List TrainText) (rest piece r1 : List ℕ) (first : ℕ
 halts-early old rest piece r1 first fault e at =
     subst (λ x. Halts old old x fault) (glue rest piece r1 first e) (halts-after old old r1 (drop first piece) fault (halts-here old r1 fault (λ _. inl at)))
 
--- as many bytes are needed as the first ones say, unless these were all
+-- as many bytes are needed as the first ones require, unless these were all
 needed-more : (r1 r2 piece : List ℕ) (first second n : ℕ) → r2 ≡ r1 ++ take second (drop first piece) → (length r1 < 3 → first ≡ length piece) → needed_at r1 ≡ Ok n → needed_at r2 ≡ Ok n
 needed-more r1 r2 piece first second n e all at =
     ap needed_at e ∙ elim (cases_lt (length r1) 3) [
@@ -131,7 +130,7 @@ rest-on rest piece r1 r2 first second n h e1 e2 within all few at spent no-more 
 
 -- ---- slices
 
--- what follows the first i
+-- the bytes after the first i
 pub the-end : (i : ℕ) (xs : List ℕ) → take (length xs - i) (drop i xs) ≡ drop i xs
 the-end i xs = take_all (length xs - i) (drop i xs) (omega (arith, length-drop i xs))
 
@@ -182,7 +181,7 @@ adds-next old mid new bytes used n m p e s =
 pub none-there : (xs : List ℕ) (n : ℕ) (b : Bool) → b ≡ eqb n 0 → b ≡ true → length xs ≡ n → xs ≡ []
 none-there xs n b e t l = nil_from_length xs (omega (arith, l, eqb-true n 0 (sym e ∙ t)))
 
--- what is kept where no rest was there
+-- the bytes kept, without a rest before
 pub kept-end : (old new : List TrainText) (bytes xs r1 kept : List ℕ) (i : ℕ) → r1 ≡ [] → kept ≡ r1 ++ take (length xs - i) (drop i xs) → Adds old new bytes (drop i xs) → Adds old new bytes kept
 kept-end old new bytes xs r1 kept i none e p =
     subst (λ x. Adds old new bytes x) (sym (e ∙ ap (λ x. x ++ take (length xs - i) (drop i xs)) none ∙ the-end i xs)) p

@@ -1,25 +1,32 @@
--- What holds of the spellings of centres' messages: what is spelled so is read, and each has one.
-use Rattle.std.proofs.Common.{◌≡◌, ℕ, ◌+◌, ◌*◌, ◌^◌, ◌<◌, ◌≤◌, Bool, false, List, [], ◌∷◌, ◌++◌, length, take, replicate, Option, None, Some, IfSome, OnSome, Result, Ok, refl, sym, ap, ◌∙◌, append_assoc, arith}
+-- Laws of the spellings of centres' messages: a spelled message is read, and each has one spelling.
+use Rattle.std.proofs.Common.{[], ◌*◌, ◌++◌, ◌+◌, ◌<◌, ◌^◌, ◌∙◌, ◌∷◌, ◌≡◌, ◌≤◌, ap, append_assoc, arith, Bool, false}
+use Rattle.std.proofs.Common.{IfSome, length, List, None, Ok, OnSome, Option, refl, replicate, Result, Some, sym, take}
+use Rattle.std.proofs.Common.{ℕ}
 use Rattle.std.proofs.lemmas.List.Elements.{recursion_from_All}
-use Rattle.rbc_spec.specs.Message.{TrackBody, Authority, DataAcknowledged, ShorteningRequest, Transition, EndSession, SystemVersion, TerminationAcknowledged, TrainRejected, TrainAccepted, TrackMessage, unknown_time}
-use Rattle.rbc_bits.specs.Bits.{field, bits_of, filling, filled}
 use Rattle.rbc_bits.proofs.Bytes.{bits_of-injective}
-use Rattle.rbc_bits.proofs.Taking.{field_at-field}
-use Rattle.rbc_packets.specs.Layout.{Field, joined, widths, track_packet}
-use Rattle.rbc_packets.specs.TrackSpelling.{authority_fields, transition_fields, session_order_fields}
-use Rattle.rbc_packets.proofs.Filled.{filled-parts, length-filled, length-filled_bits}
-use Rattle.rbc_packets.proofs.Joined.{joined-nil, joined-cons, joined-followed, length-joined}
-use Rattle.rbc_packets.proofs.TrackAgain.{authority_at-again, transition_at-again, session_order_at-again}
+use Rattle.rbc_bits.proofs.Fields.{field_at-field}
+use Rattle.rbc_bits.specs.Bits.{bits_of, field, filled, filling}
+use Rattle.rbc_msgs.proofs.Spelled.{filled-from, filled-made, is-filling, start-found, starts, starts-apart}
+use Rattle.rbc_msgs.proofs.Steps.{end_at-again, fixed_at-again, required_at-again, start_at-again, time_at-again}
+use Rattle.rbc_msgs.proofs.Steps.{whole_at-again}
 use Rattle.rbc_msgs.specs.declared.fault.MsgFault.{MsgFault}
-use Rattle.rbc_msgs.specs.declared.fault.MsgFault.TheVariants.{Short, Length, Missing}
+use Rattle.rbc_msgs.specs.declared.fault.MsgFault.TheVariants.{Length, Missing, Short}
 use Rattle.rbc_msgs.specs.declared.number.TrackNumber.{TrackNumber}
 use Rattle.rbc_msgs.specs.declared.number.TrackNumber.TheVariants as number
-use Rattle.rbc_msgs.specs.Numbers.{track_of_number, least_track_length}
-use Rattle.rbc_msgs.specs.Layout.{length_limit, Begins, IsFilling, IsBytes}
-use Rattle.rbc_msgs.specs.TrackSpelling.{track_number, track_body_fields, track_fields, track_length, TrackBodyFits, TrackFits, SpellsTrack}
-use Rattle.rbc_msgs.specs.TrackReading.{end_of_authority_at, transition_order_at, end_of_session_at, general_at, track_body_at, read_track}
-use Rattle.rbc_msgs.proofs.Spelled.{is-filling, filled-from, filled-made, start-found, starts, starts-apart}
-use Rattle.rbc_msgs.proofs.Steps.{start_at-again, whole_at-again, time_at-again, fixed_at-again, required_at-again, end_at-again}
+use Rattle.rbc_msgs.specs.Layout.{Begins, IsBytes, IsFilling, length_limit}
+use Rattle.rbc_msgs.specs.Numbers.{least_track_length, track_of_number}
+use Rattle.rbc_msgs.specs.TrackReading.{end_of_authority_at, end_of_session_at, general_at, read_track, track_body_at}
+use Rattle.rbc_msgs.specs.TrackReading.{transition_order_at}
+use Rattle.rbc_msgs.specs.TrackSpelling.{SpellsTrack, track_body_fields, track_fields, track_length, track_number}
+use Rattle.rbc_msgs.specs.TrackSpelling.{TrackBodyFits, TrackFits}
+use Rattle.rbc_packets.proofs.Again.{filled-parts, joined-cons, joined-followed, joined-nil, length-filled}
+use Rattle.rbc_packets.proofs.Again.{length-filled_bits, length-joined}
+use Rattle.rbc_packets.proofs.TrackAgain.{authority_at-again, session_order_at-again, transition_at-again}
+use Rattle.rbc_packets.specs.Layout.{Field, joined, track_packet, widths}
+use Rattle.rbc_packets.specs.TrackSpelling.{authority_fields, session_order_fields, transition_fields}
+use Rattle.rbc_spec.specs.Message.{Authority, DataAcknowledged, EndSession, ShorteningRequest, SystemVersion}
+use Rattle.rbc_spec.specs.Message.{TerminationAcknowledged, TrackBody, TrackMessage, TrainAccepted, TrainRejected}
+use Rattle.rbc_spec.specs.Message.{Transition, unknown_time}
 
 -- ---- the bits of a message
 
@@ -27,7 +34,7 @@ fields-bits : (l_message : ℕ) (m : TrackMessage) → joined (track_fields l_me
 unfolding joined
 fields-bits l_message m = refl
 
--- what follows L_MESSAGE
+-- the fields after L_MESSAGE
 after_length : TrackMessage → List Bool → List Bool
 after_length m rest = field 32 m.t_train ++ (field 1 0 ++ (field 24 m.nid_lrbg ++ (joined (track_body_fields m.body) ++ rest)))
 
@@ -46,7 +53,7 @@ starts-spelled bytes m s = s.text ∙ filled-parts (joined (track_fields (length
 length-fields : (l_message : ℕ) (m : TrackMessage) → length (joined (track_fields l_message m)) ≡ 75 + widths (track_body_fields m.body)
 length-fields l_message m = omega (arith, length-joined (track_fields l_message m))
 
--- ---- what the code read is a spelling
+-- ---- the message that the code read is spelled by the bytes
 
 pub spells-parts : (bytes : List ℕ) (m : TrackMessage) (n : ℕ) (rest left : List Bool)
     → n ≡ track_number m.body → bits_of bytes ≡ field 8 n ++ (field 10 (length bytes) ++ (field 32 m.t_train ++ (field 1 0 ++ (field 24 m.nid_lrbg ++ rest))))
@@ -75,7 +82,7 @@ put-together bytes None n t g b rest left number-at start body limit time group 
 put-together bytes (Some m) n t g b rest left number-at start body limit time group fits made fill =
     rw made (spells-parts bytes _ n rest left number-at start body fill limit (record { t_train = time; nid_lrbg = group; body = fits }))
 
--- ---- what is spelled so is read
+-- ---- a spelled message is read
 
 -- a packet, and the bits after it
 packet-parts : (n : ℕ) (fields : List Field) (rest : List Bool) → joined ((8, n) ∷ fields) ++ rest ≡ field 8 n ++ (joined fields ++ rest)
@@ -184,7 +191,7 @@ pub some_read-again : (bytes : List ℕ) (r : Option TrackMessage) → IfSome r 
 some_read-again bytes None s = tt
 some_read-again bytes (Some m) s = read_track-again bytes m s
 
--- ---- what is written is a spelling
+-- ---- the written bytes are a spelling
 
 pub written : (bytes : List ℕ) (m : TrackMessage) (l_message : ℕ) (all : List Bool) → all ≡ joined (track_fields l_message m) → bits_of bytes ≡ filled all
     → l_message ≡ track_length m.body → TrackFits m → SpellsTrack bytes m
@@ -193,7 +200,7 @@ written bytes m l_message all all-is text l-is fits =
     let len : length bytes ≡ l_message = omega (arith, length-filled bytes (joined (track_fields l_message m)) spelled, length-fields l_message m) in
     record { text = spelled ∙ ap (λ k. filled (joined (track_fields k m))) (sym len); l_message = omega (arith, most m.body); fits = fits }
 
--- the header, and what is written after it
+-- the header, and the fields written after it
 pub written-parts : (m : TrackMessage) (number l_message : ℕ) (header all : List Bool) → header ≡ joined ((8, number) ∷ (10, l_message) ∷ (32, m.t_train) ∷ (1, 0) ∷ (24, m.nid_lrbg) ∷ [])
     → number ≡ track_number m.body → all ≡ header ++ joined (track_body_fields m.body) → all ≡ joined (track_fields l_message m)
 unfolding joined

@@ -1,45 +1,52 @@
--- What holds of the spellings of trains' messages: what is spelled so is read, and each has one.
-use Rattle.std.proofs.Common.{◌≡◌, ℕ, zero, suc, ◌+◌, ◌*◌, ◌/◌, ◌^◌, ◌<◌, ◌≤◌, Bool, true, false, eqb, ltb, List, [], ◌∷◌, ◌++◌, length, take, replicate, Result, Ok, refl, sym, ap, ◌∙◌, append_assoc, length-append, arith}
-use Rattle.std.specs.List.{flat_map, AllByRecursion}
-use Rattle.std.proofs.lemmas.Bool.{lt-ltb, le-ltb, ne_eqb}
-use Rattle.std.proofs.lemmas.List.Elements.{recursion_from_All}
+-- Laws of the spellings of trains' messages: a spelled message is read, and each has one spelling.
+use Rattle.std.proofs.Common.{[], ◌*◌, ◌++◌, ◌+◌, ◌/◌, ◌<◌, ◌^◌, ◌∙◌, ◌∷◌, ◌≡◌, ◌≤◌, ap, append_assoc, arith, Bool, eqb}
+use Rattle.std.proofs.Common.{false, length, length-append, List, ltb, Ok, refl, replicate, Result, suc, sym, take}
+use Rattle.std.proofs.Common.{true, zero, ℕ}
+use Rattle.std.proofs.lemmas.Bool.{le-ltb, lt-ltb, ne_eqb}
 use Rattle.std.proofs.lemmas.List.Concat.{flat_map-cons}
-use Rattle.rbc_spec.specs.Message.{unknown_time}
-use Rattle.rbc_bits.specs.Bits.{field, bits_of, filling, filled}
+use Rattle.std.proofs.lemmas.List.Elements.{recursion_from_All}
+use Rattle.std.specs.List.{AllByRecursion, flat_map}
 use Rattle.rbc_bits.proofs.Bytes.{bits_of-injective}
-use Rattle.rbc_bits.proofs.Taking.{field_at-field}
-use Rattle.rbc_vars.specs.Values.{q_status_value}
-use Rattle.rbc_vars.proofs.Values.{q_status-again, q_status-fits}
-use Rattle.rbc_packets.specs.Layout.{Field, joined, widths, train_packet}
-use Rattle.rbc_packets.specs.Packet.{Packet, PacketFits}
-use Rattle.rbc_packets.specs.OpaqueReading.{opaque_bits, opaque_at}
-use Rattle.rbc_packets.specs.PositionSpelling.{position_fields, PositionFits}
-use Rattle.rbc_packets.specs.declared.position.Position.{Position}
-use Rattle.rbc_packets.proofs.Filled.{filled-parts, length-filled, length-filled_bits}
-use Rattle.rbc_packets.proofs.Joined.{joined-cons, joined-followed, length-joined}
-use Rattle.rbc_packets.proofs.PositionAgain.{position_at-again}
-use Rattle.rbc_packets.proofs.OpaqueAgain.{opaque_at-again}
+use Rattle.rbc_bits.proofs.Fields.{field_at-field}
+use Rattle.rbc_bits.specs.Bits.{bits_of, field, filled, filling}
+use Rattle.rbc_msgs.proofs.Spelled.{filled-from, filled-made, is-filling, start-found, starts, starts-apart}
+use Rattle.rbc_msgs.proofs.Steps.{end_at-again, required_at-again, start_at-again, time_at-again, whole_at-again}
 use Rattle.rbc_msgs.specs.declared.fault.MsgFault.{MsgFault}
 use Rattle.rbc_msgs.specs.declared.fault.MsgFault.TheVariants as faults
 use Rattle.rbc_msgs.specs.declared.number.TrainNumber.{TrainNumber}
 use Rattle.rbc_msgs.specs.declared.number.TrainNumber.TheVariants as number
 use Rattle.rbc_msgs.specs.declared.train_body.TrainBody.{TrainBody}
-use Rattle.rbc_msgs.specs.declared.train_body.TrainBody.TheVariants.{TrainData, Request, Report, ShorteningGranted, ShorteningRejected, EndOfMission, InitiationOfSession, TerminationOfSession, StartOfMission, SessionEstablished}
-use Rattle.rbc_msgs.specs.TrainText.{TrainText}
-use Rattle.rbc_msgs.specs.Numbers.{train_of_number, least_train_length}
-use Rattle.rbc_msgs.specs.Layout.{length_limit, Begins, IsFilling, IsBytes}
-use Rattle.rbc_msgs.specs.TrainSpelling.{train_number, train_header, position_packet, packet_bits, train_body_bits, train_bits, train_length, TrainBodyFits, IsFurther, TrainFits, SpellsTrain}
-use Rattle.rbc_msgs.specs.TrainReading.{position_packet_at, data_packet_at, train_data_at, request_at, answered_at, start_of_mission_at, train_body_at, further_packet_at, further_at, read_train}
+use Rattle.rbc_msgs.specs.declared.train_body.TrainBody.TheVariants.{EndOfMission, InitiationOfSession, Report, Request}
+use Rattle.rbc_msgs.specs.declared.train_body.TrainBody.TheVariants.{SessionEstablished, ShorteningGranted}
+use Rattle.rbc_msgs.specs.declared.train_body.TrainBody.TheVariants.{ShorteningRejected, StartOfMission}
+use Rattle.rbc_msgs.specs.declared.train_body.TrainBody.TheVariants.{TerminationOfSession, TrainData}
+use Rattle.rbc_msgs.specs.Layout.{Begins, IsBytes, IsFilling, length_limit}
+use Rattle.rbc_msgs.specs.Numbers.{least_train_length, train_of_number}
 use Rattle.rbc_msgs.specs.Streams.{l_message_at}
-use Rattle.rbc_msgs.proofs.Spelled.{is-filling, filled-from, filled-made, start-found, starts, starts-apart}
-use Rattle.rbc_msgs.proofs.Steps.{start_at-again, whole_at-again, time_at-again, required_at-again, end_at-again}
+use Rattle.rbc_msgs.specs.TrainReading.{answered_at, data_packet_at, further_at, further_packet_at, position_packet_at}
+use Rattle.rbc_msgs.specs.TrainReading.{read_train, request_at, start_of_mission_at, train_body_at, train_data_at}
+use Rattle.rbc_msgs.specs.TrainSpelling.{IsFurther, packet_bits, position_packet, SpellsTrain, train_bits}
+use Rattle.rbc_msgs.specs.TrainSpelling.{train_body_bits, train_header, train_length, train_number, TrainBodyFits}
+use Rattle.rbc_msgs.specs.TrainSpelling.{TrainFits}
+use Rattle.rbc_msgs.specs.TrainText.{TrainText}
+use Rattle.rbc_packets.proofs.Again.{filled-parts, joined-cons, joined-followed, length-filled, length-filled_bits}
+use Rattle.rbc_packets.proofs.Again.{length-joined, opaque_at-again}
+use Rattle.rbc_packets.proofs.TrackAgain.{position_at-again}
+use Rattle.rbc_packets.specs.declared.position.Position.{Position}
+use Rattle.rbc_packets.specs.Layout.{Field, joined, train_packet, widths}
+use Rattle.rbc_packets.specs.OpaqueReading.{opaque_at, opaque_bits}
+use Rattle.rbc_packets.specs.Packet.{Packet, PacketFits}
+use Rattle.rbc_packets.specs.PositionSpelling.{position_fields, PositionFits}
+use Rattle.rbc_spec.specs.Message.{unknown_time}
+use Rattle.rbc_vars.proofs.Values.{q_status-again, q_status-fits}
+use Rattle.rbc_vars.specs.Values.{q_status_value}
 
 -- ---- the bits of a message
 
 further-bits : TrainText → List Bool
 further-bits m = flat_map packet_bits m.further
 
--- what follows L_MESSAGE
+-- the fields after L_MESSAGE
 after_length : TrainText → List Bool → List Bool
 after_length m rest = field 32 m.t_train ++ (field 24 m.nid_engine ++ (train_body_bits m.body ++ (further-bits m ++ rest)))
 
@@ -62,7 +69,7 @@ unfolding train_bits further-bits
 length-bits l_message m =
     omega (arith, length-append (joined (train_header l_message m)) (train_body_bits m.body ++ flat_map packet_bits m.further), length-joined (train_header l_message m), length-append (train_body_bits m.body) (flat_map packet_bits m.further))
 
--- as many, whatever L_MESSAGE says
+-- the length is the same for every L_MESSAGE
 pub same-length : (k l : ℕ) (m : TrainText) → length (train_bits k m) ≡ length (train_bits l m)
 same-length k l m = length-bits k m ∙ sym (length-bits l m)
 
@@ -70,7 +77,7 @@ pub train_length-is : (m : TrainText) → train_length m ≡ (74 + length (train
 unfolding train_length further-bits
 train_length-is m = ap (λ n. (n + 7) / 8) (length-bits 0 m)
 
--- ---- what the code read is a spelling
+-- ---- the message that the code read is spelled by the bytes
 
 pub spells : (bytes : List ℕ) (m : TrainText) (n l_message start : ℕ) (b c d e f : List Bool)
     → n ≡ train_number m.body → length bytes ≡ l_message → Begins (bits_of (take 3 bytes)) (field 8 n ++ field 10 l_message) → bits_of bytes ≡ field 18 start ++ b
@@ -98,9 +105,9 @@ spells-alone bytes m n rest left number-at start body none fill limit time engin
     ∙ ap (λ x. field 8 (train_number m.body) ++ (field 10 (length bytes) ++ (field 32 m.t_train ++ (field 24 m.nid_engine ++ x)))) tail ∙ sym (parts (length bytes) m left) in
     record { text = filled-from bytes (train_bits (length bytes) m) left all fill; l_message = limit; fits = record { t_train = time; nid_engine = engine; body = fits; further = rw none tt } }
 
--- ---- what is spelled so is read: packets
+-- ---- spelled packets are read
 
--- a field, and what follows it
+-- a field, and the fields after it
 pub field-parts : (n v : ℕ) (fields : List Field) (rest : List Bool) → joined ((n, v) ∷ fields) ++ rest ≡ field n v ++ (joined fields ++ rest)
 field-parts n v fields rest = ap (λ t. t ++ rest) (joined-cons (n, v) fields) ∙ append_assoc (field n v) (joined fields) rest
 
@@ -151,7 +158,7 @@ further-again (suc n) (p ∷ ps) rest fits few enough =
     let later : further_at n others ≡ Ok (ps, rest) = further-again n ps rest fits.1 few (omega arith) in
     ap (further_at (suc n)) at ∙ rw (long, further_packet-again p others fits.0, later) refl
 
--- ---- what is spelled so is read: messages
+-- ---- spelled messages are read
 
 kind : TrainBody → TrainNumber
 kind (TrainData position packet) = number.TrainData
@@ -252,7 +259,7 @@ l_message_at-again bytes m s =
     let enough : ltb (length bytes) (least_train_length (kind m.body)) ≡ false = le-ltb _ _ (least m.body (length bytes) wide) in
     (omega arith, rw (start_at-again bytes (train_number m.body) _ (omega arith) s.l_message (number-fits m.body) (starts-spelled bytes m s), number-again m.body, enough) refl)
 
--- ---- what is written is a spelling
+-- ---- the written bytes are a spelling
 
 pub written : (bytes : List ℕ) (m : TrainText) (l_message : ℕ) (all : List Bool) → all ≡ train_bits l_message m → bits_of bytes ≡ filled all
     → l_message ≡ train_length m → l_message < length_limit → TrainFits m → SpellsTrain bytes m
@@ -262,7 +269,7 @@ written bytes m l_message all all-is text l-is limit fits =
     let len : length bytes ≡ l_message = omega (arith, length-filled bytes (train_bits l_message m) spelled, same-length l_message 0 m) in
     record { text = spelled ∙ ap (λ k. filled (train_bits k m)) (sym len); l_message = omega arith; fits = fits }
 
--- the header, and what is written after it
+-- the header, and the fields written after it
 pub written-parts : (m : TrainText) (l_message : ℕ) (header body all : List Bool) → header ≡ joined (train_header l_message m) → body ≡ header ++ train_body_bits m.body
     → all ≡ body ++ flat_map packet_bits m.further → all ≡ train_bits l_message m
 unfolding train_bits

@@ -1,4 +1,4 @@
--- What messages to trains say, as the rules of a centre have it.
+-- The messages to trains, as the rules of a centre have them.
 use Rattle.rbc_spec.specs.Message as said
 use Rattle.rbc_msgs.specs.declared.track.TrackBody.{TrackBody}
 use Rattle.rbc_msgs.specs.declared.track.TrackBody.TheVariants as track
@@ -14,7 +14,7 @@ track_body track.TerminationAcknowledged = said.TerminationAcknowledged
 track_body track.TrainRejected = said.TrainRejected
 track_body track.TrainAccepted = said.TrainAccepted
 
--- and back
+-- the body in memory for a body that a centre's step knows
 abbrev pub track_body_back : said.TrackBody → TrackBody
 track_body_back (said.Authority l) = track.Authority (record { l_endsection = l })
 track_body_back (said.DataAcknowledged stamp) = track.DataAcknowledged stamp

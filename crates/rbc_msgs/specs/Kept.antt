@@ -23,7 +23,7 @@ IsAfterPackets UnknownNumber = ⊥
 IsAfterPackets Missing = ⊥
 IsAfterPackets fault = Unit {0}
 
--- a packet may have been kept: what was read has one, or its fault can be found after one
+-- a packet may have been kept: the value read has one, or its fault can be found after one
 abbrev pub MayKeep : {A : Type 0} → (A → List Packet) → Result A MsgFault → Type 0
 MayKeep packets (Ok x) = packets x ≢ []
 MayKeep packets (Err fault) = IsAfterPackets fault

@@ -1,4 +1,4 @@
--- What is said of the bytes of all messages (SUBSET-026 chapters 7 and 8): zero bits fill up the last byte (profile).
+-- The bytes of all messages (SUBSET-026 chapters 7 and 8): zero bits fill up the last byte (profile).
 use Rattle.std.specs.Prelude.{◌≡◌, ℕ, ◌<◌, Bool, false, List, ◌++◌, length, replicate, All}
 
 -- L_MESSAGE is below this: a message has at most 1 023 bytes
@@ -9,7 +9,7 @@ length_limit = 1024
 abbrev pub Begins : List Bool → List Bool → Type 0
 Begins text front = (rest : List Bool) × (text ≡ front ++ rest)
 
--- what fills up the last byte: fewer than 8 bits, all of them zero
+-- the filling bits of the last byte: fewer than 8 bits, all of them zero
 abbrev pub IsFilling : List Bool → Type 0
 IsFilling bits = (length bits < 8) × (bits ≡ replicate (length bits) false)
 

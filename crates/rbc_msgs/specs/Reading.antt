@@ -9,7 +9,7 @@ use Rattle.rbc_packets.specs.declared.fault.PacketFault.TheVariants as packet
 use Rattle.rbc_msgs.specs.declared.fault.MsgFault.{MsgFault}
 use Rattle.rbc_msgs.specs.declared.fault.MsgFault.TheVariants.{Short, Length, Padding, Packet, Missing, Value, Memory}
 
--- what the program answered, seen by view, is what reading gives, unless the program answered that memory ran out
+-- the program's answer, seen by `view`, is the result of reading, unless memory ran out
 abbrev pub Gives : {A B : Type 0} → (A → B) → Result A MsgFault → Result B MsgFault → Type 0
 Gives view (Ok x) read = read ≡ Ok (view x)
 Gives view (Err e) read = e ≢ Memory → read ≡ Err e
@@ -22,7 +22,7 @@ start_at bytes = do
   l_message ← field_at Short 10 number.1
   Ok (number.0, l_message.0)
 
--- The bits after them. L_MESSAGE is at least what the message needs, and as many bytes are there.
+-- The bits after them. L_MESSAGE is at least the needed length, and it is the number of bytes.
 unfoldable pub whole_at : ℕ → ℕ → List ℕ → Result (List Bool) MsgFault
 whole_at least l_message bytes = do
   _ ← refuse (nat_lt l_message least) Length
@@ -45,7 +45,7 @@ fixed_at n value bits = do
   _ ← refuse (not (found.0 == value)) Value
   Ok (tt, found.1)
 
--- NID_PACKET of a packet that has to stand there
+-- NID_PACKET of a required packet
 unfoldable pub required_at : ℕ → List Bool → Result (Unit {0} × List Bool) MsgFault
 required_at nid_packet bits = do
   found ← field_at Missing 8 bits

@@ -1,4 +1,4 @@
--- What a centre's step reads of a train's message.
+-- The fields of a train's message that a centre's step reads.
 use Rattle.std.specs.Prelude.{ℕ, Bool, true, false, ◌&&◌, Option, Some, None}
 use Rattle.rbc_spec.specs.Place as place
 use Rattle.rbc_spec.specs.Message as said
@@ -27,7 +27,7 @@ abbrev pub is_nominal : Direction → Bool
 is_nominal direction.Nominal = true
 is_nominal other = false
 
--- L_TRAININT where integrity is confirmed
+-- L_TRAININT if train integrity is confirmed
 abbrev pub confirmed_length : TrainLength → Option ℕ
 confirmed_length (train_length.ConfirmedByDevice l) = Some l
 confirmed_length (train_length.ConfirmedByDriver l) = Some l
@@ -41,7 +41,7 @@ abbrev pub is_valid : QStatus → Bool
 is_valid status.Valid = true
 is_valid other = false
 
--- what is read of a position report
+-- the fields of a position report that are read
 abbrev pub position_of : Position → place.Position
 position_of p = record {
   scale = decimetres p.location.q_scale;

@@ -1,4 +1,4 @@
--- What the fields of a stream stand for: the bytes that it keeps, none once it met a fault.
+-- The plain data of a stream: the bytes that it keeps, and `None` after a fault.
 use Rattle.std.specs.Prelude.{ℕ, List, Option, Some, None, IfSome}
 use Rattle.rbc_msgs.specs.Streams.{IsRest}
 use Rattle.rbc_msgs.specs.declared.stream.State.{State}

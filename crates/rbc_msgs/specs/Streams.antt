@@ -1,4 +1,4 @@
--- The consecutive messages of a train on a stream of bytes, in whatever pieces the bytes come (profile).
+-- The consecutive messages of a train on a stream of bytes, which arrive in pieces of any size (profile).
 use Rattle.std.specs.Prelude.{◌≡◌, ◌≢◌, ◌⊎◌, ℕ, ◌<◌, ◌≤◌, List, [], ◌∷◌, ◌++◌, length, take, Option, Some, None, Result, Ok, Err, nat_lt, if◌then◌else◌}
 use Rattle.rbc_packets.specs.Steps.{◌>>=◌, refuse}
 use Rattle.rbc_msgs.specs.TrainText.{TrainText}
@@ -11,7 +11,7 @@ use Rattle.rbc_msgs.specs.declared.fault.MsgFault.TheVariants as message
 use Rattle.rbc_msgs.specs.declared.fault.StreamFault.{StreamFault}
 use Rattle.rbc_msgs.specs.declared.fault.StreamFault.TheVariants.{Message, Failed}
 
--- ## Where a message ends, and what of it is enough to refuse it
+-- ## The end of a message, and the bytes that suffice to refuse it
 
 -- L_MESSAGE of a message that begins so: its number has to be known, and L_MESSAGE as long as it needs
 unfoldable pub l_message_at : List ℕ → Result ℕ MsgFault
@@ -21,54 +21,52 @@ l_message_at bytes = do
   _ ← refuse (nat_lt start.1 (least_train_length number)) message.Length
   Ok start.1
 
--- how many bytes have to be there before more can be said: the three that hold NID_MESSAGE and L_MESSAGE, then
--- L_MESSAGE
+-- The number of bytes that the next decision needs: the three that hold NID_MESSAGE and L_MESSAGE, and then L_MESSAGE.
 unfoldable pub needed_at : List ℕ → Result ℕ MsgFault
 needed_at bytes = if nat_lt (length bytes) 3 then Ok 3 else l_message_at bytes
 
--- what has come of a message that is not whole, and that nothing is wrong with so far
+-- the first bytes of a message, fewer than it needs, without a fault so far
 pub record IsRest (bytes : List ℕ) : Type 0 where
   pub needed : ℕ
   pub at : needed_at bytes ≡ Ok needed
   pub fewer : length bytes < needed
 
--- the fault is there with the message's last byte, whatever follows it
+-- the fault is there with the message's last byte, with any bytes after it
 pub record ShowsAtLast (bytes : List ℕ) (fault : MsgFault) : Type 0 where
   pub l_message : ℕ
   pub at : needed_at bytes ≡ Ok l_message
   pub whole : l_message ≤ length bytes
   pub refused : read_train (take l_message bytes) ≡ Err fault
 
--- the message that begins there shows this fault: an unknown number and a too small L_MESSAGE with its third byte, any
--- other fault with its last
+-- The message that begins there shows this fault. An unknown number and a too small L_MESSAGE are shown by its third
+-- byte, any other fault by its last.
 abbrev pub ShowsFault : List ℕ → MsgFault → Type 0
 ShowsFault bytes fault = (needed_at bytes ≡ Err fault) ⊎ ShowsAtLast bytes fault
 
 -- ## Whole streams
 
--- the bytes are the spellings of these messages, in order, and then the rest
+-- the bytes are the spellings of these messages, in order, followed by the rest
 abbrev pub Spell : List ℕ → List TrainText → List ℕ → Type 0
 Spell bytes [] rest = bytes ≡ rest
 Spell bytes (m ∷ others) rest =
     (first : List ℕ) × (later : List ℕ) × (bytes ≡ first ++ later) × SpellsTrain first m × Spell later others rest
 
--- new is old and, after it, the messages that the bytes spell up to the rest
+-- `new` is `old`, followed by the messages that the bytes spell before the rest
 pub record Adds (old new : List TrainText) (bytes rest : List ℕ) : Type 0 where
   pub messages : List TrainText
   pub added : new ≡ old ++ messages
   pub spelled : Spell bytes messages rest
 
--- the same, and after the last of them the fault, or memory ran out there
+-- messages are added; then the message that begins next shows the fault, or memory ran out there
 pub record Halts (old new : List TrainText) (bytes : List ℕ) (fault : MsgFault) : Type 0 where
   pub rest : List ℕ
   pub adds : Adds old new bytes rest
   pub shows : fault ≢ message.Memory → ShowsFault rest fault
 
--- ## A piece that comes: what was kept, the piece, the messages before and after, the answer, and what is kept now.
--- After
--- a fault nothing is kept.
+-- ## An arriving piece: the kept bytes, the piece, the messages before and after, the answer, and the bytes kept now.
+-- After a fault nothing is kept.
 
--- the messages that are whole now are appended, and what is left of the bytes is kept
+-- the messages that are whole now are appended, and the rest of the bytes is kept
 pub record Continues (before : Option (List ℕ)) (piece : List ℕ) (old new : List TrainText)
     (after : Option (List ℕ)) : Type 0 where
   pub kept : List ℕ
@@ -86,7 +84,7 @@ pub record Stops (before : Option (List ℕ)) (piece : List ℕ) (old new : List
   pub now : after ≡ None
   pub halts : Halts old new (kept ++ piece) fault
 
--- a stream that has met a fault takes nothing more
+-- after a fault a stream takes no further bytes
 pub record HasStopped (before : Option (List ℕ)) (old new : List TrainText) (after : Option (List ℕ)) : Type 0 where
   pub was : before ≡ None
   pub now : after ≡ None
@@ -100,15 +98,15 @@ Fed before piece old new (Err Failed) after = HasStopped before old new after
 
 -- ## Laws
 
--- where a row of spellings can go no further: a rest, or a fault
+-- a list of spellings can go no further: a rest, or a fault
 abbrev pub IsEnd : List ℕ → Type 0
 IsEnd bytes = IsRest bytes ⊎ ((fault : MsgFault) × ShowsFault bytes fault)
 
--- it is no want of memory
+-- memory did not run out
 abbrev pub HadMemory : Result (Unit {0}) StreamFault → Type 0
 HadMemory result = result ≢ Err (Message message.Memory)
 
--- the decoder of whole messages gives the fault of the shortest beginning of the bytes that it does not call too short
+-- the decoder of whole messages gives the fault for the shortest first part of the bytes that is not too short for it
 pub record IsFirstFault (bytes : List ℕ) (fault : MsgFault) : Type 0 where
   pub count : ℕ
   pub there : count ≤ length bytes

@@ -11,7 +11,7 @@ use Rattle.rbc_msgs.specs.declared.fault.MsgFault.TheVariants.{Short, Length, Mi
 use Rattle.rbc_msgs.specs.declared.number.TrackNumber.{TrackNumber}
 use Rattle.rbc_msgs.specs.declared.number.TrackNumber.TheVariants as number
 
--- L_ENDSECTION of packet 15, which has to stand there
+-- L_ENDSECTION of packet 15, which is required
 unfoldable pub end_of_authority_at : List Bool → Result (ℕ × List Bool) MsgFault
 end_of_authority_at bits = do
   found ← required_at 15 bits
@@ -30,14 +30,14 @@ end_of_session_at bits = do
   order ← packet_read (session_order_at bits)
   Ok (EndSession order.0.nid_c order.0.nid_rbc, order.1)
 
--- packet 131 or packet 42, one of which has to stand there
+-- packet 131 or packet 42, one of which is required
 unfoldable pub general_at : List Bool → Result (TrackBody × List Bool) MsgFault
 general_at bits = do
   found ← field_at Missing 8 bits
   if found.0 == 131 then transition_order_at found.1
       else (if found.0 == 42 then end_of_session_at found.1 else Err Missing)
 
--- what follows the header. M_VERSION has to be version 2.0
+-- the fields after the header; M_VERSION has to be version 2.0
 abbrev pub track_body_at : TrackNumber → List Bool → Result (TrackBody × List Bool) MsgFault
 track_body_at number.MovementAuthority bits = end_of_authority_at bits >>= λ l. Ok (Authority l.0, l.1)
 track_body_at number.DataAcknowledged bits = field_at Short 32 bits >>= λ stamp. Ok (DataAcknowledged stamp.0, stamp.1)

@@ -1,4 +1,4 @@
--- What the fields of a centre's message stand for, and their ranges.
+-- The plain data of a centre's message, and the ranges of its fields.
 use Rattle.std.specs.Prelude.{◌≡◌, ◌<◌, ◌^◌, refl}
 use Rattle.std.proofs.Common.{ap}
 use Rattle.rbc_spec.specs.Message.{TrackMessage, unknown_time}
@@ -11,7 +11,7 @@ use Rattle.rbc_msgs.specs.declared.track.TrackMsg.TheInside.{Inside}
 abbrev pub track_message : Inside → TrackMessage
 track_message m = record { t_train = m.t_train; nid_lrbg = m.nid_lrbg; body = track_body m.body }
 
--- and back
+-- the message in memory for a message that a centre's step knows
 abbrev pub track_inside : TrackMessage → Inside
 track_inside m = record { t_train = m.t_train; nid_lrbg = m.nid_lrbg; body = track_body_back m.body }
 

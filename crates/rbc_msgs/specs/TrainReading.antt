@@ -18,7 +18,7 @@ use Rattle.rbc_msgs.specs.declared.number.TrainNumber.TheVariants as number
 use Rattle.rbc_msgs.specs.declared.train_body.TrainBody.{TrainBody}
 use Rattle.rbc_msgs.specs.declared.train_body.TrainBody.TheVariants as body
 
--- ## Packets that have to stand there
+-- ## Required packets
 
 unfoldable pub position_packet_at : List Bool → Result (Position × List Bool) MsgFault
 position_packet_at bits = do
@@ -30,7 +30,7 @@ data_packet_at bits = do
   found ← required_at 11 bits
   packet_read (opaque_at 11 found.1)
 
--- ## What follows the header, by NID_MESSAGE
+-- ## The fields after the header, by NID_MESSAGE
 
 unfoldable pub train_data_at : List Bool → Result (TrainBody × List Bool) MsgFault
 train_data_at bits = do

@@ -57,7 +57,7 @@ train_body_bits SessionEstablished = []
 unfoldable pub train_bits : ℕ → TrainText → List Bool
 train_bits l_message m = joined (train_header l_message m) ++ (train_body_bits m.body ++ flat_map packet_bits m.further)
 
--- how many bytes it takes, whatever L_MESSAGE says
+-- the number of its bytes, which does not depend on L_MESSAGE
 unfoldable pub train_length : TrainText → ℕ
 train_length m = (length (train_bits 0 m) + 7) / 8
 
@@ -72,7 +72,7 @@ TrainBodyFits (EndOfMission position) = PositionFits position
 TrainBodyFits (StartOfMission status position) = PositionFits position
 TrainBodyFits other = Unit {0}
 
--- a further packet is no position report
+-- a further packet is not a position report
 abbrev pub IsFurther : Packet → Type 0
 IsFurther p = (p.nid_packet ≢ 0) × PacketFits p
 

@@ -1,4 +1,4 @@
--- What the fields of a train's message stand for, and their ranges.
+-- The plain data of a train's message, and the ranges of its fields.
 use Rattle.std.specs.Prelude.{◌≡◌, ◌≢◌, ◌<◌, ◌^◌, All}
 use Rattle.rbc_spec.specs.Message.{unknown_time}
 use Rattle.rbc_msgs.specs.TrainText.{TrainText}

@@ -29,19 +29,19 @@ const AUTHORITY_LENGTH: usize = 18;
 // How many bytes a general message has that ends a session.
 const END_OF_SESSION_LENGTH: usize = 24;
 
-// How many bytes messages have that are a header alone.
+// The number of bytes of a message that is only a header.
 const BARE_LENGTH: usize = 10;
 
 /// The message of a train that the bytes spell, all of the bytes. Only packets that are kept without being read take
 /// memory.
 pub fn decode_train(alloc: Global, bytes: &[u8]) -> Result<TrainMsg, MsgFault>
-    // What is read is spelled so.
+    // The bytes spell the value that is read.
     ensures found { IfOk result (λ m. SpellsTrain bytes.now m) }
-    // What is spelled so is read, unless memory runs out.
+    // A spelled value is read, unless memory runs out.
     ensures only { (m : TrainText) → SpellsTrain bytes.now m → Gives (λ x. x) result (Ok m) }
     // Which fault it is.
     ensures exact { Gives (λ x. x) result (read_train bytes.now) }
-    // Memory is wanted only where a packet is kept, or where the fault can be found after one.
+    // Memory is needed only if a packet is kept, or if the fault can be found after one.
     ensures memory { IfErr result (λ e. e ≡ MsgFault.Memory → MayKeep kept_packets (read_train bytes.now)) }
 {
     if bytes.len() == USUAL_LENGTH {
@@ -61,9 +61,9 @@ pub fn decode_train(alloc: Global, bytes: &[u8]) -> Result<TrainMsg, MsgFault>
 
 /// The message of a centre that the bytes spell, all of the bytes.
 pub fn decode_track(bytes: &[u8]) -> Result<TrackMsg, MsgFault>
-    // What is read is spelled so.
+    // The bytes spell the value that is read.
     ensures found { IfOk result (λ m. SpellsTrack bytes.now m) }
-    // What is spelled so is read.
+    // A spelled value is read.
     ensures only { (m : TrackMessage) → SpellsTrack bytes.now m → result ≡ Ok m }
     // Which fault it is.
     ensures exact { result ≡ read_track bytes.now }
@@ -95,8 +95,8 @@ pub fn decode_track(bytes: &[u8]) -> Result<TrackMsg, MsgFault>
     }
 }
 
-// Messages that are rarer than reports and requests. It is a call, whose result is looked at before it is handed on: so
-// the place of the others' results is known, and these are written there field by field.
+// Messages that are rarer than reports and requests. This is a separate call, whose result is tested before it is
+// handed on. So the place of the other results is known, and they are written there field by field.
 #[inline(never)]
 fn rarer(alloc: Global, bytes: &[u8]) -> Result<TrainMsg, MsgFault>
     ensures exact { Gives (λ x. x) result (read_train bytes.now) }

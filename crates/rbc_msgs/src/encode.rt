@@ -18,7 +18,7 @@ pub fn encode_train(alloc: Global, message: &TrainMsg) -> Result<Vec<u8>, Encode
     train_bytes(alloc, l_message, message)
 }
 
-// The bytes of a message that takes so many.
+// The bytes of a message of this length.
 fn train_bytes(alloc: Global, l_message: u64, message: &TrainMsg) -> Result<Vec<u8>, EncodeFault>
     requires length { l_message ≡ train_length message.now }
     requires limit { l_message < length_limit }

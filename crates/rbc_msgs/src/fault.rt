@@ -6,12 +6,13 @@ use rbc_bits::BitFault;
 use rbc_packets::PacketFault;
 use std::alloc::{AllocError, AllocFailed};
 
-/// Why bytes are no message that is read: the first fault in the order of the tests (profile).
+/// Why bytes are not a readable message: the first fault in the order of the tests (profile).
 #[derive(Clone, Copy, Debug, PartialEq, Eq)]
 pub enum MsgFault {
-    /// Fewer bytes than NID_MESSAGE and L_MESSAGE need, or than L_MESSAGE says.
+    /// Fewer bytes than NID_MESSAGE and L_MESSAGE need, or than L_MESSAGE names.
     Short = 1,
-    /// L_MESSAGE is too small for the message, there are more bytes than it says, or a track message goes on.
+    /// L_MESSAGE is too small for the message, bytes follow the last that it counts, or a track message has bits after
+    /// its last field.
     Length = 2,
     /// A filling bit is not zero.
     Padding = 3,
@@ -76,7 +77,7 @@ impl<T: Drop> From<AllocFailed<T>> for MsgFault {
 /// Why a stream of messages was not read further.
 #[derive(Clone, Copy, Debug, PartialEq, Eq)]
 pub enum StreamFault {
-    /// The message that stands there has this fault.
+    /// The message that begins there has this fault.
     Message(MsgFault),
     /// An earlier call met a fault.
     Failed,
@@ -114,7 +115,7 @@ pub enum EncodeFault {
     TooLong = 2,
 }
 
-// A writer refuses for want of memory alone.
+// A writer refuses only if memory runs out.
 impl From<BitFault> for EncodeFault {
     ghost from_gives = { λ _ fault. fault ≡ encode.Memory };
 

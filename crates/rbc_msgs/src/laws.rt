@@ -1,4 +1,4 @@
-//! What holds of all spellings, whatever code reads or writes them.
+//! Laws of all spellings, independent of the code that reads or writes them.
 
 ghost use Rattle.std.specs.Prelude.{◌≡◌, ℕ, ◌<◌, ◌++◌, List};
 ghost use Rattle.rbc_spec.specs.Message.{TrackMessage};
@@ -28,7 +28,7 @@ pub fn one_message()
     ensures track { (a : List ℕ) (m n : TrackMessage) → SpellsTrack a m → SpellsTrack a n → m ≡ n }
 {}
 
-/// No spelling begins another: of messages that stand back to back each can be told where it ends.
+/// No spelling is the start of another, so the end of each of several consecutive messages is known.
 pub fn no_spelling_begins_another()
     ensures train { (a b x y : List ℕ) (m n : TrainText) →
         SpellsTrain a m → SpellsTrain b n → a ++ x ≡ b ++ y → (a ≡ b) × (x ≡ y) }

@@ -1,7 +1,7 @@
 //! Radio messages between trains and a radio block centre, as bytes and as values (SUBSET-026 chapters 7 and 8). A
-//! decoder reads one whole message or says the first fault that it meets, an encoder writes the one spelling.
+//! decoder reads one whole message or returns the first fault. An encoder writes the one spelling.
 //!
-//! Bodies and proofs are free. The clauses of public functions stay, since the crates above stand on them.
+//! Bodies and proofs may change. The clauses of public functions have to stay: the crates above depend on them.
 #![tactic(auto)]
 
 mod decode;

@@ -26,12 +26,12 @@ pub(crate) fn start_of(bytes: &[u8]) -> Result<(u64, usize), MsgFault>
     if bytes.len() < 3 {
         return Err(MsgFault::Short);
     }
-    // L_MESSAGE lies in the second byte and the two highest bits of the third.
+    // L_MESSAGE is in the second byte and the two highest bits of the third.
     let l_message = usize::from(bytes[1]) * 4 + usize::from(bytes[2]) / 64;
     Ok((u64::from(bytes[0]), l_message))
 }
 
-/// The bits after L_MESSAGE, of a message of at least so many bytes.
+/// The bits after L_MESSAGE, of a message of at least `least` bytes.
 #[tactic(auto, unfolding(crate::specs::Reading::whole_at))]
 #[inline(always)]
 pub(crate) fn whole(least: usize, l_message: usize, bytes: &[u8]) -> Result<BitReader<'_>, MsgFault>
@@ -84,7 +84,7 @@ pub(crate) fn take_fixed(reader: &mut BitReader, n: u32, value: u64) -> Result<(
     Ok(())
 }
 
-/// NID_PACKET of a packet that has to stand there.
+/// NID_PACKET of a required packet.
 #[tactic(auto, unfolding(crate::specs::Reading::required_at))]
 #[inline(always)]
 pub(crate) fn required(reader: &mut BitReader, nid_packet: u64) -> Result<(), MsgFault>
@@ -97,7 +97,7 @@ pub(crate) fn required(reader: &mut BitReader, nid_packet: u64) -> Result<(), Ms
     Ok(())
 }
 
-/// NID_PACKET of a packet that has to stand there, whichever it is.
+/// NID_PACKET of a packet that is required, with any number.
 #[inline(always)]
 pub(crate) fn take_number(reader: &mut BitReader) -> Result<u64, MsgFault>
     ensures exact { Takes (λ x. x) result reader.new (field_at MsgFault.Missing 8 reader.old) }
@@ -110,7 +110,7 @@ pub(crate) fn take_number(reader: &mut BitReader) -> Result<u64, MsgFault>
     }
 }
 
-/// What follows the last field: the filling bits, and the fault `more` where they are 8 or more.
+/// Checks the filling bits after the last field; 8 or more bits are the fault `more`.
 #[tactic(auto, unfolding(crate::specs::Reading::end_at))]
 #[inline(always)]
 pub(crate) fn end(mut reader: BitReader, more: MsgFault) -> Result<(), MsgFault>

@@ -8,8 +8,8 @@ use std::alloc::Global;
 use std::marker::Model;
 use std::mem;
 
-/// The bytes that come from a train, in whatever pieces, as consecutive messages (profile).
-/// It keeps what has come of a message that is not whole, at most 1 022 bytes. After a fault it reads nothing more.
+/// The bytes from a train, which arrive in pieces of any size, as consecutive messages (profile). It keeps the first
+/// part of a message that is not whole, at most 1 022 bytes. After a fault it reads nothing further.
 #[derive(Debug, Drop)]
 pub struct Stream {
     alloc: Global,
@@ -18,7 +18,7 @@ pub struct Stream {
 
 #[derive(Debug, Drop)]
 enum State {
-    // What has come of a message that is not whole.
+    // The first part of a message that is not whole.
     Reading(Vec<u8>),
     Failed,
 }
@@ -36,7 +36,7 @@ impl Model for Stream {
 }
 
 impl Stream {
-    /// The stream of a connection that nothing has come over yet.
+    /// The stream of a connection on which nothing has arrived yet.
     pub fn new(alloc: Global) -> Stream
         ensures { result ≡ Some [] }
     {
@@ -47,8 +47,8 @@ impl Stream {
     }
 
     /// Takes the next piece of the stream, and appends each message that is whole now. An unknown NID_MESSAGE and a too
-    /// small L_MESSAGE are found with the third byte of a message, any other fault with its last; the messages before
-    /// it are appended. After any fault, also where memory ran out, each later call answers `Failed`.
+    /// small L_MESSAGE are found with the third byte of a message, any other fault with its last. The messages before
+    /// it are appended. After any fault, or if memory ran out, each later call answers `Failed`.
     pub fn feed(&mut self, piece: &[u8], out: &mut Vec<TrainMsg>) -> Result<(), StreamFault>
         ensures fed { Fed self.old piece.now out.old.items out.new.items result self.new }
         ensures few { IfSome self.new (λ rest. length rest < 1023) }

@@ -1,4 +1,4 @@
-//! What holds of all streams, whatever code reads them.
+//! Laws of all streams, independent of the code that reads them.
 
 ghost use Rattle.std.specs.Prelude.{◌≡◌, ◌↔◌, ℕ, ◌<◌, ◌++◌, List, length, Option, Result, Ok, Err};
 ghost use Rattle.rbc_msgs.specs.TrainText.{TrainText};
@@ -8,8 +8,8 @@ ghost use Rattle.rbc_msgs.specs.Streams.{IsRest, IsEnd, IsFirstFault, ShowsFault
 ghost use Rattle.rbc_msgs.specs.declared.fault.MsgFault.{MsgFault};
 ghost use Rattle.rbc_msgs.specs.declared.fault.StreamFault.{StreamFault};
 
-/// It does not matter how a stream is cut into pieces: two pieces, one fed after the other, give the messages, the
-/// answer and the rest that both give at once, unless memory runs out.
+/// It does not matter how a stream is cut into pieces. Two pieces, fed in order, give the same messages, answer and
+/// rest as both at once, unless memory runs out.
 pub fn no_cut_matters()
     ensures messages { (old mid new : List TrainText) (a b r s : List ℕ) →
         Adds old mid a r → Adds mid new (r ++ b) s → Adds old new (a ++ b) s }
@@ -25,7 +25,7 @@ pub fn no_cut_matters()
         (whole ≡ new) × (answer ≡ Err fault) × (once ≡ after) }
 {}
 
-/// A stream says one thing at most: its bytes are messages and then a rest, or messages and then a fault, in one way.
+/// A stream has at most one meaning: its bytes are messages and then a rest, or messages and then a fault, in one way.
 pub fn one_reading()
     ensures messages { (bytes r s : List ℕ) (ms ns : List TrainText) →
         Spell bytes ms r → Spell bytes ns s → IsEnd r → IsEnd s → (ms ≡ ns) × (r ≡ s) }
@@ -33,15 +33,15 @@ pub fn one_reading()
     ensures fault { (bytes : List ℕ) (e f : MsgFault) → ShowsFault bytes e → ShowsFault bytes f → e ≡ f }
 {}
 
-/// What is kept of a stream is what `decode_train` calls too short; it begins with no whole message, and has at most
-/// 1 022 bytes.
+/// The kept bytes of a stream are those that `decode_train` calls too short. They begin with no whole message, and are
+/// at most 1 022.
 pub fn a_rest_is_short()
     ensures no_message { (first later : List ℕ) (m : TrainText) → SpellsTrain first m → IsRest (first ++ later) → ⊥ }
     ensures short { (bytes : List ℕ) → IsRest bytes ↔ (read_train bytes ≡ Err MsgFault.Short) }
     ensures few { (rest : List ℕ) → IsRest rest → length rest < 1023 }
 {}
 
-/// A stream's fault is the one that `decode_train` gives of the shortest beginning of the bytes that is not too short.
+/// The fault of a stream is that of `decode_train` for the shortest first part of the bytes that is not too short.
 pub fn a_fault_is_the_first()
     ensures { (bytes : List ℕ) (fault : MsgFault) → ShowsFault bytes fault → IsFirstFault bytes fault }
 {}

@@ -1,5 +1,4 @@
-//! Consecutive messages of a train: whole ones are read where they lie, and only what is left of a
-//! piece is copied.
+//! Consecutive messages of a train. Whole ones are read in place, and only the rest of a piece is copied.
 
 ghost use Rattle.std.specs.Prelude.{◌≡◌, ◌≢◌, ◌⊎◌, ◌<◌, ◌≤◌, ◌++◌, ◌∷◌, [], Err, length, take, drop, max, IfOk, IfErr, OnOk, OnErr, IsOkUnless};
 ghost use Rattle.rbc_msgs.specs.Layout.{length_limit};
@@ -21,7 +20,7 @@ const START_BYTES: usize = 3;
 // The most bytes that a message has.
 const MOST_BYTES: usize = 1023;
 
-/// Reads the messages of the rest and the piece after it. What is left is the rest then.
+/// Reads the messages of the rest and the piece after it, and keeps the new rest.
 pub(crate) fn read_on(
     alloc: Global,
     rest: &mut Vec<u8>,
@@ -43,7 +42,8 @@ pub(crate) fn read_on(
     Ok(())
 }
 
-// Completes the message that the rest begins, as far as the piece goes: how many bytes of it were taken.
+// Completes the message that the rest begins, if the piece has enough bytes. The result is the number of bytes taken
+// from the piece.
 fn complete(
     alloc: Global,
     rest: &mut Vec<u8>,
@@ -70,7 +70,7 @@ fn complete(
     Ok(used)
 }
 
-// Takes bytes of the piece until the rest has n: how many were taken.
+// Moves bytes of the piece to the rest until the rest has n, and returns their number.
 fn extend_to(rest: &mut Vec<u8>, n: usize, piece: &[u8]) -> Result<usize, MsgFault>
     ensures within { IfOk result (λ used. used ≤ length piece.now) }
     ensures taken { IfOk result (λ used. rest.new.items ≡ rest.old.items ++ take used piece.now) }
@@ -83,7 +83,7 @@ fn extend_to(rest: &mut Vec<u8>, n: usize, piece: &[u8]) -> Result<usize, MsgFau
     Ok(used)
 }
 
-// Reads the messages that stand whole at the front: how many bytes they have.
+// Reads the whole messages at the front, and returns the number of their bytes.
 fn read_whole(alloc: Global, bytes: &[u8], out: &mut Vec<TrainMsg>) -> Result<usize, MsgFault>
     ensures within { IfOk result (λ used. used ≤ length bytes.now) }
     ensures read { IfOk result (λ used. Adds out.old.items out.new.items bytes.now (drop used bytes.now)) }
@@ -112,7 +112,7 @@ fn read_one(alloc: Global, bytes: &[u8], out: &mut Vec<TrainMsg>) -> Result<(), 
     Ok(())
 }
 
-// How many bytes have to be there before more can be said of the message that they begin.
+// The number of bytes that the next decision about their first message needs.
 #[tactic(auto, unfolding(crate::specs::Streams::needed_at, crate::specs::Streams::l_message_at))]
 fn needed(bytes: &[u8]) -> Result<usize, MsgFault>
     ensures exact { result ≡ needed_at bytes.now }

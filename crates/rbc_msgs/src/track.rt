@@ -12,7 +12,7 @@ pub const NID_LRBG_UNKNOWN: u32 = 16_777_215;
 /// M_VERSION of the system version 2.0 (SUBSET-026 7.5.1).
 pub(crate) const VERSION_2_0: u64 = 32;
 
-/// What a centre says to a train (SUBSET-026 8.7).
+/// The body of a message of a centre to a train (SUBSET-026 8.7).
 #[derive(Clone, Copy, Debug, PartialEq, Eq)]
 pub enum TrackBody {
     /// Message 3, Movement Authority (3.8).
@@ -75,7 +75,7 @@ impl TrackMsg {
         }
     }
 
-    /// T_TRAIN: the count of messages that the centre has said to the train, from 1 (profile).
+    /// T_TRAIN: the count of messages that the centre has sent to the train, from 1 (profile).
     pub fn t_train(&self) -> u32
         ensures value { result ≡ self.now.t_train }
         ensures range { result < unknown_time }
@@ -91,7 +91,7 @@ impl TrackMsg {
         self.nid_lrbg
     }
 
-    /// What it says.
+    /// Its body.
     pub fn body(&self) -> TrackBody
         ensures { track_body result ≡ self.now.body }
     {

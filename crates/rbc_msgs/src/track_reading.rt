@@ -1,4 +1,4 @@
-//! What follows the header of a centre's message, in the order of the tests.
+//! The fields after the header of a centre's message, in the order of the tests.
 
 ghost use Rattle.std.specs.Prelude.{◌≡◌, ◌++◌, ◌∷◌, IfOk};
 ghost use Rattle.rbc_bits.specs.Bits.{field};
@@ -51,7 +51,7 @@ pub(crate) fn read_body(number: TrackNumber, reader: &mut BitReader) -> Result<T
     }
 }
 
-// Packet 15, which has to stand there.
+// Packet 15, which is required.
 #[tactic(auto, unfolding(crate::specs::TrackReading::end_of_authority_at, rbc_packets::specs::Layout::joined))]
 #[inline(always)]
 fn authority(reader: &mut BitReader) -> Result<Authority, MsgFault>
@@ -63,7 +63,7 @@ fn authority(reader: &mut BitReader) -> Result<Authority, MsgFault>
     Ok(Authority::read_packet(reader)?)
 }
 
-// Packet 131 or packet 42, one of which has to stand there.
+// Packet 131 or packet 42, one of which is required.
 #[tactic(auto, unfolding(crate::specs::TrackReading::general_at, rbc_packets::specs::Layout::joined))]
 #[inline(always)]
 fn general(reader: &mut BitReader) -> Result<TrackBody, MsgFault>

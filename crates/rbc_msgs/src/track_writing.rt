@@ -76,8 +76,8 @@ pub(crate) fn header(number: u64, l_message: u64, message: &TrackMsg) -> BitRow
     row
 }
 
-/// The bytes of a message of this header and this body. Each body is finished by itself: so the place of each field is
-/// known before it is written.
+/// The bytes of a message of this header and this body. Each body is finished separately, so the positions of its
+/// fields are known before they are written.
 #[tactic(auto, unfolding(rbc_packets::specs::Layout::joined))]
 #[inline(always)]
 pub(crate) fn bytes(alloc: Global, mut row: BitRow, body: TrackBody) -> Result<Vec<u8>, EncodeFault>

@@ -60,7 +60,7 @@ impl TrainMsg {
         self.nid_engine
     }
 
-    /// What it says.
+    /// Its body.
     pub fn body(&self) -> &TrainBody
         ensures value { result.now ≡ self.now.body }
         ensures packets { HasItsPackets result.now }

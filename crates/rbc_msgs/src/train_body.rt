@@ -1,7 +1,7 @@
 use rbc_packets::{Opaque, Position};
 use rbc_vars::{QMarqstreason, QStatus, TTrain};
 
-/// What a train says after the header (SUBSET-026 8.6).
+/// The body of a train's message, after the header (SUBSET-026 8.6).
 #[derive(Debug, Drop)]
 pub enum TrainBody {
     /// Message 129, Validated Train Data: packet 11 is kept without being read.

@@ -18,7 +18,7 @@ impl TrainMsg {
     }
 }
 
-// What follows the header.
+// The body, after the header.
 fn copied_body(alloc: Global, body: &TrainBody) -> Result<TrainBody, AllocError>
     ensures { IfOk result (λ copy. copy ≡ body.now) }
 {

@@ -1,4 +1,4 @@
-//! What follows the header of a train's message, in the order of the tests.
+//! The fields after the header of a train's message, in the order of the tests.
 
 ghost use Rattle.std.specs.Prelude.{◌≡◌, ◌^◌, ◌<◌, ◌++◌, [], ◌∷◌, length, IfOk, IfErr};
 ghost use Rattle.std.specs.List.{flat_map, AllByRecursion};
@@ -33,7 +33,7 @@ pub(crate) fn read_body(
     ensures taken { IfOk result (λ body. reader.old ≡ train_body_bits body ++ reader.new) }
     ensures number { IfOk result (λ body. train_number body ≡ train_number_value number) }
     ensures fits { IfOk result TrainBodyFits }
-    // Memory is wanted only for the train data.
+    // Memory is needed only for the train data.
     ensures memory { IfErr result
         (λ e. e ≡ MsgFault.Memory → MayKeep (λ x. data_packets x.0) (train_body_at number reader.old)) }
 {
@@ -119,7 +119,7 @@ fn start_of_mission(reader: &mut BitReader) -> Result<TrainBody, MsgFault>
     Ok(TrainBody::StartOfMission { q_status, position })
 }
 
-// Packet 0, which has to stand there.
+// Packet 0, which is required.
 #[tactic(auto, unfolding(crate::specs::TrainReading::position_packet_at, rbc_packets::specs::Layout::joined))]
 #[inline(always)]
 fn position(reader: &mut BitReader) -> Result<Position, MsgFault>
@@ -131,7 +131,7 @@ fn position(reader: &mut BitReader) -> Result<Position, MsgFault>
     Ok(Position::read_packet(reader)?)
 }
 
-/// Packet 11, which has to stand there.
+/// Packet 11, which is required.
 #[tactic(auto, unfolding(crate::specs::TrainReading::data_packet_at, rbc_packets::specs::Layout::joined))]
 pub(crate) fn data_packet(alloc: Global, reader: &mut BitReader) -> Result<Opaque, MsgFault>
     ensures exact { TakesUnless MsgFault.Memory (λ x. x) result reader.new (data_packet_at reader.old) }
@@ -150,7 +150,7 @@ pub(crate) fn read_further(alloc: Global, reader: &mut BitReader) -> Result<Pack
     ensures exact { TakesUnless MsgFault.Memory (λ x. x) result reader.new (further_at (length reader.old) reader.old) }
     ensures taken { IfOk result (λ ps. reader.old ≡ flat_map packet_bits ps ++ reader.new) }
     ensures fits { IfOk result (AllByRecursion IsFurther) }
-    // Memory is wanted only for a further packet.
+    // Memory is needed only for a further packet.
     ensures memory { IfErr result
         (λ e. e ≡ MsgFault.Memory → MayKeep (λ x. x.0) (further_at (length reader.old) reader.old)) }
 {
@@ -160,13 +160,13 @@ pub(crate) fn read_further(alloc: Global, reader: &mut BitReader) -> Result<Pack
     read_some(alloc, reader)
 }
 
-// The same, where there may be some: a call of its own, since few messages have any.
+// The same, if there may be some. It is a separate call, since few messages have any.
 #[inline(never)]
 fn read_some(alloc: Global, reader: &mut BitReader) -> Result<Packets, MsgFault>
     ensures exact { TakesUnless MsgFault.Memory (λ x. x) result reader.new (further_at (length reader.old) reader.old) }
     ensures taken { IfOk result (λ ps. reader.old ≡ flat_map packet_bits ps ++ reader.new) }
     ensures fits { IfOk result (AllByRecursion IsFurther) }
-    // Memory is wanted only for a further packet.
+    // Memory is needed only for a further packet.
     ensures memory { IfErr result
         (λ e. e ≡ MsgFault.Memory → MayKeep (λ x. x.0) (further_at (length reader.old) reader.old)) }
 {

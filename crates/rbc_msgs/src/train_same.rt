@@ -20,7 +20,7 @@ impl TrainMsg {
     }
 }
 
-// Whether both say the same after the header.
+// Whether the bodies are the same.
 fn is_same_body(a: &TrainBody, b: &TrainBody) -> bool
     ensures { IsTrue result ↔ (a.now ≡ b.now) }
 {

@@ -23,7 +23,7 @@ const HEADER_BITS: u64 = 74;
 // NID_PACKET and L_PACKET.
 const PACKET_HEADER_BITS: u64 = 21;
 
-// What 1 023 bytes have.
+// The number of bits of 1 023 bytes.
 const MOST_BITS: u64 = 8184;
 
 /// L_MESSAGE: how many bytes the message has.
@@ -41,7 +41,7 @@ pub(crate) fn length_of(message: &TrainMsg) -> Result<u64, EncodeFault>
     Ok((bits + 7) / 8)
 }
 
-// How many bits there are with those of the packets. It does not count on where they are too many.
+// The number of bits with those of the packets. The count ends if there are too many.
 fn with_further(front: u64, packets: &[Opaque]) -> Result<u64, EncodeFault>
     requires { front < 2 ^ 14 }
     ensures ok { IfOk result (λ n. n ≡ front + length (flat_map packet_bits packets.now)) }
@@ -67,7 +67,7 @@ fn packet_length(packet: &Opaque) -> u64
     PACKET_HEADER_BITS + u64::from(packet.bits().remaining())
 }
 
-// How many bits stand between the header and the further packets.
+// The number of bits between the header and the further packets.
 fn body_bits(body: &TrainBody) -> u64
     ensures value { result ≡ length (train_body_bits body.now) }
     ensures range { result < 8400 }
@@ -123,8 +123,8 @@ fn header(l_message: u64, message: &TrainMsg) -> BitRow
     row
 }
 
-/// The bytes of a message that has room for L_MESSAGE. Each body is finished by itself: so the places of its fields are
-/// known before they are written.
+/// The bytes of a message that has room for L_MESSAGE. Each body is finished separately, so the positions of its fields
+/// are known before they are written.
 #[tactic(auto, unfolding(rbc_packets::specs::Layout::joined))]
 pub(crate) fn bytes(
     alloc: Global,
@@ -217,7 +217,7 @@ fn finish(
     with_packets(writer, further)
 }
 
-// The bytes of what is written, and of further packets after it, in their order.
+// The written bytes, and further packets after them, in their order.
 fn with_packets(mut writer: BitWriter, packets: &[Opaque]) -> Result<Vec<u8>, EncodeFault>
     requires { All (λ p. p.nid_packet ≢ 0) packets.now }
     ensures ok { IfOk result (λ bytes. bits_of bytes.items ≡ filled (writer ++ flat_map packet_bits packets.now)) }

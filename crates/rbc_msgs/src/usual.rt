@@ -1,6 +1,6 @@
-//! Messages of trains as most of them are: with a position report of the usual length and no further packet. Where the
-//! length and the number are known before one is read, the places of its fields are known, and only values are tested.
-//! None where it is another message, or none: then it is read field by field.
+//! The usual messages of trains: with a position report of the usual length and without a further packet. If the length
+//! and the number are known before one is read, the positions of its fields are known, and only values are tested.
+//! `None` is another message, or a fault; then the bytes are read field by field.
 
 ghost use Rattle.std.specs.Prelude.{◌≡◌, ◌^◌, ◌<◌, ◌++◌, Bool, List, [], Ok, length, IfSome, OnSome};
 ghost use Rattle.rbc_spec.specs.Message.{unknown_time};
@@ -23,8 +23,8 @@ use rbc_packets::{Packets, Position};
 use rbc_vars::{QMarqstreason, QStatus, TTrain};
 use std::alloc::Global;
 
-// How many bytes train data have at least after a position report of the usual length. Where there are so many, the
-// places of the report's fields are known.
+// The least number of bytes of train data after a position report of the usual length. If there are as many, the
+// positions of the report's fields are known.
 const SHORTEST_DATA: usize = 28;
 
 // T_TRAIN, NID_ENGINE, and the bits after the header.
@@ -168,7 +168,7 @@ pub(crate) fn bare(bytes: &[u8]) -> Option<TrainMsg>
     Some(TrainMsg::new(header.t_train, header.nid_engine, body, Packets::none()))
 }
 
-// The body of a message of this number, where it has no bits.
+// The body of a message of this number, if it has no bits.
 #[inline(always)]
 fn bare_body(number: TrainNumber) -> Option<TrainBody>
     ensures number { IfSome result (λ body. train_number body ≡ train_number_value number) }
@@ -215,7 +215,7 @@ fn read_header(number: TrainNumber, bytes: &[u8]) -> Option<Header<'_>>
     })
 }
 
-// A position report of the usual length, after which nothing but filling bits stands.
+// A position report of the usual length, followed only by filling bits.
 #[inline(always)]
 fn last_position(mut rest: BitReader) -> Option<Position>
     ensures taken { IfSome result

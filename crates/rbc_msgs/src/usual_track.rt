@@ -1,6 +1,6 @@
-//! Messages of centres whose fields stand at known places: a movement authority, the order of a transition, the end of
-//! a session, and a header alone. Where the length and the number are known before one is read, only values are tested.
-//! None where it is another message, or none: then it is read field by field.
+//! Messages of centres with fields at known positions: a movement authority, a transition order, the end of a session,
+//! or only a header. If the length and the number are known before one is read, only values are tested. `None` is
+//! another message, or a fault; then the bytes are read field by field.
 
 ghost use Rattle.std.specs.Prelude.{◌≡◌, ◌^◌, ◌<◌, ◌++◌, [], Ok, length, IfSome, OnSome};
 ghost use Rattle.rbc_spec.specs.Message.{unknown_time};
@@ -75,7 +75,7 @@ pub(crate) fn bare(bytes: &[u8]) -> Option<TrackMsg>
     message(header, bare_body(number)?)
 }
 
-// The body of a message of this number, where it has no bits.
+// The body of a message of this number, if it has no bits.
 #[inline(always)]
 fn bare_body(number: TrackNumber) -> Option<TrackBody>
     ensures number { IfSome result (λ body. track_number (track_body body) ≡ track_number_value number) }
@@ -125,7 +125,7 @@ fn read_header(number: TrackNumber, bytes: &[u8]) -> Option<Header<'_>>
     })
 }
 
-// The message with this header and body, where nothing but filling bits follows them.
+// The message with this header and body, if only filling bits follow them.
 #[inline(always)]
 fn message(header: Header, body: TrackBody) -> Option<TrackMsg>
     requires time { header.t_train < unknown_time }

@@ -60,7 +60,7 @@ counted-at cs (p ∷ ps) k within low =
           omega arith
     ]
 
--- from zeros, each count is one exactly where each place was named once
+-- from zeros, each count is one if and only if each position was named once
 module _ (zeros ps : List ℕ) (none : (k : ℕ) → k < length zeros → slice_index zeros k ≡ 0) where
   pub each_once : All (λ c. c ≡ 1) (counted zeros ps) → (k : ℕ) → k < length zeros → count_by (λ p. p == k) ps ≡ 1
   each_once all k within =
@@ -80,7 +80,7 @@ module _ (zeros ps : List ℕ) (none : (k : ℕ) → k < length zeros → slice_
       from_zero : (cs : List ℕ) → ((k : ℕ) → k < length cs → slice_index cs k ≡ 1) → All (λ c. c ≡ 1) cs
       from_zero cs each k d within = All-from_get_or (λ c. c ≡ 1) cs 0 each k d within
 
--- counts that began at nothing tell whether each entry of the log has one receipt
+-- counts from zero decide whether each entry of the log has one receipt
 pub ones_tell : (shares : List ShareValue) (l : LogValue) (zeros counts : List ℕ) (answer : Bool) → zeros ≡ replicate (length l.entries) 0
     → counts ≡ counted zeros (places_of (number_of l.core) shares) → (IsTrue answer → All (λ c. c ≡ 1) counts) × (All (λ c. c ≡ 1) counts → IsTrue answer)
     → (IsTrue answer → HasEachOnce shares l) × (HasEachOnce shares l → IsTrue answer)

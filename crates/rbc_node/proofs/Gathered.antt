@@ -1,4 +1,4 @@
--- What gathering answers, from what uniting the logs does; and single steps of the tests of logs and shares.
+-- The answer of gathering, from the effect of uniting the logs, and single steps of the tests of logs and shares.
 use Rattle.std.proofs.Common.{◌≡◌, ◌<◌, ◌≤◌, ℕ, ◌+◌, List, [], ◌∷◌, ◌==◌, true, false, refl, ne_eqb, length, map, take, All, Bool, IsTrue, Option, Some, None, Result, Ok, Err, inl, inr, slice_get, slice_index_or, sym, ap, subst, ◌∙◌, arith}
 use Rattle.std.proofs.lemmas.List.{take_all}
 use Rattle.std.proofs.lemmas.List.Sorted.{length_permutation}
@@ -55,7 +55,7 @@ map_itself : (logs : List LogValue) → map (λ l. l) logs ≡ logs
 map_itself [] = refl
 map_itself (l ∷ logs) = ap (λ ls. l ∷ ls) (map_itself logs)
 
--- where one log has an entry, all of them have one
+-- if one log has an entry, all of them together have one
 pub some_entry_of : (logs : List LogValue) (i : ℕ) (l : LogValue) → i < length logs → l ≡ slice_index_or logs i l → 0 < length l.entries → 0 < length (all_entries logs)
 some_entry_of logs i l within at some = subst (λ (ls : List LogValue). 0 < length (all_entries ls)) (map_itself logs) (some_entry logs (λ m. m) i l within at some)
 
@@ -63,7 +63,7 @@ some_entry_of logs i l within at some = subst (λ (ls : List LogValue). 0 < leng
 pub not_all : {X : Type 0} (P : X → Type 0) (xs : List X) (i : ℕ) (x : X) → i < length xs → x ≡ slice_index_or xs i x → (P x → ⊥) → All P xs → ⊥
 not_all P xs i x within at none all = none (subst P (sym at) (all i x within))
 
--- ## What stands in a log
+-- ## The entries of a log
 
 empty_tells : {X : Type 0} (xs : List X) (answer : Bool) → answer ≡ (length xs == 0) → (IsTrue answer → xs ≡ []) × (xs ≡ [] → IsTrue answer)
 empty_tells [] answer is = (λ h. refl, λ h. is)
@@ -82,7 +82,7 @@ none_found logs share answer none tells =
       λ h. empty.1 (subst (λ o. AreFound o share.receipts) none h.found),
     )
 
--- what the sender's log has under the frame's number
+-- the frame that the sender's log has under the number
 pub sent_if : (logs : List LogValue) (c from : ℕ) (frame : Frame) (l : LogValue) (o : Option Frame) (answer : Bool) → slice_get logs from ≡ Some l
     → o ≡ frame_number (sent_to c (map entry_of l.entries)) frame.number → (IsTrue answer → o ≡ Some frame) × (o ≡ Some frame → IsTrue answer)
     → (IsTrue answer → IsSent logs c (Deliver from frame)) × (IsSent logs c (Deliver from frame) → IsTrue answer)

@@ -1,4 +1,4 @@
--- Where each frame that was delivered is found at its sender's place, the logs are a family.
+-- If each delivered frame is found in the log at its sender's position, the logs are a family.
 use Rattle.std.proofs.Common.{◌≡◌, ℕ, List, [], map, All, Contains, Option, Some, None, slice_get, slice_index_or, refl, sym, subst, arith}
 use Rattle.std.proofs.lemmas.List.{get_or-map, length-map}
 use Rattle.std.proofs.lemmas.List.Elements.{All-nil, All-map, All-weaker}

@@ -1,4 +1,4 @@
--- Logs of which each stands at the place of its centre's number.
+-- Logs, each at the position of its centre's number.
 use Rattle.std.proofs.Common.{◌≡◌, ℕ, zero, suc, ◌+◌, ◌==◌, List, [], ◌∷◌, map, All, false, Option, Some, None, if◌then◌else◌, slice_get, refl, ap, subst, ◌∙◌, arith, ne_eqb}
 use Rattle.std.specs.Option.{option_map_or}
 use Rattle.std.proofs.lemmas.Bool.{eq-eqb}
@@ -10,7 +10,7 @@ use Rattle.rbc_log.specs.Log.{LogValue}
 use Rattle.rbc_log.specs.Merge.{log_of, logs_by}
 use Rattle.rbc_node.specs.Gather.{AreAtPlaces}
 
--- what holds of all holds of what stands at a place
+-- a property of all items holds of the one at a position
 pub all_get : {X : Type 0} (P : X → Type 0) (xs : List X) (i : ℕ) (x : X) → All P xs → slice_get xs i ≡ Some x → P x
 all_get P xs i x all is = subst P (get_or_from_slice_get xs i x x is) (all i x (slice_get_within xs i x is))
 

@@ -10,7 +10,7 @@ module _ (entries : List Entry) (r : Receipt) (e : Entry) (there : slice_get ent
   is_it : (has : Has entries r) → has.entry ≡ e
   is_it has = same_Some has.entry e (sym has.there ∙ there)
 
-  -- the event is the same, and the outcome as it is told
+  -- the event is the same, and so is the outcome
   pub has_if_same : (b : Bool) → e.event ≡ r.event → (IsTrue b ↔ (outcome_of e.outcome ≡ outcome_of r.outcome)) → (IsTrue b ↔ Has entries r)
   has_if_same b event tells = (
     λ is. record { entry = e; there = there; event = event; outcome = tells.0 is },

@@ -1,4 +1,4 @@
--- What it is to gather logs, and the receipts of what was committed to them.
+-- The gathering of logs, and of the receipts of the commits to them.
 use Rattle.std.specs.Prelude.{◌≡◌, ◌⊎◌, ℕ, ◌<◌, ◌==◌, List, [], map, length, Option, Some, None, Result, Ok, Err, if◌then◌else◌, slice_get, All}
 use Rattle.std.specs.List.{flat_map, count_by, AllAdjacentBelow}
 use Rattle.std.specs.List.Sorted.{IsPermutation, IsNonDecreasingBy}
@@ -35,12 +35,12 @@ AreCentres logs = (line : Line) × AreCentresOf line logs
 abbrev pub Rises : List Receipt → Type 0
 Rises receipts = AllAdjacentBelow (λ q r. q.place < r.place) receipts (length receipts)
 
--- each receipt stands at its place among the entries, and they have the order of the entries
+-- each receipt is at its position among the entries, and the receipts have the order of the entries
 pub record StandIn (entries : List Entry) (receipts : List Receipt) : Type 0 where
   pub there : All (Has entries) receipts
   pub in_order : Rises receipts
 
--- so the receipts stand in the log of their centre; where that has no log, there is no receipt
+-- the receipts are in the log of their centre, in order; a centre without a log has no receipts
 abbrev pub AreFound : Option LogValue → List Receipt → Type 0
 AreFound (Some l) receipts = StandIn l.entries receipts
 AreFound None receipts = receipts ≡ []
@@ -48,7 +48,7 @@ AreFound None receipts = receipts ≡ []
 pub record IsFound (logs : List LogValue) (share : ShareValue) : Type 0 where
   pub found : AreFound (slice_get logs share.centre) share.receipts
 
--- the places that the receipts of a share name, where it is of this centre
+-- the positions that the receipts of a share name, if it is of this centre
 abbrev pub places_in : ℕ → ShareValue → List ℕ
 places_in c share = if share.centre == c then map (λ r. r.place) share.receipts else []
 
@@ -68,7 +68,7 @@ pub record AreShared (logs : List LogValue) (shares : List ShareValue) : Type 0 
 
 -- ## A family
 
--- Of this line: one log for each centre, each replays, and each frame that was delivered stands in its sender's log
+-- Of this line: one log for each centre. Each replays, and each delivered frame is in its sender's log.
 pub record IsFamilyOf (line : Line) (logs : List LogValue) : Type 0 where
   pub centres : AreCentresOf line logs
   pub replay : AreLogs line (logs_by logs) (ends_by line logs)
@@ -84,8 +84,8 @@ pub record IsOrdered (given ordered : List LogValue) : Type 0 where
   pub same : IsPermutation given ordered
   pub by_centre : IsNonDecreasingBy (λ l. number_of l.core) ordered
 
--- when a fault comes: Centres is looked for first, then Shares, then Foreign; memory is wanted only where there is an
--- entry
+-- When each fault is returned. `Centres` is tested first, then `Shares`, then `Foreign`; memory is needed only if there
+-- is an entry.
 abbrev pub IsGatherFault : List LogValue → List ShareValue → GatherFault → Type 0
 IsGatherFault logs shares Memory = AreCentres logs × (0 < length (all_entries logs))
 IsGatherFault logs shares Centres = AreCentres logs → ⊥
@@ -98,8 +98,8 @@ pub record IsUnited (given logs : List LogValue) (shares : List ShareValue) : Ty
   pub family : IsFamily logs
   pub shared : AreShared logs shares
 
--- it is that, or what the logs in the order of their centres lack; or memory ran out for them, or for the order of more
--- than one log
+-- The result is the family, or the fault of the logs in the order of their centres. Or memory ran out for them, or for
+-- the order of more than one log.
 abbrev pub Unites : List LogValue → List ShareValue → Result (List LogValue) GatherFault → Type 0
 Unites given shares (Ok family) = IsUnited given family shares
 Unites given shares (Err Memory) =
@@ -107,7 +107,7 @@ Unites given shares (Err Memory) =
 Unites given shares (Err fault) =
     (ordered : List LogValue) × IsOrdered given ordered × IsGatherFault ordered shares fault
 
--- so it is with some logs that replay, as many as there were nodes; without a node no memory is wanted
+-- the result for some logs that replay, one for each node; without a node no memory is needed
 abbrev pub Gathers : ℕ → List ShareValue → Result (List LogValue) GatherFault → Type 0
 Gathers nodes shares (Err Memory) = 0 < nodes
 Gathers nodes shares result =

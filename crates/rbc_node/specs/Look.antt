@@ -1,4 +1,4 @@
--- What is seen of a node that is looked at.
+-- The log that a look at a node shows.
 use Rattle.std.specs.Sync.Mutex.{mutex_guard_value}
 use Rattle.rbc_log.specs.Log.{LogValue}
 use Rattle.rbc_node.specs.declared.look.Look.{Look}

@@ -1,4 +1,4 @@
--- What is known of a node: the log under its lock is one of its centre that replays.
+-- The facts that are known of a node: the log under its lock is one of its centre, and replays.
 use Rattle.std.specs.Prelude.{◌≡◌, ℕ, map, Option}
 use Rattle.rbc_spec.specs.Frame.{Frame}
 use Rattle.rbc_spec.specs.Outcome.{Outcome}
@@ -26,11 +26,11 @@ abbrev pub CommitsAt : ℕ → ShareValue → ShareValue → Event → Outcome �
 CommitsAt c old new event outcome =
     (before after : LogValue) × IsLogOf c before × Commits old new before after event outcome
 
--- some log of centre c refused it
+-- some log of centre c refused the event
 abbrev pub RefusesAt : ℕ → ShareValue → Event → ShareFault → Type 0
 RefusesAt c share event fault = (before : LogValue) × IsLogOf c before × Refuses share before event fault
 
--- it is what some log of centre c has sent to a centre under a number, if it has
+-- the frame that some log of centre c has sent to a centre under a number, if it has
 abbrev pub IsFrameOf : ℕ → ℕ → ℕ → Option Frame → Type 0
 IsFrameOf c to number frame =
     (l : LogValue) × IsLogOf c l × (frame ≡ frame_number (sent_to to (map entry_of l.entries)) number)

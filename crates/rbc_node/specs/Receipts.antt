@@ -1,4 +1,4 @@
--- What a share has, and where a log has a receipt.
+-- The content of a share, and the position of a receipt in a log.
 use Rattle.std.specs.Prelude.{◌≡◌, ℕ, ◌-◌, List, length, Option, Some, slice_get}
 use Rattle.rbc_spec.specs.Outcome.{Outcome}
 use Rattle.rbc_centre.specs.Views.{outcome_of}
@@ -6,12 +6,12 @@ use Rattle.rbc_centre.specs.declared.event.Event.{Event}
 use Rattle.rbc_log.specs.declared.entry.Entry.{Entry}
 use Rattle.rbc_node.specs.declared.receipt.Receipt.{Receipt}
 
--- a centre's number, and the receipts of what was committed to its log, in order
+-- a centre's number, and the receipts of the commits to its log, in order
 pub record ShareValue : Type 0 where
   pub centre : ℕ
   pub receipts : List Receipt
 
--- what a receipt says: the event, what the centre answered, and the place of their entry in the log
+-- the content of a receipt: the event, its outcome, and the position of their entry in the log
 pub record Committed : Type 0 where
   pub event : Event
   pub outcome : Outcome

@@ -1,4 +1,4 @@
--- Where the frames that were delivered were sent, among logs of which each stands at its centre's number.
+-- The senders of delivered frames, among logs that are each at its centre's number.
 use Rattle.std.specs.Prelude.{◌≡◌, ℕ, List, Some, map, slice_get, All}
 use Rattle.law_logs.specs.Logs.{sent_to}
 use Rattle.rbc_centre.specs.States.{number_of}
@@ -15,10 +15,10 @@ IsSent logs c (Deliver from frame) =
     × (frame_number (sent_to c (map entry_of l.entries)) frame.number ≡ Some frame)
 IsSent logs c event = Unit {0}
 
--- so it is with each frame that the log took
+-- the sender's log has each frame that this log took
 pub record TakesSent (logs : List LogValue) (l : LogValue) : Type 0 where
   pub each : All (λ e. IsSent logs (number_of l.core) e.event) l.entries
 
--- and with each log
+-- the sender's log has each frame that any of the logs took
 abbrev pub AllTakeSent : List LogValue → Type 0
 AllTakeSent logs = All (TakesSent logs) logs

@@ -25,7 +25,7 @@ pub(crate) fn have_each_once(
     Ok(true)
 }
 
-// Whether each entry of the log is named by exactly one receipt. It takes no memory where there is no entry.
+// Whether each entry of the log is named by exactly one receipt. For an empty log it takes no memory.
 fn has_each_once(alloc: Global, log: &CentreLog, shares: &[Share]) -> Result<bool, AllocError>
     ensures exact { IfOk result (λ answer. IsTrue answer ↔ HasEachOnce shares.now log.now) }
     ensures memory { OnErr result (0 < length log.now.entries) }
@@ -47,7 +47,7 @@ fn count_shares(counts: &mut Vec<u8>, centre: u8, shares: &[Share])
     }
 }
 
-// Counts the places that the receipts of a share name, where it is of this centre.
+// Counts the positions that the receipts of a share name, if it is of this centre.
 fn count_share(counts: &mut Vec<u8>, centre: u8, share: &Share)
     ensures { counts.new.items ≡ counted counts.old.items (places_in centre share.now) }
 {

@@ -2,7 +2,7 @@ use rbc_log::CentreLog;
 use std::marker::Model;
 
 /// The logs of a line's centres that ran side by side: one for each, in the order of the centres. Each replays, and
-/// each frame that was delivered stands in its sender's log.
+/// each delivered frame is in its sender's log.
 #[derive(Drop)]
 pub struct Family {
     logs: Vec<CentreLog>,

@@ -1,6 +1,8 @@
 ghost use Rattle.std.specs.Prelude.{◌≡◌};
-ghost use Rattle.rbc_node.specs.Faults.{share_fault, number_of_fault};
-ghost use Rattle.rbc_node.specs.declared.fault.ShareFault.TheVariants.{Memory};
+ghost use Rattle.rbc_centre.specs.declared.fault.StepFault.TheVariants.{Memory};
+ghost use Rattle.rbc_log.specs.declared.fault.CommitFault.TheVariants.{Step};
+ghost use Rattle.rbc_node.specs.Faults.{number_of_fault};
+ghost use Rattle.rbc_node.specs.declared.fault.ShareFault.TheVariants.{Commit};
 
 use rbc_log::CommitFault;
 use std::alloc::AllocError;
@@ -8,45 +10,37 @@ use std::alloc::AllocError;
 /// Why a commit with a share was refused. A refused commit changes neither the log nor the share.
 #[derive(Clone, Copy, Debug, PartialEq, Eq)]
 pub enum ShareFault {
-    /// Memory ran out.
-    Memory = 1,
-    /// A link to another centre has too few numbers left.
-    LinkFull = 2,
-    /// The stamp of the step would pass the last one.
-    ClockEnd = 3,
-    /// The log holds as many entries as it may.
-    LogFull = 4,
-    /// The share is of another centre than the log, or the log lacks the share's last receipt at its place. It is
-    /// looked for first.
-    Stray = 5,
+    /// The log refused the commit, or memory ran out.
+    Commit(CommitFault),
+    /// The share is of another centre than the log, or the log lacks the share's last receipt at its position. This is
+    /// tested first.
+    Stray,
 }
 
 impl ShareFault {
-    /// The number that is printed.
+    /// The number that is printed: that of the commit's fault, or 5.
     pub fn number(self) -> u8
         ensures { result ≡ number_of_fault self }
     {
-        self as u8
+        match self {
+            ShareFault::Commit(fault) => fault.number(),
+            ShareFault::Stray => 5,
+        }
     }
 }
 
 impl From<AllocError> for ShareFault {
-    ghost from_gives = { λ _ fault. fault ≡ Memory };
+    ghost from_gives = { λ _ fault. fault ≡ Commit (Step Memory) };
 
-    fn from(_error: AllocError) -> ShareFault {
-        ShareFault::Memory
+    fn from(error: AllocError) -> ShareFault {
+        ShareFault::Commit(CommitFault::from(error))
     }
 }
 
 impl From<CommitFault> for ShareFault {
-    ghost from_gives = { λ commit fault. fault ≡ share_fault commit };
+    ghost from_gives = { λ commit fault. fault ≡ Commit commit };
 
     fn from(fault: CommitFault) -> ShareFault {
-        match fault {
-            CommitFault::Memory => ShareFault::Memory,
-            CommitFault::LinkFull => ShareFault::LinkFull,
-            CommitFault::ClockEnd => ShareFault::ClockEnd,
-            CommitFault::LogFull => ShareFault::LogFull,
-        }
+        ShareFault::Commit(fault)
     }
 }

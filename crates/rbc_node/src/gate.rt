@@ -1,10 +1,9 @@
-/// What is told of each commit at a node, by its centre's number: a test can hold one commit back until another is
-/// answered.
+/// Receives each commit at a node, by its centre's number. A test can hold one commit back until another is answered.
 pub trait Gate {
-    /// The lock of the centre's log is held, and the commit comes next.
+    /// The lock of the centre's log is held, and the commit follows.
     fn inside(&self, centre: u8);
 
-    /// The lock is free again, whatever the commit was answered.
+    /// The lock is free again, after any answer to the commit.
     fn after(&self, centre: u8);
 }
 

@@ -9,8 +9,8 @@ use std::alloc::AllocError;
 pub enum GatherFault {
     /// Memory ran out.
     Memory = 1,
-    /// A log's entries are not the receipts of its shares, each once and each share's in its order; or a share with a
-    /// receipt is of a centre that has no log.
+    /// The entries of a log are not the receipts of its shares, each once and each share's in order. Or a share with a
+    /// receipt is of a centre without a log.
     Shares = 2,
     /// A log took a frame that its sender's log does not have, as sent to that centre, under that number.
     Foreign = 3,

@@ -16,19 +16,19 @@ use rbc_line::Line;
 use rbc_log::{CentreLog, Entry};
 use std::alloc::{AllocError, Global};
 
-/// Takes the nodes apart, and unites the logs that they held, as `unite` does with the same faults. On a fault the
-/// nodes and the shares are dropped. No clause can name the log that a node held: the answer is that of some logs that
-/// replay, one for each node. It takes no memory where there is no node.
+/// Takes the nodes apart, and unites their logs, with the faults of `unite`. On a fault the nodes and the shares are
+/// dropped. No clause can name the log that a node held: the answer is that of some logs that replay, one for each
+/// node. Without a node it takes no memory.
 pub fn gather(alloc: Global, nodes: Vec<Node>, shares: Vec<Share>) -> Result<Family, GatherFault>
     ensures { Gathers (vec_len nodes) shares.items result }
 {
     unite(logs_of(alloc, nodes)?, shares.as_slice())
 }
 
-/// Takes the logs as a family: one for each centre of one line, the entries of each are the receipts of its shares,
-/// each once and each share's in its order, and each frame that was delivered was sent. What they lack is told:
-/// `Centres` is looked for first, then `Shares`, then `Foreign`. Its time grows with the entries and the receipts. It
-/// takes no memory for one log without an entry.
+/// Takes the logs as a family. There is one for each centre of one line. The entries of each are the receipts of its
+/// shares, each once and each share's in order. Each delivered frame was sent. Else the fault is returned: `Centres` is
+/// tested first, then `Shares`, then `Foreign`. Its time grows with the entries and the receipts. For one log without
+/// an entry it takes no memory.
 pub fn unite(logs: Vec<CentreLog>, shares: &[Share]) -> Result<Family, GatherFault>
     ensures { Unites logs.items shares.now result }
 {
@@ -37,7 +37,8 @@ pub fn unite(logs: Vec<CentreLog>, shares: &[Share]) -> Result<Family, GatherFau
     Ok(Family::of(logs))
 }
 
-// Says what the logs, in the order of their centres, lack to be a family whose entries are the receipts of the shares.
+// Whether the logs, in the order of their centres, are a family whose entries are the receipts of the shares; else the
+// fault.
 fn are_family(alloc: Global, logs: &[CentreLog], shares: &[Share]) -> Result<(), GatherFault>
     ensures family { OnOk result (IsFamily logs.now) }
     ensures shared { OnOk result (AreShared logs.now shares.now) }
@@ -114,14 +115,14 @@ fn are_shared(alloc: Global, logs: &[CentreLog], shares: &[Share]) -> Result<boo
     have_each_once(alloc, logs, shares)
 }
 
-// Whether the receipts of each share stand in the log of its centre.
+// Whether the receipts of each share are in the log of its centre.
 fn are_found(logs: &[CentreLog], shares: &[Share]) -> bool
     ensures { IsTrue result ↔ All (IsFound logs.now) shares.now }
 {
     shares.iter().all(|share| is_found(logs, share))
 }
 
-// Whether the receipts of the share stand in the log of its centre.
+// Whether the receipts of the share are in the log of its centre.
 fn is_found(logs: &[CentreLog], share: &Share) -> bool
     ensures { IsTrue result ↔ IsFound logs.now share.now }
 {
@@ -131,14 +132,14 @@ fn is_found(logs: &[CentreLog], share: &Share) -> bool
     }
 }
 
-// Whether each receipt stands at its place among the entries, and they have the order of the entries.
+// Whether each receipt is at its position among the entries, and they have the order of the entries.
 fn stand_in(entries: &[Entry], receipts: &[Receipt]) -> bool
     ensures { IsTrue result ↔ StandIn entries.now receipts.now }
 {
     are_there(entries, receipts) && rise(receipts)
 }
 
-// Whether each receipt stands at its place among the entries.
+// Whether each receipt is at its position among the entries.
 fn are_there(entries: &[Entry], receipts: &[Receipt]) -> bool
     ensures { IsTrue result ↔ All (Has entries.now) receipts.now }
 {

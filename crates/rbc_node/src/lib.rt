@@ -1,7 +1,7 @@
-//! A centre that several threads commit to: its log under a lock, and what each of them has of what it committed. What
-//! the threads have, held against the logs, makes these a family.
+//! A centre to which several threads commit. Its log is under a lock, and each thread has the receipts of its own
+//! commits. The receipts, compared with the logs, make these a family.
 //!
-//! Bodies and proofs are free. The clauses of public functions stay, since the crates above stand on them.
+//! Bodies and proofs may change. The clauses of public functions have to stay: the crates above depend on them.
 #![tactic(auto)]
 
 mod counts;

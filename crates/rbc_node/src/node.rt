@@ -46,10 +46,10 @@ impl Node {
         Share::new(self.alloc, self.centre)
     }
 
-    /// Takes the lock of the log once, and makes one commit of the share under it. The gate is told while the lock is
-    /// held, and once it is free. No clause can name the log under the lock: the commit is one to some log of the
-    /// centre that replays. So it is Stray only where the share is of another centre, or has a receipt that the log
-    /// lacks.
+    /// Takes the lock of the log once, and makes one commit of the share under it. The gate is notified while the lock
+    /// is held, and again once it is free. No clause can name the log under the lock: the commit is one to some log of
+    /// the centre that replays. So the fault is `Stray` only if the share is of another centre, or has a receipt that
+    /// the log lacks.
     pub fn commit<R: Wait, G: Gate>(
         &self,
         rt: &R,
@@ -69,7 +69,7 @@ impl Node {
         answer
     }
 
-    /// The frame of this number that the centre has sent to another, of some log of the centre that replays. None where
+    /// The frame of this number that the centre has sent to another, of some log of the centre that replays. `None` if
     /// that log has not sent it yet. It takes the lock once.
     pub fn frame<R: Wait>(&self, rt: &R, to: u8, number: u32) -> Option<Frame>
         ensures { IsFrameOf (centre_of self.now) to number result }
@@ -78,8 +78,7 @@ impl Node {
         log.frame(to, number)
     }
 
-    /// Takes the lock of the log once, for as long as what is given is kept, and lends the log: one of the centre that
-    /// replays.
+    /// Takes the lock of the log once, until the result is dropped, and lends the log: one of the centre that replays.
     pub fn look<R: Wait>(&self, rt: &R) -> Look<'_>
         ensures { IsLogOf (centre_of self.now) (log_seen result) }
     {
@@ -100,8 +99,8 @@ impl Node {
         log
     }
 
-    // Takes the lock of the log. No fact spans the lock and the number beside it, so the number is looked at under the
-    // lock: it is that of the node, and the first turn is the last.
+    // Takes the lock of the log. No fact spans the lock and the number beside it, so the number is tested under the
+    // lock. It is that of the node, and the first turn is the last.
     fn locked<R: Wait>(&self, rt: &R) -> MutexGuard<'_, CentreLog>
         ensures { number_of (mutex_guard_value result).core ≡ centre_of self.now }
     {

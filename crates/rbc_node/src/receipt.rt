@@ -4,8 +4,7 @@ ghost use Rattle.rbc_node.specs.Receipts.{Has};
 use rbc_centre::{Event, Outcome};
 use rbc_log::Entry;
 
-/// What is kept of an event that was committed: the event, what the centre answered, and the place of its entry in the
-/// centre's log.
+/// The record of a committed event: the event, its outcome, and the position of its entry in the centre's log.
 #[derive(Debug, Drop)]
 pub struct Receipt {
     pub event: Event,

@@ -10,7 +10,7 @@ use rbc_log::{CentreLog, CommitFault, MOST_ENTRIES};
 use std::alloc::Global;
 use std::marker::Model;
 
-/// What one thread committed to the log of one centre: a receipt of each event, in the order of its commits.
+/// The commits of one thread to the log of one centre: a receipt of each event, in the order of its commits.
 #[derive(Debug, Drop)]
 pub struct Share {
     centre: u8,
@@ -28,7 +28,7 @@ impl Model for Share {
 }
 
 impl Share {
-    /// A share of the centre that has committed nothing.
+    /// A share of the centre without a commit.
     pub(crate) fn new(alloc: Global, centre: u8) -> Share
         ensures { result ≡ record { centre = centre; receipts = [] } }
     {
@@ -53,8 +53,8 @@ impl Share {
         self.receipts.as_slice()
     }
 
-    /// Whether the log is of the share's centre and has the share's last receipt at its place. It looks at no more than
-    /// that entry.
+    /// Whether the log is of the share's centre and has the share's last receipt at its position. It reads only that
+    /// entry.
     fn fits(&self, log: &CentreLog) -> bool
         ensures fits { IsTrue result ↔ Fits self.now log.now }
         ensures replays { IsReplaying log.now }
@@ -68,7 +68,7 @@ impl Share {
         }
     }
 
-    /// The log takes the event, and the share has its receipt. Room for the receipt is made first.
+    /// The log takes the event, and the share gets its receipt. Room for the receipt is made first.
     pub fn commit(&mut self, log: &mut CentreLog, event: Event) -> Result<Outcome, ShareFault>
         ensures commits { IfOk result (λ o. Commits self.old self.new log.old log.new event (outcome_of o)) }
         ensures refused { IfErr result (Refuses self.old log.old event) }
@@ -82,7 +82,7 @@ impl Share {
         }
         let place = log.entries().len();
         if place >= MOST_ENTRIES {
-            return Err(ShareFault::LogFull);
+            return Err(ShareFault::Commit(CommitFault::LogFull));
         }
         if let Err(fault) = log.core().may_step(&event) {
             return Err(ShareFault::from(CommitFault::from(fault)));

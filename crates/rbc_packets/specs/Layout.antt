@@ -17,11 +17,11 @@ abbrev pub widths : List Field → ℕ
 widths [] = 0
 widths (f ∷ fields) = f.0 + widths fields
 
--- what follows NID_PACKET of a train's packet: L_PACKET, which counts the bits of the whole packet, and its
--- fields
+-- The fields after NID_PACKET of a train's packet: L_PACKET, which counts the bits of the whole packet, and the
+-- packet's own fields.
 abbrev pub train_packet : List Field → List Field
 train_packet fields = (13, 21 + widths fields) ∷ fields
 
--- the same of a packet of a centre, where Q_DIR stands before L_PACKET: 1, nominal (profile)
+-- the fields after NID_PACKET of a centre's packet, with Q_DIR before L_PACKET: 1, nominal (profile)
 abbrev pub track_packet : List Field → List Field
 track_packet fields = (2, 1) ∷ (13, 23 + widths fields) ∷ fields

@@ -6,7 +6,7 @@ use Rattle.rbc_packets.specs.Packet.{Packet}
 use Rattle.rbc_packets.specs.Reading.{train_part_at}
 use Rattle.rbc_packets.specs.declared.fault.PacketFault.{PacketFault}
 
--- what follows NID_PACKET: L_PACKET, and the bits
+-- the bits after NID_PACKET: L_PACKET, and the packet's own bits
 unfoldable pub opaque_bits : Packet → List Bool
 opaque_bits p = joined ((13, 21 + length p.bits) ∷ []) ++ p.bits
 

@@ -1,4 +1,4 @@
--- What the bytes of an opaque packet stand for.
+-- The plain data of an opaque packet.
 use Rattle.std.specs.Prelude.{◌*◌, ◌^◌, ◌<◌, ◌≤◌, length, take}
 use Rattle.rbc_bits.specs.Bits.{bits_of}
 use Rattle.rbc_packets.specs.Packet.{Packet}
@@ -9,7 +9,7 @@ abbrev pub packet_of : Inside → Packet
 packet_of p =
     record { nid_packet = p.kept.value.nid_packet; bits = take p.kept.value.count (bits_of p.kept.value.bytes.items) }
 
--- as many as there are, and no more than L_PACKET can say
+-- not more bits than there are, nor than L_PACKET can name
 abbrev pub HasPacketRanges : Inside → Type 0
 HasPacketRanges p =
     (p.kept.value.count ≤ 8 * length p.kept.value.bytes.items) × (p.kept.value.count < 8171)

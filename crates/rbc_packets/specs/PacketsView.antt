@@ -1,4 +1,4 @@
--- What a pointer to packets, or none, stands for.
+-- The plain data of an optional pointer to packets.
 use Rattle.std.specs.Prelude.{List, []}
 use Rattle.std.specs.Option.{option_map, unwrap_or}
 use Rattle.rbc_packets.specs.Packet.{Packet}

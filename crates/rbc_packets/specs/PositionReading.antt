@@ -38,7 +38,7 @@ location_at bits = do
     l_doubtunder.1,
   )
 
--- L_TRAININT stands only where Q_LENGTH is 1 or 2
+-- L_TRAININT is there only if Q_LENGTH is 1 or 2
 abbrev pub l_trainint_at : QLength → List Bool → Result (TrainLength × List Bool) PacketFault
 l_trainint_at q_length.NoInformation bits = Ok (train_length.NoInformation, bits)
 l_trainint_at q_length.ConfirmedByDevice bits =
@@ -52,7 +52,7 @@ train_length_at bits = do
   q_length ← q_length_at bits
   l_trainint_at q_length.0 q_length.1
 
--- NID_NTC stands only where M_LEVEL is 1
+-- NID_NTC is there only if M_LEVEL is 1
 abbrev pub nid_ntc_at : MLevel → List Bool → Result (Level × List Bool) PacketFault
 nid_ntc_at m_level.Level0 bits = Ok (level.Level0, bits)
 nid_ntc_at m_level.Ntc bits = field_at Length 8 bits >>= λ n. Ok (level.Ntc n.0, n.1)

@@ -16,7 +16,7 @@ location_fields l =
     ∷ (2, direction_value l.q_dlrbg)
     ∷ (15, l.l_doubtover) ∷ (15, l.l_doubtunder) ∷ []
 
--- Q_LENGTH, and L_TRAININT where integrity is confirmed
+-- Q_LENGTH, and L_TRAININT if train integrity is confirmed
 abbrev pub train_length_fields : TrainLength → List Field
 train_length_fields train_length.NoInformation = (2, 0) ∷ []
 train_length_fields (train_length.ConfirmedByDevice l_trainint) = (2, 1) ∷ (15, l_trainint) ∷ []
@@ -27,7 +27,7 @@ train_length_fields train_length.Lost = (2, 3) ∷ []
 abbrev pub running_fields : Position → List Field
 running_fields p = (7, p.v_train) ∷ (2, direction_value p.q_dirtrain) ∷ (4, p.m_mode) ∷ []
 
--- M_LEVEL, and NID_NTC where it is level NTC
+-- M_LEVEL, and NID_NTC for level NTC
 abbrev pub level_fields : Level → List Field
 level_fields level.Level0 = (3, 0) ∷ []
 level_fields (level.Ntc nid_ntc) = (3, 1) ∷ (8, nid_ntc) ∷ []

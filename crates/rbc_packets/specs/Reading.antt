@@ -21,7 +21,8 @@ train_part_at bits = do
   _ ← refuse (nat_lt l_packet.0 21) Length
   part_at Short (l_packet.0 - 21) l_packet.1
 
--- the same of a packet of a centre, whose header has 23 bits: Q_DIR is the first of its fields to be looked at
+-- The bits of a centre's packet after its header, and those after the packet. The header has 23 bits. The value of
+-- Q_DIR is tested before the fields after the header.
 unfoldable pub track_part_at : List Bool → Result (List Bool × List Bool) PacketFault
 track_part_at bits = do
   q_dir ← field_at Short 2 bits
@@ -31,11 +32,11 @@ track_part_at bits = do
   _ ← refuse (not (q_dir.0 == 1)) Value
   Ok part
 
--- after the last field of a packet nothing may stand
+-- nothing may follow the last field of a packet
 unfoldable pub none_left : List Bool → Result (Unit {0}) PacketFault
 none_left bits = refuse (nat_lt 0 (length bits)) Length
 
--- ## Fields: one that does not lie whole within L_PACKET is a wrong length
+-- ## Fields: one that is not wholly within L_PACKET is a wrong length
 
 -- a field of n bits that is given one value: any other is refused
 unfoldable pub fixed_at : ℕ → ℕ → List Bool → Result (Unit {0} × List Bool) PacketFault

@@ -28,10 +28,10 @@ impl Authority {
     /// Reads the packet after its NID_PACKET.
     #[inline(always)]
     pub fn read_packet(reader: &mut BitReader) -> Result<Self, PacketFault>
-        // What is read is spelled so.
+        // The bits spell the value that is read.
         ensures found { IfOk result
             (λ a. (reader.old ≡ joined (track_packet (authority_fields a)) ++ reader.new) × AuthorityFits a) }
-        // What is spelled so is read.
+        // A spelled value is read.
         ensures only { (a : Authority) (rest : List Bool) → AuthorityFits a
             → reader.old ≡ joined (track_packet (authority_fields a)) ++ rest → (result ≡ Ok a) × (reader.new ≡ rest) }
         // Which fault it is.
@@ -67,8 +67,8 @@ impl Authority {
         Ok(Authority { l_endsection })
     }
 
-    /// The packet with its NID_PACKET. None where it is another, or where a value is refused. All of its bits but those
-    /// of L_ENDSECTION have one value: so they are read as few fields, and nothing but values is tested.
+    /// The packet with its NID_PACKET. `None` if it is another, or if a value is refused. All of its bits but those of
+    /// L_ENDSECTION have one value. So they are read as few fields, and only values are tested.
     #[tactic(auto, unfolding(crate::specs::Layout::joined))]
     #[inline(always)]
     pub fn usual(reader: &mut BitReader) -> Option<Self>

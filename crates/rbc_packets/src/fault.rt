@@ -3,7 +3,7 @@ ghost use Rattle.rbc_packets.specs.declared.fault.PacketFault.TheVariants.{Memor
 
 use rbc_bits::BitFault;
 
-/// Why bits are no packet that is read, or a packet was not read or written for want of memory.
+/// Why bits are not a readable packet, or why a packet was not read or written when memory ran out.
 #[derive(Clone, Copy, Debug, PartialEq, Eq)]
 pub enum PacketFault {
     /// The header is cut off, or L_PACKET passes the end of the message.
@@ -16,7 +16,7 @@ pub enum PacketFault {
     Memory = 4,
 }
 
-// A writer refuses for want of memory alone.
+// A writer refuses only if memory runs out.
 impl From<BitFault> for PacketFault {
     ghost from_gives = { λ _ fault. fault ≡ Memory };
 

@@ -9,7 +9,7 @@ use crate::reading::{m_level, take};
 use rbc_bits::{BitPart, BitRow, BitWord};
 use rbc_vars::{MLevel, NidNtc};
 
-/// M_LEVEL and NID_NTC: the level under which the train runs, and the national system where it is level NTC.
+/// M_LEVEL and NID_NTC: the level under which the train runs, and the national system for level NTC.
 #[derive(Clone, Copy, Debug, PartialEq, Eq)]
 pub enum Level {
     /// Level 0.
@@ -53,7 +53,7 @@ impl Level {
         }
     }
 
-    /// The field at the front of a word that has it. None where NID_NTC follows.
+    /// The field at the front of a word that has it; `None` if NID_NTC follows.
     #[tactic(auto, unfolding(crate::specs::Layout::joined))]
     #[inline(always)]
     pub(crate) fn usual(word: &mut BitWord) -> Option<Self>

@@ -1,7 +1,7 @@
-//! The packets of radio messages (SUBSET-026 7.4): each a struct of typed fields, read from the bits after NID_PACKET
-//! with the first fault that is met, and written as its one spelling.
+//! The packets of radio messages (SUBSET-026 7.4). Each is a struct of typed fields. It is read from the bits after
+//! NID_PACKET, with the first fault in the order of the tests, and written as its one spelling.
 //!
-//! Bodies and proofs are free. The clauses of public functions stay, since the crates above stand on them.
+//! Bodies and proofs may change. The clauses of public functions have to stay: the crates above depend on them.
 #![tactic(auto)]
 
 mod authority;

@@ -9,7 +9,8 @@ use crate::reading::{direction, q_scale, take};
 use rbc_bits::{BitPart, BitRow, BitWord};
 use rbc_vars::{DLrbg, Direction, LDoubtover, LDoubtunder, NidLrbg, QScale};
 
-/// Where the train is: its estimated front end from a balise group, and how far it may be in rear and in advance of it.
+/// The position of the train: its estimated front end from a balise group, and its doubts in rear and in advance of
+/// that.
 #[derive(Clone, Copy, Debug, PartialEq, Eq)]
 pub struct Location {
     /// The balise group.
@@ -18,7 +19,7 @@ pub struct Location {
     pub q_scale: QScale,
     /// From the group to the estimated front end.
     pub d_lrbg: DLrbg,
-    /// Which way the train stands.
+    /// The orientation of the train.
     pub q_dirlrbg: Direction,
     /// On which side of the group its front end is.
     pub q_dlrbg: Direction,

@@ -13,14 +13,14 @@ use smallvec::SmallVec;
 use std::alloc::Global;
 use std::marker::Model;
 
-// How many bits a row has room for after a header, a position report and the header of a packet.
+// The room, in bits, of a `BitRow` after a header, a position report and the header of a packet.
 const MOST_FEW: u32 = 24;
 
-// How many bytes stand in the value itself: those of a word.
+// The number of bytes in the value itself: those of a word.
 const IN_PLACE: usize = 16;
 
-/// A packet of a train that is kept without being read: its NID_PACKET, and the bits after its header. It is under a
-/// pointer, since few messages have one, and each is as large as the largest.
+/// A packet of a train that is kept without being read: its NID_PACKET, and the bits after its header. It is held by a
+/// pointer, since few messages have one, and each has the size of the largest.
 #[derive(Debug, Drop)]
 pub struct Opaque {
     kept: Box<Kept>,
@@ -71,10 +71,10 @@ impl Opaque {
         nid_packet: u8,
         reader: &mut BitReader,
     ) -> Result<Self, PacketFault>
-        // What is read is spelled so.
+        // The bits spell the value that is read.
         ensures found { IfOk result
             (λ p. (reader.old ≡ opaque_bits p ++ reader.new) × (p.nid_packet ≡ nid_packet) × PacketFits p) }
-        // What is spelled so is read, unless memory runs out.
+        // A spelled value is read, unless memory runs out.
         ensures only { (p : Packet) (rest : List Bool) → PacketFits p → p.nid_packet ≡ nid_packet
             → reader.old ≡ opaque_bits p ++ rest →
             TakesUnless PacketFault.Memory (λ x. x) result reader.new (Ok (p, rest)) }
@@ -109,7 +109,7 @@ impl Opaque {
         Ok(writer)
     }
 
-    /// Writes the packet into a row. None where it has more than 24 bits after its header: then nothing is written.
+    /// Writes the packet into a `BitRow`. `None` if it has more than 24 bits after its header; then nothing is written.
     #[inline(always)]
     pub fn put_few(&self, row: &mut BitRow) -> Option<()>
         requires room { length row.old + 45 ≤ 256 }
@@ -168,7 +168,7 @@ fn put_bits(row: &mut BitRow, mut part: BitReader)
     }
 }
 
-// The bytes of the bits, where they stand in one word without memory.
+// The bytes of the bits; without memory if they fit in one word.
 #[inline(always)]
 fn bytes_of(alloc: Global, bits: BitReader) -> Result<SmallVec<u8, IN_PLACE>, PacketFault>
     requires { length bits < 8171 }
@@ -182,7 +182,7 @@ fn bytes_of(alloc: Global, bits: BitReader) -> Result<SmallVec<u8, IN_PLACE>, Pa
     }
 }
 
-// The bytes of the bits. It is a call, since most packets stand in one word.
+// The bytes of the bits. It is a separate call, since most packets fit in one word.
 #[inline(never)]
 fn written(alloc: Global, bits: BitReader) -> Result<Vec<u8>, PacketFault>
     ensures ok { IfOk result (λ bytes. bits_of bytes.items ≡ filled bits.entry) }

@@ -32,7 +32,7 @@ impl Packets {
     /// These packets.
     pub fn of(alloc: Global, packets: Vec<Opaque>) -> Result<Packets, AllocError>
         ensures ok { IfOk result (λ p. p ≡ packets.items) }
-        // No packets want no memory.
+        // An empty list needs no memory.
         ensures memory { IfErr result (λ _. packets.items ≢ []) }
     {
         if packets.is_empty() {

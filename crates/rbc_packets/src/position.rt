@@ -17,7 +17,7 @@ use rbc_vars::{Direction, MMode, VTrain};
 /// Packet 0, position report (7.4.3.1).
 #[derive(Clone, Copy, Debug, PartialEq, Eq)]
 pub struct Position {
-    /// Where the train is.
+    /// The position of the train.
     pub location: Location,
     /// Its speed.
     pub v_train: VTrain,
@@ -47,10 +47,10 @@ impl Position {
     /// Reads the packet after its NID_PACKET.
     #[inline(always)]
     pub fn read_packet(reader: &mut BitReader) -> Result<Self, PacketFault>
-        // What is read is spelled so.
+        // The bits spell the value that is read.
         ensures found { IfOk result
             (λ p. (reader.old ≡ joined (train_packet (position_fields p)) ++ reader.new) × PositionFits p) }
-        // What is spelled so is read.
+        // A spelled value is read.
         ensures only { (p : Position) (rest : List Bool) → PositionFits p
             → reader.old ≡ joined (train_packet (position_fields p)) ++ rest → (result ≡ Ok p) × (reader.new ≡ rest) }
         // Which fault it is.
@@ -74,8 +74,8 @@ impl Position {
         Ok(position)
     }
 
-    /// The bits after the header of a packet that has as many as most reports: those of a train whose length is known,
-    /// and that runs under no national system. None where it has fewer or more, or where they stand in no word.
+    /// The bits after the header of a packet of the usual length: that of a train with a known length and without a
+    /// national system. `None` if it has fewer or more bits, or if they do not fit in one word.
     #[inline(always)]
     pub fn usual_bits(reader: &mut BitReader) -> Option<BitWord>
         ensures taken { IfSome result (λ bits. reader.old ≡ field 13 129 ++ (bits ++ reader.new)) }
@@ -90,8 +90,8 @@ impl Position {
         bits.word()
     }
 
-    /// The position report of these bits. None where they tell no length, or where a value is refused. The places of
-    /// its fields are known, so nothing but values is tested.
+    /// The position report of these bits. `None` if they have no train length, or if a value is refused. The positions
+    /// of its fields are known, so only values are tested.
     #[tactic(auto, unfolding(crate::specs::Layout::joined))]
     #[inline(always)]
     pub fn of_usual(mut bits: BitWord) -> Option<Self>
@@ -114,8 +114,8 @@ impl Position {
         })
     }
 
-    // All bits after the header, which stand in no word. It is a function of its own, so that the fields of the others
-    // are read with no test of where they stand.
+    // All bits after the header, if they do not fit in one word. It is a function of its own, so that the fields of the
+    // others are read without a test of their positions.
     #[inline(never)]
     fn far(bits: BitReader) -> Result<Self, PacketFault>
         ensures exact { (rest : List Bool) → Takes (λ x. x) result rest (position_part_at bits.entry rest) }
@@ -199,7 +199,7 @@ impl Position {
     }
 }
 
-// All bits after the header in one word, where they may be enough.
+// All bits after the header in one word, if that may suffice.
 #[inline(always)]
 fn in_word<'a>(bits: &BitReader<'a>) -> Option<BitPart<'a>>
     ensures { IfSome result (λ part. part ≡ bits.now) }

@@ -1,5 +1,5 @@
 //! The parts that packets have in common, read in the order of the tests. Those of usual packets (`usual_..`) are read
-//! as few fields; where they are others, no fault is named.
+//! as few fields; if they are others, no fault is returned.
 
 ghost use Rattle.std.specs.Prelude.{◌≡◌, ◌+◌, ◌^◌, ◌<◌, ◌≤◌, ◌++◌, ◌∷◌, [], length, IfOk, OnOk, IfSome, OnSome};
 ghost use Rattle.rbc_bits.specs.Bits.{field};
@@ -59,7 +59,7 @@ pub(crate) fn track_part<'a>(reader: &mut BitReader<'a>) -> Result<BitReader<'a>
     Ok(part)
 }
 
-/// After the last field of a packet nothing may stand.
+/// Checks that nothing follows the last field of a packet.
 #[tactic(auto, unfolding(crate::specs::Reading::none_left))]
 #[inline(always)]
 pub(crate) fn end(part: BitPart) -> Result<(), PacketFault>
@@ -150,7 +150,7 @@ pub(crate) fn take_radio(part: &mut BitPart) -> Result<(), PacketFault>
     take_fixed(part, 1, 0)
 }
 
-/// A field of n bits, which has to lie whole within L_PACKET.
+/// A field of n bits, which has to be wholly within L_PACKET.
 #[inline(always)]
 pub(crate) fn take(part: &mut BitPart, n: u32) -> Result<u64, PacketFault>
     requires { (1 ≤ n) × (n ≤ 64) }
@@ -164,7 +164,7 @@ pub(crate) fn take(part: &mut BitPart, n: u32) -> Result<u64, PacketFault>
     }
 }
 
-// A field of a header, which has to lie whole within the message.
+// A field of a header, which has to be wholly within the message.
 #[inline(always)]
 fn take_header(reader: &mut BitReader, n: u32) -> Result<u64, PacketFault>
     requires { n ≤ 64 }
@@ -178,7 +178,7 @@ fn take_header(reader: &mut BitReader, n: u32) -> Result<u64, PacketFault>
     }
 }
 
-// The next n bits, which have to lie whole within the message.
+// The next n bits, which have to be wholly within the message.
 #[inline(always)]
 fn cut<'a>(reader: &mut BitReader<'a>, n: u32) -> Result<BitReader<'a>, PacketFault>
     ensures exact { Takes (λ x. x) result reader.new (part_at PacketFault.Short n reader.old) }

@@ -32,11 +32,11 @@ impl SessionOrder {
     /// Reads the packet after its NID_PACKET.
     #[inline(always)]
     pub fn read_packet(reader: &mut BitReader) -> Result<Self, PacketFault>
-        // What is read is spelled so.
+        // The bits spell the value that is read.
         ensures found { IfOk result
             (λ s. (reader.old ≡ joined (track_packet (session_order_fields s)) ++ reader.new)
             × SessionOrderFits s) }
-        // What is spelled so is read.
+        // A spelled value is read.
         ensures only { (s : SessionOrder) (rest : List Bool) → SessionOrderFits s
             → reader.old ≡ joined (track_packet (session_order_fields s)) ++ rest
             → (result ≡ Ok s) × (reader.new ≡ rest) }
@@ -74,8 +74,8 @@ impl SessionOrder {
         Ok(SessionOrder { nid_c, nid_rbc })
     }
 
-    /// The packet with its NID_PACKET. None where it is another, or where a value is refused. The places of its fields
-    /// are known, so nothing but values is tested.
+    /// The packet with its NID_PACKET. `None` if it is another, or if a value is refused. The positions of its fields
+    /// are known, so only values are tested.
     #[tactic(auto, unfolding(crate::specs::Layout::joined))]
     #[inline(always)]
     pub fn usual(reader: &mut BitReader) -> Option<Self>

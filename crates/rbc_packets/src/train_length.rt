@@ -9,7 +9,7 @@ use crate::reading::{q_length, take};
 use rbc_bits::{BitPart, BitRow, BitWord};
 use rbc_vars::{LTrainint, QLength};
 
-/// Q_LENGTH and L_TRAININT: what is known of the train's integrity, and its length where it is confirmed.
+/// Q_LENGTH and L_TRAININT: whether train integrity is confirmed, and by which source, and the train's length if it is.
 #[derive(Clone, Copy, Debug, PartialEq, Eq)]
 pub enum TrainLength {
     /// Nothing is known.
@@ -44,7 +44,7 @@ impl TrainLength {
         }
     }
 
-    /// The fields at the front of a word that has them. None where no length is told.
+    /// The fields at the front of a word that has them; `None` without a train length.
     #[tactic(auto, unfolding(crate::specs::Layout::joined))]
     #[inline(always)]
     pub(crate) fn usual(word: &mut BitWord) -> Option<Self>

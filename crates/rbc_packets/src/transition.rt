@@ -13,7 +13,8 @@ use crate::writing::{put_radio, put_track_header};
 use rbc_bits::{BitPart, BitReader, BitRow};
 use rbc_vars::{DRbctr, NidC, NidRbc};
 
-/// Packet 131, RBC transition order: where another centre takes over, and which one (7.4.2.38, profile).
+/// Packet 131, RBC transition order: the border at which another centre takes over, and that centre (7.4.2.38,
+/// profile).
 #[derive(Clone, Copy, Debug, PartialEq, Eq)]
 pub struct Transition {
     /// The border, from the balise group of the message.
@@ -34,10 +35,10 @@ impl Transition {
     /// Reads the packet after its NID_PACKET.
     #[inline(always)]
     pub fn read_packet(reader: &mut BitReader) -> Result<Self, PacketFault>
-        // What is read is spelled so.
+        // The bits spell the value that is read.
         ensures found { IfOk result
             (λ t. (reader.old ≡ joined (track_packet (transition_fields t)) ++ reader.new) × TransitionFits t) }
-        // What is spelled so is read.
+        // A spelled value is read.
         ensures only { (t : Transition) (rest : List Bool) → TransitionFits t
             → reader.old ≡ joined (track_packet (transition_fields t)) ++ rest → (result ≡ Ok t) × (reader.new ≡ rest) }
         // Which fault it is.
@@ -79,8 +80,8 @@ impl Transition {
         })
     }
 
-    /// The packet with its NID_PACKET. None where it is another, or where a value is refused. The places of its fields
-    /// are known, so nothing but values is tested.
+    /// The packet with its NID_PACKET. `None` if it is another, or if a value is refused. The positions of its fields
+    /// are known, so only values are tested.
     #[tactic(auto, unfolding(crate::specs::Layout::joined))]
     #[inline(always)]
     pub fn usual(reader: &mut BitReader) -> Option<Self>

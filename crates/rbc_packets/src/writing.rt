@@ -26,7 +26,7 @@ pub(crate) fn put_train_header(
     Ok(())
 }
 
-/// The same in a row.
+/// The same in a `BitRow`.
 #[tactic(auto, unfolding(crate::specs::Layout::joined))]
 #[inline(always)]
 pub(crate) fn put_header(row: &mut BitRow, nid_packet: u64, l_packet: u64)

@@ -1,35 +1,38 @@
 -- A start that waits, by the acts of the rules.
-use Rattle.std.proofs.Common.{◌≡◌, ℕ, zero, suc, ◌+◌, ◌<◌, ◌≤◌, ◌&&◌, Bool, true, false, cond, not, if◌then◌else◌, List, [], ◌∷◌, map, Option, Some, None, is_some, is_none, option_map, refl, sym, ap, subst, ◌∙◌, inl, inr, arith, eq-eqb, length, ◌==◌}
+use Rattle.std.proofs.Common.{[], ◌&&◌, ◌+◌, ◌<◌, ◌==◌, ◌∙◌, ◌∷◌, ◌≡◌, ◌≤◌, ap, arith, Bool, cond, eq-eqb, false}
+use Rattle.std.proofs.Common.{if◌then◌else◌, inl, inr, is_none, is_some, length, List, map, None, not, Option}
+use Rattle.std.proofs.Common.{option_map, refl, Some, subst, suc, sym, true, zero, ℕ}
+use Rattle.std.proofs.lemmas.Bool.{and_parts, cases_Bool, false≢true, leb-true}
+use Rattle.std.proofs.lemmas.List.{append-nil}
+use Rattle.std.proofs.Math.Bool.{and-false, and-true}
 use Rattle.std.specs.List.{filter, range_with_len}
 use Rattle.std.specs.Option.{option_map_or}
-use Rattle.std.proofs.Math.Bool.{and-true, and-false}
-use Rattle.std.proofs.lemmas.Bool.{cases_Bool, false≢true, and_parts, leb-true}
-use Rattle.std.proofs.lemmas.List.{append-nil}
-use Rattle.rbc_spec.specs.Line.{Line, is_home, registrar}
-use Rattle.rbc_spec.specs.Place.{Place, covered, is_fit}
-use Rattle.rbc_spec.specs.SectionRuns.{SectionRun, no_run, within}
-use Rattle.rbc_spec.specs.Frame.{AskRight}
-use Rattle.rbc_spec.specs.Outcome.{Told}
-use Rattle.rbc_spec.specs.Maps.{put}
-use Rattle.rbc_spec.specs.Centre.{Centre, Shut, Open, Taken, is_open, is_taken_for}
-use Rattle.rbc_spec.specs.Acts.{Act, Reply, become, rest, ◌>>◌, freed, where_so, with_some, send, return_right}
-use Rattle.rbc_spec.specs.Rules.{drop_wait, start_waiting, begin, reject, choose}
-use Rattle.rbc_spec.specs.Links.{right_refused, right_given, answered_ask}
-use Rattle.law_base.proofs.Acts.{alike_then}
+use Rattle.law_base.proofs.Lists.{put_over, put_same, put_there}
 use Rattle.law_base.proofs.Runs.{within_from}
-use Rattle.law_base.proofs.Puts.{put_same, put_there, put_over}
-use Rattle.rbc_book.specs.Book.{Pages, is_own, entry_at, wish_at}
-use Rattle.rbc_book.proofs.Pages.{foreign_is_shut}
-use Rattle.rbc_allocation.specs.Sections.{FreesRun, TakesRun, IsAllOpen, IsAllTaken, is_held, wished}
-use Rattle.rbc_pending_start.specs.Waits.{WaitState, nothing_waits, waits_at, wait_state, HasWait, with_wait, telling, asking, rejecting}
-use Rattle.rbc_place.specs.Places.{place_of}
-use Rattle.rbc_place.specs.declared.place.Place.{Place as PlaceCode}
-use Rattle.rbc_hand.specs.Hands.{Holding, run}
+use Rattle.law_base.proofs.Worlds.{alike_then}
 use Rattle.rbc_allocation.proofs.Runs.{within_none}
+use Rattle.rbc_allocation.specs.Sections.{FreesRun, is_held, IsAllOpen, IsAllTaken, TakesRun, wished}
+use Rattle.rbc_book.proofs.Pages.{foreign_is_shut}
+use Rattle.rbc_book.specs.Book.{entry_at, is_own, Pages, wish_at}
+use Rattle.rbc_hand.specs.Hands.{Holding, run}
+use Rattle.rbc_pending_start.specs.Waits.{asking, HasWait, nothing_waits, rejecting, telling, wait_state, waits_at}
+use Rattle.rbc_pending_start.specs.Waits.{WaitState, with_wait}
+use Rattle.rbc_place.specs.declared.place.Place.{Place as PlaceCode}
+use Rattle.rbc_place.specs.Places.{place_of}
+use Rattle.rbc_spec.specs.Acts.{◌>>◌, Act, become, freed, Reply, rest, return_right, send, where_so, with_some}
+use Rattle.rbc_spec.specs.Centre.{Centre, is_open, is_taken_for, Open, Shut, Taken}
+use Rattle.rbc_spec.specs.Frame.{AskRight}
+use Rattle.rbc_spec.specs.Line.{is_home, Line, registrar}
+use Rattle.rbc_spec.specs.Links.{answered_ask, right_given, right_refused}
+use Rattle.rbc_spec.specs.Maps.{put}
+use Rattle.rbc_spec.specs.Outcome.{Told}
+use Rattle.rbc_spec.specs.Place.{covered, is_fit, Place}
+use Rattle.rbc_spec.specs.Rules.{begin, choose, drop_wait, reject, start_waiting}
+use Rattle.rbc_spec.specs.SectionRuns.{no_run, SectionRun, within}
 
 -- ## Given back
 
--- what is in use for a train is of home
+-- a section in use for a train is of the home
 held_is : (line : Line) (c t : ℕ) (r : SectionRun) (book : Pages) → ((s : ℕ) → is_own book s ≡ is_home line c s) → (s : ℕ) → ((within r s && is_home line c s) && is_taken_for t (entry_at book s)) ≡ is_held t r book s
 held_is line c t r book of s = elim (cases_Bool (is_home line c s)) [
   | inl home ↦ rw home (ap (λ x. x && is_taken_for t (entry_at book s)) (and-true (within r s)))
@@ -137,7 +140,7 @@ answered_has line c k w book has = record {
   has_ask = put_there k.has_asked w.engine false;
 }
 
--- where no start waits, nothing else changes
+-- if no start waits, nothing else changes
 pub refused_none : (line : Line) (c : ℕ) (k : Centre) (w : WaitState) (book : Pages) → HasWait line c k w book → w.has_asked ≡ true → w.wait ≡ None
     → right_refused line c w.engine k ≡ telling (with_wait (record w { has_asked = false }) book k) []
 unfolding ◌>>◌
@@ -168,7 +171,7 @@ refused_some line c k w book w' book' told has asked some drop is =
     ∙ (λ i. record (reject w.engine (with_wait w' book' j)) { words = append-nil (map (λ s. Told s) told) i })
     ∙ ap (rejecting w.engine (Some told)) same
 
--- ## A right that was asked for comes
+-- ## A right that was asked for arrives
 
 pub given : (line : Line) (c : ℕ) (k : Centre) (w : WaitState) (book : Pages) (place : Place) → HasWait line c k w book → w.has_asked ≡ true → k.mission w.engine ≡ None → w.wait ≡ Some place
     → right_given line c w.engine k ≡ begin line w.engine place (with_wait (nothing_waits w.engine false) book k)
@@ -231,7 +234,7 @@ pub none_waits : (t : ℕ) (place : Option PlaceCode) (hand : Holding) (has_aske
 none_waits t None hand has_asked w view none = refl
 none_waits t (Some p) hand has_asked w view none = absurd (false≢true (sym (ap is_some (ap (λ (x : WaitState). x.wait) view ∙ none))))
 
--- sections that came into an empty hand are its run
+-- sections that were added to an empty hand are its run
 pub run_is : (hand : Holding) (r : SectionRun) (n0 : ℕ) → n0 ≡ 0 → length hand.holds ≡ n0 + r.count → (0 < length hand.holds → hand.first + n0 ≡ r.first) → 1 ≤ r.count → run hand ≡ r
 run_is hand r n0 none count first some =
     let from : hand.first ≡ r.first = let e : hand.first + n0 ≡ r.first = first (omega (arith, none, count, some)) in omega (arith, e, none) in

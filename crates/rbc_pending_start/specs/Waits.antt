@@ -16,8 +16,9 @@ use Rattle.rbc_hand.specs.Hands.{Holding, run, IsAllOwn}
 use Rattle.rbc_place.specs.Places.{place_of}
 use Rattle.rbc_place.specs.declared.place.Place.{Place}
 
--- what a centre has of a train by its NID_ENGINE: the place of a start that waits, the sections that are claimed for
--- it, none where none waits, and whether the registrar was asked for the right and has not answered
+-- The state of a train's waiting start at a centre, by its NID_ENGINE. It has the place of the start, and the sections
+-- that are claimed for it; without a waiting start these are empty. `has_asked`: the registrar was asked for the right
+-- and has not answered.
 pub record WaitState : Type 0 where
   pub engine : ℕ
   pub wait : Option spec.Place
@@ -32,7 +33,7 @@ nothing_waits t has_asked = record { engine = t; wait = None; sections = no_run;
 abbrev pub waits_at : Line → spec.Place → WaitState → WaitState
 waits_at line place w = record w { wait = Some place; sections = covered line place }
 
--- where a start waits, the sections that are claimed for it are those that its place covers
+-- the sections claimed for a waiting start are those that its place covers
 abbrev pub IsCovered : Line → WaitState → Type 0
 IsCovered line w = (place : spec.Place) → w.wait ≡ Some place → w.sections ≡ covered line place
 
@@ -56,7 +57,7 @@ with_wait w book k = record k {
   has_asked = put k.has_asked w.engine w.has_asked;
 }
 
--- a reply that leaves this state, and tells the interlocking of these sections
+-- a reply with this state, and with reports of these sections to the interlocking
 abbrev pub telling : Centre → List ℕ → Reply
 telling k told = record { state = k; frames = λ d. []; sayings = []; words = map (λ s. Told s) told }
 
@@ -69,7 +70,7 @@ asks line t is_asking d =
 abbrev pub asking : Line → ℕ → Bool → Centre → Reply
 asking line t is_asking k = record { state = k; frames = asks line t is_asking; sayings = []; words = [] }
 
--- a reply to a refusal of the right: a start that waited is rejected, and the interlocking is told of these sections
+-- the reply to a refusal of the right: a waiting start is rejected, with reports of these sections
 abbrev pub rejecting : ℕ → Option (List ℕ) → Centre → Reply
 rejecting t None k = telling k []
 rejecting t (Some told) k = record (reject t k) { words = map (λ s. Told s) told }
@@ -80,7 +81,7 @@ abbrev pub wait_state : ℕ → Option Place → Holding → Bool → WaitState
 wait_state t place hand has_asked =
     record { engine = t; wait = option_map place_of place; sections = run hand; has_asked = has_asked }
 
--- each section is held by a claim for the train: one at least where a start waits, and none where none does
+-- Each section is held by a claim for the train. A waiting start has at least one; without one there are none.
 pub record IsWaitingStart (t : ℕ) (place : Option Place) (hand : Holding) : Type 0 where
   pub own : IsAllOwn t hand
   pub none : place ≡ None → run hand ≡ no_run

@@ -20,9 +20,9 @@ use std::alloc::{AllocError, Global};
 use std::marker::Model;
 use std::mem;
 
-/// What a centre has of one train's start of mission that waits for the right to supervise (profile): its place and the
-/// claims on the sections that it covers, or that none waits; and whether the registrar was asked and has not answered.
-/// It can't be copied, and not be dropped: its claims go back to the book or into a mission.
+/// One train's start of mission that waits for the right to supervise (profile), if there is one. It has its place, and
+/// the claims on the sections that it covers. `has_asked`: the registrar was asked and has not answered. It can't be
+/// copied or dropped: its claims return to the book or move into a mission.
 #[must_use]
 #[derive(Debug)]
 pub struct WaitingStart {
@@ -66,14 +66,14 @@ impl WaitingStart {
         self.nid_engine
     }
 
-    /// The place of the start that waits. None exactly where none waits.
+    /// The place of the waiting start; `None` if and only if none waits.
     pub fn place(&self) -> Option<Place>
         ensures { option_map place_of result ≡ self.now.wait }
     {
         self.place
     }
 
-    /// The sections that are claimed for it; none where none waits.
+    /// The sections that are claimed for it; empty if none waits.
     pub fn claims(&self) -> SectionRun
         ensures { run_of result ≡ self.now.sections }
     {
@@ -87,7 +87,7 @@ impl WaitingStart {
         self.has_asked
     }
 
-    /// The right is asked for from now on. Whether the registrar has to be asked: not, where an ask stands.
+    /// Asks for the right. The result is whether the registrar has to be asked: not if a question is pending.
     pub fn ask(&mut self) -> bool
         ensures answer { result ≡ not self.old.has_asked }
         ensures state { self.new ≡ record self.old { has_asked = true } }
@@ -119,8 +119,8 @@ impl WaitingStart {
         self.place = Some(place);
     }
 
-    /// A start elsewhere than at the train's registrar: it waits, and the registrar is asked for the right. Whether a
-    /// frame has to ask it: not, where an ask stands.
+    /// A start at another centre than the train's registrar waits, and asks for the right. The result is whether a
+    /// frame has to ask the registrar: not if a question is pending.
     pub fn start(&mut self, line: &Line, place: Place, book: &mut Book) -> bool
         requires none { self.old.wait ≡ None }
         requires fit { spec.is_fit line.now (place_of place) ≡ true }
@@ -138,8 +138,8 @@ impl WaitingStart {
         self.ask()
     }
 
-    /// A start that waits is dropped, and its sections are given back: those that were wished back, of which the
-    /// interlocking is to be told, in rising order. Nothing changes where none waits. An ask that stands goes on.
+    /// Drops a waiting start and gives its sections back. The result is those that were wished back, in rising order;
+    /// they are reported to the interlocking. Nothing changes if none waits. A pending question goes on.
     pub fn drop_start(&mut self, book: &mut Book) -> Told
         ensures waits { self.new ≡ nothing_waits self.old.engine self.old.has_asked }
         ensures book { FreesRun self.old.engine self.old.sections book.old book.new }
@@ -154,8 +154,9 @@ impl WaitingStart {
         told
     }
 
-    /// The registrar refuses the right: a start that waits is dropped, and its train has to be rejected. The sections
-    /// of which the interlocking is to be told, in rising order; None exactly where no ask stands or no start waits.
+    /// The registrar refuses the right: a waiting start is dropped, and its train has to be rejected. The result is the
+    /// sections to report to the interlocking, in rising order. `None` if and only if no question is pending or no
+    /// start waits.
     pub fn give_up(&mut self, book: &mut Book) -> Option<Told>
         ensures waits { self.new ≡ (if self.old.has_asked then nothing_waits self.old.engine false else self.old) }
         ensures homes { (s : ℕ) → is_own book.new s ≡ is_own book.old s }
@@ -173,8 +174,8 @@ impl WaitingStart {
         Some(self.drop_start(book))
     }
 
-    /// The registrar gives the right: the place of the start that waits, whose claims are in the hand then, which was
-    /// empty. None exactly where none waits, and then the hand stays as it is.
+    /// The registrar gives the right. The result is the place of the waiting start, whose claims move into the hand,
+    /// which was empty. `None` if and only if none waits; then the hand stays as it is.
     pub fn admit(&mut self, hand: &mut Hand) -> Option<Place>
         requires empty { is_empty (run hand.old) ≡ true }
         ensures place { option_map place_of result ≡ self.old.wait }
@@ -200,7 +201,7 @@ impl WaitingStart {
         Some(place)
     }
 
-    /// Ends it, where its centre does: its sections go back to the book.
+    /// Ends it when its centre ends: its sections return to the book.
     pub fn end(self, book: &mut Book) {
         let WaitingStart {
             nid_engine: _,

@@ -56,7 +56,7 @@ past_at line track s None found within off = absurd (none_within line.sections s
 past_at line track s (Some p) found within off =
     sym (ap (metres_of track) (take_found line.sections s p found) ∙ metres_more track (take s line.sections) p ∙ ap (λ b. metres_of track (take s line.sections) + cond b p.metres 0) off ∙ (omega arith))
 
--- and no further by a section of another
+-- a section of another track does not lengthen the track
 pub ends_before : (line : Line) (track s : ℕ) → s < length line.sections → is_on line track s ≡ false → metres_of track (take s line.sections) ≡ metres_of track (take (s + 1) line.sections)
 ends_before line track s within off = past_at line track s (section line s) refl within off
 

@@ -7,7 +7,7 @@ use Rattle.std.proofs.lemmas.List.Elements.{filter-append}
 use Rattle.rbc_spec.specs.SectionRuns.{SectionRun, run_of}
 use Rattle.rbc_place.specs.Places.{with_last}
 
--- of the first so many sections, those that pass the test
+-- of the first n sections, those that pass the test
 abbrev pub IsFound : (ℕ → Bool) → ℕ → SectionRun → Type 0
 IsFound test n r = (r ≡ run_of (filter test (range_with_len 0 n))) × (r.first + r.count ≤ n)
 
@@ -58,7 +58,7 @@ found_same test n r next fails same so_far =
       omega (arith, so_far.1, first, count),
     )
 
--- where none of the first so many passes, none is found
+-- if none of the first n sections passes, none is found
 pub none_up_to : (test : ℕ → Bool) (n : ℕ) → ((s : ℕ) → s < n → test s ≡ false) → IsFound test n (record { first = 0; count = 0 })
 none_up_to test zero fail = none_found test
 none_up_to test (suc n) fail =
@@ -67,7 +67,7 @@ none_up_to test (suc n) fail =
     (found_same test n (record { first = 0; count = 0 }) (record { first = 0; count = 0 }) (fail n (omega arith)) refl
     (none_up_to test n (λ s lt. fail s (omega arith))))
 
--- where none of those after it passes, what is found stays
+-- if none of the sections after it passes, the result stays
 pub found_all : (test : ℕ → Bool) (n k : ℕ) (r : SectionRun) → ((s : ℕ) → n ≤ s → test s ≡ false) → IsFound test n r → IsFound test (n + k) r
 found_all test n zero r fail so_far = let e : n + zero ≡ n = omega arith in rw e so_far
 found_all test n (suc k) r fail so_far =

@@ -16,7 +16,7 @@ use Rattle.rbc_spec.proofs.Places.{section_on, on_section, starts_rise, ends_ris
 abbrev ends_by : Option ℤ → ℕ → Bool
 ends_by rear n = option_map_or (λ r. int_le (pos n) r) rear true
 
--- and one past it
+-- an end past the rear end
 abbrev ends_past : Option ℤ → ℕ → Bool
 ends_past rear n = option_map_or (λ r. int_lt r (pos n)) rear false
 
@@ -51,7 +51,7 @@ and_fails false b is h = absurd (false≢true is)
 
 -- ---- sections
 
--- what makes a section one that is in rear
+-- the test of a section in rear
 abbrev tells : Line → ℕ → Option ℤ → ℕ → Section → Bool
 tells line track rear s p = nat_lt p.track track || ((p.track == track) && ends_by rear (10 * end line s))
 
@@ -68,7 +68,7 @@ there line s e q le at =
     (λ (h : (length line.sections ≤ s) × (slice_get line.sections s ≡ None)). absurd (omega arith))
     (slice_get_cases line.sections s).1
 
--- what comes before a section that is in rear is in rear
+-- a section before one that is in rear is in rear
 pub in_rear_before : (line : Line) → IsLine line → (track : ℕ) (rear : Option ℤ) (s e : ℕ) → s ≤ e → is_in_rear line track rear e ≡ true → is_in_rear line track rear s ≡ true
 in_rear_before line ok track rear s e le h =
     let q = some_of (tells line track rear e) (section line e) h in
@@ -88,7 +88,7 @@ in_rear_before line ok track rear s e le h =
     (cases_lt p.0.track track))
     (or_cases (nat_lt q.0.track track) _ q.2)
 
--- and what follows one that is ahead is ahead
+-- a section after one that is ahead is ahead
 pub ahead_after : (line : Line) → IsLine line → (track : ℕ) (rear : Option ℤ) (s e : ℕ) → s ≤ e → is_in_rear line track rear s ≡ false → is_in_rear line track rear e ≡ false
 ahead_after line ok track rear s e le ahead = false_from_ne_true (is_in_rear line track rear e)
     (λ (is : is_in_rear line track rear e ≡ true). both_ways (is_in_rear line track rear s) ahead (in_rear_before line ok track rear s e le is))
@@ -130,7 +130,7 @@ ahead_not_covered line ok place s e le ahead off = false_from_ne_true (covers li
 
 -- ---- the end of a track: without a rear end all of it is in rear
 
--- what is ahead is not on the track
+-- a section that is ahead is not on the track
 pub ahead_off : (line : Line) (track s : ℕ) → is_in_rear line track None s ≡ false → is_on line track s ≡ false
 ahead_off line track s ahead = false_from_ne_true (is_on line track s) (λ (on : is_on line track s ≡ true).
     let p = section_on line track s on in
@@ -138,7 +138,7 @@ ahead_off line track s ahead = false_from_ne_true (is_on line track s) (λ (on :
     let fails = or_fails (nat_lt p.0.track track) ((p.0.track == track) && true) told in
     false≢true (sym (and_fails (p.0.track == track) true (eq-eqb p.0.track track p.1.on) fails.1)))
 
--- where the last that is in rear is not on the track, none before it is
+-- if the last section in rear is not on the track, none before it is
 pub earlier_off : (line : Line) → IsLine line → (track s e : ℕ) → s ≤ e → is_in_rear line track None e ≡ true → is_on line track e ≡ false → is_on line track s ≡ false
 earlier_off line ok track s e le in_rear off = false_from_ne_true (is_on line track s) (λ (on : is_on line track s ≡ true).
     let q = some_of (tells line track None e) (section line e) in_rear in

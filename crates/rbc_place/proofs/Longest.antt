@@ -1,8 +1,8 @@
--- How many sections pass a test, one after another: what a loop over them knows.
+-- The number of consecutive sections that pass a test: the invariant of a loop over them.
 use Rattle.std.proofs.Common.{◌≡◌, ℕ, zero, suc, ◌+◌, ◌-◌, ◌<◌, ◌≤◌, Bool, true, false, refl, ap, sym, ◌∙◌, arith}
 use Rattle.rbc_spec.specs.SectionRuns.{longest}
 
--- of so many that may pass, the first k have
+-- the first k sections have passed, up to the limit
 pub record HasPassed (test : ℕ → Bool) (first most k : ℕ) : Type 0 where
   pub within : k ≤ most
   pub rest : longest test first most ≡ k + longest test (first + k) (most - k)

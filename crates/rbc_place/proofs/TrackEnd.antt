@@ -7,7 +7,7 @@ use Rattle.rbc_place.specs.Places.{is_in_rear}
 use Rattle.rbc_place.proofs.InRear.{ahead_off, earlier_off}
 use Rattle.rbc_place.proofs.Ends.{metres_of, ends_here, ends_past}
 
--- all of a track lies before the first section of a later one
+-- all of a track is before the first section of a later one
 whole : (line : Line) (track r : ℕ) → r ≤ length line.sections → ((s : ℕ) → r ≤ s → is_in_rear line track None s ≡ false)
     → metres_of track (take r line.sections) ≡ track_end line track
 whole line track r bound ahead =
@@ -16,14 +16,14 @@ whole line track r bound ahead =
     ∙ ap (λ n. metres_of track (take n line.sections)) rest
     ∙ ap (metres_of track) (take_all (length line.sections) line.sections (omega arith))
 
--- it ends with its last section
+-- a track ends with its last section
 pub ends_with : (line : Line) (track r : ℕ) → r ≤ length line.sections → ((s : ℕ) → r ≤ s → is_in_rear line track None s ≡ false)
     → 0 < r → is_on line track (r - 1) ≡ true → end line (r - 1) ≡ track_end line track
 ends_with line track r bound ahead some on =
     let next : r - 1 + 1 ≡ r = omega arith in
     ends_here line track (r - 1) on ∙ ap (λ n. metres_of track (take n line.sections)) next ∙ whole line track r bound ahead
 
--- where the last section before those of later tracks is not of it, it has none
+-- if the last section before those of later tracks is not of the track, the track has none
 pub ends_nowhere : (line : Line) → IsLine line → (track r : ℕ) → r ≤ length line.sections → ((s : ℕ) → s < r → is_in_rear line track None s ≡ true)
     → ((s : ℕ) → r ≤ s → is_in_rear line track None s ≡ false) → (0 < r → is_on line track (r - 1) ≡ false) → 0 ≡ track_end line track
 ends_nowhere line ok track r bound in_rear ahead off =

@@ -9,7 +9,7 @@ use Rattle.rbc_place.specs.declared.place.Place.{Place}
 abbrev pub place_of : Place → spec.Place
 place_of p = record { track = p.track; group = p.group; front = p.front; rear = p.rear }
 
--- the place of a report whose group is so many metres from the start of the track
+-- the place of a report whose group is `metres` from the start of the track
 abbrev pub place_from : ℕ → ℕ → spec.Position → spec.Place
 place_from track metres p = record {
   track = track;
@@ -19,12 +19,12 @@ place_from track metres p = record {
       (p.scale * p.l_doubtover + 10 * l)) p.l_trainint;
 }
 
--- the run with one section more after its last, which is its first where it was empty
+-- the run with one more section after its last; an empty run then begins with it
 abbrev pub with_last : SectionRun → ℕ → SectionRun
 with_last r s = if is_empty r then record { first = s; count = 1 } else record { first = r.first; count = r.count + 1 }
 
--- a section is in rear: of an earlier track, or of this one and ending at or before the rear end, in decimetres; where
--- that is not known the whole track is
+-- A section is in rear if it is of an earlier track. One of this track is if it ends at or before the rear end, in
+-- decimetres, or if that is not known.
 abbrev pub is_in_rear : Line → ℕ → Option ℤ → ℕ → Bool
 is_in_rear line track rear s =
     option_map_or (λ p. nat_lt p.track track

@@ -1,4 +1,4 @@
-//! Where the line goes on in advance of a rear end, found by halving: sections are numbered track by track, and rise on
+//! The first section in advance of a rear end, found by halving: sections are numbered track by track, and rise on
 //! each.
 
 ghost use Rattle.std.specs.Prelude.{◌≡◌, ◌*◌, ◌<◌, ◌≤◌, ℕ, pos, int_le, true, false, length};
@@ -9,8 +9,9 @@ ghost use Rattle.rbc_place.specs.Places.{is_in_rear};
 use crate::sections::section_end;
 use rbc_line::Line;
 
-/// The first section of the line that is not in rear of the rear end, in decimetres from the start of this track: of a
-/// later track, or of this one and ending past it. Where the rear end is not known, the first of a later track.
+/// The first section of the line that is not in rear of the rear end, in decimetres from the start of this track. It is
+/// of a later track, or of this one and ends past the rear end. If the rear end is not known, it is the first of a
+/// later track.
 pub(crate) fn first_ahead(line: &Line, track: u8, rear: Option<i32>) -> u16
     ensures bound { result ≤ length line.now.sections }
     ensures in_rear { (s : ℕ) → s < result → is_in_rear line.now track rear s ≡ true }

@@ -8,8 +8,8 @@ use crate::place::Place;
 use crate::sections::section_end;
 use rbc_line::{Line, SectionRun};
 
-/// How many of the first sections of a train's hand it has cleared: those that end at or before its safe rear end
-/// (3.6.5). 0 where the rear end is not known.
+/// The number of the first sections of a train's hand that it has cleared: those that end at or before its safe rear
+/// end (3.6.5). 0 if the rear end is not known.
 pub fn cleared(line: &Line, hand: SectionRun, place: &Place) -> u16
     ensures value { result ≡ passing (spec.is_cleared line.now (place_of place.now)) (run_of hand) }
     ensures bound { result ≤ hand.count }

@@ -10,8 +10,8 @@ use crate::place::Place;
 use crate::sections::{is_on, section_end, section_start};
 use rbc_line::{Line, SectionRun};
 
-/// Whether the train may stand in the section: on its track, the section starts before the safe front end, and ends
-/// past the safe rear end. A place whose rear end is not known covers no section.
+/// Whether the train may occupy the section. On its track, the section starts before the safe front end, and ends past
+/// the safe rear end. A place whose rear end is not known covers no section.
 pub fn covers(line: &Line, place: &Place, s: u16) -> bool
     ensures { result ≡ spec.covers line.now (place_of place.now) s }
 {
@@ -25,7 +25,7 @@ pub fn covers(line: &Line, place: &Place, s: u16) -> bool
     }
 }
 
-/// The sections that the train may stand in, as a run.
+/// The run of sections that the train may occupy.
 #[inline(always)]
 pub fn covered(line: &Line, place: &Place) -> SectionRun
     ensures value { run_of result ≡ spec.covered line.now (place_of place.now) }
@@ -34,7 +34,7 @@ pub fn covered(line: &Line, place: &Place) -> SectionRun
     ensures line { IsLine line.now }
 {
     let mut run = SectionRun { first: 0, count: 0 };
-    // What lies in rear of the rear end is not covered, nor is what follows the first section ahead that is not.
+    // Sections in rear of the rear end are not covered, nor are those after the first section ahead that is not.
     for s in first_ahead(line, place.track, place.rear)..line.section_count() {
         if !covers(line, place, s) {
             return run;
@@ -44,7 +44,7 @@ pub fn covered(line: &Line, place: &Place) -> SectionRun
     run
 }
 
-/// The run with one section more, which is its first where it was empty.
+/// The run with one more section; an empty run then begins with it.
 fn longer(run: SectionRun, s: u16) -> SectionRun
     requires { run.count < 65535 }
     ensures { run_of result ≡ with_last (run_of run) s }

@@ -8,8 +8,8 @@ use crate::sections::track_end;
 use rbc_hand::Hand;
 use rbc_line::Line;
 
-/// Whether a start of mission may be taken at the place: both ends of the train are known and lie on the track, the
-/// rear end in rear of the front end, and the train covers at most 32 sections.
+/// Whether the place is fit for a start of mission. Both ends of the train are known and on the track, and the rear end
+/// is in rear of the front end. The train covers at most 32 sections.
 pub fn is_fit(line: &Line, place: &Place) -> bool
     ensures { result ≡ spec.is_fit line.now (place_of place.now) }
 {

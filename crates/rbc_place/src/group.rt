@@ -6,7 +6,7 @@ use crate::place::Place;
 use crate::sections::section_start;
 use rbc_line::Line;
 
-/// Where the section starts whose balise group the place names, in metres from the start of the track; 0 where the
+/// The start of the section whose balise group the place refers to, in metres from the start of the track. 0 if the
 /// group is not of the line.
 #[inline(always)]
 pub fn group_start(line: &Line, place: &Place) -> u32

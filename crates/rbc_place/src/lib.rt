@@ -1,7 +1,8 @@
-//! Where a position report puts its train on the line (SUBSET-026 3.6): the place of its safe front end and, where the
-//! train's integrity is confirmed, of its safe rear end, and what that says of sections. Nothing here takes memory.
+//! The place of a train by its position report (SUBSET-026 3.6): its safe front end and, if train integrity is
+//! confirmed, its safe rear end. It decides which sections the train occupies or has cleared. Nothing here takes
+//! memory.
 //!
-//! Bodies and proofs are free. The clauses of public functions stay, since the crates above stand on them.
+//! Bodies and proofs may change. The clauses of public functions have to stay: the crates above depend on them.
 #![tactic(auto)]
 
 mod ahead;

@@ -1,6 +1,6 @@
 ghost use Rattle.std.specs.Prelude.{◌<◌, ◌≤◌, ◌^◌};
 
-/// Where a train is. Its ends are in decimetres from the start of its track.
+/// The place of a train. Its ends are in decimetres from the start of its track.
 #[derive(Clone, Copy, Debug, PartialEq, Eq)]
 pub struct Place {
     /// Number of the track in the line file, from 0.
@@ -9,8 +9,7 @@ pub struct Place {
     pub group: u32,
     /// The safe front end: 31 bits.
     pub front: u32,
-    /// The safe rear end, known only where the train's integrity is confirmed. It may lie before the start of the
-    /// track.
+    /// The safe rear end, known only if train integrity is confirmed. It may be before the start of the track.
     pub rear: Option<i32>,
     pub ghost of_24_bits: { group < 2 ^ 24 },
     pub ghost of_31_bits: { front ≤ 2147483647 },

@@ -12,8 +12,8 @@ use rbc_vars::{Direction, QScale};
 // A distance or a doubt of this value is unknown.
 const UNKNOWN: u64 = 32_767;
 
-/// The place of a report. None where its balise group is not of the line, where the train does not run in level 2 in
-/// the direction of the line, or where a distance is unknown.
+/// The place of a report. `None` if its balise group is not of the line, or if a distance is unknown. `None` also if
+/// the train does not run in level 2 in the direction of the line.
 #[inline(always)]
 #[tactic(auto, unfolding(rbc_spec::specs::Place::extent))]
 pub fn extent(line: &Line, position: &Position) -> Option<Place>
@@ -29,7 +29,7 @@ pub fn extent(line: &Line, position: &Position) -> Option<Place>
     Some(place_ahead(section, position))
 }
 
-/// The place of a report, where it is on this track.
+/// The place of a report, if it is on this track.
 #[inline(always)]
 pub fn place_on(line: &Line, track: u8, position: &Position) -> Option<Place>
     ensures value { option_map place_of result ≡ spec.place_on line.now track (position_of position.now) }
@@ -44,7 +44,7 @@ pub fn place_on(line: &Line, track: u8, position: &Position) -> Option<Place>
     }
 }
 
-/// Whether a report places its train, where its group is of the line.
+/// Whether a report gives a place, if its group is of the line.
 #[inline(always)]
 fn has_place(position: &Position) -> bool
     ensures { result ≡ spec.has_place (position_of position.now) }
@@ -114,7 +114,7 @@ fn place_ahead(section: Section, position: &Position) -> Place
     }
 }
 
-/// The safe rear end of a train with this estimated front end, whose front may be so far in rear of it.
+/// The safe rear end of a train with this estimated front end, and with this over-reading amount.
 #[inline(always)]
 fn rear_end(front: u32, doubt: u32, length: TrainLength) -> Option<i32>
     requires front { front ≤ 20000000 }

@@ -7,7 +7,7 @@ ghost use Rattle.rbc_spec.specs.Sections as spec;
 use crate::ahead::first_ahead;
 use rbc_line::Line;
 
-/// Where the section starts, in metres from the start of its track; 0 where the line has no such section.
+/// The start of the section, in metres from the start of its track; 0 if the line has no such section.
 #[tactic(auto, unfolding(rbc_spec::specs::Line::start))]
 pub fn section_start(line: &Line, s: u16) -> u32
     ensures value { result ≡ start line.now s }
@@ -19,7 +19,7 @@ pub fn section_start(line: &Line, s: u16) -> u32
     }
 }
 
-/// Where the section ends, in metres from the start of its track; 0 where the line has no such section.
+/// The end of the section, in metres from the start of its track; 0 if the line has no such section.
 #[tactic(auto, unfolding(rbc_spec::specs::Line::end))]
 pub fn section_end(line: &Line, s: u32) -> u32
     ensures value { result ≡ end line.now s }
@@ -48,7 +48,7 @@ pub fn is_on(line: &Line, track: u8, s: u32) -> bool
     }
 }
 
-/// The end of a track: where its last section ends, in metres; 0 where the line has no such track.
+/// The end of a track, which is that of its last section, in metres; 0 if the line has no such track.
 pub fn track_end(line: &Line, track: u8) -> u32
     ensures value { result ≡ spec.track_end line.now track }
     ensures bound { result ≤ 1024000 }

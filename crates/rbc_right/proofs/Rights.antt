@@ -25,7 +25,7 @@ slice_get-set_other (y ∷ ys) zero (suc j) x h = refl
 slice_get-set_other (y ∷ ys) (suc i) zero x h = refl
 slice_get-set_other (y ∷ ys) (suc i) (suc j) x h = slice_get-set_other ys i j x (λ e. h (ap suc e))
 
--- ## A right comes or goes
+-- ## A right is given back or handed out
 
 pub here_within : (rights : Rights) (i : ℕ) → is_here rights i ≡ true → i < length rights
 unfolding is_here
@@ -43,7 +43,7 @@ here-set rights i b within j =
       | inr e ↦ rw (e.0) (ap (λ o. unwrap_or o false) (slice_get-set_other rights i j b e.1))
     ]
 
--- what is here already stays as it is
+-- a right that is here already stays
 pub here-same : (rights : Rights) (i : ℕ) (b : Bool) → is_here rights i ≡ b → (j : ℕ) → is_here rights j ≡ put (is_here rights) i b j
 here-same rights i b at j =
     elim (eqb_tells j i) as (λ _. is_here rights j ≡ put (is_here rights) i b j) [

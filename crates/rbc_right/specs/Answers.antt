@@ -1,4 +1,4 @@
--- What a registrar answers.
+-- The answers of a registrar.
 use Rattle.std.specs.Prelude.{ℕ, Bool, if◌then◌else◌}
 use Rattle.rbc_right.specs.Rights.{right_of}
 use Rattle.rbc_right.specs.declared.registrar.Asked.{Asked}

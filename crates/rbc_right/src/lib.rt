@@ -1,7 +1,7 @@
-//! The supervision rights of trains: for each train of the line there is one, and the centre that it is registered at
-//! says whether it is there or was handed out. A right can't be copied or dropped.
+//! The supervision rights of trains. Each train of the line has one. The centre at which it is registered records
+//! whether it is there or was handed out. A right can't be copied or dropped.
 //!
-//! Bodies and proofs are free. The clauses of public functions stay, since the crates above stand on them.
+//! Bodies and proofs may change. The clauses of public functions have to stay: the crates above depend on them.
 #![tactic(auto)]
 
 mod registrar;

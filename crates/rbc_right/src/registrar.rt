@@ -8,7 +8,7 @@ use rbc_line::Line;
 use std::alloc::{AllocError, Global};
 use std::marker::Model;
 
-/// What a registrar answers who asks for a right.
+/// The answer of a registrar to a request for a right.
 #[must_use]
 #[derive(Debug)]
 pub enum Asked {
@@ -17,7 +17,8 @@ pub enum Asked {
     NotHere,
 }
 
-/// The supervision rights that are at one centre, and in no mission. Trains go by their places in the line file.
+/// The supervision rights that are at one centre, and in no mission. Trains are identified by their positions in the
+/// line file.
 #[derive(Debug, Drop)]
 pub struct Registrar {
     /// Of each train of the line.
@@ -36,7 +37,7 @@ impl Registrar {
     ghost use Rattle.rbc_right.specs.Rights.{is_here, is_registered_at, number_of_right};
     ghost use Rattle.rbc_right.specs.Answers.{answer};
 
-    /// The rights at a centre of the line at the beginning: of each train whose registrar the centre is.
+    /// The initial rights at a centre of the line: those of the trains whose registrar it is.
     pub fn new(alloc: Global, line: &Line, centre: u8) -> Result<Registrar, AllocError>
         ensures count { IfOk result (λ r. length r ≡ length line.now.trains) }
         ensures here { IfOk result (λ r. (j : ℕ) → is_here r j ≡ is_registered_at line.now centre j) }
@@ -63,7 +64,7 @@ impl Registrar {
         self.rights.get(train as usize).copied().unwrap_or(false)
     }
 
-    /// Hands the right of a train out. Not here exactly where it is not, and then nothing changes.
+    /// Hands the right of a train out. `NotHere` if and only if it is not here; then nothing changes.
     pub fn ask(&mut self, train: u8) -> Asked
         ensures answer { result ≡ answer (is_here self.old train) train }
         ensures here { (j : ℕ) → is_here self.new j ≡ put (is_here self.old) train false j }

@@ -1,8 +1,8 @@
 ghost use Rattle.std.specs.Prelude.{◌≡◌};
 ghost use Rattle.rbc_right.specs.Rights.{number_of_right, right_of};
 
-/// The right to supervise a train, which one holder has. It can't be copied, and not be dropped: it ends where it goes
-/// back to its registrar or into a frame, also where its centre is dropped.
+/// The right to supervise a train, which one holder has. It can't be copied or dropped. It ends when it returns to its
+/// registrar, is written into a frame, or its centre ends.
 #[must_use]
 #[derive(Debug)]
 pub struct Right {
@@ -10,14 +10,14 @@ pub struct Right {
 }
 
 impl Right {
-    /// The right that has come in a frame, for the train at this place of the line file.
+    /// The right that has arrived in a frame, for the train at this position of the line file.
     pub fn arrive(number: u8) -> Right
         ensures { result ≡ right_of number }
     {
         Right { train: number }
     }
 
-    /// Ends it, where it goes into a frame: the train's place in the line file.
+    /// Ends this value, since a frame carries the right from now on; returns the train's position in the line file.
     pub fn send(self) -> u8
         ensures { result ≡ number_of_right self }
     {

@@ -1,4 +1,4 @@
--- What one record changes.
+-- The changes of one record.
 use Rattle.std.proofs.Common.{◌≡◌, ◌≢◌, ℕ, ◌==◌, inl, inr, Bool, true, false, cond, Option, Some, None, option_map, MatchOption, OnSome, IfNone, IsSome, refl, ap, sym, subst, ◌∙◌}
 use Rattle.std.specs.Option.{option_map_or}
 use Rattle.std.proofs.lemmas.Bool.{cases_eq, false≢true}
@@ -11,7 +11,7 @@ use Rattle.rbc_session.specs.declared.sessions.Record.{Record}
 use Rattle.rbc_session.proofs.Records.{phase_of_found, phase_of_absent, found_or_absent, closed_is_absent}
 
 module _ (old new : Records) (key : ℕ) (slot : Option Record) (written : Updates old new key slot) where
-  -- one record that is no other's train's leaves each train with one
+  -- a new record of a train without one leaves each train with at most one
   pub one_after : IsOneATrain old → ((k : ℕ) (q r : Record) → k ≢ key → get old k ≡ Some q → slot ≡ Some r → q.nid_engine ≢ r.nid_engine) → IsOneATrain new
   one_after one apart j k p q at_j at_k same =
       elim (cases_eq j key) [
@@ -118,7 +118,7 @@ pub train_of_none : (sessions : Records) (key : ℕ) → get sessions key ≡ No
 unfolding train_at
 train_of_none sessions key none = ap (option_map (λ r. r.nid_engine)) none
 
--- ## What each call does
+-- ## The effect of each call
 
 -- of the session with this key, if there is one
 module _ (old new : Records) (key : ℕ) (one : IsOneATrain old) where

@@ -1,4 +1,4 @@
--- What stands for a train's session before and after each call, for the crates above.
+-- A train's session before and after each call, for the crates above.
 use Rattle.std.proofs.Common.{◌≡◌, ◌≢◌, ℕ, ◌==◌, inl, inr, true, false, cond, Some, None, refl, ap, sym, ◌∙◌}
 use Rattle.std.specs.Option.{option_map_or}
 use Rattle.std.proofs.lemmas.Bool.Decides.{eqb_tells}
@@ -9,13 +9,13 @@ use Rattle.rbc_session.specs.SessionStates.{IsSessionOf, StandsFor, session_phas
 use Rattle.rbc_session.specs.declared.session.SessionState.{SessionState}
 use Rattle.rbc_session.specs.declared.session.SessionState.TheVariants as session_state
 
--- the phase that a session's type says is that of the train
+-- the phase of a session's type is that of the train
 pub phase_at-session_state : (sessions : Records) (s : SessionState) (t : ℕ) → StandsFor sessions s t → phase_at sessions t ≡ session_phase s
 phase_at-session_state sessions session_state.Closed t stands = stands
 phase_at-session_state sessions (session_state.Opened session) t stands = stands.is_so_far
 phase_at-session_state sessions (session_state.Up session) t stands = stands.is_so_far
 
--- a train whose phase and key stay keeps what stands for it
+-- a train whose phase and key stay keeps its session
 pub stands_still : (old new : Records) (s : SessionState) (t : ℕ) → StandsFor old s t → phase_at new t ≡ phase_at old t → ((k : ℕ) → train_at old k ≡ Some t → train_at new k ≡ Some t) → StandsFor new s t
 stands_still old new session_state.Closed t stands same keys = same ∙ stands
 stands_still old new (session_state.Opened session) t stands same keys = record { is_with = keys _ stands.is_with; is_so_far = same ∙ stands.is_so_far }
@@ -27,7 +27,7 @@ other_is_false u t other = elim (eqb_tells u t) [ inl e ↦ absurd (other e.1) |
 same_is_true : (t : ℕ) → (t == t) ≡ true
 same_is_true t = elim (eqb_tells t t) [ inl e ↦ e.0 | inr e ↦ absurd (e.1 refl) ]
 
--- ## A session was opened under a key that was no session's
+-- ## A session was opened under an unused key
 
 module _ (old new : Records) (key t : ℕ) (phases : (u : ℕ) → phase_at new u ≡ cond (u == t) Opened (phase_at old u))
     (keys : (k : ℕ) → train_at new k ≡ cond (k == key) (Some t) (train_at old k)) (fresh : train_at old key ≡ None) where
@@ -45,7 +45,7 @@ module _ (old new : Records) (key t : ℕ) (phases : (u : ℕ) → phase_at new 
 
 -- ## A train's session was confirmed
 
--- ## What stood for a train was ended
+-- ## The session of a train was ended
 
 module _ (old new : Records) (ended : SessionState) (t : ℕ) (stood : StandsFor old ended t)
     (phases : (u : ℕ) → phase_at new u ≡ cond (stands_with old ended u) Closed (phase_at old u))

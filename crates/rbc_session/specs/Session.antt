@@ -1,4 +1,4 @@
--- What a session stands for.
+-- The plain data of a session.
 use Rattle.std.specs.Prelude.{ℕ, Bool, false, ◌==◌}
 use Rattle.std.specs.Option.{option_map_or}
 use Rattle.rbc_session.specs.Sessions.{Records, train_at}

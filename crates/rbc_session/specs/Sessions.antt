@@ -1,10 +1,10 @@
--- What a centre's sessions are.
+-- The sessions of a centre.
 use Rattle.std.specs.Prelude.{◌≡◌, ℕ, ◌==◌, if◌then◌else◌, List, [], ◌∷◌, Option, Some, None, option_map}
 use Rattle.slab.specs.Slab.{Slab, get, HasRoomFor}
 use Rattle.rbc_spec.specs.Centre.{Phase, Closed, Opened, Up}
 use Rattle.rbc_session.specs.declared.sessions.Record.{Record}
 
--- what is known of each session, by its key
+-- the record of each session, by its key
 abbrev pub Records : Type 0
 Records = Slab Record
 
@@ -17,7 +17,7 @@ phase_in [] t = Closed
 phase_in (None ∷ rest) t = phase_in rest t
 phase_in (Some r ∷ rest) t = if r.nid_engine == t then record_phase r else phase_in rest t
 
--- how far the session with the train has come
+-- the phase of the session with the train
 unfoldable pub phase_at : Records → ℕ → Phase
 phase_at sessions t = phase_in sessions.slots t
 
@@ -34,6 +34,6 @@ abbrev pub IsOneATrain : Records → Type 0
 IsOneATrain sessions =
     (j k : ℕ) (p q : Record) → get sessions j ≡ Some p → get sessions k ≡ Some q → p.nid_engine ≡ q.nid_engine → j ≡ k
 
--- the same by their keys
+-- no two keys of sessions are of one train
 abbrev pub AtMostOneATrain : Records → Type 0
 AtMostOneATrain sessions = (j k t : ℕ) → train_at sessions j ≡ Some t → train_at sessions k ≡ Some t → j ≡ k

@@ -1,8 +1,8 @@
 //! The communication sessions of a radio block centre with its trains (SUBSET-026 3.5): at most one a train. A session
-//! is a key that can't be copied or dropped, and its type says how far the session has come, so none is used in a phase
-//! that it is not in. What is known of a session stands in one place, under its key.
+//! is a key that can't be copied or dropped. Its type has its phase, so no call uses it in another phase. The record of
+//! a session is in one place, under its key.
 //!
-//! Bodies and proofs are free. The clauses of public functions stay, since the crates above stand on them.
+//! Bodies and proofs may change. The clauses of public functions have to stay: the crates above depend on them.
 #![tactic(auto)]
 
 mod session;

@@ -8,8 +8,8 @@ pub struct Opened;
 #[derive(Clone, Copy, Debug, PartialEq, Eq)]
 pub struct Up;
 
-/// A session with a train, which one holder has. It can't be copied, and not be dropped: it ends in `Sessions::close`,
-/// also where its centre is dropped. Its phase is `Opened` or `Up`.
+/// A session with a train, which one holder has. It can't be copied or dropped: it ends in `Sessions::close`, also when
+/// its centre ends. Its phase is `Opened` or `Up`.
 #[must_use]
 #[derive(Debug)]
 pub struct Session<S> {
@@ -17,7 +17,7 @@ pub struct Session<S> {
     pub(crate) phase: S,
 }
 
-/// What a centre has of a train's session.
+/// The state of a train's session at a centre.
 #[derive(Debug)]
 pub enum SessionState {
     /// There is none.
@@ -26,7 +26,7 @@ pub enum SessionState {
     Up(Session<Up>),
 }
 
-/// How far the session with a train has come.
+/// The phase of the session with a train.
 #[derive(Clone, Copy, Debug, PartialEq, Eq)]
 pub enum Phase {
     /// There is none.
@@ -40,7 +40,7 @@ pub enum Phase {
 impl SessionState {
     ghost use Rattle.rbc_session.specs.SessionStates.{phase_of, session_phase};
 
-    /// How far the session has come.
+    /// The phase of the session.
     pub fn phase(&self) -> Phase
         ensures { phase_of result ≡ session_phase self.now }
     {

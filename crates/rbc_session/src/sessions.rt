@@ -7,7 +7,7 @@ use slab::Slab;
 use std::alloc::{AllocError, Global};
 use std::marker::Model;
 
-/// What is known of a session.
+/// The record of a session.
 #[derive(Clone, Copy, Debug, PartialEq, Eq)]
 pub(crate) struct Record {
     pub(crate) nid_engine: u32,
@@ -47,7 +47,7 @@ impl Sessions {
         }
     }
 
-    /// NID_ENGINE of the train of a session; none where its key is that of no session here. No two keys are of one
+    /// NID_ENGINE of the train of a session; `None` if its key is not that of a session here. No two keys are of one
     /// train.
     #[tactic(auto, unfolding(crate::specs::Sessions::train_at))]
     pub fn train<S>(&self, session: &Session<S>) -> Option<u32>
@@ -87,7 +87,7 @@ impl Sessions {
         Ok(self.open_reserved(nid_engine))
     }
 
-    /// `open` where there is room, which takes no memory.
+    /// `open` with room made before, which takes no memory.
     pub fn open_reserved(&mut self, nid_engine: u32) -> Session<Opened>
         requires room { HasRoom self.old }
         requires closed { phase_at self.old nid_engine ≡ spec.Closed }
@@ -130,7 +130,7 @@ impl Sessions {
         let _ = self.records.try_remove(key);
     }
 
-    /// Ends the session that stands, if there is one.
+    /// Ends the session, if there is one.
     pub fn end(&mut self, session_state: SessionState)
         ensures phases { (u : ℕ) → phase_at self.new u
             ≡ (if stands_with self.old session_state u then spec.Closed else phase_at self.old u) }

@@ -1,4 +1,4 @@
--- What a centre does at an end of mission at standstill is what is cut off the hand.
+-- A centre's act at an end of mission at standstill is the cut of the hand.
 use Rattle.std.proofs.Common.{◌≡◌, ℕ, ◌==◌, ◌||◌, Bool, true, false, if◌then◌else◌, refl}
 use Rattle.rbc_spec.specs.SectionRuns.{passing}
 use Rattle.rbc_spec.specs.Line.{Line}

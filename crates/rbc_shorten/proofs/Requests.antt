@@ -25,7 +25,7 @@ module _ (line : Line) (t s : ℕ) (m : Mission) (k : Centre) (facts : Shortenin
   unfolding may_shorten_at
   may_alike i = test line s (are.session i) (are.is_ended i) ((standing_alike facts.proposal ∙ ap is_none are.proposal) i) (are.hand i) (are.front i) (are.group i)
 
-  -- what is asked, where it may be
+  -- the request, if it may be sent
   pub by_rules : (asked : Option Shortening) → asked ≡ cond (may_shorten line facts s) (Some (shortening line facts s)) None
       → asked ≡ cond (may_propose line t s m k) (Some (record { l_endsection = start line s - group_start line m.place; last_kept = s - 1 })) None
   by_rules asked is = is ∙ (λ i. cond (may_alike i) (Some (record { l_endsection = start line s - are.group i; last_kept = s - 1 })) None)

@@ -1,4 +1,4 @@
--- The facts of a mission that a request to shorten goes by, in memory and by the rules.
+-- The facts of a mission that decide about a request to shorten, in memory and by the rules.
 use Rattle.std.specs.Prelude.{◌≡◌, ℕ, Option, option_map}
 use Rattle.rbc_spec.specs.Line.{Line}
 use Rattle.rbc_spec.specs.Place.{group_start}

@@ -6,7 +6,7 @@ use Rattle.rbc_line.specs.SectionRuns.{run_of}
 use Rattle.rbc_shorten.specs.declared.facts.ShorteningFacts.{ShorteningFacts}
 use Rattle.rbc_shorten.specs.declared.facts.Shortening.{Shortening}
 
--- the mission may be asked for something: its session is up, it is not ended, and no request stands
+-- a request may be sent for the mission: its session is up, it is not ended, and no request is pending
 abbrev pub is_free : ShorteningFacts → Bool
 is_free m = (m.is_up && not m.is_ended) && is_none m.proposal
 
@@ -20,11 +20,11 @@ may_shorten_at metres m s =
     is_free m && ((is_cut_after_first (run_of m.hand) s && nat_le m.front (10 * metres))
     && nat_le metres (m.group_start + 32767))
 
--- what it asks for
+-- the request
 abbrev pub shortening_at : ℕ → ShorteningFacts → ℕ → Shortening
 shortening_at metres m s = record { l_endsection = metres - m.group_start; last_kept = s - 1 }
 
--- the same by the line
+-- a request to shorten before section s of the line may be made
 abbrev pub may_shorten : Line → ShorteningFacts → ℕ → Bool
 may_shorten line m s = may_shorten_at (start line s) m s
 

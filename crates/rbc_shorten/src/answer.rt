@@ -12,22 +12,22 @@ use crate::facts::Proposal;
 use rbc_line::{Line, SectionRun};
 use rbc_place::section_end;
 
-/// What an answer cuts off the hand.
+/// The part that an answer cuts off the hand.
 #[derive(Clone, Copy, Debug, PartialEq, Eq)]
 pub enum Cut {
     /// Nothing: the hand stays as it is.
     Nothing,
-    /// All but so many of its first sections.
+    /// All sections but this number of the first.
     Keep(u16),
 }
 
-/// No request stands, or the answer is to another.
+/// No request is pending, or the answer is to another.
 #[derive(Clone, Copy, Debug, PartialEq, Eq)]
 pub struct Unasked;
 
-/// What the train frees that has granted the request with this stamp (message 137). `front` is its safe front end in
-/// decimetres, where the message has a place on the mission's track: a train that has run past the proposed end frees
-/// nothing. Unasked exactly where no request stands, or it has another stamp.
+/// The cut after the train has granted the request with this stamp (message 137). `front` is its safe front end in
+/// decimetres, if the message has a place on the mission's track. A train that has run past the proposed end frees
+/// nothing. `Unasked` if and only if no request is pending, or it has another stamp.
 pub fn granted(
     line: &Line,
     proposal: Option<Proposal>,
@@ -38,7 +38,7 @@ pub fn granted(
     ensures exact { result ≡ on_asked (cut_of line.now (run_of hand) front) proposal stamp }
     ensures reason { (m : spec.Mission) (position : place.Position) → standing_of proposal ≡ m.proposal
         → is_err result ≡ is_unasked (Some m) (message.ShorteningGranted stamp position) }
-    // What a centre frees by the rules.
+    // The sections that a centre frees by the rules.
     ensures rules { (c t : ℕ) (position : place.Position) (m : spec.Mission) (p : spec.Proposal)
         → IsAnswer line.now position m p proposal front
         → IfOk result (λ left. freeing line.now c t position m p ≡ act_of line.now c t m p left) }
@@ -52,8 +52,8 @@ pub fn granted(
     }
 }
 
-/// The train has rejected the request with this stamp (message 138): nothing is freed. Unasked exactly where no request
-/// stands, or it has another stamp.
+/// The train has rejected the request with this stamp (message 138): nothing is freed. `Unasked` if and only if no
+/// request is pending, or it has another stamp.
 pub fn rejected(proposal: Option<Proposal>, stamp: u32) -> Result<(), Unasked>
     ensures exact { result ≡ on_asked (λ p. tt) proposal stamp }
     ensures reason { (m : spec.Mission) (position : place.Position) → standing_of proposal ≡ m.proposal
@@ -63,7 +63,7 @@ pub fn rejected(proposal: Option<Proposal>, stamp: u32) -> Result<(), Unasked>
     Ok(())
 }
 
-// The request that stands, if the answer is to it.
+// The pending request, if the answer is to it.
 fn asked(proposal: Option<Proposal>, stamp: u32) -> Result<Proposal, Unasked>
     ensures { result ≡ on_asked (λ p. p) proposal stamp }
 {

@@ -1,6 +1,6 @@
 use rbc_line::SectionRun;
 
-/// A request to shorten that stands: the train has not answered it.
+/// A pending request to shorten: the train has not answered it.
 #[derive(Clone, Copy, Debug, PartialEq, Eq)]
 pub struct Proposal {
     /// T_TRAIN of its message 9.
@@ -9,7 +9,7 @@ pub struct Proposal {
     pub last_kept: u16,
 }
 
-/// What a request to shorten asks for.
+/// The content of a request to shorten.
 #[derive(Clone, Copy, Debug, PartialEq, Eq)]
 pub struct Shortening {
     /// L_ENDSECTION of message 9: the proposed end, in metres from the balise group of the train's place.
@@ -18,19 +18,19 @@ pub struct Shortening {
     pub last_kept: u16,
 }
 
-/// What decides whether a mission may be asked to shorten its authority.
+/// The facts that decide whether a request to shorten may be sent for a mission.
 #[derive(Clone, Copy, Debug, PartialEq, Eq)]
 pub struct ShorteningFacts {
     /// The session with the train is up.
     pub is_up: bool,
     /// The mission is ended.
     pub is_ended: bool,
-    /// The request that stands.
+    /// The pending request.
     pub proposal: Option<Proposal>,
     /// The sections of the authority.
     pub hand: SectionRun,
     /// The safe front end, in decimetres from the start of the track.
     pub front: u32,
-    /// Where the balise group of the train's place lies, in metres from the start of the track.
+    /// The balise group of the train's place, in metres from the start of the track.
     pub group_start: u32,
 }

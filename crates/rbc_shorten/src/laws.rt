@@ -6,8 +6,8 @@ ghost use Rattle.rbc_spec.specs.Centre.{Mission};
 ghost use Rattle.rbc_spec.specs.Rules.{cut_ahead};
 ghost use Rattle.rbc_shorten.specs.Standstill.{ahead_of, standing_act};
 
-/// What is not kept of a hand that is cut before a section is its end: so many sections, and where there are any, they
-/// follow those that are kept.
+/// A hand that is cut before a section loses the sections from that on. If it loses some, they follow those that are
+/// kept.
 pub fn what_is_cut_follows_what_is_kept()
     ensures count { (hand : SectionRun) (s : ℕ) → (part_from s hand).count ≡ hand.count - (part_before s hand).count }
     ensures run { (hand : SectionRun) (s : ℕ) → (part_before s hand).count < hand.count
@@ -17,7 +17,7 @@ pub fn what_is_cut_follows_what_is_kept()
         } }
 {}
 
-/// At an end of mission at standstill a centre does with the hand of the mission what is cut off it.
+/// At an end of mission at standstill, a centre's act on the hand of the mission is its cut.
 pub fn what_lies_ahead_is_cut()
     ensures { (line : Line) (c t : ℕ) (m : Mission) (place : Place)
         → cut_ahead line c t m place ≡ standing_act line c t m (ahead_of line m.hand place.front) }

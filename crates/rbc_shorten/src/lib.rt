@@ -1,8 +1,8 @@
-//! Co-operative shortening of MA (SUBSET-026 3.8.6), by agreement with the train: when a request to shorten may be made
-//! and what it asks for, and what an answer to it frees. Nothing is freed but on the answer to the request that
-//! stands, or at the end of a mission at standstill (5.5).
+//! Co-operative shortening of MA (SUBSET-026 3.8.6), by agreement with the train. It decides when a request to shorten
+//! may be sent, its content, and the sections that an answer frees. Sections are freed only by the answer to the
+//! pending request, or at the end of a mission at standstill (5.5).
 //!
-//! Bodies and proofs are free. The clauses of public functions stay, since the crates above stand on them.
+//! Bodies and proofs may change. The clauses of public functions have to stay: the crates above depend on them.
 #![tactic(auto)]
 
 mod answer;

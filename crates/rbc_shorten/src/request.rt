@@ -14,12 +14,13 @@ use rbc_place::section_start;
 /// The farthest end that L_ENDSECTION can give, in metres.
 const FARTHEST: u64 = 32_767;
 
-/// A request for co-operative shortening of MA, to the end of the section before `s` (3.8.6). It may be made exactly
-/// where the session is up, the mission is not ended, no request stands, `s` is in the hand and not its first section,
-/// the front is not past the start of `s`, and this start is at most 32 767 m past the group; else there is none.
+/// A request for co-operative shortening of MA, to the end of the section before `s` (3.8.6). It is sent if and only if
+/// all of this holds. The session is up, the mission is not ended, and no request is pending. `s` is in the hand and
+/// not its first section. The front is not past the start of `s`, and this start is at most 32 767 m past the group.
 pub fn propose(line: &Line, facts: ShorteningFacts, s: u16) -> Option<Shortening>
     ensures exact { result ≡ (if may_shorten line.now facts s then Some (shortening line.now facts s) else None) }
-    // The same of the mission that a centre keeps: where it may propose, and what it then sends and keeps.
+    // The same for the mission of a centre's state: when it may propose, the message that it sends, and the request
+    // that it keeps.
     ensures rules { (t : ℕ) (n : spec.Mission) (k : spec.Centre) → AreFactsOf line.now t n k facts
         → result ≡ (if may_propose line.now t s n k
         then Some (record {
@@ -60,7 +61,7 @@ fn is_cut_after_first(hand: SectionRun, s: u16) -> bool
     hand.contains(s) && s != hand.first
 }
 
-// What a request asks for that keeps the sections before one that starts there.
+// The content of a request that keeps the sections before `s`, which begins at `start`.
 fn shortening(facts: ShorteningFacts, s: u16, start: u32) -> Shortening
     requires { start ≤ facts.group_start + 32767 }
     ensures { result ≡ shortening_at start facts s }

@@ -8,8 +8,8 @@ use crate::answer::Cut;
 use rbc_line::{Line, SectionRun};
 use rbc_place::section_start;
 
-/// What is cut off the hand of a train that ends its mission at standstill, with its safe front end there, in
-/// decimetres (5.5): the sections that begin at the front or past it, where the train has reached its hand.
+/// The cut of the hand of a train that ends its mission at standstill, with its safe front end in decimetres (5.5). If
+/// the train has reached its hand, the sections that begin at the front or past it are cut off.
 pub fn cut_at_standstill(line: &Line, hand: SectionRun, front: u32) -> Cut
     ensures { result ≡ ahead_of line.now (run_of hand) front }
 {

@@ -4,18 +4,18 @@ use Rattle.std.specs.List.{range_with_len}
 use Rattle.std.proofs.lemmas.Bool.{cond-true, cond-false, cases_Bool, cases_lt, cases_eq, both_ways, false_from_ne_true, and_left, and_right, le-leb, lt-leb, lt-ltb, le-ltb}
 use Rattle.rbc_spec.specs.SectionRuns.{within, run_of}
 
--- by what a test says
+-- the two cases of a test
 by_test : {P : Type 0} (b : Bool) → (b ≡ true → P) → (b ≡ false → P) → P
 by_test b f g = ⊎_elim f g (cases_Bool b)
 
 by_same : {P : Type 0} (m n : ℕ) → (m ≡ n → P) → ((m ≡ n → ⊥) → P) → P
 by_same m n f g = ⊎_elim f g (cases_eq m n)
 
--- what stands between two numbers that pass passes too
+-- each number between two numbers that pass passes too
 abbrev pub IsConvex : (ℕ → Bool) → Type 0
 IsConvex test = (s m e : ℕ) → s ≤ m → m ≤ e → test s ≡ true → test e ≡ true → test m ≡ true
 
--- those of n numbers, from a on, that pass
+-- the numbers that pass, of the n numbers from a on
 abbrev pub found : (ℕ → Bool) → ℕ → ℕ → List ℕ
 found test a n = filter test (range_with_len a n)
 
@@ -25,7 +25,7 @@ found_kept test a n passes = cond-true (test a) _ _ passes
 found_left : (test : ℕ → Bool) (a n : ℕ) → test a ≡ false → found test a (suc n) ≡ found test (a + 1) n
 found_left test a n fails = cond-false (test a) _ _ fails
 
--- how many are found
+-- at most n numbers are found
 few_found : (test : ℕ → Bool) (a n : ℕ) → length (found test a n) ≤ n
 few_found test a zero = omega arith
 few_found test a (suc n) = by_test (test a)
@@ -54,13 +54,13 @@ none_after test a (suc n) s high = by_test (test a)
     (after_run a (length (found test (a + 1) n) + 1) s (omega (arith, few_found test (a + 1) n))))
     (λ (fails : test a ≡ false). rw (found_left test a n fails) (none_after test (a + 1) n s (omega arith)))
 
--- where nothing passes, nothing is found
+-- if no number passes, none is found
 none_found : (test : ℕ → Bool) (a n : ℕ) → ((s : ℕ) → a ≤ s → test s ≡ false) → found test a n ≡ []
 none_found test a zero none = refl
 none_found test a (suc n) none =
     found_left test a n (none a (omega arith)) ∙ none_found test (a + 1) n (λ s low. none s (omega arith))
 
--- where what stands before a number that passes passes, those that pass are the first ones
+-- if the numbers before one that passes pass too, those that pass are the first ones
 first_found : (test : ℕ → Bool) (a n : ℕ) → ((s m : ℕ) → a ≤ m → m ≤ s → test s ≡ true → test m ≡ true)
     → (s : ℕ) → a ≤ s → s < a + n → nat_lt s (a + length (found test a n)) ≡ test s
 first_found test a zero closed s low high = absurd (omega arith)
@@ -79,7 +79,7 @@ first_found test a (suc n) closed s low high = by_test (test a)
         let e : a + length (found test a (suc n)) ≡ a + 1 + length (found test (a + 1) n) = rw is (omega arith) in
         ap (λ b. nat_lt s b) e ∙ rest
 
--- where the first number passes, the run begins there
+-- if the first number passes, the run begins with it
 starts : (test : ℕ → Bool) (a n s : ℕ) → a ≤ s → test a ≡ true → nat_lt s (a + length (found test a (suc n))) ≡ test s
     → within (run_of (found test a (suc n))) s ≡ test s
 unfolding within
@@ -88,7 +88,7 @@ starts test a n s low passes rest =
     let e : a + (length (found test (a + 1) n) + 1) ≡ a + length (found test a (suc n)) = rw is (omega arith) in
     ap (λ xs. within (run_of xs) s) is ∙ ap (λ b. b && nat_lt s (a + (length (found test (a + 1) n) + 1))) (le-leb a s low) ∙ ap (λ b. nat_lt s b) e ∙ rest
 
--- those of n numbers that pass a convex test are a run
+-- the numbers that pass a convex test, of n numbers, are a run
 pub convex_run : (test : ℕ → Bool) (a n : ℕ) → IsConvex test
     → (s : ℕ) → a ≤ s → s < a + n → within (run_of (found test a n)) s ≡ test s
 convex_run test a zero convex s low high = absurd (omega arith)
@@ -99,7 +99,7 @@ convex_run test a (suc n) convex s low high = by_test (test a)
     (λ (here : s ≡ a). none_before test (a + 1) n s (omega arith) ∙ sym fails ∙ ap test (sym here))
     (λ (apart : s ≡ a → ⊥). convex_run test (a + 1) n convex s (omega arith) (omega arith))))
 
--- the same from 0, where no number after the last passes
+-- the numbers from 0 that pass a convex test are a run, if no number after the last passes
 pub convex_run_of : (test : ℕ → Bool) (n s : ℕ) → IsConvex test → (n ≤ s → test s ≡ false) → within (run_of (found test 0 n)) s ≡ test s
 convex_run_of test n s convex outside = ⊎_elim
     (λ (low : s < n). convex_run test 0 n convex s (omega arith) (omega arith))

@@ -1,4 +1,4 @@
--- What is held of a train: the mission of a centre of the line, or of a Yield on the way between two.
+-- The mission of a train, at a centre of the line or in a Yield on the way between two centres.
 use Rattle.std.proofs.Common.{◌≡◌, ◌⊎◌, ℕ, zero, suc, ◌+◌, ◌<◌, ◌≤◌, ◌≢◌, ◌==◌, Bool, true, false, if◌then◌else◌, List, [], ◌∷◌, ◌++◌, length, slice_get, Option, Some, None, option_map, refl, sym, ap, ◌∙◌, subst, inl, inr, arith, ⊎_elim, eqb-true, ltb-true}
 use Rattle.std.specs.Prelude.{Contains}
 use Rattle.std.specs.List.{cons_option, filter_map, find, range_with_len}
@@ -21,7 +21,7 @@ use Rattle.rbc_spec.specs.ReadOff.{StandsFor, Held, seen, held_at, handed_over, 
 pub contains_head : {X : Type 0} (x : X) (xs : List X) → Contains (x ∷ xs) x
 contains_head x xs = (zero, omega arith, refl)
 
--- what follows the head of a list is in the list
+-- an element of the tail of a list is an element of the list
 pub contains_more : {X : Type 0} (y x : X) (xs : List X) → Contains xs x → Contains (y ∷ xs) x
 contains_more y x xs is = (suc is.0, omega (arith, is.1), is.2)
 
@@ -42,7 +42,7 @@ contains_filter_map f (z ∷ zs) x y (suc k, low, is) gives = by_head (f z) refl
     by_head None e more = rw e more
     by_head (Some v) e more = rw e (contains_more v y (filter_map f zs) more)
 
--- two of a list that has one at most are the same
+-- two elements of a list of at most one element are equal
 pub only_one : {X : Type 0} (xs : List X) (x y : X) → length xs ≤ 1 → Contains xs x → Contains xs y → x ≡ y
 only_one [] x y few one two = absurd (let no : ⊥ = omega (arith, one.1) in no)
 only_one (z ∷ []) x y few (zero, low, is) (zero, less, also) = sym is ∙ also
@@ -50,7 +50,7 @@ only_one (z ∷ []) x y few (suc k, low, is) two = absurd (let no : ⊥ = omega 
 only_one (z ∷ []) x y few one (suc k, low, is) = absurd (let no : ⊥ = omega (arith, low) in no)
 only_one (z ∷ v ∷ vs) x y few one two = absurd (let no : ⊥ = omega (arith, few) in no)
 
--- what is in a list of one at most is the first
+-- an element of a list of at most one element is the first
 pub first_is : {X : Type 0} (xs : List X) (x : X) → length xs ≤ 1 → Contains xs x → slice_get xs 0 ≡ Some x
 first_is [] x few is = absurd (let no : ⊥ = omega (arith, is.1) in no)
 first_is (z ∷ zs) x few (zero, low, is) = ap (λ y. Some y) is
@@ -60,7 +60,7 @@ pub none_first : {X : Type 0} (xs : List X) → length xs ≤ 0 → slice_get xs
 none_first [] few = refl
 none_first (x ∷ xs) few = absurd (let no : ⊥ = omega (arith, few) in no)
 
--- the first of what two functions give of two lists is given by one of them
+-- the first value that two functions give for two lists is given by one of them
 first_from : {X Y Z : Type 0} (f : X → Option Z) (xs : List X) (g : Y → Option Z) (ys : List Y) (z : Z) → slice_get (filter_map f xs ++ filter_map g ys) 0 ≡ Some z
     → ((x : X) × (f x ≡ Some z)) ⊎ ((y : Y) × (g y ≡ Some z))
 first_from f [] g [] z is = cc
@@ -102,23 +102,23 @@ away_if_handed t c body h is = cc
 pub among : (line : Line) (c : ℕ) → is_centre line c ≡ true → Contains (centres_of line) c
 among line c at = contains_range 0 (length line.centres) c (omega arith) (omega (arith, ltb-true c (length line.centres) at))
 
--- what a centre has of a mission
+-- the mission and the hand together
 abbrev pub held_as : LineMission → SectionRun → Held
 held_as m hand = record { mission = m; hand = hand }
 
 module _ (line : Line) (w : World) where
-  -- the mission of a centre of the line, with its hand
+  -- the mission of a centre of the line is one of the train's missions
   pub held_there : (t c : ℕ) (m : centre.Mission) → is_centre line c ≡ true → (w.at c).mission t ≡ Some m → Contains (all_held line w t) (held_as (seen c m) m.hand)
   held_there t c m at has = Contains-append_left (filter_map (held_at w t) (centres_of line)) (filter_map (λ (f : Frame). handed_over t f.body) (frames_on_way line w)) (held_as (seen c m) m.hand)
       (contains_filter_map (held_at w t) (centres_of line) c (held_as (seen c m) m.hand) (among line c at) (ap (option_map (λ (x : centre.Mission). held_as (seen c x) x.hand)) has))
 
-  -- and of a frame on the way
+  -- the mission that a frame on the way carries is one of the train's missions
   pub held_on_way : (t : ℕ) (f : Frame) (h : Held) → Contains (frames_on_way line w) f → handed_over t f.body ≡ Some h → Contains (all_held line w t) h
   held_on_way t f h on is = Contains-append_right (filter_map (held_at w t) (centres_of line)) (filter_map (λ (g : Frame). handed_over t g.body) (frames_on_way line w)) h
       (contains_filter_map (λ (g : Frame). handed_over t g.body) (frames_on_way line w) f h on is)
 
 module _ (line : Line) (w : World) (v : LineState) (stands : StandsFor line w v) where
-  -- a centre's mission is the one that is held
+  -- the mission of a centre is the train's mission
   pub is_there : (t c : ℕ) (m : centre.Mission) → (w.at c).mission t ≡ Some m → Contains (all_held line w t) (held_as (seen c m) m.hand)
   is_there t c m has = by_centre (is_centre line c) refl
     where
@@ -129,11 +129,11 @@ module _ (line : Line) (w : World) (v : LineState) (stands : StandsFor line w v)
   pub held_first : (t : ℕ) (h : Held) → Contains (all_held line w t) h → held line w t ≡ Some h
   held_first t h is = first_is (all_held line w t) h (stands.one_seat t) is
 
-  -- and seen as the line's
+  -- the mission of a centre is that of the line's state
   pub is_seen : (t c : ℕ) (m : centre.Mission) → (w.at c).mission t ≡ Some m → v.mission t ≡ Some (seen c m)
   is_seen t c m has = stands.mission t ∙ ap (option_map (λ (h : Held). h.mission)) (held_first t (held_as (seen c m) m.hand) (is_there t c m has))
 
-  -- what the line sees at a centre is the centre's
+  -- a mission of the line's state that a centre supervises is that centre's
   pub is_the_centres : (t c : ℕ) (m : LineMission) → v.mission t ≡ Some m → is_at c m.supervisor ≡ true → (n : centre.Mission) × ((w.at c).mission t ≡ Some n) × (m ≡ seen c n)
   is_the_centres t c m is at = by_held (held line w t) refl
     where

@@ -1,4 +1,4 @@
--- Where sections start and end on their track, and which a place covers.
+-- The starts and ends of sections on their track, and the sections that a place covers.
 use Rattle.std.proofs.Common.{Bool, ◌≡◌, ℕ, ◌+◌, ◌*◌, ◌<◌, ◌≤◌, ◌==◌, ◌&&◌, true, false, nat_lt, length, take, filter, slice_get, Option, Some, None, ℤ, pos, negsuc, int_lt, get_or, refl, sym, ap, ◌∙◌, arith, ⊎_elim, le_antisymm, ltb-true, lt-ltb, eqb-true, eq-eqb}
 use Rattle.std.specs.List.{sum_by}
 use Rattle.std.specs.Option.{option_map_or}
@@ -26,7 +26,7 @@ section_on line track s on = let h = on_some track (section line s) on in (h.0, 
 pub on_section : (line : Line) (track s : ℕ) (p : Section) → IsAt line track s p → is_on line track s ≡ true
 on_section line track s p h = ap (λ o. option_map_or (λ q. q.track == track) o false) h.at ∙ eq-eqb p.track track h.on
 
--- the lengths of the first s sections of the line, those of one track
+-- the sum of the lengths of those of the first s sections of the line that are on one track
 abbrev pub before : Line → ℕ → ℕ → ℕ
 before line track s = sum_up_to (λ q. q.metres) (λ q. q.track == track) line.sections s
 
@@ -61,7 +61,7 @@ ends_rise line track s e one two le =
     let q = section_on line track e two in
     omega (arith, end_is line track s p.0 p.1, end_is line track e q.0 q.1, before_rises line track (s + 1) (e + 1) (omega arith))
 
--- a section ends where the next of its track starts, or before
+-- a section ends at or before the start of each later one on its track
 pub ends_before : (line : Line) (track s e : ℕ) → is_on line track s ≡ true → is_on line track e ≡ true → s < e → end line s ≤ start line e
 ends_before line track s e one two lt =
     let p = section_on line track s one in
@@ -70,7 +70,7 @@ ends_before line track s e one two lt =
 
 -- ## Of one track
 
--- what stands between two sections of a track is of that track
+-- a section between two sections of a track is of that track
 pub between_on : (line : Line) → IsLine line → (track s m e : ℕ) → s ≤ m → m ≤ e → is_on line track s ≡ true → is_on line track e ≡ true → is_on line track m ≡ true
 between_on line ok track s m e from to one two =
     let p = section_on line track s one in
@@ -122,7 +122,7 @@ homes_run line d track s ok = convex_run_of (is_home_on line d track) (section_c
 
 -- ## Places
 
--- before a number, before a greater one
+-- a distance below a number is below each greater one
 below_more : (z : ℤ) (a b : ℕ) → a ≤ b → int_lt z (pos a) ≡ true → int_lt z (pos b) ≡ true
 below_more (pos r) a b le low = lt-ltb r b (omega (arith, ltb-true r a low))
 below_more (negsuc r) a b le low = refl
@@ -131,7 +131,7 @@ rear_more : (rear : Option ℤ) (a b : ℕ) → a ≤ b → option_map_or (λ r.
 rear_more (Some z) a b le low = below_more z a b le low
 rear_more None a b le low = low
 
--- what a covered section is
+-- the three facts of a covered section
 pub record IsCovered (line : Line) (place : Place) (s : ℕ) : Type 0 where
   pub on : is_on line place.track s ≡ true
   pub begins : 10 * start line s < place.front

@@ -1,4 +1,4 @@
--- At most one state stands for a world.
+-- At most one state represents a world.
 use Rattle.std.proofs.Common.{◌≡◌, ℕ, true, sym, ◌∙◌}
 use Rattle.rbc_spec.specs.Line.{Line, is_home}
 use Rattle.rbc_spec.specs.LineCentre.{LineState}

@@ -1,4 +1,4 @@
--- A world that some state stands for is safe.
+-- A world that some state represents is safe.
 use Rattle.std.proofs.Common.{◌≡◌, ℕ, true, false, Option, Some, None, refl, sym, ap, ◌∙◌, subst, eqb-true, eq-eqb}
 use Rattle.std.specs.Prelude.{Contains}
 use Rattle.rbc_spec.specs.Maps.{has}
@@ -18,7 +18,7 @@ module _ (line : Line) (w : World) (v : LineState) (stands : StandsFor line w v)
   one_mission : (t : ℕ) (m n : LineMission) → v.mission t ≡ Some m → v.mission t ≡ Some n → m ≡ n
   one_mission t m n a b = let same : Some m ≡ Some n = sym a ∙ b in cc
 
-  -- a section in a hand is given to the hand's train
+  -- a section in a hand is given to the train of the hand
   pub given_mark : (t s : ℕ) → is_given line w t s ≡ true → is_given_to t (v.mark s) ≡ true
   given_mark t s given = by_held (held line w t) refl given
     where

@@ -16,7 +16,7 @@ module _ {X : Type 0} (f : X → ℕ) (test : X → Bool) where
   pub sum_left : (x : X) (xs : List X) → test x ≡ false → sum_by f (filter test (x ∷ xs)) ≡ sum_by f (filter test xs)
   sum_left x xs fails = ap (sum_by f) (cond-false (test x) (x ∷ filter test xs) (filter test xs) fails)
 
-  -- an item that passes adds its own
+  -- an item that passes adds its own value
   pub sum_next : (xs : List X) (i : ℕ) (x : X) → slice_get xs i ≡ Some x → test x ≡ true → sum_up_to xs (i + 1) ≡ sum_up_to xs i + f x
   sum_next [] i x at passes = cc
   sum_next (y ∷ ys) zero x at passes =
@@ -30,7 +30,7 @@ module _ {X : Type 0} (f : X → ℕ) (test : X → Bool) where
       (λ (no : test y ≡ false). rw (sum_left y (take (i + 1) ys) no, sum_left y (take i ys) no) rest)
       (cases_Bool (test y))
 
-  -- with more items it does not fall
+  -- the sum does not fall if there are more items
   pub sum_rises : (xs : List X) (i j : ℕ) → i ≤ j → sum_up_to xs i ≤ sum_up_to xs j
   sum_rises xs zero j le = omega arith
   sum_rises [] (suc i) j le = omega arith

@@ -1,4 +1,4 @@
--- The acts that a centre's steps are made of, in the order in which what they say and send comes out.
+-- The acts that make up a step of a centre. Their frames, messages and replies keep the order of the acts.
 use Rattle.std.specs.Prelude.{ℕ, ◌+◌, ◌-◌, ◌*◌, ◌==◌, Bool, true, false, ◌&&◌, ◌||◌, not, if◌then◌else◌, List, [], ◌∷◌, ◌++◌, map, min, Option, Some, None, option_map, is_none, nat_le}
 use Rattle.std.specs.Option.{option_map_or}
 use Rattle.std.specs.List.{filter, range_with_len}
@@ -16,7 +16,8 @@ infixr 0 ◌$◌
 abbrev pub ◌$◌ : {X Y : Type 0} → (X → Y) → X → Y
 f $ x = f x
 
--- what an act leaves, the bodies of the frames that it sends to each centre, and what it says
+-- The result of an act: the new state, the bodies of frames to each centre, the messages to trains, and the replies to
+-- the interlocking.
 pub record Reply : Type 0 where
   pub state : Centre
   pub frames : ℕ → List Body
@@ -26,14 +27,14 @@ pub record Reply : Type 0 where
 abbrev pub Act : Type 0
 Act = Centre → Reply
 
--- an act that says nothing
+-- an act that only changes the state
 abbrev pub become : (Centre → Centre) → Act
 become change k = record { state = change k; frames = λ d. []; sayings = []; words = [] }
 
 abbrev pub rest : Act
 rest = become (λ k. k)
 
--- one act and then another
+-- one act, then another from the state that the first leaves
 infixl 5 ◌>>◌
 unfoldable pub ◌>>◌ : Act → Act → Act
 (first >> second) k =
@@ -46,27 +47,27 @@ unfoldable pub ◌>>◌ : Act → Act → Act
       words = a.words ++ b.words;
     }
 
--- the act where the test holds of the state
+-- the act if the test holds of the state; else no change
 abbrev pub where_so : (Centre → Bool) → Act → Act
 where_so test act k = if test k then act k else rest k
 
--- the act that goes by a value of the state, where there is one
+-- the act with a value that the state has; no change if there is none
 abbrev pub with_some : {X : Type 0} → (Centre → Option X) → (X → Act) → Act
 with_some value act k = option_map_or (λ x. act x k) (value k) (rest k)
 
--- the act that goes by the train's mission, where it has one here
+-- the act with the train's mission; no change if it has none here
 abbrev pub with_mission : ℕ → (Mission → Act) → Act
 with_mission t = with_some (λ k. k.mission t)
 
--- the body goes to centre d
+-- sends a body to centre d
 abbrev pub send : ℕ → Body → Act
 send d body k = record { state = k; frames = λ e. if e == d then body ∷ [] else []; sayings = []; words = [] }
 
--- the last T_TRAIN heard of the train is that of the message
+-- records T_TRAIN of the message as the last that was received from the train
 abbrev pub hear : TrainMessage → Act
 hear m = become (λ k. record k { heard = put k.heard m.nid_engine (Some m.t_train) })
 
--- a message to a train: its T_TRAIN counts those said to it
+-- Sends a message to a train. Its T_TRAIN counts the messages of this centre to that train.
 abbrev pub say : ℕ → ℕ → TrackBody → Act
 say t group body k =
     let count = k.said t + 1 in
@@ -79,13 +80,13 @@ say t group body k =
 
 -- ## The book
 
--- the sections of the run that pass a test of their entry become this
+-- sets the entry of each section of the run whose entry passes the test
 abbrev pub booked : (Entry → Bool) → Entry → SectionRun → Act
 booked is_meant entry r =
     become (λ k. record k { book = λ s. if within r s && is_meant (k.book s) then entry else k.book s })
 
--- sections of home c in use as meant are given back: each becomes open, and one that is wished back becomes shut, its
--- wish ends, and that is told
+-- Gives sections of home c back: those of the run whose entry passes the test. Each becomes open. If it was wished
+-- back, it becomes shut instead, the wish ends, and the interlocking gets a reply `Told`.
 abbrev pub freed : Line → ℕ → (Entry → Bool) → SectionRun → Act
 freed line c is_meant r k =
     let is_freed : ℕ → Bool = λ s. (within r s && is_home line c s) && is_meant (k.book s) in
@@ -99,7 +100,8 @@ freed line c is_meant r k =
       words = map (λ s. Told s) (filter (λ s. is_freed s && k.wish s) (range_with_len r.first r.count));
     }
 
--- lent sections of the run go home: one frame for those of each home, which are consecutive
+-- Returns the lent sections of the run: one frame to each home that has some of them. The sections of one home are
+-- consecutive.
 abbrev pub returned : Line → ℕ → ℕ → ℕ → SectionRun → Act
 returned line c t track r k = record {
   state = k;
@@ -109,7 +111,7 @@ returned line c t track r k = record {
   words = [];
 }
 
--- sections leave the train: those of home c are given back, and lent ones go home
+-- takes sections from the train: those of home c are given back, lent ones are returned to their homes
 abbrev pub leave : Line → ℕ → ℕ → ℕ → SectionRun → Act
 leave line c t track r = freed line c (is_taken_for t) r >> returned line c t track r
 
@@ -118,34 +120,34 @@ leave line c t track r = freed line c (is_taken_for t) r >> returned line c t tr
 abbrev pub set_mission : ℕ → Option Mission → Act
 set_mission t mission = become (λ k. record k { mission = put k.mission t mission })
 
--- a change of the train's mission, where it has one here
+-- changes the train's mission, if it has one here
 abbrev pub change_mission : ℕ → (Mission → Mission) → Act
 change_mission t change = become (λ k. record k { mission = put k.mission t (option_map change (k.mission t)) })
 
--- the pool is returned to its home, after the sections that have left the end of the hand
+-- Returns the pool to its home. Sections that were taken off the end of the hand are returned before that.
 abbrev pub return_pool : Line → ℕ → ℕ → Mission → Act
 return_pool line c t mission =
     returned line c t mission.place.track mission.pool >> change_mission t (λ n. record n { pool = no_run })
 
--- a handover that stands is cancelled
+-- cancels the pending handover, if there is one
 abbrev pub cancel : ℕ → Mission → Act
 cancel t mission =
     option_map_or (λ h. send h.to (Cancel h.number t)
     >> change_mission t (λ n. record n { handing = None })) mission.handing rest
 
--- the right goes back to the registrar
+-- gives the train's right back: the registrar keeps it, another centre sends it to the registrar
 abbrev pub return_right : Line → ℕ → ℕ → Act
 return_right line c t =
     if is_registrar_of line c t
     then become (λ k. record k { has_right = put k.has_right t true })
     else option_map_or (λ r. send r (ReturnRight t)) (registrar line t) rest
 
--- the mission closes with an empty hand: what its hand and pool had has left, its handover is cancelled, the right goes
--- back
+-- Closes a mission, after all sections of its hand and pool have left it. A handover is cancelled, and the right goes
+-- back to the registrar.
 abbrev pub close : Line → ℕ → ℕ → Mission → Act
 close line c t mission = (set_mission t None >> cancel t mission) >> return_right line c t
 
--- a mission begins with the sections that its place covers
+-- a new mission: its hand is the sections that its place covers
 abbrev pub begun : Line → Place → Mission
 begun line place =
     record {
@@ -160,8 +162,9 @@ begun line place =
 
 -- ## Shortening (3.8.6)
 
--- a request to shorten before section s may be made: the session is up, the mission goes on, none stands, s is in the
--- hand and not its first, the front is not past its start, and its start has room in L_ENDSECTION
+-- A request to shorten the authority to the start of section s may be sent if all of this holds. The session is up, the
+-- mission is not ended, and no request is pending. Section s is in the hand, and is not its first. The front is not
+-- past the start of s, and that start is within the range of L_ENDSECTION.
 abbrev pub may_propose : Line → ℕ → ℕ → Mission → Centre → Bool
 may_propose line t s m k =
     ((is_up (k.phase t) && not m.is_ended) && is_none m.proposal)
@@ -173,7 +176,7 @@ propose line t s m k =
     (say t m.place.group (ShorteningRequest (start line s - group_start line m.place))
     >> change_mission t (λ n. record n { proposal = Some (record { stamp = k.said t + 1; last_kept = s - 1 }) })) k
 
--- message 9 for section s of the train's hand, where it may be made
+-- sends message 9 for section s of the train's hand, if it may be sent
 abbrev pub propose_if_so : Line → ℕ → ℕ → Act
 propose_if_so line t s = with_mission t (λ m. where_so (may_propose line t s m) (propose line t s m))
 
@@ -183,8 +186,8 @@ propose_if_so line t s = with_mission t (λ m. where_so (may_propose line t s m)
 abbrev pub part_at : Line → ℕ → ℕ → SectionRun → SectionRun
 part_at line d track hand = shared hand (home_run line d track)
 
--- a handover is announced where the hand has a section of the next centre and none stands: the train is told where the
--- border is
+-- Announces a handover to centre d: d gets an Announce, and the train gets the distance to the border (packet 131). The
+-- hand has a section of d, and no handover is pending.
 abbrev pub announce : Line → ℕ → ℕ → ℕ → Mission → Act
 announce line t group d m k =
     let number = k.announced + 1 in
@@ -195,18 +198,19 @@ announce line t group d m k =
     >> say t group (Transition (start line border - group_start line m.place) line.nid_c (nid_rbc line d))
     $ k
 
--- asks for the sections in advance of the hand, as many as the hand has room for
+-- asks centre d for the sections in advance of the hand, as many as the hand has room for
 abbrev pub ask_route : ℕ → ℕ → Mission → Act
 ask_route t d m =
     let first = next_after m.hand in
     send d (RouteAsk t first (min (most_in_hand - m.hand.count) (512 - first)))
     >> become (λ k. record k { route_ask = put k.route_ask t (Some first) })
 
--- the train is told to end its session with c, where it is up
+-- orders the train to terminate its session with c, if the session is up
 abbrev pub end_order : Line → ℕ → ℕ → Act
 end_order line c t = where_so (λ k. is_up (k.phase t)) (say t unknown_group (EndSession line.nid_c (nid_rbc line c)))
 
--- the supervision is yielded: the pool goes home, own sections of the hand are lent, and the mission goes in one frame
+-- Hands the supervision over. The pool is returned, own sections of the hand are lent, and one frame carries the
+-- mission. If the hand has no section of home c, the train is ordered to end its session here.
 abbrev pub yield : Line → ℕ → ℕ → Mission → Handing → Act
 yield line c t m h k =
     ((returned line c t m.place.track m.pool >> booked (is_taken_for t) (Out t) m.hand)

@@ -1,4 +1,5 @@
--- What a radio block centre keeps. States are functions of section numbers, of NID_ENGINE, and of centre numbers.
+-- The state of a radio block centre. It consists of functions of section numbers, of engines (NID_ENGINE), and of
+-- centre numbers.
 use Rattle.std.specs.Prelude.{ℕ, List, [], Bool, true, false, ◌==◌, ◌&&◌, Option, None, is_some, length}
 use Rattle.std.specs.List.{list_any, range_with_len}
 use Rattle.rbc_spec.specs.Maps.{has}
@@ -8,32 +9,36 @@ use Rattle.rbc_spec.specs.Sections.{section_count}
 use Rattle.rbc_spec.specs.Place.{Place}
 use Rattle.rbc_spec.specs.Frame.{Frame}
 
--- what a home section is used for: not released by the interlocking, released, in use for a train with its claim
--- here, or in use for a train elsewhere (profile)
+-- The entry of a home section in the centre's book (profile). `Shut`: not released by the interlocking. `Open`:
+-- released, and not in use. `Taken`: in use for a train at this centre. `Out`: lent for a train, and now at another
+-- centre or in a frame on the way.
 pub data Entry : Type 0 where
   Shut : Entry
   Open : Entry
   Taken : (t : ℕ) → Entry
   Out : (t : ℕ) → Entry
 
--- how far the communication session with a train has come (3.5.3)
+-- The phase of the communication session with a train (3.5.3): none, initiated by the train, or established.
 pub data Phase : Type 0 where
   Closed : Phase
   Opened : Phase
   Up : Phase
 
--- a request to shorten the authority that stands: the T_TRAIN of message 9, and the last section that is to be kept
+-- A pending request to shorten the movement authority: T_TRAIN of its message 9, and the last section that the train
+-- would keep.
 pub record Proposal : Type 0 where
   pub stamp : ℕ
   pub last_kept : ℕ
 
--- a handover that was announced: its number, and the accepting centre
+-- a handover that this centre has announced: its number, and the accepting centre
 pub record Handing : Type 0 where
   pub number : ℕ
   pub to : ℕ
 
--- a mission that is supervised here: its last place, the hand (the sections of its authority), the pool (lent sections
--- that follow the hand at once), whether train data are known and the mission is ended, and what stands
+-- A mission that this centre supervises. `place` is the last place of the train. `hand` is the run of the sections of
+-- its movement authority. `pool` is a run of lent sections that follows the hand at once. `has_data`: the train data
+-- are known. `is_ended`: the train has ended its mission. `proposal` and `handing` are the pending request to shorten
+-- and the pending handover.
 pub record Mission : Type 0 where
   pub place : Place
   pub hand : SectionRun
@@ -43,33 +48,33 @@ pub record Mission : Type 0 where
   pub proposal : Option Proposal
   pub handing : Option Handing
 
--- a handover that another centre announced: its number, and whether it was answered that this centre is taking over
+-- A handover that another centre has announced: its number, and whether this centre has replied that it takes over.
 pub record Expectation : Type 0 where
   pub number : ℕ
   pub is_taking : Bool
 
 pub record Centre : Type 0 where
   pub clock : ℕ  -- the stamp of the last step
-  pub book : ℕ → Entry  -- of each section
+  pub book : ℕ → Entry  -- the entry of each section
   pub wish : ℕ → Bool  -- the interlocking wishes the section back
-  pub phase : ℕ → Phase  -- of the session with each train
-  pub heard : ℕ → Option ℕ  -- the last T_TRAIN heard of each train
-  pub said : ℕ → ℕ  -- how many messages were said to each train
-  pub mission : ℕ → Option Mission  -- of each train
-  pub wait : ℕ → Option Place  -- the place of a start of mission that waits for its right
-  pub has_asked : ℕ → Bool  -- the registrar was asked for the right and has not answered
+  pub phase : ℕ → Phase  -- the phase of the session with each train
+  pub heard : ℕ → Option ℕ  -- the last T_TRAIN received from each train
+  pub said : ℕ → ℕ  -- the number of messages sent to each train
+  pub mission : ℕ → Option Mission  -- the mission of each train
+  pub wait : ℕ → Option Place  -- the place of each start of mission that waits for its right
+  pub has_asked : ℕ → Bool  -- the registrar was asked for the right, and its answer is pending
   pub has_right : ℕ → Bool  -- the right of each train is here, and in no mission
-  pub route_ask : ℕ → Option ℕ  -- the first section that was asked for, of an ask without an answer
-  pub expects : ℕ → ℕ → Option Expectation  -- the handover of each train that each centre announced
-  pub announced : ℕ  -- how many handovers this centre has announced
+  pub route_ask : ℕ → Option ℕ  -- the first section of each request for sections that is pending
+  pub expects : ℕ → ℕ → Option Expectation  -- the handover of each train that each centre has announced
+  pub announced : ℕ  -- the number of handovers that this centre has announced
   pub sent : ℕ → List Frame  -- the frames sent to each centre
-  pub taken : ℕ → ℕ  -- how many frames were taken of each centre
+  pub taken : ℕ → ℕ  -- the number of frames taken from each centre
 
 -- c is the registrar of train t
 abbrev pub is_registrar_of : Line → ℕ → ℕ → Bool
 is_registrar_of line c t = has (λ r. r == c) (registrar line t)
 
--- at the beginning every section is shut, no train is known, and each right is with its registrar
+-- the initial state: each section is shut, no train is known, and each right is at its registrar
 unfoldable pub beginning : Line → ℕ → Centre
 beginning line c = record {
   clock = 0;
@@ -89,9 +94,9 @@ beginning line c = record {
   taken = λ d. 0;
 }
 
--- ## What a state tells
+-- ## Tests of a state
 
--- no session stands
+-- the train has no session
 abbrev pub is_closed : Phase → Bool
 is_closed Closed = true
 is_closed phase = false
@@ -104,7 +109,7 @@ abbrev pub is_open : Entry → Bool
 is_open Open = true
 is_open e = false
 
--- an entry that is in no use
+-- the section is not in use
 abbrev pub is_unused : Entry → Bool
 is_unused Shut = true
 is_unused Open = true
@@ -118,13 +123,13 @@ abbrev pub is_out_for : ℕ → Entry → Bool
 is_out_for t (Out u) = u == t
 is_out_for t e = false
 
--- in use for the train, here or elsewhere
+-- the section is in use for the train, here or elsewhere
 abbrev pub is_used_for : ℕ → Entry → Bool
 is_used_for t (Taken u) = u == t
 is_used_for t (Out u) = u == t
 is_used_for t e = false
 
--- the section is released and of home c
+-- the section has home c, is released, and is not in use
 abbrev pub is_free : Line → ℕ → Centre → ℕ → Bool
 is_free line c k s = is_home line c s && is_open (k.book s)
 
@@ -133,6 +138,6 @@ abbrev pub uses_some : Line → ℕ → Centre → ℕ → Bool
 uses_some line c k t =
     list_any (λ s. is_home line c s && is_used_for t (k.book s)) (range_with_len 0 (section_count line))
 
--- some centre has announced a handover of the train
+-- some centre has announced a handover of the train to this one
 abbrev pub is_expected : Line → Centre → ℕ → Bool
 is_expected line k t = list_any (λ d. is_some (k.expects d t)) (range_with_len 0 (length line.centres))

@@ -1,11 +1,12 @@
 -- Frames between centres. The names Announcement, Cancellation, Taking Over Responsibility and Route Related
--- Information come from the RBC/RBC interface (SUBSET-039); the frames and the rule of rights are the profile's.
+-- Information are those of the RBC/RBC interface (SUBSET-039). The layout of frames and the rule of rights are the
+-- profile's.
 use Rattle.std.specs.Prelude.{ℕ, ◌+◌, ◌≤◌, Bool, true, ◌&&◌, IsTrue, Option, Some, None, ℤ, pos, negsuc, ◌-ℤ◌, int_le}
 use Rattle.std.specs.Option.{option_map_or}
 use Rattle.rbc_spec.specs.SectionRuns.{SectionRun, most_in_hand}
 use Rattle.rbc_spec.specs.Place.{Place}
 
--- the place that a Yield carries: the safe front end too may be any distance, also one before the start of the track
+-- The place that a Yield carries. Unlike in a `Place`, the safe front end may be before the start of the track.
 pub record YieldedPlace : Type 0 where
   pub track : ℕ
   pub group : ℕ
@@ -16,7 +17,7 @@ pub record YieldedPlace : Type 0 where
 abbrev pub yielded_place : Place → YieldedPlace
 yielded_place place = record { track = place.track; group = place.group; front = pos place.front; rear = place.rear }
 
--- the place that is carried with this front: none where it lies before the start of the track
+-- the carried place with this front; `None` if the front is before the start of the track
 abbrev pub place_with_front : YieldedPlace → ℤ → Option Place
 place_with_front place (pos front) =
     Some (record { track = place.track; group = place.group; front = front; rear = place.rear })
@@ -26,17 +27,17 @@ abbrev pub carried_place : YieldedPlace → Option Place
 carried_place place = place_with_front place place.front
 
 pub data Body : Type 0 where
-  AskRight : (t : ℕ) → Body  -- the registrar is asked for the supervision right of t
-  GiveRight : (t : ℕ) → Body  -- it is given
-  RefuseRight : (t : ℕ) → Body  -- it is not there to be given
-  ReturnRight : (t : ℕ) → Body  -- it goes back to the registrar
-  RouteAsk : (t first most : ℕ) → Body  -- sections from first on are asked for, at most so many
-  RouteInfo : (t : ℕ) (run : SectionRun) → Body  -- these are lent
-  RouteWithdraw : (t s : ℕ) → Body  -- the interlocking wishes a lent section back
-  RouteReturn : (t : ℕ) (run : SectionRun) → Body  -- lent sections come home
-  Announce : (number t track : ℕ) → Body  -- a handover is announced
-  Cancel : (number t : ℕ) → Body  -- and cancelled
-  TakingOver : (number t : ℕ) → Body  -- the train has reported in the accepting centre's area
+  AskRight : (t : ℕ) → Body  -- asks the registrar for the right to supervise t
+  GiveRight : (t : ℕ) → Body  -- gives the right
+  RefuseRight : (t : ℕ) → Body  -- refuses the right, since it is not here
+  ReturnRight : (t : ℕ) → Body  -- returns the right to the registrar
+  RouteAsk : (t first most : ℕ) → Body  -- asks for sections from `first` on, at most `most`
+  RouteInfo : (t : ℕ) (run : SectionRun) → Body  -- lends the sections of the run
+  RouteWithdraw : (t s : ℕ) → Body  -- the interlocking wishes the lent section s back
+  RouteReturn : (t : ℕ) (run : SectionRun) → Body  -- returns the lent sections of the run
+  Announce : (number t track : ℕ) → Body  -- announces a handover
+  Cancel : (number t : ℕ) → Body  -- cancels a handover
+  TakingOver : (number t : ℕ) → Body  -- the train has reported in the area of the accepting centre
   -- the supervision is handed over
   Yield : (number t heard : ℕ) (has_data is_ended : Bool) (place : YieldedPlace) (hand : SectionRun) → Body
 
@@ -45,23 +46,23 @@ pub record Frame : Type 0 where
   pub stamp : ℕ
   pub body : Body
 
--- ## What the frames of a link may say: the ranges of their fields (profile)
+-- ## The ranges of the fields of a frame (profile)
 
 -- NID_ENGINE (7.5)
 abbrev pub IsEngine : ℕ → Type 0
 IsEngine t = t ≤ 16777215
 
--- the number of a handover, counted from 1 in four bytes
+-- the number of a handover: counted from 1, in four bytes
 abbrev pub IsHandoverNumber : ℕ → Type 0
 IsHandoverNumber number = (1 ≤ number) × (number ≤ 4294967295)
 
--- sections below 512, at least and at most so many
+-- at least `least` and at most `most` sections, all with numbers below 512
 pub record HasRunRange (least most : ℕ) (run : SectionRun) : Type 0 where
   pub first : run.first ≤ 511
   pub count : (least ≤ run.count) × (run.count ≤ most)
   pub last : run.first + run.count ≤ 512
 
--- a distance in decimetres in four bytes, of either sign
+-- a distance in decimetres, positive or negative, in four bytes
 abbrev pub is_short_distance : ℤ → Bool
 is_short_distance distance = int_le (pos 0 -ℤ pos 2147483648) distance && int_le distance (pos 2147483647)
 
@@ -71,8 +72,8 @@ pub record HasPlaceRange (place : YieldedPlace) : Type 0 where
   pub front : IsTrue (is_short_distance place.front)
   pub rear : IsTrue (option_map_or is_short_distance place.rear true)
 
--- RouteAsk's most is cut so that no section past the 512th is asked for; a RouteReturn has at most a hand of 32 and a
--- pool of 31
+-- `most` of a RouteAsk is limited so that it asks for no section above 511. A RouteReturn names at most 63 sections: a
+-- hand of 32 and a pool of 31.
 abbrev pub HasBodyRange : Body → Type 0
 HasBodyRange (AskRight t) = IsEngine t
 HasBodyRange (GiveRight t) = IsEngine t
@@ -92,7 +93,7 @@ HasBodyRange (Yield number t heard has_data is_ended place hand) =
 abbrev pub last_stamp : ℕ
 last_stamp = 1073741823
 
--- a link carries at most 65 536 frames, numbered from 1, each with its step's stamp
+-- a link carries at most 65 536 frames, numbered from 1; each has the stamp of its step
 pub record HasFrameRanges (f : Frame) : Type 0 where
   pub number : (1 ≤ f.number) × (f.number ≤ 65536)
   pub stamp : (1 ≤ f.stamp) × (f.stamp ≤ last_stamp)

@@ -1,5 +1,5 @@
--- What a centre does with a frame that is the next of its link. A body that names an engine, section, track or group
--- that is not of the line has no effect, and so has one that no rule below gives one.
+-- The rules for a frame that is the next of its link. A frame has no effect if its body names an engine, section, track
+-- or group that is not of the line. Nor has it one if no rule below gives it one.
 use Rattle.std.specs.Prelude.{ℕ, ◌*◌, ◌==◌, Bool, false, ◌&&◌, not, if◌then◌else◌, length, max, Option, Some, None, is_some, is_none, nat_lt, nat_le}
 use Rattle.std.specs.Option.{option_map_or}
 use Rattle.std.specs.List.{find, range_with_len}
@@ -14,13 +14,13 @@ use Rattle.rbc_spec.specs.Centre.{Centre, Taken, Out, Mission, Expectation, is_o
 use Rattle.rbc_spec.specs.Acts.{Act, become, rest, ◌>>◌, where_so, with_some, with_mission, send, booked, freed, returned, set_mission, change_mission, return_right, propose_if_so, end_order, yield}
 use Rattle.rbc_spec.specs.Rules.{choose, drop_wait, begin, reject}
 
--- the sections of the run are of the line, all of one track
+-- the run is of sections of the line, all on one track
 abbrev pub is_of_line : Line → SectionRun → Bool
 is_of_line line r = has (λ p. is_on_track line p.track r) (section line r.first)
 
 -- ## Rights (profile)
 
--- the registrar gives a right that it has, and refuses one that it has not
+-- the registrar gives the right if it has it, and refuses it if not
 abbrev pub right_asked : Line → ℕ → ℕ → ℕ → Act
 right_asked line c d t = where_so (λ k. is_registrar_of line c t)
     (choose (λ k. k.has_right t)
@@ -30,7 +30,8 @@ right_asked line c d t = where_so (λ k. is_registrar_of line c t)
 abbrev pub answered_ask : ℕ → Act
 answered_ask t = become (λ k. record k { has_asked = put k.has_asked t false })
 
--- a start that waits becomes a mission; a right that nothing waits for goes back
+-- The right that was asked for arrives. If a start waits and the train has no mission here, the start becomes a
+-- mission. Else the right goes back to its registrar.
 abbrev pub right_given : Line → ℕ → ℕ → Act
 right_given line c t = where_so (λ k. k.has_asked t) (answered_ask t >> choose
     (λ k. is_some (k.wait t) && is_none (k.mission t))
@@ -42,14 +43,14 @@ right_refused line c t =
     where_so (λ k. k.has_asked t)
     (answered_ask t >> where_so (λ k. is_some (k.wait t)) (drop_wait line c t >> reject t))
 
--- the right comes back to the registrar, where it is not already
+-- the registrar gets the right back, unless the right is there already, or in a mission there
 abbrev pub right_returned : Line → ℕ → ℕ → Act
 right_returned line c t =
     where_so (λ k. is_registrar_of line c t && (not (k.has_right t) && is_none (k.mission t))) (return_right line c t)
 
 -- ## Route Related Information
 
--- the longest run of released home sections from first on one track, at most so many, is lent
+-- the sections that can be lent: the longest run of free home sections from `first` on, on one track, at most `most`
 abbrev pub lendable : Line → ℕ → Centre → ℕ → ℕ → SectionRun
 lendable line c k first most =
     record {
@@ -62,12 +63,13 @@ route_asked line c d t first most k =
     let r = lendable line c k first most in
     (where_so (λ j. is_some (section line first)) (booked is_open (Out t) r >> send d (RouteInfo t r))) k
 
--- the lent sections follow the hand of a mission that goes on, whose pool is empty
+-- the mission can use lent sections: they follow its hand at once, on its track, it is not ended, and its pool is empty
 abbrev pub is_wanted : Line → SectionRun → Mission → Bool
 is_wanted line r m =
     ((r.first == next_after m.hand) && is_on line m.place.track r.first) && (not m.is_ended && is_empty m.pool)
 
--- what was asked for goes into the pool, or home again
+-- The answer to the pending request for these sections, all of them of the sender's home. The mission's pool becomes
+-- these sections, if the mission can use them; else they are returned.
 abbrev pub route_told : Line → ℕ → ℕ → ℕ → SectionRun → Act
 route_told line c d t r = where_so
     (λ k. (has (λ first. first == r.first) (k.route_ask t) && (is_of_line line r && is_home line d r.first))
@@ -77,8 +79,8 @@ route_told line c d t r = where_so
     (change_mission t (λ m. record m { pool = r }))
     (if is_empty r then rest else send d (RouteReturn t r)))
 
--- the interlocking of another centre wishes a lent section back: the pool from it on goes home, or the hand is proposed
--- to be cut
+-- The interlocking of another centre wishes a lent section back. If the section is in the pool, the pool is returned
+-- from that section on. Else a request to shorten the hand is sent, if it may be.
 abbrev pub route_withdrawn : Line → ℕ → ℕ → ℕ → Act
 route_withdrawn line c t s = with_mission t (λ m.
     if within m.pool s
@@ -86,7 +88,8 @@ route_withdrawn line c t s = with_mission t (λ m.
     >> change_mission t (λ n. record n { pool = part_before s n.pool }))
     else propose_if_so line t s)
 
--- lent sections come home and are given back; a train that is no more to come here is told to end the session
+-- Lent sections are returned and given back. If this centre then has nothing more of the train and does not expect it,
+-- the train is ordered to end the session.
 abbrev pub route_returned : Line → ℕ → ℕ → SectionRun → Act
 route_returned line c t r =
     freed line c (is_out_for t) r
@@ -108,28 +111,30 @@ is_under number e = has (λ x. x.number == number) e
 abbrev pub cancelled : ℕ → ℕ → ℕ → Act
 cancelled d number t = where_so (λ k. is_under number (k.expects d t)) (expect d t None)
 
--- the handover with this number to that centre is yielded
+-- the handover of this number to centre d: the supervision is yielded
 abbrev pub taking_over : Line → ℕ → ℕ → ℕ → ℕ → Act
 taking_over line c d number t = with_mission t (λ m. with_some (λ k. m.handing) (λ h.
     where_so (λ k. (h.number == number) && (h.to == d)) (yield line c t m h)))
 
--- a section of a yielded hand: an own one is out for the train; another is not of the next centre
+-- A section of a yielded hand is valid if it is an own section that is out for the train. A section of another home is
+-- valid unless its home is the centre after this one.
 abbrev pub may_arrive : Line → ℕ → Centre → ℕ → ℕ → ℕ → Bool
 may_arrive line c k t track s =
     if is_home line c s then is_out_for t (k.book s)
     else has (λ p. not (has (λ n. n == p.home) (next_centre line c track))) (section line s)
 
--- a handover is taken under the number that was announced, after this centre said that it takes over. Neither mission
--- nor right are here, and the hand is a run of the place's track. The place's group is of that track, and not in
--- advance of its front
+-- A Yield is accepted if all of this holds. Its number is that of the announced handover, and this centre has replied
+-- that it takes over. Neither a mission nor the right of the train is here. The hand is a run of sections on the track
+-- of the place, each of them valid. The place's group is on that track, and not in advance of its front.
 abbrev pub may_take : Line → ℕ → Centre → ℕ → ℕ → ℕ → Place → SectionRun → Bool
 may_take line c k d number t place hand =
     (has (λ e. (e.number == number) && e.is_taking) (k.expects d t) && (is_none (k.mission t) && not (k.has_right t)))
     && ((is_on_track line place.track hand && has (is_on line place.track) (section_of_group line place.group))
     && (nat_le (10 * group_start line place) place.front && all_of (may_arrive line c k t place.track) hand))
 
--- own sections become claims, the mission goes on here, the later of both stamps is kept, and the expectation ends;
--- then the first own section of the hand that is wished back is proposed to be cut off
+-- Takes the mission over. Own sections of the hand are in use here again, and the mission goes on. The later of both
+-- stamps of the train is kept, and the expectation ends. Then a request to shorten is sent for the first own section of
+-- the hand that is wished back.
 abbrev pub take_mission : Line → ℕ → ℕ → ℕ → ℕ → Mission → Act
 take_mission line c d t heard m =
     ((booked (is_out_for t) (Taken t) m.hand >> set_mission t (Some m))
@@ -138,7 +143,7 @@ take_mission line c d t heard m =
     >> with_some (λ k. find (λ s. is_home line c s && k.wish s) (range_with_len m.hand.first m.hand.count))
     (propose_if_so line t)
 
--- a yield with this place is taken, where it may be
+-- a Yield with this place: the mission is taken over, if the Yield is accepted
 abbrev pub yielded : Line → ℕ → ℕ → ℕ → ℕ → SectionRun → ℕ → Bool → Bool → Place → Act
 yielded line c d number t hand heard has_data is_ended place = where_so (λ k. may_take line c k d number t place hand)
     (take_mission line c d t heard
@@ -152,7 +157,7 @@ yielded line c d number t hand heard has_data is_ended place = where_so (λ k. m
       handing = None;
     }))
 
--- ## A frame from centre d to centre c
+-- ## A frame from centre d at centre c
 
 abbrev pub is_train : Line → ℕ → Bool
 is_train line t = is_some (train_number line t)

@@ -1,5 +1,5 @@
--- Words for values that may be none, and for functions of numbers, which the states of centres and of the line are made
--- of.
+-- Short names for optional values and for functions of numbers. The states of centres and of the line are built from
+-- them.
 use Rattle.std.specs.Prelude.{ℕ, ◌==◌, Bool, false, Option, if◌then◌else◌}
 use Rattle.std.specs.Option.{option_map_or}
 
@@ -7,10 +7,10 @@ use Rattle.std.specs.Option.{option_map_or}
 abbrev pub has : {X : Type 0} → (X → Bool) → Option X → Bool
 has test value = option_map_or test value false
 
--- the function with another value at one place
+-- the function, changed at one number
 abbrev pub put : {X : Type 0} → (ℕ → X) → ℕ → X → ℕ → X
 put f k value j = if j == k then value else f j
 
--- a function of two numbers, with another value at one pair
+-- the function of two numbers, changed at one pair
 abbrev pub put_pair : {X : Type 0} → (ℕ → ℕ → X) → ℕ → ℕ → X → ℕ → ℕ → X
 put_pair f j k value = put f j (put (f j) k value)

@@ -1,6 +1,6 @@
--- What a centre's step reads of a train's message and what it says to a train (8.6, 8.7), without the layout of
--- packets. T_TRAIN of a train's message is the train's clock as it was sent; that of a track message counts, from 1,
--- the messages that the centre has said to the train (profile).
+-- The messages of trains and to trains (8.6, 8.7): the fields that a centre's step reads and sends, without the layout
+-- of packets. T_TRAIN of a train's message is the train's clock when it was sent. T_TRAIN of a message to a train
+-- counts, from 1, the messages that the centre has sent to this train (profile).
 use Rattle.std.specs.Prelude.{ℕ, Bool, Option, nat_le}
 use Rattle.rbc_spec.specs.Maps.{has}
 use Rattle.rbc_spec.specs.Place.{Position}
@@ -23,7 +23,7 @@ pub record TrainMessage : Type 0 where
   pub nid_engine : ℕ
   pub body : TrainBody
 
--- T_TRAIN is not above the last that was heard: the message came late or again (3.16.3)
+-- T_TRAIN is not above the last that was received: the message is late or repeated (3.16.3)
 abbrev pub is_stale : ℕ → Option ℕ → Bool
 is_stale stamp heard = has (λ last. nat_le stamp last) heard
 
@@ -32,8 +32,8 @@ pub data TrackBody : Type 0 where
   DataAcknowledged : (stamp : ℕ) → TrackBody  -- 8 Acknowledgement of Train Data: T_TRAIN of the train data
   ShorteningRequest : (l_endsection : ℕ) → TrackBody  -- 9 Request to Shorten MA (3.8.6)
   Transition : (d_rbctr nid_c nid_rbc : ℕ) → TrackBody  -- 24 with packet 131: RBC transition order (3.15.1)
-  EndSession : (nid_c nid_rbc : ℕ) → TrackBody  -- 24 with packet 42: the session with this centre is to be terminated
-  SystemVersion : TrackBody  -- 32 RBC/RIU System Version, answered to message 155 (3.5.3)
+  EndSession : (nid_c nid_rbc : ℕ) → TrackBody  -- 24 with packet 42: it has to end its session with this centre
+  SystemVersion : TrackBody  -- 32 RBC/RIU System Version, the answer to message 155 (3.5.3)
   TerminationAcknowledged : TrackBody  -- 39 Acknowledgement of termination of a communication session
   TrainRejected : TrackBody  -- 40 Train Rejected
   TrainAccepted : TrackBody  -- 41 Train Accepted
@@ -43,10 +43,10 @@ pub record TrackMessage : Type 0 where
   pub nid_lrbg : ℕ
   pub body : TrackBody
 
--- NID_LRBG where no balise group is meant (7.5)
+-- NID_LRBG if no balise group is meant (7.5)
 abbrev pub unknown_group : ℕ
 unknown_group = 16777215
 
--- T_TRAIN where the time is not known: no header has it (7.5, profile)
+-- T_TRAIN if the time is not known; no header has it (7.5, profile)
 abbrev pub unknown_time : ℕ
 unknown_time = 4294967295

@@ -1,22 +1,23 @@
--- What a step of a centre answers.
+-- The outcome of a centre's step.
 use Rattle.std.specs.Prelude.{ℕ, List, [], ◌∷◌, Option}
 use Rattle.rbc_spec.specs.Message.{TrackMessage, TrainBody, TrainData, Request, Report, ShorteningGranted, ShorteningRejected, EndOfMission, InitiationOfSession, TerminationOfSession, StartOfMission, SessionEstablished}
 use Rattle.rbc_spec.specs.Frame.{Frame}
 
--- why a train's message is not answered, by the number that is printed (profile)
+-- The reason why a train's message has no effect, with the number that is printed (profile). In these comments such a
+-- message is "silent". Any other is "answered", even if its answer sends no message.
 pub data Reason : Type 0 where
-  StaleStamp : Reason  -- 1 its T_TRAIN is not above the last that the centre has heard of the train
-  NoSession : Reason  -- 2 no session stands with the train
+  StaleStamp : Reason  -- 1 its T_TRAIN is not above the last one received from the train
+  NoSession : Reason  -- 2 there is no session with the train
   ForeignEngine : Reason  -- 3 the train is not of the line
-  NoPlace : Reason  -- 4 its report has no place that the message can be taken at
+  NoPlace : Reason  -- 4 its report gives no place at which the message can be taken
   NotSupervised : Reason  -- 5 the train is not supervised here
-  NoTrainData : Reason  -- 6 its train data are not known
-  ProposalPending : Reason  -- 7 a request to shorten stands
-  Unasked : Reason  -- 8 it answers no request that stands
-  MissionEnded : Reason  -- 9 the mission is ended
-  WrongPhase : Reason  -- 10 the session is not in the phase for it
+  NoTrainData : Reason  -- 6 the train data are not known
+  ProposalPending : Reason  -- 7 a request to shorten is pending
+  Unasked : Reason  -- 8 it answers no pending request
+  MissionEnded : Reason  -- 9 the mission has ended
+  WrongPhase : Reason  -- 10 the session is in the wrong phase for it
 
--- the reasons for which a message may be left without an answer, in the order in which they are looked for
+-- the reasons that are checked for a message, in this order; the first that holds is given
 abbrev pub reasons_of : TrainBody → List Reason
 reasons_of InitiationOfSession = ForeignEngine ∷ StaleStamp ∷ []
 reasons_of SessionEstablished = ForeignEngine ∷ StaleStamp ∷ NoSession ∷ WrongPhase ∷ []
@@ -40,22 +41,25 @@ pub record Saying : Type 0 where
   pub nid_engine : ℕ
   pub message : TrackMessage
 
--- a word to the interlocking: the answer to a set or an unset, or that a section wished back is given back (profile)
+-- A reply to the interlocking: `Done`, `Asked` or `NotHome` answer a set or an unset of section s. `Told` reports that
+-- a section which was wished back is given back (profile).
 pub data Word : Type 0 where
   Done : (s : ℕ) → Word
   Asked : (s : ℕ) → Word
   NotHome : (s : ℕ) → Word
   Told : (s : ℕ) → Word
 
--- what a link says to a frame: it is the next, came before, is too early, or there is no such link
+-- The answer of a link to a frame: it is the next one, an earlier one, or a later one. `NoLink`: the two centres have
+-- no link.
 pub data Taken : Type 0 where
   Next : Taken
   Old : Taken
   Early : Taken
   NoLink : Taken
 
--- the stamp of the step; the messages to trains, frames by receiver, and words to the interlocking, each in order; what
--- the link said to a frame; and why a message was left without an answer
+-- The outcome of a step: its stamp, the messages to trains, the frames to each centre, and the replies to the
+-- interlocking, each in order. `link` is the answer of the link if the event is a frame. `silence` is the reason if the
+-- event is a silent message.
 pub record Outcome : Type 0 where
   pub stamp : ℕ
   pub sayings : List Saying

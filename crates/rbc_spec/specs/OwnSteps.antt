@@ -1,5 +1,5 @@
--- The own steps of the one line centre: a train's message that is answered, a set and an unset. Each is a relation,
--- since the line centre may choose where the rules leave it open.
+-- The own steps of the one line centre: a message of a train that is answered, a set, and an unset. Each is a relation,
+-- since the line centre has a choice if the rules leave one.
 use Rattle.std.specs.Prelude.{◌≡◌, ◌+◌, ◌-◌, ◌*◌, ◌≤◌, ◌⊎◌, ℕ, ◌==◌, List, [], ◌∷◌, ◌++◌, Bool, true, false, ◌&&◌, ◌||◌, not, if◌then◌else◌, Option, Some, None, nat_le, nat_lt, MatchBool}
 use Rattle.std.specs.Option.{option_map_or}
 use Rattle.std.specs.List.{list_any, range_with_len}
@@ -13,29 +13,29 @@ use Rattle.rbc_spec.specs.Outcome.{Word, Done, Asked, NotHome}
 use Rattle.rbc_spec.specs.Centre.{Phase, Closed, Opened, Up, is_registrar_of}
 use Rattle.rbc_spec.specs.LineCentre.{LineState, Mark, Shut, Open, Kept, Given, LineMission, At, is_given_to, is_kept_for, is_mark_open, IsHand, is_at, supervises, is_waiting_at, is_waiting, free, told, mark_all, release, set_mission, change_mission, close_if_empty, saying_of, says, Said}
 
--- one message is all that is said to trains, and the state is this but for its count
+-- one message is sent to a train, with these replies; the new state is `changed`, with that message counted
 pub record Says (t c group : ℕ) (body : TrackBody) (words : List Word) (v changed : LineState) (said : Said)
     (new : LineState) : Type 0 where
   pub said_is : said ≡ record { sayings = saying_of t c group body v ∷ []; words = words }
   pub new_is : new ≡ says t c changed
 
--- words alone
+-- only replies to the interlocking, and no message to a train
 pub record Tells (words : List Word) (changed : LineState) (said : Said) (new : LineState) : Type 0 where
   pub said_is : said ≡ record { sayings = []; words = words }
   pub new_is : new ≡ changed
 
--- nothing is said
+-- no message and no reply
 abbrev pub SaysNothing : LineState → Said → LineState → Type 0
 SaysNothing changed = Tells [] changed
 
 -- ## Sessions
 
--- the train's standing request to shorten is dropped where the centre supervises it
+-- drops the train's pending request to shorten, if centre c supervises the train
 abbrev pub without_proposal : ℕ → LineMission → LineMission
 without_proposal c m = if is_at c m.supervisor then record m { proposal = None } else m
 
--- a session ends: a standing request to shorten is dropped, and a start of mission that waits here, whose sections are
--- freed. No given section changes
+-- A session ends. A pending request to shorten is dropped. So is a start of mission that waits here, and its sections
+-- are freed. The mark of a given section does not change.
 abbrev pub session_ends : Line → ℕ → ℕ → LineState → LineState
 session_ends line t c v =
     change_mission t (without_proposal c)
@@ -46,14 +46,14 @@ with_phase t c phase v = record v { phase = put_pair v.phase t c phase }
 
 -- ## Start of mission
 
--- the place's sections are released and of home c
+-- all sections of the place are open, and of home c
 abbrev pub may_start : Line → LineState → ℕ → Place → Bool
 may_start line v c place = all_of (λ s. is_home line c s && is_mark_open (v.mark s)) (covered line place)
 
 abbrev pub begun_at : ℕ → Place → LineMission
 begun_at c place = record { place = place; has_data = false; is_ended = false; proposal = None; supervisor = At c }
 
--- the place's sections are given, and a mission begins there
+-- the sections of the place are given to the train, and its mission begins
 abbrev pub begins : Line → ℕ → ℕ → Place → LineState → LineState
 begins line t c place v = set_mission t (Some (begun_at c place)) (mark_all (within (covered line place)) (Given t) v)
 
@@ -61,7 +61,7 @@ abbrev pub restarted : ℕ → Place → LineState → LineState
 restarted t place v =
     change_mission t (λ m. record m { place = place; has_data = false; is_ended = false; proposal = None }) v
 
--- the sections are kept, and the start waits
+-- the sections of the place are kept for the train, and its start waits
 abbrev pub waits : Line → ℕ → ℕ → Place → LineState → LineState
 waits line t c place v =
     record (mark_all (within (covered line place)) (Kept t) v) { wait = put_pair v.wait t c (Some place) }
@@ -72,18 +72,20 @@ Rejects t c v = Says t c unknown_group TrainRejected [] v v
 abbrev pub Accepts : ℕ → ℕ → LineState → LineState → Said → LineState → Type 0
 Accepts t c v changed = Says t c unknown_group TrainAccepted [] v changed
 
--- a start at the registrar: the mission begins, only where the train has none; or the right is elsewhere
+-- A start at the registrar is accepted only if the train has no mission. It may be rejected in any case, since the
+-- right may be elsewhere.
 abbrev pub StartsHere : Line → ℕ → ℕ → Place → LineState → Said → LineState → Type 0
 StartsHere line t c place v said new =
     ((v.mission t ≡ None) × Accepts t c v (begins line t c place v) said new) ⊎ Rejects t c v said new
 
--- the start of a train that centre c supervises: within its hand it goes on from the new place
+-- a start of a train that centre c supervises is accepted if and only if its place covers only sections of the hand
 abbrev pub Restarts : Line → ℕ → ℕ → Place → LineState → Said → LineState → Type 0
 Restarts line t c place v said new =
     MatchBool (all_of (λ s. is_given_to t (v.mark s)) (covered line place))
     (Accepts t c v (restarted t place v) said new) (Rejects t c v said new)
 
--- another start: refused where a section is not released here, else decided by the registrar
+-- Any other start is rejected if a section of its place is not open here. If all are open, the registrar accepts or
+-- rejects it, and another centre lets it wait.
 abbrev pub StartsNew : Line → ℕ → ℕ → Place → LineState → Said → LineState → Type 0
 StartsNew line t c place v said new =
     MatchBool (may_start line v c place)
@@ -98,20 +100,22 @@ Starts line t c (Some place) v said new =
 
 -- ## Request
 
--- why the section may not follow in the hand at centre c. It is not on the track, or not released with home c. Or it
--- would be the 33rd, or ends too far in advance of the group
+-- The reasons why the next section may not extend the hand at centre c. It is not on the track. It is not open with
+-- home c. The hand has its 32 sections. Or the section ends farther from the group than L_ENDSECTION can name.
 pub data Ends (line : Line) (v : LineState) (c : ℕ) (place : Place) (hand : SectionRun) : Type 0 where
   off_track : is_on line place.track (next_after hand) ≡ false → Ends line v c place hand
   not_free : (is_home line c (next_after hand) && is_mark_open (v.mark (next_after hand))) ≡ false → Ends line v c place hand
   full : hand.count ≡ most_in_hand → Ends line v c place hand
   too_far : has_room line place (end line (next_after hand)) ≡ false → Ends line v c place hand
 
--- a section by which the hand is extended: released with home c, or kept for the train and no start waits for it
+-- A section may be given to the train in two cases. It is open with home c, or it is kept for the train and no start
+-- waits for it.
 abbrev pub may_be_given : Line → LineState → ℕ → ℕ → ℕ → Bool
 may_be_given line v c t s =
     (is_home line c s && is_mark_open (v.mark s)) || (is_kept_for t (v.mark s) && not (is_waiting line v t s))
 
--- the hand is extended by some run that follows it at once, as far as it may go at this centre
+-- The hand is extended by a run that follows it at once, and it ends for one of the reasons `Ends`. The train gets the
+-- authority for the extended hand.
 pub record Extends (line : Line) (v : LineState) (t c : ℕ) (place : Place) (said : Said)
     (new : LineState) : Type 0 where
   pub hand : SectionRun
@@ -128,31 +132,31 @@ pub record Extends (line : Line) (v : LineState) (t c : ℕ) (place : Place) (sa
 
 -- ## Report, end of mission, shortening
 
--- the sections of the hand that the place clears
+-- the section is in the hand, and the place clears it
 abbrev pub is_cleared_of : Line → LineState → ℕ → Place → ℕ → Bool
 is_cleared_of line v t place s = is_given_to t (v.mark s) && is_cleared line place s
 
--- the place is set, and cleared sections stop being given
+-- the mission gets the new place, and the sections that it clears stop being given
 abbrev pub reported : Line → ℕ → ℕ → Place → LineState → LineState
 reported line t c place v =
     close_if_empty line t (change_mission t (λ m. record m { place = place })
     (release line c t (is_cleared_of line v t place) v))
 
--- the words of sections that stop being given and are freed
+-- the replies for sections that stop being given and are freed
 abbrev pub release_words : Line → ℕ → (ℕ → Bool) → LineState → List Word
 release_words line c is_released v = told line (λ s. is_released s && is_home line c s) v
 
--- the train has reached its hand: a section of it begins before the front
+-- the train has reached its hand: a section of the hand starts before the front
 abbrev pub has_reached : Line → LineState → ℕ → Place → Bool
 has_reached line v t place =
     list_any (λ s. is_given_to t (v.mark s) && nat_lt (10 * start line s) place.front)
     (range_with_len 0 (section_count line))
 
--- the sections of the hand ahead of the train: those that begin at the front or past it
+-- the section is in the hand and ahead of the train: it starts at the front or past it
 abbrev pub is_ahead_of : Line → LineState → ℕ → Place → ℕ → Bool
 is_ahead_of line v t place s = is_given_to t (v.mark s) && nat_le place.front (10 * start line s)
 
--- where the train has reached its hand, what lies ahead stops being given
+-- if the train has reached its hand, the sections ahead of the train stop being given
 abbrev pub stopped : Line → ℕ → ℕ → Place → LineState → LineState
 stopped line t c place v = if has_reached line v t place then release line c t (is_ahead_of line v t place) v else v
 
@@ -163,14 +167,14 @@ stopping_words line t c place v =
 abbrev pub ended : ℕ → LineState → LineState
 ended t v = change_mission t (λ m. record m { is_ended = true; proposal = None }) v
 
--- the sections of the hand in advance of the last that is kept
+-- the section is in the hand, and in advance of the last section that is kept
 abbrev pub is_cut_of : LineState → ℕ → ℕ → ℕ → Bool
 is_cut_of v t last_kept s = is_given_to t (v.mark s) && nat_lt last_kept s
 
 abbrev pub without_ask : ℕ → LineState → LineState
 without_ask t v = change_mission t (λ m. record m { proposal = None }) v
 
--- a granted shortening at a place cuts the hand, if the train has not run past the end that was proposed
+-- A granted shortening cuts the hand, if the report has a place and its front is not past the proposed end.
 abbrev pub shortened : Line → ℕ → ℕ → Option Place → ℕ → LineState → LineState
 shortened line t c None last_kept v = v
 shortened line t c (Some place) last_kept v =
@@ -182,7 +186,7 @@ shortening_words line t c None last_kept v = []
 shortening_words line t c (Some place) last_kept v =
     if nat_le place.front (10 * end line last_kept) then release_words line c (is_cut_of v t last_kept) v else []
 
--- ## The own step of a message that is not silent, v having heard it
+-- ## The own step of a message that is not silent, from the state v in which its stamp is recorded
 
 abbrev pub track_of : LineState → ℕ → ℕ
 track_of v t = option_map_or (λ m. m.place.track) (v.mission t) 0
@@ -190,7 +194,8 @@ track_of v t = option_map_or (λ m. m.place.track) (v.mission t) 0
 abbrev pub last_kept_of : LineState → ℕ → ℕ
 last_kept_of v t = option_map_or (λ m. option_map_or (λ p. p.last_kept) m.proposal 0) (v.mission t) 0
 
--- a report, and at standstill what lies ahead stops being given too; then the mission is ended
+-- The end of a mission is first a report, if it has a place. At standstill the sections ahead stop being given too.
+-- Then the mission is ended.
 abbrev pub Ending : Line → ℕ → ℕ → Bool → Option Place → LineState → Said → LineState → Type 0
 Ending line t c is_still None v said new = SaysNothing (ended t v) said new
 Ending line t c false (Some place) v said new =

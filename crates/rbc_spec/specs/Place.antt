@@ -1,4 +1,5 @@
--- Where a position report places a train on the line (3.6). The formulas of the fronts and the rear are the profile's.
+-- The place of a train on the line, as computed from a position report (3.6). The formulas of the safe front end and
+-- the safe rear end are the profile's.
 use Rattle.std.specs.Prelude.{ℕ, ◌+◌, ◌*◌, ◌==◌, Bool, ◌&&◌, if◌then◌else◌, Option, Some, None, option_map, option_and_then, nat_lt, nat_le, ℤ, pos, ◌-ℤ◌, int_lt, int_le}
 use Rattle.std.specs.Option.{option_map_or}
 use Rattle.rbc_spec.specs.Maps.{has}
@@ -6,9 +7,10 @@ use Rattle.rbc_spec.specs.SectionRuns.{SectionRun, most_in_hand}
 use Rattle.rbc_spec.specs.Line.{Line, Section, section, section_of_group, start, end}
 use Rattle.rbc_spec.specs.Sections.{is_on, run_where, track_end}
 
--- what a centre reads of a position packet (7.4): Q_SCALE as a factor on decimetres (1, 10 or 100), NID_LRBG, D_LRBG,
--- whether Q_DIRLRBG and Q_DLRBG are both nominal, the doubts, L_TRAININT where integrity is confirmed (Q_LENGTH 1 or
--- 2), V_TRAIN, and whether M_LEVEL is level 2
+-- The fields of a position packet that a centre reads (7.4). `scale` is Q_SCALE as a factor on decimetres: 1, 10 or
+-- 100. `is_nominal`: both Q_DIRLRBG and Q_DLRBG are nominal. `l_doubtover` and `l_doubtunder` are the over-reading and
+-- under-reading amounts. `l_trainint` is L_TRAININT if train integrity is confirmed (Q_LENGTH is 1 or 2). `is_level_2`:
+-- M_LEVEL is level 2.
 pub record Position : Type 0 where
   pub scale : ℕ
   pub nid_lrbg : ℕ
@@ -20,23 +22,24 @@ pub record Position : Type 0 where
   pub v_train : ℕ
   pub is_level_2 : Bool
 
--- the track; NID_LRBG of the group that the report names; the safe front end and, where the train's integrity is
--- confirmed, the safe rear end, in decimetres from the start of the track
+-- The place of a train on its track. `group` is NID_LRBG of the balise group that the report refers to. `front` is the
+-- safe front end, and `rear` is the safe rear end if train integrity is confirmed. Both are in decimetres from the
+-- start of the track.
 pub record Place : Type 0 where
   pub track : ℕ
   pub group : ℕ
   pub front : ℕ
   pub rear : Option ℤ
 
--- D_LRBG and a doubt where they are not known (7.5)
+-- the value of D_LRBG, L_DOUBTOVER or L_DOUBTUNDER if it is not known (7.5)
 abbrev pub unknown_distance : ℕ
 unknown_distance = 32767
 
--- a distance or doubt that is known
+-- the distance is known
 abbrev pub is_known : ℕ → Bool
 is_known distance = nat_lt distance unknown_distance
 
--- a report places its train where it runs in level 2 in the line's direction and each distance is known
+-- a report gives a place if its train runs in level 2, in the direction of the line, and each distance is known
 abbrev pub has_place : Position → Bool
 has_place p =
     ((p.is_nominal && p.is_level_2) && is_known p.d_lrbg) && (is_known p.l_doubtover && is_known p.l_doubtunder)
@@ -45,8 +48,8 @@ has_place p =
 abbrev pub estimated_front : Line → ℕ → Position → ℕ
 estimated_front line s p = 10 * start line s + p.scale * p.d_lrbg
 
--- the place of a train in advance of a group at the start of section s of a track. L_TRAININT is read in metres
--- whatever the scale
+-- The place of a train in advance of the group at the start of section s. L_DOUBTUNDER is added to the estimated front
+-- end; L_DOUBTOVER and L_TRAININT are taken off. L_TRAININT is in metres for every scale.
 abbrev pub place_ahead : Line → ℕ → Section → Position → Place
 place_ahead line s q p = record {
   track = q.track;
@@ -63,13 +66,13 @@ extent line p =
     (section_of_group line p.nid_lrbg)
     else None
 
--- ## What a place tells
+-- ## Tests of a place
 
--- the place is on the track
+-- the place is on this track
 abbrev pub is_placed_on : ℕ → Place → Bool
 is_placed_on track place = place.track == track
 
--- the train may stand in the section: it starts before the safe front end, and ends past the safe rear end
+-- the train may occupy the section: it starts before the safe front end, and ends after the safe rear end
 abbrev pub covers : Line → Place → ℕ → Bool
 covers line place s =
     (is_on line place.track s && nat_lt (10 * start line s) place.front)
@@ -79,42 +82,42 @@ covers line place s =
 abbrev pub covered : Line → Place → SectionRun
 covered line place = run_where line (covers line place)
 
--- the section has the safe front end in it, or at its end
+-- the safe front end is in the section, or at its end
 abbrev pub has_front : Line → Place → ℕ → Bool
 has_front line place s =
     (is_on line place.track s && nat_lt (10 * start line s) place.front) && nat_le place.front (10 * end line s)
 
--- the section ends at or before the safe rear end: the train has cleared it
+-- the section ends at or before the safe rear end, so the train has cleared it
 abbrev pub is_cleared : Line → Place → ℕ → Bool
 is_cleared line place s = has (λ rear. int_le (pos (10 * end line s)) rear) place.rear
 
--- the start of the section whose group the place names, in metres
+-- the start, in metres, of the section whose group the place refers to
 abbrev pub group_start : Line → Place → ℕ
 group_start line place = option_map_or (λ s. start line s) (section_of_group line place.group) 0
 
--- the farthest that L_ENDSECTION and D_RBCTR can say, in metres from the group
+-- the greatest value of L_ENDSECTION and D_RBCTR, in metres from the group
 abbrev pub farthest : ℕ
 farthest = 32767
 
--- so many metres from the start of the track are no farther than that from the group of the place
+-- a point, in metres from the start of the track, is at most `farthest` past the group of the place
 abbrev pub has_room : Line → Place → ℕ → Bool
 has_room line place metres = nat_le metres (group_start line place + farthest)
 
--- a place of a start of mission: rear and front lie on the track, in this order, and it covers no more sections than a
--- hand has
+-- A place is fit for a start of mission if the safe rear end is known, and is before the safe front end. Both are on
+-- the track, and the place covers at most as many sections as a hand may have.
 abbrev pub is_fit : Line → Place → Bool
 is_fit line place =
     has (λ rear. int_le (pos 0) rear && int_lt rear (pos place.front)) place.rear
     && (nat_le place.front (10 * track_end line place.track) && nat_le (covered line place).count most_in_hand)
 
--- ## The place that a report is taken at
+-- ## The place of a report, if the message can be taken at it
 
--- the place of a report, where it is on the track
+-- the place of a report, if it is on this track
 abbrev pub place_on : Line → ℕ → Position → Option Place
 place_on line track position =
     option_map_or (λ place. if place.track == track then Some place else None) (extent line position) None
 
--- the place of a start of mission, where it is valid and fit
+-- the place of a start of mission, if it is valid and fit
 abbrev pub fit_place : Line → Bool → Position → Option Place
 fit_place line is_valid position =
     option_map_or (λ place. if is_valid && is_fit line place then Some place else None) (extent line position) None

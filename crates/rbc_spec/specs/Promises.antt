@@ -1,5 +1,5 @@
--- What the centres of a line promise, of a world and of one event: each is proved, and needs no state of the one line
--- centre to be read.
+-- The promises of the centres of a line, of a world and of one event. Each is proved, and each can be read without the
+-- one line centre.
 use Rattle.std.specs.Prelude.{◌≡◌, ◌⊎◌, ◌≤◌, ◌<◌, ◌*◌, ◌+◌, ◌==◌, ℕ, List, [], ◌∷◌, ◌++◌, length, map, Bool, true, false, Some, None, is_some, Ok, if◌then◌else◌}
 use Rattle.std.specs.List.{Contains, flat_map, count_by}
 use Rattle.std.specs.Option.{option_map_or}
@@ -21,83 +21,83 @@ use Rattle.rbc_spec.specs.ReadOff.{StandsFor, read_off, centres_of, frames_on_wa
 abbrev pub is_given : Line → World → ℕ → ℕ → Bool
 is_given line w t s = has (λ h. within h.hand s) (held line w t)
 
--- whatever state stands for the world
+-- the world is safe, whichever state represents it
 pub record IsSafe (line : Line) (w : World) : Type 0 where
-  -- at most one centre supervises a train
+  -- a train has at most one supervising centre
   pub one_supervisor : (t c d : ℕ) (m n : centre.Mission) → (w.at c).mission t ≡ Some m → (w.at d).mission t ≡ Some n
       → c ≡ d
-  -- none does while a Yield of the train is on the way
+  -- it has none while a Yield of the train is on the way
   pub none_meanwhile : (t c : ℕ) (m : centre.Mission) (f : Frame) → (w.at c).mission t ≡ Some m
       → Contains (frames_on_way line w) f → handed_over t f.body ≡ None
   -- a section is in the hand of at most one train
   pub one_train : (t u s : ℕ) → is_given line w t s ≡ true → is_given line w u s ≡ true → t ≡ u
-  -- and then taken or out for that train at its home
+  -- its home then has the section in use for that train
   pub in_use : (t s c : ℕ) → is_home line c s ≡ true → is_given line w t s ≡ true
       → centre.is_used_for t ((w.at c).book s) ≡ true
 
 -- ## One place
 
--- the train, where it is so
+-- the train, if the test holds
 abbrev pub once : Bool → ℕ → List ℕ
 once is_so t = if is_so then t ∷ [] else []
 
--- the train, once for each of its hand, its pool and its waiting start that has the section at the centre
+-- the train, once for each of its hand, its pool and its waiting start at the centre that has the section
 abbrev pub held_for : Line → ℕ → centre.Centre → ℕ → List ℕ
 held_for line s k t =
     option_map_or (λ m. once (within m.hand s) t ++ once (within m.pool s) t) (k.mission t) []
     ++ option_map_or (λ place. once (within (covered line place) s) t) (k.wait t) []
 
--- the train for which a frame has the section: lent, on its way home, or in a hand that is handed over
+-- the train for which a frame has the section: lent, returned, or in a hand that is handed over
 abbrev pub carried_for : ℕ → Body → List ℕ
 carried_for s (RouteInfo t run) = once (within run s) t
 carried_for s (RouteReturn t run) = once (within run s) t
 carried_for s (Yield number t heard has_data is_ended place hand) = once (within hand s) t
 carried_for s body = []
 
--- the trains that have the section, at each centre and in each frame on the way
+-- the trains that have the section, over all centres and all frames on the way
 abbrev pub holders : Line → World → ℕ → List ℕ
 holders line w s =
     flat_map (λ c. flat_map (held_for line s (w.at c)) (map (λ p. p.nid_engine) line.trains)) (centres_of line)
     ++ flat_map (λ f. carried_for s f.body) (frames_on_way line w)
 
--- the train that a section is in use for, as its home has it
+-- the train for which the home has the section in use
 abbrev pub user : centre.Entry → List ℕ
 user (centre.Taken t) = t ∷ []
 user (centre.Out t) = t ∷ []
 user e = []
 
--- the frame carries the train's right, alone or with its mission
+-- the frame carries the train's right, with or without its mission
 abbrev pub carries_right : ℕ → Body → Bool
 carries_right t (GiveRight u) = u == t
 carries_right t (ReturnRight u) = u == t
 carries_right t (Yield number u heard has_data is_ended place hand) = u == t
 carries_right t body = false
 
--- each thing that may be in one place alone is in one
+-- each thing that may be only in one place is in one place
 pub record HasOnePlace (line : Line) (w : World) : Type 0 where
-  -- a section in use is in one place, for the train that its home names; another is in none
+  -- a section in use is in one place, for the train that its home names; a section not in use is in none
   pub sections : (s c : ℕ) → is_home line c s ≡ true → holders line w s ≡ user ((w.at c).book s)
   pub rights : (t r : ℕ) → registrar line t ≡ Some r
       → count_by (λ c. (w.at c).has_right t) (centres_of line)
       + count_by (λ c. is_some ((w.at c).mission t)) (centres_of line)
-      -- the right of a train of the line is at one centre, or in one mission, or in one frame
+      -- the right of a train of the line is at one centre, in one mission, or in one frame
       + count_by (λ f. carries_right t f.body) (frames_on_way line w) ≡ 1
-  -- a train has one mission at most: a centre's, or one that a frame hands over
+  -- a train has at most one mission: at a centre, or in a frame that hands it over
   pub missions : (t : ℕ) → length (all_held line w t) ≤ 1
 
--- what holds of every world that a list of events leads to
+-- the facts that hold of each world after a list of events
 pub record IsSound (line : Line) (w : World) : Type 0 where
-  -- some state of the one line centre stands for it, and that is the state that is read off
+  -- a state of the one line centre represents it: the one that is read off
   pub stands : StandsFor line w (read_off line w)
   pub safe : IsSafe line w  -- so each train has one supervisor at most, and each section one train
   pub one_place : HasOnePlace line w  -- no section in use and no right is lost or in two places
 
 -- ## One event
 
--- the event may free a section of train t: a message of the train is heard at its supervisor, and its report or end of
--- mission clears the section, or it grants the request that stands to keep no section so far, and has not run past what
--- it keeps, or it ends its mission at standstill, where it has reached its hand, and the section begins at its front or
--- past it
+-- The event may free a section of train t. It is a message of the train that its supervisor answers, and one of three
+-- things holds. `cleared`: a report or an end of mission clears the section. `shortened`: the train grants the pending
+-- request, which keeps only sections before this one, and its front is not past the kept part. `stopped`: the train
+-- ends its mission at standstill, has reached its hand, and the section starts at the front or past it.
 pub data MayFree (line : Line) (w : World) (t s : ℕ) : Event → Type 0 where
   cleared : (c : ℕ) (m : TrainMessage) (position : Position) (n : centre.Mission) (place : Place)
       → m.nid_engine ≡ t → step.silence line c (w.at c) m ≡ None → (w.at c).mission t ≡ Some n
@@ -116,13 +116,13 @@ pub data MayFree (line : Line) (w : World) (t s : ℕ) : Event → Type 0 where
       → place.front ≤ 10 * start line s
       → MayFree line w t s (Bytes c (Ok m))
 
--- what an event did to sections in hands, and what it told the interlocking
+-- the effect of an event on the sections in hands, and its replies to the interlocking
 pub record KeepsPromises (line : Line) (w : World) (event : Event) (answer : Answer) (new : World) : Type 0 where
-  -- a section leaves a train's hand only by what the train said
+  -- a section leaves a train's hand only by a message of that train
   pub freed : (t s : ℕ) → is_given line w t s ≡ true → is_given line new t s ≡ false → MayFree line w t s event
   pub told : (o : Outcome) (s c : ℕ) → answer ≡ Answered o → is_home line c s ≡ true → Contains o.words (Told s)
-      -- a section that is told back is shut, and not wished back any more
+      -- a section that is reported back is shut, and its wish has ended
       → ((new.at c).book s ≡ centre.Shut) × ((new.at c).wish s ≡ false)
-  -- a section that is taken back at once is shut
+  -- a section that an unset takes back at once is shut
   pub done : (o : Outcome) (s c : ℕ) → answer ≡ Answered o → event ≡ Unset c s → Contains o.words (Done s)
       → (new.at c).book s ≡ centre.Shut

@@ -1,5 +1,5 @@
--- The quiet steps of the one line centre, which it may take of its own after an event. Only an admitted start gives a
--- section, and none frees a given one.
+-- The quiet steps: steps that the one line centre may take by itself after an event. Only the admission of a start
+-- gives a section to a train, and no quiet step frees a given section.
 use Rattle.std.specs.Prelude.{◌≡◌, ◌+◌, ◌-◌, ◌*◌, ◌≤◌, ◌<◌, ℕ, List, [], ◌∷◌, ◌++◌, max, Bool, true, false, ◌==◌, ◌&&◌, Some, None}
 use Rattle.std.specs.Option.{option_map_or}
 use Rattle.std.specs.List.{find, range_with_len}
@@ -15,17 +15,17 @@ use Rattle.rbc_spec.specs.LineCentre.{LineState, Open, Kept, LineMission, At, Pa
 use Rattle.rbc_spec.specs.OwnSteps.{Says, SaysNothing, Tells, begins}
 
 pub data Quiet : Type 0 where
-  Keep : (t s : ℕ) → Quiet  -- an open section is kept for t
-  Unkeep : (t s : ℕ) → Quiet  -- a section kept for t is freed
-  Admit : (t c : ℕ) → Quiet  -- a start of t that waits at c becomes a mission
-  Dismiss : (t c : ℕ) → Quiet  -- or is rejected
-  LayDown : (t c : ℕ) → Quiet  -- c hands its supervision of t over
-  TakeUp : (t c : ℕ) → Quiet  -- c takes it
+  Keep : (t s : ℕ) → Quiet  -- keeps an open section for t
+  Unkeep : (t s : ℕ) → Quiet  -- frees a section that is kept for t
+  Admit : (t c : ℕ) → Quiet  -- turns a start of t that waits at c into a mission
+  Dismiss : (t c : ℕ) → Quiet  -- rejects a start of t that waits at c
+  LayDown : (t c : ℕ) → Quiet  -- c gives its supervision of t up
+  TakeUp : (t c : ℕ) → Quiet  -- c takes the supervision of t up
   Propose : (t c s : ℕ) → Quiet  -- c asks t to shorten its authority before s
-  Order : (t c : ℕ) → Quiet  -- c orders t's transition to the next centre
+  Order : (t c : ℕ) → Quiet  -- c orders t to change to the next centre
   EndOrder : (t c : ℕ) → Quiet  -- c orders t to end its session
 
--- the step is of centre c: of a section of home c, or of a train there
+-- the step is of centre c: its section has home c, or its centre is c
 abbrev pub is_of_centre : Line → ℕ → Quiet → Bool
 is_of_centre line c (Keep t s) = is_home line c s
 is_of_centre line c (Unkeep t s) = is_home line c s
@@ -37,7 +37,7 @@ is_of_centre line c (Propose t d s) = d == c
 is_of_centre line c (Order t d) = d == c
 is_of_centre line c (EndOrder t d) = d == c
 
--- a start waits, and the train has no mission
+-- `Admit`: a start waits at c, and the train has no mission
 pub record Admits (line : Line) (v : LineState) (t c : ℕ) (said : Said) (new : LineState) : Type 0 where
   pub place : Place
   pub waits : v.wait t c ≡ Some place
@@ -45,14 +45,15 @@ pub record Admits (line : Line) (v : LineState) (t c : ℕ) (said : Said) (new :
   pub says : Says t c unknown_group TrainAccepted [] v
       (record (begins line t c place v) { wait = put_pair v.wait t c None }) said new
 
--- a start that waits ends, and its sections are freed
+-- `Dismiss`: a waiting start ends, and its sections are freed
 pub record Dismisses (line : Line) (v : LineState) (t c : ℕ) (said : Said) (new : LineState) : Type 0 where
   pub place : Place
   pub waits : v.wait t c ≡ Some place
   pub says : Says t c unknown_group TrainRejected (told line (is_waiting_at line v t c) v) v
       (record (free (is_waiting_at line v t c) v) { wait = put_pair v.wait t c None }) said new
 
--- a supervisor, who has heard the train last at this stamp, parts with it
+-- `LayDown`: centre c, which supervises the train and received its last message with this stamp, gives the supervision
+-- up
 pub record LaysDown (v : LineState) (t c : ℕ) (said : Said) (new : LineState) : Type 0 where
   pub mission : LineMission
   pub stamp : ℕ
@@ -62,7 +63,7 @@ pub record LaysDown (v : LineState) (t c : ℕ) (said : Said) (new : LineState) 
   pub leaves : SaysNothing
       (set_mission t (Some (record mission { supervisor = Parted stamp; proposal = None })) v) said new
 
--- a mission that nobody supervises is taken up, with the later of both stamps
+-- `TakeUp`: centre c becomes the supervisor of a mission without one. The later of both stamps is kept.
 pub record TakesUp (v : LineState) (t c : ℕ) (said : Said) (new : LineState) : Type 0 where
   pub mission : LineMission
   pub stamp : ℕ
@@ -74,8 +75,8 @@ pub record TakesUp (v : LineState) (t c : ℕ) (said : Said) (new : LineState) :
             (Some (option_map_or (max stamp) (v.heard t c) stamp));
       }) said new
 
--- message 9 for a section of the hand (3.8.6), where a request to shorten may be made. The section need not be wished
--- back
+-- `Propose`: message 9 for a section of the hand (3.8.6), if a request to shorten may be sent. The section need not be
+-- wished back.
 pub record Proposes (line : Line) (v : LineState) (t c s : ℕ) (said : Said) (new : LineState) : Type 0 where
   pub mission : LineMission
   pub hand : SectionRun
@@ -95,8 +96,8 @@ pub record Proposes (line : Line) (v : LineState) (t c s : ℕ) (said : Said) (n
             (record { stamp = v.said t c + 1; last_kept = s - 1 });
       }) v) said new
 
--- message 24 with packet 131 (3.15.1): the next centre of the track, and the start of its first section in the hand.
--- That start is not in rear of the group, and has room in D_RBCTR
+-- `Order`: message 24 with packet 131 (3.15.1) names the next centre of the track and the distance to its first section
+-- in the hand. The start of that section is not in rear of the group, and is within the range of D_RBCTR.
 pub record Orders (line : Line) (v : LineState) (t c : ℕ) (said : Said) (new : LineState) : Type 0 where
   pub mission : LineMission
   pub next : ℕ
@@ -112,25 +113,26 @@ pub record Orders (line : Line) (v : LineState) (t c : ℕ) (said : Said) (new :
   pub says : Says t c mission.place.group
       (Transition (start line border - group_start line mission.place) line.nid_c (nid_rbc line next)) [] v v said new
 
--- message 24 with packet 42: the train is not supervised here and has no section of home c
+-- `EndOrder`: message 24 with packet 42, if c does not supervise the train and no section of home c is given to it
 pub record EndsSession (line : Line) (v : LineState) (t c : ℕ) (said : Said) (new : LineState) : Type 0 where
   pub not_here : (m : LineMission) → v.mission t ≡ Some m → m.supervisor ≡ At c → ⊥
   pub is_up : v.phase t c ≡ Up
   pub none_given : (s : ℕ) → (is_home line c s && is_given_to t (v.mark s)) ≡ false
   pub says : Says t c unknown_group (EndSession line.nid_c (nid_rbc line c)) [] v v said new
 
--- a section is open
+-- `Keep`: an open section is kept for the train
 pub record Keeps (v : LineState) (t s : ℕ) (said : Said) (new : LineState) : Type 0 where
   pub is_open : v.mark s ≡ Open
   pub leaves : SaysNothing (record v { mark = put v.mark s (Kept t) }) said new
 
--- a section is kept, and no start of the train waits for it
+-- `Unkeep`: a kept section is freed, if no start of the train waits for it
 pub record Unkeeps (line : Line) (v : LineState) (t s : ℕ) (said : Said) (new : LineState) : Type 0 where
   pub is_kept : v.mark s ≡ Kept t
   pub not_waiting : is_waiting line v t s ≡ false
   pub tells : Tells (told line (λ e. e == s) v) (free (λ e. e == s) v) said new
 
--- from v the line centre may take this quiet step, say this, and go on from new
+-- from state v the line centre may take this quiet step, with these messages and replies, and be in state `new` after
+-- it
 abbrev pub TakesQuiet : Line → LineState → Quiet → Said → LineState → Type 0
 TakesQuiet line v (Keep t s) said new = Keeps v t s said new
 TakesQuiet line v (Unkeep t s) said new = Unkeeps line v t s said new
@@ -142,11 +144,11 @@ TakesQuiet line v (Propose t c s) said new = Proposes line v t c s said new
 TakesQuiet line v (Order t c) said new = Orders line v t c said new
 TakesQuiet line v (EndOrder t c) said new = EndsSession line v t c said new
 
--- what is said by one step and then by others
+-- the messages and replies of one step, then those of another
 abbrev pub both : Said → Said → Said
 both a b = record { sayings = a.sayings ++ b.sayings; words = a.words ++ b.words }
 
--- quiet steps one after another
+-- the quiet steps in order
 abbrev pub TakesAll : Line → LineState → List Quiet → Said → LineState → Type 0
 TakesAll line v [] said new = (said ≡ nothing) × (new ≡ v)
 TakesAll line v (q ∷ qs) said new =

@@ -1,4 +1,4 @@
--- When a state of the one line centre stands for a world of centres.
+-- The read-off: which state of the one line centre represents a world of centres.
 use Rattle.std.specs.Prelude.{◌≡◌, ◌≤◌, ℕ, List, ◌++◌, ◌==◌, length, map, slice_get, true, false, Option, Some, None, option_map, if◌then◌else◌}
 use Rattle.std.specs.List.{filter_map, find, flat_map, range_with_len}
 use Rattle.std.specs.Option.{option_map_or}
@@ -11,14 +11,14 @@ use Rattle.rbc_spec.specs.LineCentre.{LineState, Mark, Shut, Open, Kept, Given, 
 use Rattle.rbc_spec.specs.World.{World, Event, Answer, way}
 use Rattle.rbc_spec.specs.Run as run
 
--- ## Who has a train's mission
+-- ## The mission of a train
 
 -- a mission, and its hand
 pub record Held : Type 0 where
   pub mission : LineMission
   pub hand : SectionRun
 
--- a mission that a centre has, as the line sees it
+-- a mission of centre c, as the line's state has it
 abbrev pub seen : ℕ → centre.Mission → LineMission
 seen c m =
     record { place = m.place; has_data = m.has_data; is_ended = m.is_ended; proposal = m.proposal; supervisor = At c }
@@ -26,7 +26,7 @@ seen c m =
 abbrev pub held_at : World → ℕ → ℕ → Option Held
 held_at w t c = option_map (λ m. record { mission = seen c m; hand = m.hand }) ((w.at c).mission t)
 
--- the mission that a frame hands over, which nobody supervises
+-- the mission that a Yield hands over; nobody supervises it
 abbrev pub handed_over : ℕ → Body → Option Held
 handed_over t (Yield number u heard has_data is_ended place hand) =
     if u == t
@@ -43,15 +43,15 @@ handed_over t (Yield number u heard has_data is_ended place hand) =
     else None
 handed_over t body = None
 
--- the centres of the line
+-- the numbers of the line's centres
 abbrev pub centres_of : Line → List ℕ
 centres_of line = range_with_len 0 (length line.centres)
 
--- the frames on the way between any two of them
+-- the frames on the way between any two centres of the line
 abbrev pub frames_on_way : Line → World → List Frame
 frames_on_way line w = flat_map (λ a. flat_map (λ b. way w a b) (centres_of line)) (centres_of line)
 
--- what the centres have, and the frames on the way: at most one mission of a train
+-- the missions of a train at the centres of the line and in Yields on the way
 abbrev pub all_held : Line → World → ℕ → List Held
 all_held line w t =
     filter_map (held_at w t) (centres_of line) ++ filter_map (λ f. handed_over t f.body) (frames_on_way line w)
@@ -63,7 +63,8 @@ held line w t = slice_get (all_held line w t) 0
 abbrev pub holder : Line → World → ℕ → Option ℕ
 holder line w s = find (λ t. has (λ h. within h.hand s) (held line w t)) (map (λ p. p.nid_engine) line.trains)
 
--- a section in a hand is given; another is kept for the train that it is taken or out for, or is as the book has it
+-- The mark of a section. In a hand it is given. Else it is kept for the train for which its home has it in use, or it
+-- is shut or open as in the book.
 abbrev pub mark_of : Option ℕ → centre.Entry → Mark
 mark_of (Some t) entry = Given t
 mark_of None centre.Shut = Shut
@@ -71,10 +72,11 @@ mark_of None centre.Open = Open
 mark_of None (centre.Taken t) = Kept t
 mark_of None (centre.Out t) = Kept t
 
--- ## The read-off
+-- ## The state that represents a world
 
--- No V stands for a world that has a section in two hands, two missions of one train, or one elsewhere than at the
--- line's centres. A hand is all that is given to its train
+-- State v represents the world w. No state does if a section is in two hands, or if a train has two missions. Nor does
+-- one if a centre that is not of the line has a mission. A hand is exactly the set of sections that are given to its
+-- train.
 pub record StandsFor (line : Line) (w : World) (v : LineState) : Type 0 where
   pub phase : (t c : ℕ) → v.phase t c ≡ (w.at c).phase t
   pub heard : (t c : ℕ) → v.heard t c ≡ (w.at c).heard t
@@ -89,7 +91,7 @@ pub record StandsFor (line : Line) (w : World) (v : LineState) : Type 0 where
   pub one_seat : (t : ℕ) → length (all_held line w t) ≤ 1
   pub hands : (t : ℕ) (h : Held) → held line w t ≡ Some h → IsHand v t h.hand
 
--- the state that is read off a world: a number of no section is shut
+-- the state that is read off a world; a number that is not of a section is shut
 unfoldable pub read_off : Line → World → LineState
 read_off line w = record {
   mark = λ s. option_map_or (λ p. mark_of (holder line w s) ((w.at p.home).book s)) (section line s) Shut;
@@ -103,8 +105,8 @@ read_off line w = record {
 
 -- ## The main theorem
 
--- of a whole list of events and the answers to it: they are a run of the one line centre from its beginning, and the
--- world that they leave is what the run's last state stands for
+-- The main theorem for a list of events and the answers to them. They are a run of the one line centre from its initial
+-- state, and the last state of the run represents the world after them.
 pub record IsLineRun (line : Line) (events : List Event) (answers : List Answer) (w : World) : Type 0 where
   pub last : LineState
   pub is_run : run.Run line line_beginning events answers last

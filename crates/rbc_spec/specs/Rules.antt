@@ -1,4 +1,4 @@
--- What a centre does with each event, act by act.
+-- The rules of a centre: the acts with which it answers each event.
 use Rattle.std.specs.Prelude.{ℕ, ◌+◌, ◌-◌, ◌*◌, ◌==◌, Bool, true, false, ◌&&◌, ◌||◌, not, if◌then◌else◌, [], ◌∷◌, Some, None, is_none, nat_lt, nat_le, option_map}
 use Rattle.std.specs.Option.{option_map_or}
 use Rattle.rbc_spec.specs.Maps.{has, put}
@@ -12,17 +12,17 @@ use Rattle.rbc_spec.specs.Outcome.{Word}
 use Rattle.rbc_spec.specs.Centre.{Centre, Taken, Phase, Closed, Opened, Up, Mission, Proposal, Expectation, is_open, is_taken_for, is_free, is_registrar_of}
 use Rattle.rbc_spec.specs.Acts.{Act, become, rest, ◌>>◌, where_so, with_some, with_mission, send, say, booked, freed, leave, set_mission, change_mission, return_pool, cancel, close, begun, part_at, announce, ask_route}
 
--- a word to the interlocking
+-- a reply to the interlocking
 abbrev pub tell : Word → Act
 tell word k = record { state = k; frames = λ d. []; sayings = []; words = word ∷ [] }
 
--- one act or another
+-- one act if the test holds of the state, else the other
 abbrev pub choose : (Centre → Bool) → Act → Act → Act
 choose test yes_act no_act k = if test k then yes_act k else no_act k
 
 -- ## Sessions (3.5.3, 3.5.5)
 
--- a start of mission that waits is dropped, and its sections are given back
+-- a waiting start of mission is dropped, and its sections are given back
 abbrev pub drop_wait : Line → ℕ → ℕ → Act
 drop_wait line c t = with_some (λ k. k.wait t) (λ place.
     freed line c (is_taken_for t) (covered line place) >> become (λ k. record k { wait = put k.wait t None }))
@@ -30,7 +30,7 @@ drop_wait line c t = with_some (λ k. k.wait t) (λ place.
 abbrev pub set_phase : ℕ → Phase → Act
 set_phase t phase = become (λ k. record k { phase = put k.phase t phase })
 
--- a session that stands is closed: with it go a standing request to shorten and a start of mission that waits
+-- Closes a session. A pending request to shorten and a waiting start of mission end with it.
 abbrev pub close_session : Line → ℕ → ℕ → Act
 close_session line c t =
     (set_phase t Closed >> change_mission t (λ m. record m { proposal = None })) >> drop_wait line c t
@@ -43,7 +43,8 @@ accept t = say t unknown_group TrainAccepted
 abbrev pub reject : ℕ → Act
 reject t = say t unknown_group TrainRejected
 
--- a start within the train's hand: the mission goes on from the new place, and its train data have to come again
+-- A start of mission of a train that has a mission here. If its place covers only sections of the hand, the mission
+-- goes on from that place, and the train must send its train data again. Else the train is rejected.
 abbrev pub restart : Line → ℕ → Place → Mission → Act
 restart line t place m =
     if all_of (within m.hand) (covered line place)
@@ -51,11 +52,11 @@ restart line t place m =
     >> accept t)
     else reject t
 
--- the mission begins with the sections of the place, which are in use for the train
+-- the mission begins; the sections of its place are in use for the train already
 abbrev pub begin : Line → ℕ → Place → Act
 begin line t place = set_mission t (Some (begun line place)) >> accept t
 
--- a start at the registrar: the right is taken into the mission
+-- a start at the registrar: the mission takes the right, if that is here, and else the train is rejected
 abbrev pub start_here : Line → ℕ → Place → Act
 start_here line t place =
     choose (λ k. k.has_right t)
@@ -63,7 +64,7 @@ start_here line t place =
     >> begin line t place)
     (reject t)
 
--- a start elsewhere waits for the right, for which the registrar is asked
+-- a start at another centre: its sections are taken, and it waits for the right, for which the registrar is asked once
 abbrev pub start_waiting : Line → ℕ → Place → Act
 start_waiting line t place =
     (booked is_open (Taken t) (covered line place) >> become (λ k. record k { wait = put k.wait t (Some place) }))
@@ -86,17 +87,17 @@ start_mission line c t is_valid position k =
 
 -- ## Request (3.8)
 
--- L_ENDSECTION of an authority for the hand, counted from the group of the mission's place
+-- L_ENDSECTION of an authority for the hand, in metres from the group of the mission's place
 abbrev pub authority : Line → Mission → ℕ
 authority line m = end line (next_after m.hand - 1) - group_start line m.place
 
--- the section may follow in the hand: on the track, released here or next in the pool, and its end has room in
+-- a section may extend the hand if it is on the track, free here or in the pool, and ends within the range of
 -- L_ENDSECTION
 abbrev pub may_follow : Line → ℕ → Centre → Mission → ℕ → Bool
 may_follow line c k m s =
     (is_on line m.place.track s && (is_free line c k s || within m.pool s)) && has_room line m.place (end line s)
 
--- the sections by which the hand is extended: as many as may follow, and as the hand has room for
+-- the longest run of sections in advance of the hand that may extend it, within the room that the hand has
 abbrev pub extension : Line → ℕ → Centre → Mission → SectionRun
 extension line c k m =
     record {
@@ -104,26 +105,26 @@ extension line c k m =
       count = longest (may_follow line c k m) (next_after m.hand) (most_in_hand - m.hand.count);
     }
 
--- the mission with a longer hand, and what is left of its pool
+-- the mission with the extended hand; sections of the run leave the pool
 abbrev pub extended_by : SectionRun → Mission → Mission
 extended_by r m =
     record m { hand = joined m.hand r; pool = if is_empty m.pool then m.pool else part_from (next_after r) m.pool }
 
--- a handover to centre d is announced where none stands and the hand has a section of home d
+-- announces a handover to centre d, if none is pending and the hand has a section of home d
 abbrev pub announce_if_due : Line → ℕ → ℕ → Act
 announce_if_due line t d = with_mission t (λ m.
     where_so (λ k. is_none m.handing && not (is_empty (part_at line d m.place.track m.hand)))
     (announce line t m.place.group d m))
 
--- more sections are asked for if the next section in advance of the hand is on the track and of home d. Besides, the
--- hand must have room, the pool must be empty, and no ask may be pending
+-- Asks for more sections if the section in advance of the hand is on the track and of home d. Besides, the hand has
+-- room, the pool is empty, and no request for sections is pending.
 abbrev pub ask_route_if_due : Line → ℕ → ℕ → Act
 ask_route_if_due line t d = with_mission t (λ m. where_so
     (λ k. ((is_home line d (next_after m.hand) && is_on line m.place.track (next_after m.hand))
     && nat_lt m.hand.count most_in_hand) && (is_empty m.pool && is_none (k.route_ask t)))
     (ask_route t d m))
 
--- what follows an extension at the border to centre d
+-- the acts at the border to centre d, after an extension
 abbrev pub at_border : Line → ℕ → ℕ → ℕ → Act
 at_border line c t d = announce_if_due line t d >> ask_route_if_due line t d
 
@@ -144,7 +145,8 @@ request line c t position = with_mission t (λ m.
 abbrev pub cleared : Line → Place → Mission → SectionRun
 cleared line place m = record { first = m.hand.first; count = passing (is_cleared line place) m.hand }
 
--- the place is set and what was cleared leaves the hand; a hand that became empty closes the mission
+-- The mission gets the new place, and the cleared sections leave the hand. If all sections of the hand are cleared, the
+-- mission is closed.
 abbrev pub clear : Line → ℕ → ℕ → Mission → Place → Act
 clear line c t m place =
     let r = cleared line place m in
@@ -159,7 +161,7 @@ report_here line c t position m = option_map_or (clear line c t m) (place_on lin
 abbrev pub taking : Expectation → Expectation
 taking e = record e { is_taking = true }
 
--- each centre that announced the train and has not heard of it is told that this centre takes over
+-- reports TakingOver to each centre that has announced the train and has not had this report yet
 abbrev pub take_over : Line → ℕ → Act
 take_over line t k =
     let is_new : ℕ → Bool = λ d. is_centre line d && has (λ e. not e.is_taking) (k.expects d t) in
@@ -179,7 +181,8 @@ report line c t position k =
 
 -- ## Shortening (3.8.6)
 
--- the hand is cut after the last section kept, with what the pool has; an emptied hand closes the mission
+-- Cuts the hand after the last section that is kept, and takes all of the pool off. If no section is kept, the mission
+-- is closed. A handover is cancelled if the hand has no section of its accepting centre left.
 abbrev pub cut : Line → ℕ → ℕ → ℕ → Mission → Act
 cut line c t last_kept m =
     let tail = part_from (last_kept + 1) m.hand in
@@ -190,7 +193,7 @@ cut line c t last_kept m =
     >> option_map_or (λ h. if is_empty (part_at line h.to m.place.track kept.hand) then cancel t kept
     else rest) m.handing rest))
 
--- the train has granted the shortening: the hand is cut, if the train has not run past the proposed end
+-- The train has granted the shortening. The hand is cut if the reported front is not past the proposed end.
 abbrev pub granted : Line → ℕ → ℕ → Position → Mission → Proposal → Act
 granted line c t position m p =
     change_mission t (λ n. record n { proposal = None })
@@ -203,17 +206,17 @@ answer_granted line c t position = with_mission t (λ m. with_some (λ k. m.prop
 
 -- ## End of mission (5.5)
 
--- how many of the first sections of the hand begin before the front
+-- how many of the first sections of the hand start before the front
 abbrev pub reached : Line → Place → Mission → ℕ
 reached line place m = passing (λ s. nat_lt (10 * start line s) place.front) m.hand
 
--- where the train has reached its hand, what lies ahead of it is cut: the sections that begin at the front or past it
+-- cuts the sections of the hand that start at the front or past it, if the train has reached the hand
 abbrev pub cut_ahead : Line → ℕ → ℕ → Mission → Place → Act
 cut_ahead line c t m place =
     let n = reached line place m in
     if (n == 0) || (n == m.hand.count) then rest else cut line c t (m.hand.first + n - 1) m
 
--- a train that ends its mission at standstill will not run into what lies ahead
+-- a train that ends its mission at standstill will not use the sections ahead of it
 abbrev pub stand_still : Line → ℕ → ℕ → Position → Mission → Act
 stand_still line c t position m =
     if position.v_train == 0 then option_map_or (cut_ahead line c t m) (place_on line m.place.track position) rest
@@ -226,7 +229,7 @@ end_mission line c t position =
     >> with_mission t (λ m. return_pool line c t m
     >> change_mission t (λ n. record n { is_ended = true; proposal = None }))
 
--- ## A train's message
+-- ## The answer to each message of a train
 
 abbrev pub answered : Line → ℕ → TrainMessage → TrainBody → Act
 answered line c m (TrainData position) =

@@ -14,9 +14,9 @@ use Rattle.rbc_spec.specs.OwnSteps.{Own, Sets, Unsets}
 use Rattle.rbc_spec.specs.Quiet.{Quiet, is_of_centre, TakesAll, both}
 use Rattle.rbc_spec.specs.World.{Event, Bytes, Set, Unset, Delivery, centre_of, Answer, Answered, NoCentre, NotSent, Fault}
 
--- ## Reasons of silence, read from the line's state
+-- ## Reasons of silence, as the line's state has them
 
--- centre c supervises the train, and its mission passes the test
+-- centre c supervises the train, and the mission passes the test
 abbrev pub has_here : LineState → ℕ → ℕ → (LineMission → Bool) → Bool
 has_here v c t test = has (λ m. is_at c m.supervisor && test m) (v.mission t)
 
@@ -26,24 +26,25 @@ has_front_at line c position =
     has (λ place. list_any (λ s. is_home line c s && has_front line place s) (range_with_len 0 (section_count line)))
     (extent line position)
 
--- the last section of a train's hand, or none
+-- the last section of the train's hand, if the hand has any
 abbrev pub last_of_hand : Line → LineState → ℕ → Option ℕ
 last_of_hand line v t =
     find (λ s. is_given_to t (v.mark s) && not (is_given_to t (v.mark (s + 1)))) (range_with_len 0 (section_count line))
 
--- the report has a place on the mission's track, not past the hand's end, which has room in L_ENDSECTION
+-- The report has a place on the mission's track. The front is not past the end of the hand, and that end is within the
+-- range of L_ENDSECTION.
 abbrev pub may_request_at : Line → LineState → ℕ → LineMission → Position → Bool
 may_request_at line v t m position = option_map_or
     (λ place. has (λ s. nat_le place.front (10 * end line s) && has_room line place (end line s))
     (last_of_hand line v t))
     (place_on line m.place.track position) false
 
--- the answer names the request that stands
+-- the answer names the pending request to shorten
 abbrev pub answers_it : ℕ → LineMission → Bool
 answers_it stamp m = has (λ p. p.stamp == stamp) m.proposal
 
--- the reason holds of a message at centre c. A report elsewhere may have it that the train is not supervised here, and
--- has it where its front is in no section of home c (Silenced)
+-- The reason holds of a message at centre c. For a report to a centre that does not supervise the train, NotSupervised
+-- holds here in any case; `may_listen` is the exception to it.
 abbrev pub holds : Line → LineState → ℕ → TrainMessage → TrainBody → Reason → Bool
 holds line v c m body StaleStamp = is_stale m.t_train (v.heard m.nid_engine c)
 holds line v c m body NoSession = is_closed (v.phase m.nid_engine c)
@@ -68,15 +69,16 @@ holds line v c m body MissionEnded = has_here v c m.nid_engine (λ n. n.is_ended
 abbrev pub silence : Line → LineState → ℕ → TrainMessage → Option Reason
 silence line v c m = find (holds line v c m m.body) (reasons_of m.body)
 
--- a report that would be silent for this may be heard all the same: where its front is in a section of home c, the line
--- centre may listen to a train that it does not supervise there
+-- A report that would be silent for this reason may be accepted nevertheless. If its front is in a section of home c,
+-- the line centre may listen to a train that it does not supervise at c.
 abbrev pub may_listen : Line → ℕ → TrainBody → Option Reason → Bool
 may_listen line c (Report position) (Some NotSupervised) = has_front_at line c position
 may_listen line c body reason = false
 
 -- ## Pieces
 
--- the own step of a message: silent for its reason, and then nothing changes, or heard
+-- The own step of a message. `silent`: it has this reason, and nothing changes. `heard`: it is answered. `listened`:
+-- only its stamp is recorded.
 pub data Steps (line : Line) (v : LineState) (c : ℕ) (m : TrainMessage) (said : Said) (new : LineState)
     (why : Option Reason) : Type 0 where
   silent : (reason : Reason) → silence line v c m ≡ Some reason → why ≡ Some reason → said ≡ nothing → new ≡ v
@@ -86,7 +88,7 @@ pub data Steps (line : Line) (v : LineState) (c : ℕ) (m : TrainMessage) (said 
   listened : may_listen line c m.body (silence line v c m) ≡ true → why ≡ None → said ≡ nothing → new ≡ hears c m v
       → Steps line v c m said new why
 
--- the own step of an event that has one
+-- the own step of an event; that of a delivery changes nothing
 abbrev pub OwnStep : Line → LineState → Event → Said → LineState → Option Reason → Type 0
 OwnStep line v (Bytes c (Ok m)) said new why = (is_centre line c ≡ true) × Steps line v c m said new why
 OwnStep line v (Set c s) said new why = (is_centre line c ≡ true) × Sets line v c s said new × (why ≡ None)
@@ -94,13 +96,14 @@ OwnStep line v (Unset c s) said new why = (is_centre line c ≡ true) × Unsets 
 OwnStep line v (Delivery from to number) said new why = (said ≡ nothing) × (new ≡ v) × (why ≡ None)
 OwnStep line v event said new why = ⊥
 
--- of two sections that are told, the lower is told first
+-- sections are reported back in the order of their numbers
 abbrev pub TellsInOrder : List Word → Type 0
 TellsInOrder words =
     (i j s e : ℕ) → i < j → slice_get words i ≡ Some (Told s) → slice_get words j ≡ Some (Told e) → s < e
 
--- the piece of an event: its own step, then quiet steps of its centre, none after a silent message, and what they say
--- in order, sections that are told by their numbers. The piece of a delivery is quiet steps alone
+-- The piece of an event: its own step, then quiet steps of the centre at which it happens. No quiet step follows a
+-- silent message. The messages and replies of the outcome are those of the piece, and sections are reported back in the
+-- order of their numbers. The piece of a delivery consists only of quiet steps.
 pub record Piece (line : Line) (v : LineState) (event : Event) (outcome : Outcome) (new : LineState) : Type 0 where
   pub own : Said
   pub mid : LineState
@@ -113,8 +116,8 @@ pub record Piece (line : Line) (v : LineState) (event : Event) (outcome : Outcom
   pub in_order : TellsInOrder outcome.words
   pub says : record { sayings = outcome.sayings; words = outcome.words } ≡ both own later
 
--- From v the one line centre may meet the event with this answer, and go on from new. Bytes that spell no message, a
--- centre not of the line, and a frame never sent change nothing
+-- From state v the one line centre may give this answer to the event, and be in state `new` after it. Nothing changes
+-- if the bytes spell no message, the centre is not of the line, or the frame was never sent.
 abbrev pub Goes : Line → LineState → Event → Answer → LineState → Type 0
 Goes line v event (Answered outcome) new = Piece line v event outcome new
 Goes line v (Bytes c (Err number)) (Fault n) new = (is_centre line c ≡ true) × (n ≡ number) × (new ≡ v)
@@ -124,7 +127,7 @@ Goes line v (Unset c s) NoCentre new = (is_centre line c ≡ false) × (new ≡ 
 Goes line v (Delivery from to number) NotSent new = new ≡ v
 Goes line v event answer new = ⊥
 
--- the answers to the events, one after another, lead from v to new
+-- the answers to the events, in order, lead from state v to state `new`
 abbrev pub Run : Line → LineState → List Event → List Answer → LineState → Type 0
 Run line v [] [] new = new ≡ v
 Run line v (event ∷ events) (answer ∷ answers) new =

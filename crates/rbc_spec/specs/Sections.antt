@@ -1,4 +1,4 @@
--- Sections of the line by their numbers, and as runs.
+-- The sections of the line by number, and the runs of sections that share a property.
 use Rattle.std.specs.Prelude.{ℕ, ◌==◌, Bool, ◌&&◌, length, slice_get}
 use Rattle.std.specs.List.{list_all, filter, sum_by, range_with_len}
 use Rattle.std.specs.Option.{option_map_or}
@@ -10,26 +10,26 @@ use Rattle.rbc_spec.specs.SectionRuns.{SectionRun, run_of}
 abbrev pub nid_rbc : Line → ℕ → ℕ
 nid_rbc line c = option_map_or (λ p. p.nid_rbc) (slice_get line.centres c) 0
 
--- how many sections the line has
+-- the number of sections of the line
 abbrev pub section_count : Line → ℕ
 section_count line = length line.sections
 
--- the section is of the line, and of this track
+-- s is a section of the line, and is on this track
 abbrev pub is_on : Line → ℕ → ℕ → Bool
 is_on line track s = has (λ p. p.track == track) (section line s)
 
--- the sections of the line that pass a test, as a run: the first, and how many they are
+-- The run of the sections of the line that pass a test. It is meant for tests that consecutive sections pass.
 abbrev pub run_where : Line → (ℕ → Bool) → SectionRun
 run_where line test = run_of (filter test (range_with_len 0 (section_count line)))
 
--- the sections of one home on one track, which are consecutive
+-- the run of the sections of one home on one track, which are consecutive
 abbrev pub home_run : Line → ℕ → ℕ → SectionRun
 home_run line c track = run_where line (λ s. is_home line c s && is_on line track s)
 
--- all sections of the run are of one track
+-- all sections of the run are on the track
 abbrev pub is_on_track : Line → ℕ → SectionRun → Bool
 is_on_track line track r = list_all (λ s. is_on line track s) (range_with_len r.first r.count)
 
--- the end of a track: where its last section ends, in metres
+-- the end of a track in metres: the sum of the lengths of its sections
 abbrev pub track_end : Line → ℕ → ℕ
 track_end line track = sum_by (λ p. p.metres) (filter (λ p. p.track == track) line.sections)

@@ -1,4 +1,4 @@
--- The step of a centre: an event, its stamp and its refusal, the answer of a link, and the frames with their numbers.
+-- The step of a centre: its event, its stamp, its refusals, the answer of a link, and the numbers of the frames.
 use Rattle.std.specs.Prelude.{ℕ, ◌+◌, ◌-◌, ◌*◌, ◌==◌, Bool, true, false, ◌&&◌, ◌||◌, not, if◌then◌else◌, List, [], ◌∷◌, ◌++◌, length, max, Option, Some, None, is_some, is_none, nat_lt, nat_le, Result, Ok, Err}
 use Rattle.std.specs.Option.{option_map_or}
 use Rattle.std.specs.List.{find, list_any, range_with_len}
@@ -15,7 +15,7 @@ use Rattle.rbc_spec.specs.Acts.{Act, Reply, become, rest, ◌>>◌, hear, propos
 use Rattle.rbc_spec.specs.Rules.{tell, answered}
 use Rattle.rbc_spec.specs.Links.{received}
 
--- what a step takes: a train's message, a set or an unset of the interlocking, or a frame of another centre
+-- an event of a centre: a message of a train, a set or an unset of the interlocking, or a frame from another centre
 pub data Event : Type 0 where
   Train : (m : TrainMessage) → Event
   Set : (s : ℕ) → Event
@@ -27,37 +27,40 @@ pub data Event : Type 0 where
 abbrev pub mission_has : (Mission → Bool) → Option Mission → Bool
 mission_has test mission = has test mission
 
--- a report elsewhere concerns this centre: the train is expected, and its front is in a section of home c
+-- A report concerns a centre without a mission of the train if it expects the train, and its front is in a home
+-- section.
 abbrev pub is_awaited : Line → ℕ → Centre → ℕ → Position → Bool
 is_awaited line c k t position = is_expected line k t
     && has (λ place. list_any (λ s. is_home line c s && has_front line place s) (range_with_len 0 (section_count line)))
     (extent line position)
 
--- a request has a place on the mission's track, not past the hand's end, which has room in L_ENDSECTION
+-- A request has a place on the mission's track. The front is not past the end of the hand, and that end is within the
+-- range of L_ENDSECTION.
 abbrev pub may_request : Line → Mission → Position → Bool
 may_request line m position = option_map_or
     (λ place. nat_le place.front (10 * end line (next_after m.hand - 1))
     && has_room line place (end line (next_after m.hand - 1)))
     (place_on line m.place.track position) false
 
--- the train is not supervised here, and its message does not concern this centre otherwise
+-- the train is not supervised here, and the message is not a report that concerns this centre
 abbrev pub is_unsupervised : Line → ℕ → Centre → ℕ → TrainBody → Bool
 is_unsupervised line c k t (Report position) = is_none (k.mission t) && not (is_awaited line c k t position)
 is_unsupervised line c k t body = is_none (k.mission t)
 
--- a request, or a report to its supervisor, that has no place to be taken at
+-- a request, or a report to the supervisor, without a place at which it can be taken
 abbrev pub has_no_place : Line → Option Mission → TrainBody → Bool
 has_no_place line mission (Request position) = mission_has (λ m. not (may_request line m position)) mission
 has_no_place line mission (Report position) = mission_has (λ m. is_none (place_on line m.place.track position)) mission
 has_no_place line mission body = false
 
--- the session is not in the phase for the message: up already, or not up, or a start waits
+-- The session is in the wrong phase for the message. For message 159 the session is established already. For message
+-- 157 it is not established, or a start of mission waits. For others it is not established.
 abbrev pub is_out_of_phase : Centre → ℕ → TrainBody → Bool
 is_out_of_phase k t SessionEstablished = is_up (k.phase t)
 is_out_of_phase k t (StartOfMission is_valid position) = not (is_up (k.phase t)) || is_some (k.wait t)
 is_out_of_phase k t body = not (is_up (k.phase t))
 
--- the request that is answered does not stand
+-- the message answers a request to shorten that is not pending
 abbrev pub is_unasked : Option Mission → TrainBody → Bool
 is_unasked mission (ShorteningGranted stamp position) =
     not (mission_has (λ m. has (λ p. p.stamp == stamp) m.proposal) mission)
@@ -83,7 +86,7 @@ silence line c k m = find (holds line c k m) (reasons_of m.body)
 
 -- ## The interlocking
 
--- each other centre is told that a section that is out is wished back: which of them has it is not known here
+-- asks each other centre for a section that is lent; the home does not know which centre has it
 abbrev pub withdraw : Line → ℕ → ℕ → ℕ → Act
 withdraw line c t s k =
     record {
@@ -94,7 +97,8 @@ withdraw line c t s k =
       words = [];
     }
 
--- a section that is in use is wished back: its hand is proposed to be cut, or it is withdrawn from where it is out
+-- A section in use is wished back. If it is here, a request to shorten is sent, if it may be. If it is lent, the other
+-- centres are asked for it.
 abbrev pub wished : Line → ℕ → ℕ → Entry → Act
 wished line c s (Taken t) = propose_if_so line t s
 wished line c s (Out t) = withdraw line c t s
@@ -117,25 +121,25 @@ unset line c s k =
 
 -- ## Links
 
--- what the link says to frame number n after so many
+-- the answer of a link to frame n, after `count` frames were taken: only frame `count + 1` is the next
 abbrev pub offered : ℕ → ℕ → LinkAnswer
 offered count n = if n == count + 1 then Next else (if nat_le n count then Old else Early)
 
 abbrev pub link_answer : Line → ℕ → Centre → ℕ → Frame → LinkAnswer
 link_answer line c k d f = if is_linked line c d then offered (k.taken d) f.number else NoLink
 
--- only the next frame is taken
+-- only the next frame of a link is taken; others change nothing
 abbrev pub taken_by : Line → ℕ → ℕ → Frame → LinkAnswer → Act
 taken_by line c d f Next = become (λ k. record k { taken = put k.taken d f.number }) >> received line c d f.body
 taken_by line c d f answer = rest
 
 -- ## The step
 
--- a message that is not silent is heard and answered
+-- an answered message: its stamp is recorded, then its rule is applied
 abbrev pub hear_and_answer : Line → ℕ → TrainMessage → Act
 hear_and_answer line c m = hear m >> answered line c m m.body
 
--- what an event does, with the link's answer and the reason of silence
+-- the effect of an event: its reply, the answer of the link, and the reason if it is a silent message
 pub record Effect : Type 0 where
   pub reply : Reply
   pub link : Option LinkAnswer
@@ -152,17 +156,17 @@ effect line c k (Deliver d f) =
     let answer = link_answer line c k d f
     in record { reply = taken_by line c d f answer k; link = Some answer; silence = None }
 
--- the stamp of a step is one above the last, and above that of the frame that it is handed
+-- the stamp of a step: one above the last; for a frame, one above the greater of the last and the frame's stamp
 abbrev pub stamp_of : Centre → Event → ℕ
 stamp_of k (Deliver d f) = max k.clock f.stamp + 1
 stamp_of k event = k.clock + 1
 
--- a link has fewer than four of its 65 536 numbers left
+-- some link has fewer than four of its 65 536 numbers left
 abbrev pub has_full_link : Line → ℕ → Centre → Bool
 has_full_link line c k =
     list_any (λ d. is_linked line c d && nat_lt 65532 (length (k.sent d))) (range_with_len 0 (length line.centres))
 
--- why a step is refused: its stamp would pass the last one, or a link is full
+-- why a step is refused: its stamp would pass the greatest one, or a link is full
 pub data Refusal : Type 0 where
   ClockEnd : Refusal
   LinkFull : Refusal
@@ -172,7 +176,7 @@ refusal line c k event =
     if nat_lt last_stamp (stamp_of k event) then Some ClockEnd
     else (if has_full_link line c k then Some LinkFull else None)
 
--- bodies as frames: numbered on from those sent before, with the step's stamp
+-- the bodies as frames, numbered after those sent before, with the stamp of the step
 abbrev pub numbered : ℕ → ℕ → List Body → List Frame
 numbered stamp count [] = []
 numbered stamp count (body ∷ bodies) =
@@ -194,11 +198,11 @@ outcome_of stamp k e = record {
 abbrev pub state_after : ℕ → Centre → Effect → Centre
 state_after stamp k e = record (e.reply.state) { sent = λ d. k.sent d ++ frames_of stamp k e.reply d }
 
--- the clock of a step shows its stamp
+-- the clock shows the stamp of the step
 abbrev pub ticked : ℕ → Centre → Centre
 ticked stamp k = record k { clock = stamp }
 
--- what an event comes to at a centre that does not refuse it
+-- the outcome and the new state of a step that is not refused
 abbrev pub taken : Line → ℕ → Event → Centre → Outcome × Centre
 taken line c event k =
     let stamp = stamp_of k event in

@@ -1,4 +1,4 @@
--- What is claimed of the centres of a line: the main theorem, and that of a one-centre line.
+-- The claims about the centres of a line: the main theorem, and the theorem of a line with one centre.
 use Rattle.std.specs.Prelude.{◌≡◌, ℕ, List, [], ◌∷◌, true, Option, Some, None, Ok}
 use Rattle.std.specs.List.{All}
 use Rattle.rbc_spec.specs.Line.{Line, IsLine}
@@ -16,14 +16,15 @@ use Rattle.rbc_spec.specs.Promises.{KeepsPromises, IsSound}
 
 -- ## The whole line
 
--- Whatever happens to the centres of a line: what they answer and hold is a run of the one line centre
+-- The main theorem, for every line and every list of events: the answers and the last world are a run of the one line
+-- centre.
 abbrev pub WholeLineTheorem : Type 0
 WholeLineTheorem = (line : Line) (events : List Event) (answers : List Answer) (w : World)
     → IsLine line → world_run line (new_world line) events ≡ Ok (answers, w) → IsLineRun line events answers w
 
--- Whatever has happened to the centres of a line, and whatever event they answer next: the one line centre may meet
--- that event with the same answer, between the states that are read off them; the event keeps its promises, and the new
--- world is sound. A refused event changes nothing, so this also holds of events after refused ones
+-- For every list of events, and for the next event that is answered: the one line centre may give the same answer. It
+-- does so between the two states that are read off. The event keeps its promises, and the new world is sound. A refused
+-- event changes nothing, so this holds after refused events too.
 abbrev pub EachEventTheorem : Type 0
 EachEventTheorem =
     (line : Line) (w new : World) (events : List Event) (answers : List Answer) (event : Event) (answer : Answer)
@@ -32,14 +33,14 @@ EachEventTheorem =
     → Goes line (read_off line w) event answer (read_off line new) × KeepsPromises line w event answer new
     × IsSound line new
 
--- ## A one-centre line
+-- ## A line with one centre
 
--- c is the home of all sections, and every train's registrar
+-- c is the home of all sections, and the registrar of all trains
 pub record IsOneCentreLine (line : Line) (c : ℕ) : Type 0 where
   pub homes : All (λ p. p.home ≡ c) line.sections
   pub registrars : All (λ p. p.registrar ≡ c) line.trains
 
--- a start at the registrar is accepted wherever the train has no mission and the sections are released
+-- a start at the registrar is accepted if the train has no mission and the sections are open
 abbrev pub IsStartAccepted : Line → LineState → ℕ → TrainMessage → TrainBody → Said → LineState → Type 0
 IsStartAccepted line v c m (StartOfMission is_valid position) said new =
     (place : Place) → fit_place line is_valid position ≡ Some place → may_start line v c place ≡ true
@@ -47,8 +48,8 @@ IsStartAccepted line v c m (StartOfMission is_valid position) said new =
     → v.mission m.nid_engine ≡ None → Accepts m.nid_engine c v (begins line m.nid_engine c place v) said new
 IsStartAccepted line v c m body said new = Unit {0}
 
--- the own step of a message leaves no choice: it is silent for its reason, also a report elsewhere, and accepts where
--- it may
+-- The own step of a message leaves no choice. It is silent if and only if a reason of silence holds, also for a report
+-- of a train that is not supervised. A start is accepted whenever it may be.
 pub record ForcedMessageStep (line : Line) (v : LineState) (c : ℕ) (m : TrainMessage) (said : Said) (new : LineState)
     (why : Option Reason) : Type 0 where
   pub silent : why ≡ silence line v c m
@@ -58,12 +59,12 @@ pub record ForcedMessageStep (line : Line) (v : LineState) (c : ℕ) (m : TrainM
 abbrev pub MayPropose : Line → LineState → ℕ → ℕ → ℕ → Type 0
 MayPropose line v t c s = (said : Said) × (new : LineState) × Proposes line v t c s said new
 
--- after an unset it is sent if it may be, and nothing else is done
+-- after an unset, message 9 is sent if and only if it may be; it is the only quiet step
 pub data Asks (line : Line) (v : LineState) (c s : ℕ) : List Quiet → Type 0 where
   asked : (t : ℕ) → MayPropose line v t c s → Asks line v c s (Propose t c s ∷ [])
   not_asked : ((t : ℕ) → MayPropose line v t c s → ⊥) → Asks line v c s []
 
--- what follows an event's own step: message 9 after an unset that asks for it, and no other quiet step
+-- the quiet steps after the own step of an event: message 9 if an unset asks for it, and no other
 abbrev pub ForcedQuietSteps : Line → LineState → Event → List Quiet → Type 0
 ForcedQuietSteps line mid (Unset c s) quiets = Asks line mid c s quiets
 ForcedQuietSteps line mid event quiets = quiets ≡ []
@@ -72,7 +73,7 @@ abbrev pub ForcedOwnStep : Line → LineState → Event → Said → LineState �
 ForcedOwnStep line v (Bytes c (Ok m)) said new why = ForcedMessageStep line v c m said new why
 ForcedOwnStep line v event said new why = Unit {0}
 
--- a piece without free choice
+-- a piece without a choice
 pub record ForcedPiece (line : Line) (v : LineState) (event : Event) (outcome : Outcome)
     (new : LineState) : Type 0 where
   pub piece : Piece line v event outcome new
@@ -83,20 +84,20 @@ abbrev pub GoesForced : Line → LineState → Event → Answer → LineState �
 GoesForced line v event (Answered outcome) new = ForcedPiece line v event outcome new
 GoesForced line v event answer new = Goes line v event answer new
 
--- the answers to the events lead from v to new without free choice
+-- the answers to the events lead from state v to state `new` without a choice
 abbrev pub ForcedRun : Line → LineState → List Event → List Answer → LineState → Type 0
 ForcedRun line v [] [] new = new ≡ v
 ForcedRun line v (event ∷ events) (answer ∷ answers) new =
     (mid : LineState) × GoesForced line v event answer mid × ForcedRun line mid events answers new
 ForcedRun line v events answers new = ⊥
 
--- of a whole list of events and the answers to it
+-- the theorem for a list of events and the answers to them
 pub record IsOneCentreRun (line : Line) (events : List Event) (answers : List Answer) (w : World) : Type 0 where
   pub last : LineState
   pub is_run : ForcedRun line line_beginning events answers last
   pub stands : StandsFor line w last
 
--- Where one centre has all sections and is every train's registrar, the run leaves no choice
+-- If one centre has all sections and is the registrar of all trains, the run leaves no choice.
 abbrev pub OneCentreTheorem : Type 0
 OneCentreTheorem = (line : Line) (c : ℕ) (events : List Event) (answers : List Answer) (w : World)
     → IsLine line → IsOneCentreLine line c → world_run line (new_world line) events ≡ Ok (answers, w)

@@ -1,4 +1,4 @@
--- The centres of a line side by side, and what happens to them.
+-- The centres of a line side by side, and the events that happen to them.
 use Rattle.std.specs.Prelude.{◌≡◌, ℕ, ◌-◌, List, [], ◌∷◌, ◌++◌, if◌then◌else◌, ◌==◌, Option, None, is_none, Result, Ok, Err, slice_get, drop}
 use Rattle.std.specs.List.{list_any}
 use Rattle.std.specs.Option.{option_map_or}
@@ -11,8 +11,10 @@ use Rattle.rbc_spec.specs.Centre.{Centre, beginning}
 use Rattle.rbc_spec.specs.Step as centre
 use Rattle.rbc_spec.specs.Step.{Refusal, step}
 
--- bytes from a train come to centre c, which spell a message or show the fault of this number; the interlocking sets or
--- unsets a section at a centre; or a frame that centre `from` sent to centre `to` under a number is delivered
+-- An event of the line. `Bytes`: bytes from a train arrive at centre c. `read` is the message that they spell, or the
+-- number of their fault. `Set` and `Unset`: the interlocking sets or unsets section s at centre c. `Delivery`: the
+-- frame of this number from centre `from` is delivered to centre `to`. A frame that was ever sent may be delivered, at
+-- any time and more than once.
 pub data Event : Type 0 where
   Bytes : (c : ℕ) → (read : Result TrainMessage ℕ) → Event
   Set : (c s : ℕ) → Event
@@ -26,15 +28,16 @@ centre_of (Set c s) = c
 centre_of (Unset c s) = c
 centre_of (Delivery from to number) = to
 
--- the outcome of a centre's step; or the centre is not of the line, a frame of that number was never sent, or the
--- bytes show the fault of this number: these change nothing
+-- The answer to an event: the outcome of a centre's step, or one of three answers that change nothing. `NoCentre`: the
+-- centre is not of the line. `NotSent`: no frame of that number was sent. `Fault`: the bytes have the fault of this
+-- number.
 pub data Answer : Type 0 where
   Answered : (outcome : Outcome) → Answer
   NoCentre : Answer
   NotSent : Answer
   Fault : (number : ℕ) → Answer
 
--- the centres, and the trains of the line that messages have named, in the order of first mention
+-- the state of each centre, and the trains of the line that messages have named, in the order of first mention
 pub record World : Type 0 where
   pub at : ℕ → Centre
   pub trains : List ℕ
@@ -42,26 +45,26 @@ pub record World : Type 0 where
 unfoldable pub new_world : Line → World
 new_world line = record { at = beginning line; trains = [] }
 
--- the frame that a sent to b under a number, from 1
+-- the frame of this number that a sent to b; numbers start from 1
 abbrev pub frame_sent : World → ℕ → ℕ → ℕ → Option Frame
 frame_sent w a b number = if number == 0 then None else slice_get ((w.at a).sent b) (number - 1)
 
--- the frames on the way from a to b: those sent after the last that was taken
+-- the frames on the way from a to b: those sent after the last one that b has taken
 abbrev pub way : World → ℕ → ℕ → List Frame
 way w a b = drop ((w.at b).taken a) ((w.at a).sent b)
 
--- the trains after one more was named: a foreign engine is not listed
+-- the list of named trains after one more mention; an engine that is not of the line is not listed
 abbrev pub mention : Line → ℕ → List ℕ → List ℕ
 mention line t trains =
     if is_none (train_number line t) then trains
     else (if list_any (λ u. t == u) trains then trains else trains ++ t ∷ [])
 
--- the outcome of centre c, which leaves it so, in the world
+-- the outcome of a step of centre c, put into the world
 abbrev pub stepped : World → ℕ → List ℕ → Result (Outcome × Centre) Refusal → Result (Answer × World) Refusal
 stepped w c trains (Ok (outcome, centre)) = Ok (Answered outcome, record { at = put w.at c centre; trains = trains })
 stepped w c trains (Err why) = Err why
 
--- an event at centre c, if it is of the line
+-- an event at centre c, or `NoCentre` if c is not of the line
 abbrev pub at_centre : Line → World → ℕ → Result (Answer × World) Refusal → Result (Answer × World) Refusal
 at_centre line w c done = if is_centre line c then done else Ok (NoCentre, w)
 
@@ -73,7 +76,7 @@ abbrev pub reads : Line → World → ℕ → Result TrainMessage ℕ → Result
 reads line w c (Ok m) = takes line w c (mention line m.nid_engine w.trains) (centre.Train m)
 reads line w c (Err number) = Ok (Fault number, w)
 
--- one event
+-- the effect of one event
 unfoldable pub world_step : Line → World → Event → Result (Answer × World) Refusal
 world_step line w (Bytes c read) = at_centre line w c (reads line w c read)
 world_step line w (Set c s) = at_centre line w c (takes line w c w.trains (centre.Set s))
@@ -86,7 +89,7 @@ abbrev pub ◌>>=◌ : {A B : Type 0} → Result A Refusal → (A → Result B R
 (Ok x) >>= next = next x
 (Err why) >>= next = Err why
 
--- the answers to events one after another, and the world that they leave; or the first refusal
+-- the answers to the events in order, and the world after them; or the first refusal
 unfoldable pub world_run : Line → World → List Event → Result (List Answer × World) Refusal
 world_run line w [] = Ok ([], w)
 world_run line w (event ∷ events) = do
@@ -94,7 +97,7 @@ world_run line w (event ∷ events) = do
   others ← world_run line first.1 events
   Ok (first.0 ∷ others.0, others.1)
 
--- the trains of the line that messages at centres of the line named, each once, by first mention
+-- the list of named trains after an event: only a message at a centre of the line adds to it
 abbrev pub named : Line → Event → List ℕ → List ℕ
 named line (Bytes c (Ok m)) trains = if is_centre line c then mention line m.nid_engine trains else trains
 named line event trains = trains
@@ -103,7 +106,7 @@ abbrev pub all_named : Line → List Event → List ℕ → List ℕ
 all_named line [] trains = trains
 all_named line (event ∷ events) trains = all_named line events (named line event trains)
 
--- the events up to some place are answered, and the step of the event there is refused
+-- the events before some position are answered, and the step of the event at that position is refused
 pub record IsRefused (line : Line) (w : World) (events : List Event) (why : Refusal) : Type 0 where
   pub front : List Event
   pub event : Event

@@ -1,5 +1,4 @@
-//! What the definitions come to where a reader would look twice. The functions do nothing: each contract is a law of
-//! the definitions.
+//! Laws of the definitions, at points that a reader might misread. The functions do nothing: each contract is a law.
 
 ghost use Rattle.std.specs.Prelude.{◌≡◌, ℕ, ◌+◌, ◌<◌, ◌≤◌, ◌&&◌, true, false, Some, None};
 ghost use Rattle.rbc_spec.specs.Line.{Line, IsLine, is_home, start, end};
@@ -14,7 +13,7 @@ ghost use Rattle.rbc_spec.specs.LineCentre.{LineState};
 ghost use Rattle.rbc_spec.specs.ReadOff.{StandsFor};
 ghost use Rattle.rbc_spec.specs.Promises.{IsSafe};
 
-/// On one track a section ends at or before the start of each later one, so that starts and ends rise.
+/// On one track a section ends at or before the start of each later one, so starts and ends rise.
 pub fn sections_follow_one_another()
     ensures ends { (line : Line) (track s e : ℕ) → is_on line track s ≡ true → is_on line track e ≡ true → s ≤ e
         → end line s ≤ end line e }
@@ -22,7 +21,7 @@ pub fn sections_follow_one_another()
         → end line s ≤ start line e }
 {}
 
-/// What a place covers is a run: the sections between two of them are covered too, on every line.
+/// The sections that a place covers are a run: each section between two covered ones is covered too.
 pub fn a_place_covers_a_run()
     ensures { (line : Line) (place : Place) (s : ℕ) → IsLine line
         → within (covered line place) s ≡ covers line place s }
@@ -34,27 +33,27 @@ pub fn a_home_is_a_run()
         → within (home_run line d track) s ≡ (is_home line d s && is_on line track s) }
 {}
 
-/// A section that a train has cleared is none that it covers.
+/// A section that a train has cleared is not covered by the train's place.
 pub fn what_is_cleared_is_not_covered()
     ensures { (line : Line) (place : Place) (s : ℕ) → is_cleared line place s ≡ true → covers line place s ≡ false }
 {}
 
-/// A message that comes late or again is stale, and a later one is not.
+/// A late or repeated message is stale; one with a later stamp is not.
 pub fn a_stamp_is_heard_once()
     ensures first { (stamp : ℕ) → is_stale stamp None ≡ false }
     ensures again { (stamp last : ℕ) → stamp ≤ last → is_stale stamp (Some last) ≡ true }
     ensures later { (stamp last : ℕ) → last < stamp → is_stale stamp (Some last) ≡ false }
 {}
 
-/// After so many frames one number is the next, those up to it are old, and those past it come too early.
+/// After `count` frames one number is the next. Those up to `count` are old, and those past the next are early.
 pub fn one_number_is_next()
     ensures next { (count : ℕ) → offered count (count + 1) ≡ Next }
     ensures old { (count number : ℕ) → number ≤ count → offered count number ≡ Old }
     ensures early { (count number : ℕ) → count + 1 < number → offered count number ≡ Early }
 {}
 
-/// At most one state of the one line centre stands for a world: two that do are the same on the line's sections, trains
-/// and centres.
+/// At most one state of the one line centre represents a world. Two such states are equal on the line's sections,
+/// trains and centres.
 pub fn one_state_stands()
     ensures sessions { (line : Line) (w : World) (u v : LineState) (t c : ℕ) → StandsFor line w u → StandsFor line w v
         → (u.phase t c ≡ v.phase t c) × (u.heard t c ≡ v.heard t c) × (u.said t c ≡ v.said t c)
@@ -66,7 +65,7 @@ pub fn one_state_stands()
         → (u.mark s ≡ v.mark s) × (u.wish s ≡ v.wish s) }
 {}
 
-/// A world that some state of the one line centre stands for is safe, on every line.
+/// A world that some state of the one line centre represents is safe.
 pub fn what_stands_is_safe()
     ensures { (line : Line) (w : World) (v : LineState) → StandsFor line w v → IsSafe line w }
 {}

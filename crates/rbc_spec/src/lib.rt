@@ -1,8 +1,8 @@
-//! What a line, a message, a centre and the one line centre are: the definitions that a reader has to believe. They
-//! stand in `specs/`, in reading order, and name no type of the crates above. The functions do nothing and carry laws
-//! of the definitions.
+//! The definitions of a line, a message, a centre and the one line centre. A reader has to believe these definitions.
+//! They are in `specs/`, in reading order, and name no type of the crates above. The functions of this crate do
+//! nothing: their contracts are laws of the definitions.
 //!
-//! Believed, not proved: a change here changes what is claimed. docs/RULES.md and a scene of `test_scenes` come first.
+//! Believed, not proved: a change here changes the claims. docs/RULES.md and a scene of `test_scenes` come first.
 #![tactic(auto)]
 
 mod laws;

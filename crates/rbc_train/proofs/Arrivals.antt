@@ -1,4 +1,4 @@
--- A mission that comes from the centre that hands it over.
+-- A mission that arrives from the handing-over centre.
 use Rattle.std.proofs.Common.{◌≡◌, ℕ, ◌+◌, ◌-◌, ◌*◌, ◌<◌, ◌≤◌, ◌==◌, ◌&&◌, if◌then◌else◌, Bool, true, false, not, nat_le, List, [], max, is_none, Option, Some, None, length, inl, inr, refl, sym, ap, subst, ◌∙◌, arith}
 use Rattle.std.specs.Option.{option_map_or}
 use Rattle.std.specs.List.{find, range_with_len}
@@ -38,7 +38,7 @@ and_three true true d e = refl
 and_three true false d e = refl
 and_three false b d e = refl
 
--- ## What is known of a train that may be taken
+-- ## Facts of a train that may be taken over
 
 both : (a b : Bool) → (a && b) ≡ true → (a ≡ true) × (b ≡ true)
 both true true is = (refl, refl)
@@ -174,7 +174,7 @@ module _ (line : Line) (c : ℕ) (k : Centre) (p : TrainState) (book : Pages) (r
     pub unwished : find wishes (range_with_len m.hand.first m.hand.count) ≡ None → take_mission line c from u y.heard m k ≡ replied at [] []
     unwished none = taken_then None (rest at) none refl
 
-    -- or this is the first
+    -- this is the first own section that is wished back
     pub wished_first : (s : ℕ) (q : TrainState) (sayings : List Saying) → find wishes (range_with_len m.hand.first m.hand.count) ≡ Some s
         → ((j : Centre) → HasTrain j u mid → propose_if_so line u s j ≡ asked u q sayings j)
         → q.supervision.engine ≡ u → q.supervision.number ≡ p.supervision.number → q.supervision.asked ≡ p.supervision.asked → q.session_state ≡ p.session_state
@@ -185,7 +185,7 @@ module _ (line : Line) (c : ℕ) (k : Centre) (p : TrainState) (book : Pages) (r
         (asks at (has_train line c at mid book' rights has_mid) ∙ asked_is line c at mid book' rights has_mid q sayings engine number question session heard waiting expectations)
         ∙ (λ i. replied (parts_over mid q book' book' rights rights k engine i) sayings [])
 
--- what a train asks, it asks as the same train
+-- a request of a train is the same for an equal train
 pub asked_so : (line : Line) (s : ℕ) (p q new : TrainState) (sayings : List Saying) → p ≡ q
     → ((j : Centre) → HasTrain j p.supervision.engine p → propose_if_so line p.supervision.engine s j ≡ asked p.supervision.engine new sayings j)
     → (j : Centre) → HasTrain j q.supervision.engine q → propose_if_so line q.supervision.engine s j ≡ asked q.supervision.engine new sayings j

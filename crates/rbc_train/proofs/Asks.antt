@@ -1,4 +1,4 @@
--- A request to shorten of a train whose mission stands at a centre, the reply whole.
+-- A request to shorten of a train with a mission at a centre: the whole reply.
 use Rattle.std.proofs.Common.{◌≡◌, ℕ, ◌+◌, ◌-◌, ◌*◌, ◌≤◌, ◌&&◌, nat_le, Bool, true, false, cond, Option, Some, None, option_map, refl, ap, sym, ◌∙◌, [], ◌∷◌, arith, leb-true}
 use Rattle.std.specs.Option.{option_map_or}
 use Rattle.rbc_spec.specs.Maps.{put}
@@ -15,7 +15,7 @@ use Rattle.rbc_train.proofs.Fits.{and_right}
 
 -- ## By the rules
 
--- message 9 of this group and this end, and what stands from then on
+-- message 9 with this group and this end, and the pending request after it
 abbrev pub proposed : ℕ → Centre → ℕ → ℕ → Proposal → Reply
 proposed t k group metres p = record {
   state = record k {
@@ -32,14 +32,14 @@ said_and_stands : (line : Line) (t s : ℕ) (m : Mission) (k : Centre)
 unfolding ◌>>◌
 said_and_stands line t s m k = refl
 
--- of a mission it goes by the test
+-- the reply for a mission, by the test
 by_test : (line : Line) (t s : ℕ) (m : Mission) (k : Centre) (b : Bool) → k.mission t ≡ Some m → may_propose line t s m k ≡ b
     → propose_if_so line t s k ≡ cond b (proposed t k m.place.group (start line s - group_start line m.place) (record { stamp = k.said t + 1; last_kept = s - 1 })) (rest k)
 by_test line t s m k b there may =
     ap (λ o. option_map_or (λ n. where_so (may_propose line t s n) (propose line t s n) k) o (rest k)) there
     ∙ (λ i. cond (may i) (said_and_stands line t s m k i) (rest k))
 
--- where none stands nothing is asked
+-- without a mission no request is sent
 pub none_to_ask : (line : Line) (t s : ℕ) (k : Centre) → k.mission t ≡ None → propose_if_so line t s k ≡ rest k
 none_to_ask line t s k none = ap (λ o. option_map_or (λ n. where_so (may_propose line t s n) (propose line t s n) k) o (rest k)) none
 
@@ -59,7 +59,7 @@ module _ (line : Line) (t s : ℕ) (m : Mission) (k : Centre) (there : k.mission
   pub none_made : found ≡ None → propose_if_so line t s k ≡ rest k
   none_made none = by_test line t s m k false there (none_only _ _ (sym rules ∙ none))
 
-  -- this one is made
+  -- this request is made
   pub made : (x : Shortening) → found ≡ Some x → propose_if_so line t s k ≡ proposed t k m.place.group x.l_endsection (record { stamp = k.said t + 1; last_kept = x.last_kept })
   made x some =
       let parts = some_only _ _ x (sym rules ∙ some) in

@@ -1,29 +1,30 @@
--- What follows a request at a border.
-use Rattle.std.proofs.Common.{◌≡◌, ℕ, ◌+◌, ◌-◌, ◌<◌, ◌≤◌, ◌==◌, true, [], ◌∷◌, ◌++◌, if◌then◌else◌, Option, Some, inl, inr, sym, ap, subst, ◌∙◌, arith}
+-- The acts after a request at a border.
+use Rattle.std.proofs.Common.{[], ◌++◌, ◌+◌, ◌-◌, ◌<◌, ◌==◌, ◌∙◌, ◌∷◌, ◌≡◌, ◌≤◌, ap, arith, if◌then◌else◌, inl, inr}
+use Rattle.std.proofs.Common.{Option, Some, subst, sym, true, ℕ}
 use Rattle.std.proofs.lemmas.Bool.{cases_lt}
 use Rattle.std.proofs.lemmas.List.{append-nil}
-use Rattle.rbc_spec.specs.SectionRuns.{SectionRun, within, next_after}
-use Rattle.rbc_spec.specs.Line.{Line, start, end}
-use Rattle.rbc_spec.specs.Sections.{nid_rbc, is_on}
-use Rattle.rbc_spec.specs.Place.{Place, group_start}
-use Rattle.rbc_spec.specs.Message.{Transition}
-use Rattle.rbc_spec.specs.Frame.{Announce}
-use Rattle.rbc_spec.specs.Centre.{Centre, Mission, Expectation}
-use Rattle.rbc_spec.specs.Acts.{part_at}
-use Rattle.rbc_spec.specs.Rules.{announce_if_due, ask_route_if_due, at_border}
-use Rattle.rbc_spec.proofs.Places.{section_on, start_is, end_of, ends_rise}
-use Rattle.law_base.proofs.Puts.{put_there, put_over}
-use Rattle.law_base.proofs.Runs.{joined_is, within_true, within_from}
+use Rattle.law_base.proofs.Lists.{put_over, put_there}
+use Rattle.law_base.proofs.Runs.{joined_is, within_from, within_true}
 use Rattle.rbc_handover.specs.Giving.{announcing, with_count}
-use Rattle.rbc_mission.specs.Supervisions.{SupervisionState, HasSupervision, with_supervision, with_next}
-use Rattle.rbc_train.specs.Desk.{counted_to, posted, replied}
-use Rattle.rbc_train.specs.Letters.{letters, notices}
-use Rattle.rbc_train.specs.Sayings.{saying_of, sayings_of}
+use Rattle.rbc_mission.specs.Supervisions.{HasSupervision, SupervisionState, with_next, with_supervision}
+use Rattle.rbc_spec.proofs.Places.{end_of, ends_rise, section_on, start_is}
+use Rattle.rbc_spec.specs.Acts.{part_at}
+use Rattle.rbc_spec.specs.Centre.{Centre, Expectation, Mission}
+use Rattle.rbc_spec.specs.Frame.{Announce}
+use Rattle.rbc_spec.specs.Line.{end, Line, start}
+use Rattle.rbc_spec.specs.Message.{Transition}
+use Rattle.rbc_spec.specs.Place.{group_start, Place}
+use Rattle.rbc_spec.specs.Rules.{announce_if_due, ask_route_if_due, at_border}
+use Rattle.rbc_spec.specs.SectionRuns.{next_after, SectionRun, within}
+use Rattle.rbc_spec.specs.Sections.{is_on, nid_rbc}
+use Rattle.rbc_train.proofs.Turns.{in_turn}
 use Rattle.rbc_train.specs.declared.letter.Letter.{Letter}
 use Rattle.rbc_train.specs.declared.mail.Notice.{Notice}
 use Rattle.rbc_train.specs.declared.mail.Notice.TheVariants as notice
 use Rattle.rbc_train.specs.declared.saying.Saying.{Saying}
-use Rattle.rbc_train.proofs.Turns.{in_turn}
+use Rattle.rbc_train.specs.Desk.{counted_to, posted, replied}
+use Rattle.rbc_train.specs.Letters.{letters, notices}
+use Rattle.rbc_train.specs.Sayings.{saying_of, sayings_of}
 
 -- ## How far the border is
 
@@ -35,7 +36,7 @@ starts_before line track s on =
     let ends = end_of line track s p.0 p.1 in
     omega (arith, starts, ends)
 
--- where the end of a longer hand is near enough, each of its sections begins near enough
+-- if the end of a longer hand is in range, so is the start of each of its sections
 pub near_enough : (line : Line) (m : Mission) (place : Place) (count metres : ℕ) → 1 ≤ m.hand.count
     → ((s : ℕ) → within m.hand s ≡ true → is_on line m.place.track s ≡ true) → ((j : ℕ) → j < count → is_on line m.place.track (next_after m.hand + j) ≡ true)
     → metres ≡ end line (next_after m.hand + count - 1) - group_start line place → metres ≤ 32767
@@ -55,9 +56,9 @@ near_enough line m place count metres some on follow is fits s here =
           ap (is_on line m.place.track) (sym same) ∙ follow (e - next_after m.hand) (omega (arith, past, high))
     ]
 
--- ## What is told
+-- ## The messages and frames
 
--- a handover is announced, and the train is told where the border is
+-- a handover is announced, and the train gets the distance to the border
 module _ (line : Line) (t to : ℕ) (k : Centre) (said number announced : ℕ) (m : Mission) (new : SupervisionState) (order : Saying) (counts : k.said t ≡ said)
     (due : announce_if_due line t to k ≡ announcing line t to m (Some number) (with_supervision new (with_count announced k)))
     (orders : saying_of order ≡ record {

@@ -1,31 +1,33 @@
--- What a train has cleared leaves its hand.
-use Rattle.std.proofs.Common.{◌≡◌, ℕ, ◌+◌, ◌-◌, ◌<◌, ◌==◌, if◌then◌else◌, Bool, true, false, List, [], length, max, Option, Some, None, option_map, option_and_then, refl, sym, ap, ◌∙◌, subst, arith}
+-- The sections that a train has cleared leave its hand.
+use Rattle.std.proofs.Common.{[], ◌+◌, ◌-◌, ◌<◌, ◌==◌, ◌∙◌, ◌≡◌, ap, arith, Bool, false, if◌then◌else◌, length, List}
+use Rattle.std.proofs.Common.{max, None, Option, option_and_then, option_map, refl, Some, subst, sym, true, ℕ}
 use Rattle.std.proofs.lemmas.Bool.Decides.{nat_tests}
-use Rattle.rbc_spec.specs.Line.{Line}
-use Rattle.rbc_spec.specs.SectionRuns.{SectionRun, within, next_after, part_from, joined}
-use Rattle.rbc_spec.specs.Place.{Place, is_cleared}
-use Rattle.rbc_spec.specs.Centre.{Centre, Mission, Expectation}
-use Rattle.rbc_spec.specs.Acts.{◌>>◌, leave, set_mission, close}
-use Rattle.rbc_spec.specs.Rules.{cleared, clear}
-use Rattle.law_base.proofs.Longest.{longest_few}
-use Rattle.rbc_book.specs.Book.{Pages, is_own}
-use Rattle.rbc_right.specs.Rights.{Rights}
-use Rattle.rbc_hand.specs.Hands.{Holding}
-use Rattle.rbc_line.specs.SectionRuns.{run_of}
-use Rattle.rbc_line.specs.declared.section_run.SectionRun.{SectionRun as SectionRunCode}
+use Rattle.law_base.proofs.Runs.{longest_few}
 use Rattle.rbc_allocation.specs.Sections.{FreesRun, front_of, rest_of, wished}
-use Rattle.rbc_mission.specs.Supervisions.{SupervisionState, hand_of, without_front, cleared_run, right_left, handover_left}
-use Rattle.rbc_handover.specs.Handings.{handover_name}
+use Rattle.rbc_book.specs.Book.{is_own, Pages}
+use Rattle.rbc_hand.specs.Hands.{Holding}
 use Rattle.rbc_handover.specs.declared.handing.HandoverName.{HandoverName}
-use Rattle.rbc_train.specs.Desk.{HasParts, with_parts, posted, replied}
-use Rattle.rbc_train.specs.Homes.{GoesHome}
-use Rattle.rbc_train.specs.Letters.{cancel_of, mail_home, mail_to}
+use Rattle.rbc_handover.specs.Handings.{handover_name}
+use Rattle.rbc_line.specs.declared.section_run.SectionRun.{SectionRun as SectionRunCode}
+use Rattle.rbc_line.specs.SectionRuns.{run_of}
+use Rattle.rbc_mission.specs.Supervisions.{cleared_run, hand_of, handover_left, right_left, SupervisionState}
+use Rattle.rbc_mission.specs.Supervisions.{without_front}
+use Rattle.rbc_right.specs.Rights.{Rights}
+use Rattle.rbc_spec.specs.Acts.{◌>>◌, close, leave, set_mission}
+use Rattle.rbc_spec.specs.Centre.{Centre, Expectation, Mission}
+use Rattle.rbc_spec.specs.Line.{Line}
+use Rattle.rbc_spec.specs.Place.{is_cleared, Place}
+use Rattle.rbc_spec.specs.Rules.{clear, cleared}
+use Rattle.rbc_spec.specs.SectionRuns.{joined, next_after, part_from, SectionRun, within}
+use Rattle.rbc_train.proofs.Frees.{part_leaves, whole_leaves}
+use Rattle.rbc_train.proofs.Joined.{frees_joined, tells_joined}
+use Rattle.rbc_train.proofs.Kept.{not_left}
 use Rattle.rbc_train.specs.declared.letter.Letter.{Letter}
 use Rattle.rbc_train.specs.declared.mail.Notice.TheVariants as notice
 use Rattle.rbc_train.specs.declared.train.TrainState.{TrainState}
-use Rattle.rbc_train.proofs.Kept.{not_left}
-use Rattle.rbc_train.proofs.Frees.{part_leaves, whole_leaves}
-use Rattle.rbc_train.proofs.Joined.{frees_joined, tells_joined}
+use Rattle.rbc_train.specs.Desk.{HasParts, posted, replied, with_parts}
+use Rattle.rbc_train.specs.Homes.{GoesHome}
+use Rattle.rbc_train.specs.Letters.{cancel_of, mail_home, mail_to}
 
 module _ (line : Line) (c : ℕ) (k : Centre) (old : TrainState) (book : Pages) (rights : Rights) (has : HasParts line c k old book rights) (n : Mission) (there : old.supervision.mission ≡ Some n) (place : Place)
     (few : old.supervision.number < length rights) (e : ℕ → Option Expectation) (left : SupervisionState) (hand : Holding) (book' : Pages) (rights' : Rights) (told : List ℕ) (cancelled : Option HandoverName) (letter : Option Letter) (count : ℕ) (counts : count ≡ (cleared line place n).count)

@@ -1,33 +1,36 @@
--- A hand is cut, as a train has granted or at standstill: the cut is what its definition says.
-use Rattle.std.proofs.Common.{◌≡◌, ℕ, ◌+◌, ◌-◌, ◌<◌, ◌≤◌, ◌==◌, if◌then◌else◌, Bool, true, false, List, [], ◌∷◌, length, max, option_map, option_and_then, is_some, Option, Some, None, refl, sym, ap, ◌∙◌, subst, arith, eqb-true, eq-eqb}
-use Rattle.std.specs.Option.{option_map_or}
+-- A hand is cut, after a grant or at standstill: the cut is that of its definition.
+use Rattle.std.proofs.Common.{[], ◌+◌, ◌-◌, ◌<◌, ◌==◌, ◌∙◌, ◌∷◌, ◌≡◌, ◌≤◌, ap, arith, Bool, eq-eqb, eqb-true, false}
+use Rattle.std.proofs.Common.{if◌then◌else◌, is_some, length, List, max, None, Option, option_and_then, option_map}
+use Rattle.std.proofs.Common.{refl, Some, subst, sym, true, ℕ}
 use Rattle.std.proofs.lemmas.Bool.{cond-true, eqb-false}
 use Rattle.std.proofs.lemmas.List.{append-nil}
-use Rattle.rbc_spec.specs.Maps.{put}
-use Rattle.rbc_spec.specs.SectionRuns.{SectionRun, no_run, within, next_after, is_empty, part_before, part_from, joined}
-use Rattle.rbc_spec.specs.Line.{Line}
-use Rattle.rbc_spec.specs.Frame.{Cancel}
-use Rattle.rbc_spec.specs.Centre.{Centre, Mission, Proposal, Handing, Expectation}
-use Rattle.rbc_spec.specs.Acts.{Act, rest, ◌>>◌, leave, set_mission, cancel, close, part_at}
-use Rattle.rbc_spec.specs.Rules.{cut}
-use Rattle.law_base.proofs.Puts.{put_there, put_over}
+use Rattle.std.specs.Option.{option_map_or}
+use Rattle.law_base.proofs.Lists.{put_over, put_there}
 use Rattle.law_base.proofs.Runs.{same_tests}
-use Rattle.rbc_book.specs.Book.{Pages, is_own, entry_at, wish_at}
-use Rattle.rbc_right.specs.Rights.{Rights}
-use Rattle.rbc_hand.specs.Hands.{Holding}
-use Rattle.rbc_line.specs.SectionRuns.{run_of}
-use Rattle.rbc_line.specs.declared.section_run.SectionRun.{SectionRun as SectionRunCode}
 use Rattle.rbc_allocation.specs.Sections.{FreesRun, rest_of, wished}
-use Rattle.rbc_mission.specs.Supervisions.{SupervisionState, HasRouteForm, with_front, still_handing, right_left, handover_left}
-use Rattle.rbc_handover.specs.Handings.{handover_name}
+use Rattle.rbc_book.specs.Book.{entry_at, is_own, Pages, wish_at}
+use Rattle.rbc_hand.specs.Hands.{Holding}
 use Rattle.rbc_handover.specs.declared.handing.HandoverName.{HandoverName}
-use Rattle.rbc_train.specs.Desk.{HasParts, with_parts, posted, replied}
-use Rattle.rbc_train.specs.Homes.{GoesHome}
-use Rattle.rbc_train.specs.Letters.{notices, cancel_of, mail_home, mail_to}
-use Rattle.rbc_train.specs.declared.letter.Letter.{Letter}
-use Rattle.rbc_train.specs.declared.train.TrainState.{TrainState}
+use Rattle.rbc_handover.specs.Handings.{handover_name}
+use Rattle.rbc_line.specs.declared.section_run.SectionRun.{SectionRun as SectionRunCode}
+use Rattle.rbc_line.specs.SectionRuns.{run_of}
+use Rattle.rbc_mission.specs.Supervisions.{handover_left, HasRouteForm, right_left, still_handing, SupervisionState}
+use Rattle.rbc_mission.specs.Supervisions.{with_front}
+use Rattle.rbc_right.specs.Rights.{Rights}
+use Rattle.rbc_spec.specs.Acts.{◌>>◌, Act, cancel, close, leave, part_at, rest, set_mission}
+use Rattle.rbc_spec.specs.Centre.{Centre, Expectation, Handing, Mission, Proposal}
+use Rattle.rbc_spec.specs.Frame.{Cancel}
+use Rattle.rbc_spec.specs.Line.{Line}
+use Rattle.rbc_spec.specs.Maps.{put}
+use Rattle.rbc_spec.specs.Rules.{cut}
+use Rattle.rbc_spec.specs.SectionRuns.{is_empty, joined, next_after, no_run, part_before, part_from, SectionRun, within}
 use Rattle.rbc_train.proofs.Frees.{part_leaves, whole_leaves}
 use Rattle.rbc_train.proofs.Joined.{frees_joined, tells_joined}
+use Rattle.rbc_train.specs.declared.letter.Letter.{Letter}
+use Rattle.rbc_train.specs.declared.train.TrainState.{TrainState}
+use Rattle.rbc_train.specs.Desk.{HasParts, posted, replied, with_parts}
+use Rattle.rbc_train.specs.Homes.{GoesHome}
+use Rattle.rbc_train.specs.Letters.{cancel_of, mail_home, mail_to, notices}
 
 -- the sections of the hand in advance of those that are kept
 module _ (last : ℕ) (hand : SectionRun) where
@@ -67,7 +70,7 @@ module _ (last : ℕ) (hand : SectionRun) where
 
 -- ## The cut
 
--- a mission goes on with this hand: its handover is cancelled, where no section of the accepting centre is left
+-- a mission goes on with this hand; its handover is cancelled if no section of the accepting centre is left
 module _ (line : Line) (t : ℕ) (e : ℕ → Option Expectation) (k : Centre) where
   abbrev pub goes_on : Mission → Act
   goes_on m = set_mission t (Some m) >> option_map_or (λ h. if is_empty (part_at line h.to m.place.track m.hand) then cancel t m else rest) m.handing rest
@@ -116,7 +119,7 @@ module _ (line : Line) (c : ℕ) (k : Centre) (old : TrainState) (book : Pages) 
   abbrev kept : Mission
   kept = record n { hand = part_before (last + 1) n.hand; pool = no_run; proposal = None }
 
-  -- whichever request stands, if one does
+  -- with any pending request
   abbrev standing : Mission
   standing = record n { proposal = asked }
 
@@ -138,7 +141,7 @@ module _ (line : Line) (c : ℕ) (k : Centre) (old : TrainState) (book : Pages) 
   tells_all : told ≡ wished t (run_of sections) book
   tells_all = is_told ∙ tells_joined t still n.pool book follows away ∙ ap (λ r. wished t r book) (sym goes)
 
-  -- the handover that stays, and what it went by where it does not
+  -- the handover that stays, and the name of one that does not
   abbrev still_stands : Option Handing
   still_stands = still_handing line n.place.track kept.hand n.handing
 

@@ -1,29 +1,29 @@
--- What a message of a train comes to at a centre, by the parts of its state that it changes.
-use Rattle.std.proofs.Common.{◌≡◌, ℕ, List, [], ◌∷◌, Option, Some, None, refl, sym, ap, ◌∙◌, option_map}
-use Rattle.rbc_spec.specs.Maps.{put}
-use Rattle.rbc_spec.specs.Line.{Line}
-use Rattle.rbc_spec.specs.Message.{TrainMessage, TrackBody, unknown_group}
-use Rattle.rbc_spec.specs.Outcome.{Reason, Saying}
-use Rattle.rbc_spec.specs.Centre.{Centre, Phase, Mission, Expectation}
-use Rattle.rbc_spec.specs.Acts.{Act, Reply, rest, ◌>>◌, hear}
-use Rattle.rbc_spec.specs.Rules.{answered}
-use Rattle.rbc_spec.specs.Step.{Effect, Train, silence, effect}
-use Rattle.law_base.proofs.Puts.{put_same}
-use Rattle.rbc_book.specs.Book.{Pages, entry_at, wish_at}
-use Rattle.rbc_right.specs.Rights.{Rights, is_here}
-use Rattle.rbc_pending_start.specs.Waits.{WaitState, HasWait, with_wait}
-use Rattle.rbc_pending_start.proofs.Waits.{same_wait as same_waiting}
+-- The effect of a message of a train at a centre, by the parts of its state that it changes.
+use Rattle.std.proofs.Common.{[], ◌∙◌, ◌∷◌, ◌≡◌, ap, List, None, Option, option_map, refl, Some, sym, ℕ}
+use Rattle.law_base.proofs.Lists.{put_same}
+use Rattle.rbc_book.specs.Book.{entry_at, Pages, wish_at}
 use Rattle.rbc_hand.specs.Hands.{Holding}
-use Rattle.rbc_mission.specs.Supervisions.{SupervisionState, HasSupervision, with_supervision}
-use Rattle.rbc_session.specs.SessionStates.{session_phase}
-use Rattle.rbc_session.specs.declared.session.SessionState.{SessionState}
 use Rattle.rbc_handover.specs.Expectations.{expected_from, HasExpectations, with_expectations}
-use Rattle.rbc_train.specs.Desk.{HasParts, with_parts, replied, reply_left}
-use Rattle.rbc_train.specs.Letters.{mail_of}
-use Rattle.rbc_train.specs.Trains.{HasTrain, asked}
-use Rattle.rbc_train.specs.Sayings.{sayings_of}
+use Rattle.rbc_mission.specs.Supervisions.{HasSupervision, SupervisionState, with_supervision}
+use Rattle.rbc_pending_start.proofs.Waits.{same_wait as same_waiting}
+use Rattle.rbc_pending_start.specs.Waits.{HasWait, WaitState, with_wait}
+use Rattle.rbc_right.specs.Rights.{is_here, Rights}
+use Rattle.rbc_session.specs.declared.session.SessionState.{SessionState}
+use Rattle.rbc_session.specs.SessionStates.{session_phase}
+use Rattle.rbc_spec.specs.Acts.{◌>>◌, Act, hear, Reply, rest}
+use Rattle.rbc_spec.specs.Centre.{Centre, Expectation, Mission, Phase}
+use Rattle.rbc_spec.specs.Line.{Line}
+use Rattle.rbc_spec.specs.Maps.{put}
+use Rattle.rbc_spec.specs.Message.{TrackBody, TrainMessage, unknown_group}
+use Rattle.rbc_spec.specs.Outcome.{Reason, Saying}
+use Rattle.rbc_spec.specs.Rules.{answered}
+use Rattle.rbc_spec.specs.Step.{Effect, effect, silence, Train}
 use Rattle.rbc_train.specs.declared.heard.Heard.{Heard}
 use Rattle.rbc_train.specs.declared.train.TrainState.{TrainState}
+use Rattle.rbc_train.specs.Desk.{HasParts, replied, reply_left, with_parts}
+use Rattle.rbc_train.specs.Letters.{mail_of}
+use Rattle.rbc_train.specs.Sayings.{sayings_of}
+use Rattle.rbc_train.specs.Trains.{asked, HasTrain}
 
 -- ## Silent and answered
 
@@ -31,7 +31,7 @@ hear_then : (m : TrainMessage) (act : Act) (k : Centre) → (hear m >> act) k �
 unfolding ◌>>◌
 hear_then m act k = refl
 
--- what a reply comes to
+-- the effect with this reply
 abbrev pub by_reply : Reply → Effect
 by_reply r = record { reply = r; link = None; silence = None }
 
@@ -39,14 +39,14 @@ pub silent_effect : (line : Line) (c : ℕ) (k : Centre) (m : TrainMessage) (why
     → effect line c k (Train m) ≡ record { reply = rest k; link = None; silence = Some why }
 silent_effect line c k m why s = rw s refl
 
--- a message without a reason of silence comes to what is answered where it was heard
+-- a message without a reason of silence has the effect of its answer, after its stamp was recorded
 pub answered_effect : (line : Line) (c : ℕ) (k : Centre) (m : TrainMessage) (r : Reply) → silence line c k m ≡ None → answered line c m m.body (hear m k).state ≡ r
     → effect line c k (Train m) ≡ by_reply r
 answered_effect line c k m r s e = rw s (ap by_reply (hear_then m (answered line c m m.body) k ∙ e))
 
 -- ## Parts
 
--- the train with this session, this T_TRAIN heard, so many messages said and this mission
+-- the train with this session, this last T_TRAIN, this count of messages and this mission
 abbrev pub turned : TrainState → SessionState → Option ℕ → ℕ → Option Mission → TrainState
 turned p session heard said mission = record { session_state = session; heard = heard; said = said; supervision = record p.supervision { mission = mission }; waiting = p.waiting; expectations = p.expectations }
 
@@ -79,7 +79,7 @@ module _ (line : Line) (c : ℕ) (k : Centre) (p : TrainState) (book : Pages) (r
   pub same_expects : (d u : ℕ) → k.expects d u ≡ put (k.expects d) t (expected_from p.expectations d) u
   same_expects d u = sym (put_same t (expected_from p.expectations d) (k.expects d) (has.has_expects d) u)
 
-  -- of what waits of the train alone something has changed, and the book
+  -- only the waiting start of the train and the book have changed
   pub wait_left : (w : WaitState) (book' : Pages) → w.engine ≡ t → with_wait w book' k ≡ with_parts (record p { waiting = w }) book' rights k
   wait_left w book' engine = λ i. record k {
     book = entry_at book';
@@ -95,7 +95,7 @@ module _ (line : Line) (c : ℕ) (k : Centre) (p : TrainState) (book : Pages) (r
     expects = λ d u. same_expects d u i;
   }
 
-  -- what the centre has of a start of the train that waits
+  -- the centre's part of a waiting start of the train
   pub has_waiting : HasWait line c k p.waiting book
   has_waiting = record {
     covers = has.kept.covers;
@@ -113,18 +113,18 @@ module _ (line : Line) (c : ℕ) (k : Centre) (p : TrainState) (book : Pages) (r
   pub same_parts : rest k ≡ replied (with_parts p book rights k) [] []
   same_parts = ap (λ (x : Centre). replied x [] []) same_state
 
-  -- of the train's mission alone something has changed
+  -- only the train's mission has changed
   pub mission_changed : (change : Mission → Mission) → record k { mission = put k.mission t (option_map change (k.mission t)) } ≡ with_parts (with_mission p (option_map change p.supervision.mission)) book rights k
   mission_changed change = λ i. record (same_state i) { mission = put k.mission t (option_map change (has.has_mission i)) }
 
-  -- of the train alone these parts have changed
+  -- only these parts of the train have changed
   pub left_is : (session : SessionState) (stamp : Option ℕ) (said : ℕ) (mission : Option Mission) (phases : ℕ → Phase) (counts : ℕ → ℕ) (missions : ℕ → Option Mission)
       → ((u : ℕ) → phases u ≡ put k.phase t (session_phase session) u) → ((u : ℕ) → counts u ≡ put k.said t said u) → ((u : ℕ) → missions u ≡ put k.mission t mission u)
       → record k { phase = phases; heard = put k.heard t stamp; said = counts; mission = missions } ≡ with_parts (turned p session stamp said mission) book rights k
   left_is session stamp said mission phases counts missions a b d =
       λ i. record (same_state i) { phase = λ u. a u i; heard = put k.heard t stamp; said = λ u. b u i; mission = λ u. d u i }
 
-  -- of the train these parts have changed, with what waits of it, and the book
+  -- only these parts of the train, its waiting start and the book have changed
   pub left_with : (session : SessionState) (stamp : Option ℕ) (said : ℕ) (mission : Option Mission) (w : WaitState) (book' : Pages) (phases : ℕ → Phase) (counts : ℕ → ℕ) (missions : ℕ → Option Mission)
       → w.engine ≡ t → ((u : ℕ) → phases u ≡ put k.phase t (session_phase session) u) → ((u : ℕ) → counts u ≡ put k.said t said u) → ((u : ℕ) → missions u ≡ put k.mission t mission u)
       → with_wait w book' (record k { phase = phases; heard = put k.heard t stamp; said = counts; mission = missions }) ≡ with_parts (record (turned p session stamp said mission) { waiting = w }) book' rights k
@@ -184,22 +184,22 @@ module _ (line : Line) (c : ℕ) (k : Centre) (p : TrainState) (book : Pages) (r
         expects = λ d. put (k.expects d) (sym engine i) (expected_from (sym expectations i) d);
       }) sayings [])
 
-  -- of the book alone something has changed
+  -- only the book has changed
   pub book_left : (book' : Pages) → record k { book = entry_at book'; wish = wish_at book' } ≡ with_parts p book' rights k
   book_left book' = λ i. record (same_state i) { book = entry_at book'; wish = wish_at book' }
 
-  -- of the train its supervision alone is looked at, or its session, its mission and what was said to it
+  -- only the supervision of the train matters, or its session, its mission and its count of messages
   pub has_supervision : HasSupervision k p.supervision
   has_supervision = record { has_mission = has.has_mission; has_question = has.has_route_ask }
 
   pub has_train : HasTrain k t p
   has_train = record { phase_is = has.has_phase; mission_is = has.has_mission; said_is = has.has_said }
 
-  -- of the train what is expected alone is looked at
+  -- only the expectations of the train matter
   pub has_expectations : HasExpectations line t k p.expectations
   has_expectations = record { count = has.kept.expected; has = has.has_expects }
 
-  -- of what is expected of the train alone something has changed
+  -- only the expectations of the train have changed
   pub expects_left : (e : List (Option Expectation)) → with_expectations t e k ≡ with_parts (record p { expectations = e }) book rights k
   expects_left e = λ i. record (same_state i) { expects = λ d. put (k.expects d) t (expected_from e d) }
 
@@ -211,12 +211,12 @@ asked_nothing t k p has = λ i. replied (record k { said = λ u. put_same t p.sa
 abbrev pub answer_to : ℕ → ℕ → TrackBody → List Saying
 answer_to t count body = record { nid_engine = t; message = record { t_train = count; nid_lrbg = unknown_group; body = body } } ∷ []
 
--- what was answered, by what was left, said and told
+-- the effect of an answer, by the state after it, its messages and its reports
 pub left_as : (k : Centre) (p q : TrainState) (book : Pages) (rights : Rights) (sayings sayings' : List Saying) (told told' : List ℕ) → p ≡ q → sayings ≡ sayings' → told ≡ told'
     → by_reply (replied (with_parts p book rights k) sayings told) ≡ by_reply (replied (with_parts q book rights k) sayings' told')
 left_as k p q book rights sayings sayings' told told' a b d = λ i. by_reply (replied (with_parts (a i) book rights k) (b i) (d i))
 
--- and what was heard, which says this and tells nothing
+-- the effect with these messages and no report
 pub heard_said : (line : Line) (c t : ℕ) (k : Centre) (p q : TrainState) (book : Pages) (rights : Rights) (h : Heard) (sayings : List Saying) → p ≡ q → sayings_of h.saying ≡ sayings
     → h ≡ record { saying = h.saying; order = None; mail = mail_of None; told = [] } → reply_left line c t (with_parts p book rights k) h ≡ replied (with_parts q book rights k) sayings []
 heard_said line c t k p q book rights h sayings left says is =

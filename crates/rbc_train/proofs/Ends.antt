@@ -1,43 +1,44 @@
--- An end of mission comes to what its definition says.
-use Rattle.std.proofs.Common.{◌≡◌, ℕ, ◌+◌, ◌-◌, ◌==◌, ◌++◌, if◌then◌else◌, true, false, List, [], map, Option, Some, None, is_some, option_map, refl, sym, ap, ◌∙◌}
-use Rattle.std.specs.Option.{option_map_or}
+-- An end of mission has the effect of its definition.
+use Rattle.std.proofs.Common.{[], ◌++◌, ◌+◌, ◌-◌, ◌==◌, ◌∙◌, ◌≡◌, ap, false, if◌then◌else◌, is_some, List, map, None}
+use Rattle.std.proofs.Common.{Option, option_map, refl, Some, sym, true, ℕ}
 use Rattle.std.proofs.lemmas.List.{append-nil, map-append}
-use Rattle.rbc_spec.specs.SectionRuns.{SectionRun, no_run}
-use Rattle.rbc_spec.specs.Line.{Line}
-use Rattle.rbc_spec.specs.Place.{Place, Position, place_on}
-use Rattle.rbc_spec.specs.Message.{TrainMessage, EndOfMission}
-use Rattle.rbc_spec.specs.Frame.{Body}
-use Rattle.rbc_spec.specs.Outcome.{Told}
-use Rattle.rbc_spec.specs.Centre.{Centre, Up, Mission, Expectation}
-use Rattle.rbc_spec.specs.Acts.{Act, Reply, rest, with_some, ◌>>◌, change_mission, return_pool, returned}
-use Rattle.rbc_spec.specs.Rules.{report_here, cut, cut_ahead, stand_still}
-use Rattle.rbc_spec.specs.Step.{Train, effect}
-use Rattle.rbc_spec.specs.Maps.{put}
-use Rattle.law_base.proofs.Puts.{put_there, put_over}
-use Rattle.rbc_book.specs.Book.{Pages, is_own}
-use Rattle.rbc_right.specs.Rights.{Rights}
-use Rattle.rbc_line.specs.SectionRuns.{run_of}
-use Rattle.rbc_line.specs.declared.section_run.SectionRun.{SectionRun as SectionRunCode}
-use Rattle.rbc_session.specs.SessionStates.{session_phase}
+use Rattle.std.specs.Option.{option_map_or}
+use Rattle.law_base.proofs.Lists.{put_over, put_there}
 use Rattle.rbc_allocation.specs.Sections.{rest_of, wished}
-use Rattle.rbc_shorten.specs.Standstill.{ahead_of, standing_act}
-use Rattle.rbc_shorten.specs.declared.answer.Cut.TheVariants.{Nothing}
+use Rattle.rbc_book.specs.Book.{is_own, Pages}
+use Rattle.rbc_line.specs.declared.section_run.SectionRun.{SectionRun as SectionRunCode}
+use Rattle.rbc_line.specs.SectionRuns.{run_of}
+use Rattle.rbc_mission.specs.Supervisions.{hand_of, pool_of, SupervisionState, with_pool}
+use Rattle.rbc_right.specs.Rights.{Rights}
+use Rattle.rbc_session.specs.SessionStates.{session_phase}
 use Rattle.rbc_shorten.proofs.Ahead.{ahead_is_cut}
-use Rattle.rbc_mission.specs.Supervisions.{SupervisionState, hand_of, pool_of, with_pool}
-use Rattle.rbc_train.specs.Letters.{letters, notices, going_home, mail_home, mail_to}
-use Rattle.rbc_train.specs.Sayings.{told_train}
-use Rattle.rbc_train.specs.Desk.{HasParts, HearsTrain, IsKeptAt, with_parts, posted, replied, reply_left, Does}
-use Rattle.rbc_train.specs.Standstill.{uncleared, left_ahead, LeavesFront, IsAhead}
+use Rattle.rbc_shorten.specs.declared.answer.Cut.TheVariants.{Nothing}
+use Rattle.rbc_shorten.specs.Standstill.{ahead_of, standing_act}
+use Rattle.rbc_spec.specs.Acts.{◌>>◌, Act, change_mission, Reply, rest, return_pool, returned, with_some}
+use Rattle.rbc_spec.specs.Centre.{Centre, Expectation, Mission, Up}
+use Rattle.rbc_spec.specs.Frame.{Body}
+use Rattle.rbc_spec.specs.Line.{Line}
+use Rattle.rbc_spec.specs.Maps.{put}
+use Rattle.rbc_spec.specs.Message.{EndOfMission, TrainMessage}
+use Rattle.rbc_spec.specs.Outcome.{Told}
+use Rattle.rbc_spec.specs.Place.{Place, place_on, Position}
+use Rattle.rbc_spec.specs.Rules.{cut, cut_ahead, report_here, stand_still}
+use Rattle.rbc_spec.specs.SectionRuns.{no_run, SectionRun}
+use Rattle.rbc_spec.specs.Step.{effect, Train}
+use Rattle.rbc_train.proofs.Desk.{answered_effect, by_reply, same_state}
+use Rattle.rbc_train.proofs.Letters.{sends_home}
+use Rattle.rbc_train.proofs.Standstill.{goes_so, left_hand, still_by, tells_all}
+use Rattle.rbc_train.proofs.Turns.{has_left, heard_at, in_turn, left_heard, parts_heard, parts_over}
 use Rattle.rbc_train.specs.declared.heard.Heard.{Heard}
 use Rattle.rbc_train.specs.declared.letter.Letter.{Letter}
 use Rattle.rbc_train.specs.declared.mail.Mail.{Mail}
 use Rattle.rbc_train.specs.declared.mail.Notice.{Notice}
 use Rattle.rbc_train.specs.declared.mail.Notice.TheVariants as notices_of
 use Rattle.rbc_train.specs.declared.train.TrainState.{TrainState}
-use Rattle.rbc_train.proofs.Desk.{by_reply, answered_effect, same_state}
-use Rattle.rbc_train.proofs.Turns.{in_turn, parts_over, has_left, heard_at, parts_heard, left_heard}
-use Rattle.rbc_train.proofs.Letters.{sends_home}
-use Rattle.rbc_train.proofs.Standstill.{goes_so, left_hand, still_by, tells_all}
+use Rattle.rbc_train.specs.Desk.{Does, HasParts, HearsTrain, IsKeptAt, posted, replied, reply_left, with_parts}
+use Rattle.rbc_train.specs.Letters.{going_home, letters, mail_home, mail_to, notices}
+use Rattle.rbc_train.specs.Sayings.{told_train}
+use Rattle.rbc_train.specs.Standstill.{IsAhead, LeavesFront, left_ahead, uncleared}
 
 abbrev pub ended : Mission → Mission
 ended m = record m { is_ended = true; proposal = None }
@@ -49,7 +50,7 @@ finished s = record s { mission = option_map ended (with_pool no_run s).mission 
 abbrev pub finishing : Line → ℕ → ℕ → Act
 finishing line c t = with_some (λ i. i.mission t) (λ x. return_pool line c t x >> change_mission t ended)
 
--- ## What goes home
+-- ## The returned sections
 
 module _ (line : Line) (c t track : ℕ) (x : ℕ → Option Expectation) (first pool : SectionRunCode) (notice : Notice) (letter : Option Letter) where
   abbrev sent : Mail
@@ -60,7 +61,7 @@ module _ (line : Line) (c t track : ℕ) (x : ℕ → Option Expectation) (first
   no_more none d =
       append-nil (mail_to line c t x sent d) ∙ ap (λ (r : SectionRun). going_home line c t track (run_of first) d ++ (going_home line c t track r d ++ (notices t x notice d ++ letters letter d))) (sym none)
 
-  -- or a pool, where neither notice nor letter goes
+  -- or a pool, if neither a notice nor a letter is sent
   and_pool : (r : SectionRun) → run_of pool ≡ r → (letter ≡ None) × (notice ≡ notices_of.Nothing) → (d : ℕ) → mail_to line c t x sent d ++ going_home line c t track r d ≡ mail_to line c t x (record sent { second = pool }) d
   and_pool r is none d =
       let goes : List Body = going_home line c t track (run_of first) d in
@@ -77,7 +78,7 @@ same_finish s none = λ i. record s { mission = by s.mission none i }
     by None is = refl
     by (Some m) is = λ i. Some (record m { pool = sym is i; is_ended = true; proposal = None })
 
--- ## The mission, if it still stands, is ended
+-- ## The mission, if it is still here, is ended
 
 module _ (line : Line) (c : ℕ) (j : Centre) (mid : TrainState) (book : Pages) (rights : Rights) (has : HasParts line c j mid book rights) where
   abbrev t : ℕ
@@ -151,7 +152,7 @@ module _ (line : Line) (c : ℕ) (k : Centre) (stamp : ℕ) (old : TrainState) (
     abbrev mid_at : Centre
     mid_at = with_parts mid book' rights' at
 
-    -- what is expected of the train
+    -- the expectations of the train
     abbrev x : ℕ → Option Expectation
     x d = mid_at.expects d e
 
@@ -164,13 +165,13 @@ module _ (line : Line) (c : ℕ) (k : Centre) (stamp : ℕ) (old : TrainState) (
     reported : reporting at ≡ reply_left line c e mid_at heard
     reported = ap (λ o. option_map_or (λ y. report_here line c e position y at) o (rest at)) (h.parts.has_mission ∙ there) ∙ does at (parts_heard line c k stamp old book rights h.parts)
 
-    -- what the message comes to, by what is done after what was heard
+    -- the effect of the message, by the acts after its stamp was recorded
     answers : (r : Reply) → (((reporting >> standing) >> finishing line c e) at ≡ r) → effect line c k (Train m) ≡ by_reply r
     answers r is =
         let known : k.mission e ≡ Some n = h.parts.has_mission ∙ there in
         answered_effect line c k m r (rw (h.known, h.parts.has_heard, h.timely, h.parts.has_phase, up, known, goes_on) refl) is
 
-    -- ## Nothing lies ahead
+    -- ## No section is ahead
 
     module _ (pool : SectionRunCode) (returns : run_of pool ≡ pool_of mid.supervision) (nothing : left_ahead line n.place.track position n.hand ≡ Nothing) where
       abbrev ended_train : TrainState
@@ -182,7 +183,7 @@ module _ (line : Line) (c : ℕ) (k : Centre) (stamp : ℕ) (old : TrainState) (
       abbrev pub both_heard : Heard
       both_heard = record heard { mail = record heard.mail { second = pool } }
 
-      -- what stands of the mission is not cut
+      -- the rest of the mission is not cut
       uncut : (y : Mission) → mid.supervision.mission ≡ Some y → stand_still line c e position y ≡ rest
       uncut y stays = still_by line c e position n.place.track n.hand nothing y (on y stays)
           (λ p is. left_hand line p old.supervision mid.supervision n y heard.told book book' there (front p is) stays)
@@ -202,7 +203,7 @@ module _ (line : Line) (c : ℕ) (k : Centre) (stamp : ℕ) (old : TrainState) (
             words = append-nil (map (λ s. Told s) heard.told) i;
           })
 
-      -- what is finished, and what goes home with it
+      -- the ended mission, and the sections that are returned with it
       abbrev Finishes : Option Mission → Type 0
       Finishes o = (frames : ℕ → List Body) × (finishing line c e mid_at ≡ posted frames (replied (with_parts ended_train book' rights' mid_at) [] []))
           × ((d : ℕ) → mail_to line c e x home d ++ frames d ≡ mail_to line c e x (record home { second = pool }) d)
@@ -232,7 +233,7 @@ module _ (line : Line) (c : ℕ) (k : Centre) (stamp : ℕ) (old : TrainState) (
           })
           ∙ ap (λ (y : Centre). reply_left line c e y both_heard) (left_heard line c k stamp old book rights h.parts ended_train book' rights' engine))
 
-    -- ## What lies ahead is cut
+    -- ## The sections ahead are cut off
 
     module _ (keep : ℕ) (told : List ℕ) (ahead : IsAhead line e n.place.track position (hand_of old.supervision) book keep told) (cut_train : TrainState) (book'' : Pages) (rights'' : Rights) (later : Heard)
         (cuts_off : (y : Mission) → mid.supervision.mission ≡ Some y → y.place.track ≡ n.place.track
@@ -297,7 +298,7 @@ module _ (line : Line) (c : ℕ) (k : Centre) (stamp : ℕ) (old : TrainState) (
               ∙ (λ i. posted (going_home line c cut_train.supervision.engine z.place.track ((ap (λ o. option_map_or (λ (w : Mission). w.pool) o no_run) (sym is) ∙ pool) i))
               (replied (with_parts (record cut_train { supervision = finished cut_train.supervision }) book'' rights'' cut_at) [] []))
 
-      -- what is expected of the train then
+      -- the expectations of the train then
       abbrev x_cut : ℕ → Option Expectation
       x_cut d = cut_at.expects d e
 

@@ -1,17 +1,18 @@
--- What decisions find out of the mission, the book and the line.
-use Rattle.std.proofs.Common.{◌≡◌, ℕ, zero, suc, ◌+◌, ◌-◌, ◌<◌, ◌≤◌, ◌&&◌, ◌||◌, Bool, true, false, refl, sym, ap, ◌∙◌, arith}
+-- The facts that decisions take from the mission, the book and the line.
+use Rattle.std.proofs.Common.{◌&&◌, ◌+◌, ◌-◌, ◌<◌, ◌||◌, ◌∙◌, ◌≡◌, ◌≤◌, ap, arith, Bool, false, refl, suc, sym, true}
+use Rattle.std.proofs.Common.{zero, ℕ}
 use Rattle.std.proofs.lemmas.Bool.{ne_eqb}
-use Rattle.rbc_spec.specs.SectionRuns.{SectionRun, within, next_after, is_empty, all_of}
-use Rattle.rbc_spec.specs.Line.{Line, IsLine}
-use Rattle.rbc_spec.specs.Place as place
-use Rattle.rbc_spec.specs.Centre as spec
-use Rattle.rbc_spec.specs.Centre.{is_open, is_free}
-use Rattle.law_base.proofs.Lines.{on_line}
+use Rattle.law_base.proofs.Lists.{on_line}
 use Rattle.law_base.proofs.Runs.{each_within, within_true}
-use Rattle.rbc_book.specs.Book.{Pages, is_own, entry_at}
+use Rattle.rbc_allocation.specs.Sections.{IsAllOpen}
+use Rattle.rbc_book.specs.Book.{entry_at, is_own, Pages}
 use Rattle.rbc_grant.specs.Grants as grants
 use Rattle.rbc_mission.specs.Supervisions.{HasRouteForm, MayGrow}
-use Rattle.rbc_allocation.specs.Sections.{IsAllOpen}
+use Rattle.rbc_spec.specs.Centre as spec
+use Rattle.rbc_spec.specs.Centre.{is_free, is_open}
+use Rattle.rbc_spec.specs.Line.{IsLine, Line}
+use Rattle.rbc_spec.specs.Place as place
+use Rattle.rbc_spec.specs.SectionRuns.{all_of, is_empty, next_after, SectionRun, within}
 use Rattle.rbc_train.specs.Desks.{HasBook}
 
 pub and_left : (a b : Bool) → (a && b) ≡ true → a ≡ true
@@ -26,7 +27,7 @@ or_left_only : (a b : Bool) → (a || b) ≡ true → b ≡ false → a ≡ true
 or_left_only true b h none = refl
 or_left_only false b h none = sym none ∙ h
 
--- what may follow and is not of the pool is open
+-- a section that may follow and is not of the pool is open
 opened_after : (line : Line) (book : Pages) (p : place.Place) (m : spec.Mission) (count : ℕ) → ((k : ℕ) → k < count → grants.may_follow line book m.pool p (next_after m.hand + k) ≡ true)
     → (s : ℕ) → within (record { first = next_after m.hand; count = count }) s ≡ true → within m.pool s ≡ false → is_open (entry_at book s) ≡ true
 opened_after line book p m count each s here other =
@@ -35,7 +36,7 @@ opened_after line book p m count each s here other =
     or_left_only (is_open (entry_at book s)) (within m.pool s)
     (ap (λ x. is_open (entry_at book x) || within m.pool x) (sym same) ∙ and_right _ _ (and_left _ _ (each (s - next_after m.hand) (omega (arith, ends))))) other
 
--- so many sections that may follow the hand can be taken into it
+-- this many sections that may follow the hand can be taken into it
 pub grows : (line : Line) (book : Pages) (p : place.Place) (m : spec.Mission) (count : ℕ) → IsLine line → HasRouteForm m → (is_empty m.pool ≡ false → m.pool.first ≡ next_after m.hand) → ((s : ℕ) → within m.pool s ≡ true → is_own book s ≡ false)
     → count ≤ 32 - m.hand.count → ((k : ℕ) → k < count → grants.may_follow line book m.pool p (next_after m.hand + k) ≡ true) → MayGrow m count book
 grows line book p m count of_line form follows away room each = record {

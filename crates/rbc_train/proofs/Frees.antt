@@ -1,36 +1,38 @@
--- Sections that leave a train: the acts of the rules, by the book, by the right and by what goes home.
-use Rattle.std.proofs.Common.{◌≡◌, ℕ, ◌<◌, ◌==◌, ◌&&◌, if◌then◌else◌, List, [], ◌∷◌, ◌++◌, map, length, option_map, Option, Some, None, is_some, is_none, refl, sym, ap, ◌∙◌}
-use Rattle.std.specs.Option.{option_map_or}
+-- Sections that leave a train: the acts of the rules on the book, on the right, and on returned sections.
+use Rattle.std.proofs.Common.{[], ◌&&◌, ◌++◌, ◌<◌, ◌==◌, ◌∙◌, ◌∷◌, ◌≡◌, ap, if◌then◌else◌, is_none, is_some, length}
+use Rattle.std.proofs.Common.{List, map, None, Option, option_map, refl, Some, sym, ℕ}
 use Rattle.std.proofs.lemmas.List.{append-nil}
-use Rattle.rbc_spec.specs.Maps.{put}
-use Rattle.rbc_spec.specs.Line.{Line}
-use Rattle.rbc_spec.specs.Frame.{Body, Cancel}
-use Rattle.rbc_spec.specs.Outcome.{Told}
-use Rattle.rbc_spec.specs.Centre.{Centre, Mission, Handing, Expectation, is_taken_for}
-use Rattle.rbc_spec.specs.Acts.{Act, rest, ◌>>◌, send, freed, returned, leave, set_mission, change_mission, cancel, return_right, close}
-use Rattle.law_base.proofs.Puts.{put_there, put_over}
-use Rattle.rbc_book.specs.Book.{Pages, entry_at, wish_at}
-use Rattle.rbc_right.specs.Rights.{Rights, is_here, right_of}
-use Rattle.rbc_hand.specs.Hands.{Holding}
-use Rattle.rbc_line.specs.SectionRuns.{run_of}
-use Rattle.rbc_line.specs.declared.section_run.SectionRun.{SectionRun as SectionRunCode}
+use Rattle.std.specs.Option.{option_map_or}
+use Rattle.law_base.proofs.Lists.{put_over, put_there}
 use Rattle.rbc_allocation.specs.Sections.{FreesRun, wished}
-use Rattle.rbc_pending_start.proofs.Waits.{freed_is}
-use Rattle.rbc_mission.specs.Supervisions.{SupervisionState, right_left}
-use Rattle.rbc_handover.specs.Handings.{handover_name}
+use Rattle.rbc_book.specs.Book.{entry_at, Pages, wish_at}
+use Rattle.rbc_hand.specs.Hands.{Holding}
 use Rattle.rbc_handover.specs.declared.handing.HandoverName.{HandoverName}
-use Rattle.rbc_mission.specs.declared.held.HeldRight.TheVariants.{Nothing, Held}
-use Rattle.rbc_train.specs.Desk.{HasParts, with_parts, replied, posted}
-use Rattle.rbc_train.specs.Homes.{GoesHome}
-use Rattle.rbc_train.specs.Letters.{letters, notices, cancel_of, mail_home, mail_to}
+use Rattle.rbc_handover.specs.Handings.{handover_name}
+use Rattle.rbc_line.specs.declared.section_run.SectionRun.{SectionRun as SectionRunCode}
+use Rattle.rbc_line.specs.SectionRuns.{run_of}
+use Rattle.rbc_mission.specs.declared.held.HeldRight.TheVariants.{Held, Nothing}
+use Rattle.rbc_mission.specs.Supervisions.{right_left, SupervisionState}
+use Rattle.rbc_pending_start.proofs.Waits.{freed_is}
+use Rattle.rbc_right.specs.Rights.{is_here, right_of, Rights}
+use Rattle.rbc_spec.specs.Acts.{◌>>◌, Act, cancel, change_mission, close, freed, leave, rest, return_right, returned}
+use Rattle.rbc_spec.specs.Acts.{send, set_mission}
+use Rattle.rbc_spec.specs.Centre.{Centre, Expectation, Handing, is_taken_for, Mission}
+use Rattle.rbc_spec.specs.Frame.{Body, Cancel}
+use Rattle.rbc_spec.specs.Line.{Line}
+use Rattle.rbc_spec.specs.Maps.{put}
+use Rattle.rbc_spec.specs.Outcome.{Told}
+use Rattle.rbc_train.proofs.Desk.{mission_left, same_right}
+use Rattle.rbc_train.proofs.Letters.{sends_home}
+use Rattle.rbc_train.proofs.Turns.{in_turn}
 use Rattle.rbc_train.specs.declared.letter.Letter.{Letter}
 use Rattle.rbc_train.specs.declared.mail.Notice.{Notice}
 use Rattle.rbc_train.specs.declared.train.TrainState.{TrainState}
-use Rattle.rbc_train.proofs.Desk.{same_right, mission_left}
-use Rattle.rbc_train.proofs.Turns.{in_turn}
-use Rattle.rbc_train.proofs.Letters.{sends_home}
+use Rattle.rbc_train.specs.Desk.{HasParts, posted, replied, with_parts}
+use Rattle.rbc_train.specs.Homes.{GoesHome}
+use Rattle.rbc_train.specs.Letters.{cancel_of, letters, mail_home, mail_to, notices}
 
--- a mission closes: its handover is cancelled, and the right goes back
+-- a mission closes: its handover is cancelled, and the right is returned
 module _ (line : Line) (c t : ℕ) (e : ℕ → Option Expectation) (m : Mission) (k : Centre) where
   abbrev closed_at : Centre
   closed_at = record k { mission = put k.mission t None }
@@ -80,7 +82,7 @@ module _ (line : Line) (c : ℕ) (k : Centre) (old : TrainState) (book : Pages) 
       in_turn (freed line c (is_taken_for t) (run_of sections)) (returned line c t track (run_of sections)) k (replied freed_at [] told) (returned line c t track (run_of sections) freed_at) freed_here refl
       ∙ (λ i. record { state = freed_at; frames = goes track; sayings = []; words = append-nil (map (λ s. Told s) told) i })
 
-  -- and then a notice and a letter go
+  -- the sections leave, and a notice and a letter are sent
   leaves_then : (track : ℕ) (notice : Notice) (act : Act) (j : Centre) → act freed_at ≡ posted (λ d. notices t e notice d ++ letters letter d) (replied j [] [])
       → (leave line c t track (run_of sections) >> act) k ≡ posted (mail_to line c t e (mail_home track sections notice letter)) (replied j [] told)
   leaves_then track notice act j next =
@@ -92,7 +94,7 @@ module _ (line : Line) (c : ℕ) (k : Centre) (old : TrainState) (book : Pages) 
         words = append-nil (map (λ s. Told s) told) i;
       })
 
-  -- what is left of the right
+  -- the right after it
   right_by : right_left old.supervision left ≡ (if is_none mission then Held (right_of old.supervision.number) else Nothing)
   right_by = λ i. if is_some (there i) && is_none (is i).mission then Held (right_of old.supervision.number) else Nothing
 
@@ -113,7 +115,7 @@ module _ (line : Line) (c : ℕ) (k : Centre) (old : TrainState) (book : Pages) 
       ∙ mission_left line c k old book rights has mission hand left book' rights is
       ∙ (λ i. with_parts new book' (sym stays.1 i) k))
 
-  -- or closes
+  -- the mission closes
   pub whole_leaves : (track : ℕ) (m : Mission) → mission ≡ None
       → (leave line c t track (run_of sections) >> close line c t m) k
       ≡ posted (mail_to line c t e (mail_home track sections (cancel_of (option_map handover_name m.handing)) letter)) (replied (with_parts new book' rights' k) [] told)

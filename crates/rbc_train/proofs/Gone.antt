@@ -1,22 +1,23 @@
--- A train that is no more to come to a centre is told to end its session.
-use Rattle.std.proofs.Common.{◌≡◌, ℕ, ◌+◌, ◌&&◌, cond, if◌then◌else◌, not, Bool, true, false, [], is_none, is_some, Option, refl, sym, ap, ◌∙◌}
+-- A train that will not return to a centre is ordered to end its session.
+use Rattle.std.proofs.Common.{[], ◌&&◌, ◌+◌, ◌∙◌, ◌≡◌, ap, Bool, cond, false, if◌then◌else◌, is_none, is_some, not}
+use Rattle.std.proofs.Common.{Option, refl, sym, true, ℕ}
 use Rattle.std.specs.List.{list_any}
-use Rattle.rbc_spec.specs.Maps.{put}
-use Rattle.rbc_spec.specs.Line.{Line}
-use Rattle.rbc_spec.specs.Sections.{nid_rbc}
-use Rattle.rbc_spec.specs.Message.{EndSession, unknown_group}
-use Rattle.rbc_spec.specs.Centre.{Centre, is_up, uses_some, is_expected}
-use Rattle.rbc_spec.specs.Acts.{Act, rest, where_so, say, end_order}
-use Rattle.law_base.proofs.Puts.{put_same}
+use Rattle.law_base.proofs.Lists.{put_same}
 use Rattle.rbc_book.specs.Book.{Pages}
+use Rattle.rbc_handover.proofs.TakesOver.{any_expected}
 use Rattle.rbc_right.specs.Rights.{Rights}
 use Rattle.rbc_session.specs.SessionStates.{session_phase}
-use Rattle.rbc_handover.proofs.TakesOver.{any_expected}
-use Rattle.rbc_train.specs.Desk.{HasParts, with_parts, counted_to, replied}
-use Rattle.rbc_train.specs.Sayings.{sayings_of}
+use Rattle.rbc_spec.specs.Acts.{Act, end_order, rest, say, where_so}
+use Rattle.rbc_spec.specs.Centre.{Centre, is_expected, is_up, uses_some}
+use Rattle.rbc_spec.specs.Line.{Line}
+use Rattle.rbc_spec.specs.Maps.{put}
+use Rattle.rbc_spec.specs.Message.{EndSession, unknown_group}
+use Rattle.rbc_spec.specs.Sections.{nid_rbc}
+use Rattle.rbc_train.proofs.Desk.{answer_to, has_expectations, same_parts, same_state}
 use Rattle.rbc_train.specs.declared.saying.Saying.{Saying}
 use Rattle.rbc_train.specs.declared.train.TrainState.{TrainState}
-use Rattle.rbc_train.proofs.Desk.{same_state, same_parts, has_expectations, answer_to}
+use Rattle.rbc_train.specs.Desk.{counted_to, HasParts, replied, with_parts}
+use Rattle.rbc_train.specs.Sayings.{sayings_of}
 
 -- ## The order
 
@@ -24,13 +25,13 @@ module _ (line : Line) (c : ℕ) (k : Centre) (p : TrainState) (phase : k.phase 
   abbrev t : ℕ
   t = p.supervision.engine
 
-  -- a train whose session is not up is told nothing
+  -- a train whose session is not up gets no order
   pub not_up : is_up (session_phase p.session_state) ≡ false → end_order line c t k ≡ replied (counted_to t p.said k) [] []
   not_up down =
       (λ i. cond ((ap is_up phase ∙ down) i) (say t unknown_group (EndSession line.nid_c (nid_rbc line c)) k) (rest k))
       ∙ (λ i. replied (record k { said = λ u. sym (put_same t p.said k.said said u) i }) [] [])
 
-  -- a train that is to come again is told nothing
+  -- a train that will return gets no order
   pub comes_again : (b : Bool) → b ≡ false → (if b then end_order line c t else rest) k ≡ replied (counted_to t p.said k) [] []
   comes_again b is = (λ i. (if is i then end_order line c t else rest) k) ∙ (λ i. replied (record k { said = λ u. sym (put_same t p.said k.said said u) i }) [] [])
 
@@ -39,7 +40,7 @@ module _ (line : Line) (c : ℕ) (k : Centre) (p : TrainState) (phase : k.phase 
       (λ i. cond ((ap is_up phase ∙ up) i) (say t unknown_group (EndSession line.nid_c (nid_rbc line c)) k) (rest k))
       ∙ (λ i. replied (counted_to t (said i + 1) k) (answer_to t (said i + 1) (EndSession line.nid_c (nid_rbc line c))) [])
 
--- ## Of a train that is no more to come
+-- ## A train that will not return
 
 -- one of the tests fails
 not_gone : {X : Type 0} (u n e : Bool) (x y : X) → (n && not e) ≡ false → cond (not u && (n && not e)) x y ≡ y

@@ -1,5 +1,5 @@
--- A pool that follows sections of a hand: it is of other homes, so where it leaves with them the book changes as it
--- does without it.
+-- A pool that follows sections of a hand. It is of other homes, so the book changes in the same way with and without
+-- it.
 use Rattle.std.proofs.Common.{◌≡◌, ℕ, ◌+◌, ◌==◌, ◌&&◌, ◌||◌, not, if◌then◌else◌, Bool, true, false, [], ◌++◌, refl, sym, ap, ◌∙◌, arith, inl, inr}
 use Rattle.std.specs.List.{filter, range_with_len}
 use Rattle.std.proofs.lemmas.Bool.{cases_Bool, cases_eq, cond-true, cond-false, ne_eqb}

@@ -1,4 +1,4 @@
--- What stays of a train's mission and of its start that waits: its pool follows its hand, and what is held is held.
+-- Invariants of a train's mission and of its waiting start: the pool follows the hand, and held sections are held.
 use Rattle.std.proofs.Common.{◌≡◌, ◌+◌, ℕ, ◌≤◌, ◌==◌, length, if◌then◌else◌, Bool, true, false, Option, Some, None, is_some, is_none, ◌&&◌, option_map, option_and_then, refl, sym, ap, ◌∙◌, subst, arith}
 use Rattle.std.specs.Option.{option_map_or}
 use Rattle.std.proofs.lemmas.Bool.{eqb-false}
@@ -21,12 +21,12 @@ use Rattle.rbc_train.proofs.Desk.{with_mission}
 
 -- ## Missions
 
--- what stands of a mission whose facts alone were changed
+-- the mission, if only its facts were changed
 mapped : (change : Mission → Mission) (o : Option Mission) (m : Mission) → option_map change o ≡ Some m → (n : Mission) × (o ≡ Some n) × (change n ≡ m)
 mapped change None m is = cc
 mapped change (Some n) m is = (n, refl, same_Some (change n) m is)
 
--- of the mission facts alone have changed
+-- only facts of the mission have changed
 pub kept_changed : (line : Line) (c : ℕ) (p : TrainState) (change : Mission → Mission) → ((m : Mission) → HasRouteForm m → HasRouteForm (change m)) → ((m : Mission) → m.hand ≡ (change m).hand) → ((m : Mission) → m.pool ≡ (change m).pool)
     → IsKeptAt line c p → IsKeptAt line c (with_mission p (option_map change p.supervision.mission))
 kept_changed line c p change form hand pool kept = record {
@@ -46,7 +46,7 @@ kept_changed line c p change form hand pool kept = record {
     same_runs : (m n : Mission) → change n ≡ m → (n.pool ≡ m.pool) × (n.hand ≡ m.hand)
     same_runs m n is = (pool n ∙ ap (λ (x : Mission). x.pool) is, hand n ∙ ap (λ (x : Mission). x.hand) is)
 
--- what is left of a mission after its first sections
+-- the rest of a mission after its first sections
 left_of : (place : Place) (count : ℕ) (o : Option Mission) (m : Mission) → option_and_then (without_front place count) o ≡ Some m
     → (n : Mission) × (o ≡ Some n) × (count ≡ n.hand.count → ⊥) × (record n { place = place; hand = rest_of count n.hand } ≡ m)
 left_of place count None m is = cc
@@ -85,11 +85,11 @@ kept_cleared line c p left hand place count few is kept = subst (λ (x : Supervi
     within_hand : (n : Mission) → p.supervision.mission ≡ Some n → count ≤ n.hand.count
     within_hand n there = subst (λ (o : Option Mission). count ≤ (option_map_or (λ m. m.hand) o no_run).count) there few
 
--- where they have left, it is at this place
+-- if they have left, it is at this place
 pub cleared_place : (place : Place) (count : ℕ) (o : Option Mission) (m : Mission) → option_and_then (without_front place count) o ≡ Some m → m.place.track ≡ place.track
 cleared_place place count o m is = let n = left_of place count o m is in ap (λ (x : Mission). x.place.track) (sym n.3)
 
--- no right is given back of a mission that still stands
+-- a mission that is still here gives no right back
 pub none_left : (old new : SupervisionState) → is_some new.mission ≡ true → right_left old new ≡ Nothing
 none_left old new stands = by (is_some old.mission) new.mission stands
   where
@@ -117,14 +117,14 @@ cleared_handing place count (Some n) some = by (count == n.hand.count) some
     by true e = cc
     by false e = refl
 
--- ## What is held
+-- ## Held sections
 
 -- at the sections of the line as by the book of its home, and back
 pub held_as : (t u : ℕ) (is_home is_home' : ℕ → Bool) (hand : Holding) → t ≡ u → ((s : ℕ) → is_home' s ≡ is_home s) → IsHeldAt t is_home hand → IsHeldAt u is_home' hand
 held_as t u is_home is_home' hand train same so i held at =
     ap (λ b. is_held_as u b held) (same (hand.first + i)) ∙ ap (λ (v : ℕ). is_held_as v (is_home (hand.first + i)) held) (sym train) ∙ so i held at
 
--- what is held stays so
+-- held sections stay held
 pub still_held : (line : Line) (c : ℕ) (p q : TrainState) → q.supervision.engine ≡ p.supervision.engine → q.supervision.hand ≡ p.supervision.hand → IsHeld line c p → IsHeld line c q
 still_held line c p q engine hand held =
     subst (λ (h : Holding). IsHeldAt q.supervision.engine (is_home line c) h) (sym hand) (subst (λ (t : ℕ). IsHeldAt t (is_home line c) p.supervision.hand) (sym engine) held)
@@ -133,7 +133,7 @@ still_held line c p q engine hand held =
 pub held_again : (line : Line) (c t : ℕ) (q : TrainState) (book : Pages) → t ≡ q.supervision.engine → ((s : ℕ) → is_own book s ≡ is_home line c s) → IsHeldBy t q.supervision.hand book → IsHeld line c q
 held_again line c t q book engine homes held = held_as t q.supervision.engine (is_own book) (is_home line c) q.supervision.hand engine (λ s. sym (homes s)) held
 
--- of the same train what waits has not changed
+-- the same train, with an unchanged waiting start
 pub keeps_by : (line : Line) (c : ℕ) (p q : TrainState) → q.supervision.number ≡ p.supervision.number
     → q.supervision.engine ≡ p.supervision.engine → q.waiting ≡ p.waiting → q.said ≤ p.said + 2
     → length q.expectations ≡ length p.expectations → IsHeld line c q → KeepsState line c p q
@@ -144,7 +144,7 @@ keeps_by line c p q number engine waiting said expected held = record {
   expected = expected;
 }
 
--- nor has more than its supervision, and whether it was heard
+-- only its supervision and its last stamp have changed
 pub keeps_state : (line : Line) (c : ℕ) (p : TrainState) (heard : Option ℕ) (left : SupervisionState)
     → left.number ≡ p.supervision.number → left.engine ≡ p.supervision.engine → IsHeld line c (record p { supervision = left })
     → KeepsState line c p (record p { heard = heard; supervision = left })

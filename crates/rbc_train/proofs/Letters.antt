@@ -1,4 +1,4 @@
--- What goes home: a right, and lent sections.
+-- Returned things: a right, and lent sections.
 use Rattle.std.proofs.Common.{◌≡◌, ℕ, ◌==◌, ◌||◌, [], ◌∷◌, Option, sym, ◌∙◌, subst, arith, inl, inr, eqb-true, eq-eqb}
 use Rattle.std.proofs.lemmas.Bool.{cases_Bool, cond-true, cond-false, or_right}
 use Rattle.rbc_spec.specs.SectionRuns.{SectionRun, is_empty, shared}
@@ -16,12 +16,12 @@ use Rattle.rbc_train.specs.declared.letter.Letter.{Letter}
 use Rattle.rbc_train.specs.declared.mail.Mail.{Mail}
 use Rattle.rbc_train.specs.declared.mail.Notice.{Notice}
 
--- one goes home of this train
+-- a right of this train is returned
 pub goes_as : (line : Line) (c t u : ℕ) (right right' : HeldRight) (letter : Option Letter) (rights rights' : Rights) → u ≡ t → right ≡ right' → GoesHome line c u right letter rights rights' → GoesHome line c t right' letter rights rights'
 goes_as line c t u right right' letter rights rights' engine same home =
     subst (λ (x : HeldRight). GoesHome line c t x letter rights rights') same (subst (λ (x : ℕ). GoesHome line c x right letter rights rights') engine home)
 
--- sections that go home send what the act of the rules sends, wherever it stands
+-- the frames of returned sections are those of the rules' act in every state
 pub sends_home : (line : Line) (c t track : ℕ) (r : SectionRun) (k : Centre) (d : ℕ) → going_home line c t track r d ≡ (returned line c t track r k).frames d
 sends_home line c t track r k d = elim (cases_Bool (is_empty r)) [
   | inl none ↦

@@ -1,4 +1,4 @@
--- The body of a frame that is the next of its link comes to what its definition says.
+-- The body of a frame that is the next of its link has the effect of its definition.
 use Rattle.std.proofs.Common.{◌≡◌, ℕ, true, false, length, nat_lt, Option, Some, None, is_some, is_none, if◌then◌else◌, refl, sym, ap, subst, ◌∙◌}
 use Rattle.std.specs.Option.{option_map_or}
 use Rattle.rbc_spec.specs.SectionRuns.{all_of}
@@ -69,7 +69,7 @@ module _ (line : Line) (c d t : ℕ) (k : Centre) (body : Body) (reply : Reply) 
       taken_as (Yield number u y) same
       (of_this (λ v. option_map_or (yielded line c d number v (run_of y.hand) y.heard y.has_data y.is_ended) (carried_place (place_of y.place)) rest) u (ap (λ (x : Body). engine_in (body_of x)) (sym same) ∙ of) is)
 
--- what the ranges of a body say of the sections that it names
+-- the ranges of the sections that a body names
 pub told_range : (body : Body) (u : ℕ) (run : SectionRunCode) → body ≡ RouteInfo u run → HasBodyRange (body_of body) → HasRunRange 0 31 (run_of run)
 told_range body u run is range = (subst (λ (x : Body). HasBodyRange (body_of x)) is range).1
 

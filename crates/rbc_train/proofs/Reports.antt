@@ -1,30 +1,31 @@
--- A report of a train's position comes to what its definition says.
-use Rattle.std.proofs.Common.{◌≡◌, ℕ, ◌==◌, if◌then◌else◌, Bool, true, false, List, [], Option, Some, None, eqb-true, refl, sym, ap, ◌∙◌}
-use Rattle.std.specs.Option.{option_map_or}
+-- A position report has the effect of its definition.
+use Rattle.std.proofs.Common.{[], ◌==◌, ◌∙◌, ◌≡◌, ap, Bool, eqb-true, false, if◌then◌else◌, List, None, Option, refl}
+use Rattle.std.proofs.Common.{Some, sym, true, ℕ}
 use Rattle.std.proofs.lemmas.List.{append-nil}
 use Rattle.std.proofs.lemmas.Option.{same_Some}
-use Rattle.rbc_spec.specs.Maps.{put}
-use Rattle.rbc_spec.specs.Line.{Line}
-use Rattle.rbc_spec.specs.Place.{Place, Position, extent, place_on}
-use Rattle.rbc_spec.specs.Message.{TrainMessage, Report}
-use Rattle.rbc_spec.specs.Outcome.{NotSupervised}
-use Rattle.rbc_spec.specs.Centre.{Centre, Up, Mission, Expectation}
-use Rattle.rbc_spec.specs.Acts.{Reply}
-use Rattle.rbc_spec.specs.Rules.{clear, report_here, take_over}
-use Rattle.rbc_spec.specs.Step.{Train, effect, is_awaited}
-use Rattle.law_base.proofs.Puts.{put_there}
+use Rattle.std.specs.Option.{option_map_or}
+use Rattle.law_base.proofs.Lists.{put_there}
 use Rattle.rbc_book.specs.Book.{Pages}
-use Rattle.rbc_handover.specs.Expectations.{expected_from, claims, telling, HasExpectations, with_expectations}
 use Rattle.rbc_handover.specs.declared.announcers.Announcers.{Announcers}
+use Rattle.rbc_handover.specs.Expectations.{claims, expected_from, HasExpectations, telling, with_expectations}
 use Rattle.rbc_right.specs.Rights.{Rights}
 use Rattle.rbc_session.specs.SessionStates.{session_phase}
-use Rattle.rbc_train.specs.Letters.{mail_home, no_sections}
-use Rattle.rbc_train.specs.declared.mail.Notice.TheVariants as notice
-use Rattle.rbc_train.specs.Desk.{HearsTrain, with_parts, posted, replied, reply_left, Does}
+use Rattle.rbc_spec.specs.Acts.{Reply}
+use Rattle.rbc_spec.specs.Centre.{Centre, Expectation, Mission, Up}
+use Rattle.rbc_spec.specs.Line.{Line}
+use Rattle.rbc_spec.specs.Maps.{put}
+use Rattle.rbc_spec.specs.Message.{Report, TrainMessage}
+use Rattle.rbc_spec.specs.Outcome.{NotSupervised}
+use Rattle.rbc_spec.specs.Place.{extent, Place, place_on, Position}
+use Rattle.rbc_spec.specs.Rules.{clear, report_here, take_over}
+use Rattle.rbc_spec.specs.Step.{effect, is_awaited, Train}
+use Rattle.rbc_train.proofs.Desk.{answered_effect, by_reply, expects_left, has_expectations, same_parts, silent_effect}
+use Rattle.rbc_train.proofs.Turns.{heard_at, left_heard, parts_heard}
 use Rattle.rbc_train.specs.declared.heard.Heard.{Heard}
+use Rattle.rbc_train.specs.declared.mail.Notice.TheVariants as notice
 use Rattle.rbc_train.specs.declared.train.TrainState.{TrainState}
-use Rattle.rbc_train.proofs.Desk.{by_reply, silent_effect, answered_effect, same_parts, has_expectations, expects_left}
-use Rattle.rbc_train.proofs.Turns.{heard_at, parts_heard, left_heard}
+use Rattle.rbc_train.specs.Desk.{Does, HearsTrain, posted, replied, reply_left, with_parts}
+use Rattle.rbc_train.specs.Letters.{mail_home, no_sections}
 
 module _ (line : Line) (c : ℕ) (k : Centre) (stamp : ℕ) (old : TrainState) (book : Pages) (rights : Rights) (position : Position) (h : HearsTrain line c k stamp old book rights) where
   abbrev t : ℕ
@@ -33,14 +34,14 @@ module _ (line : Line) (c : ℕ) (k : Centre) (stamp : ℕ) (old : TrainState) (
   abbrev m : TrainMessage
   m = record { t_train = stamp; nid_engine = t; body = Report position }
 
-  -- a train that another centre supervises, where it is not expected or is not in the area
+  -- another centre supervises the train, and it is not expected or is not in the area
   pub not_supervised : session_phase old.session_state ≡ Up → old.supervision.mission ≡ None → is_awaited line c k t position ≡ false
       → effect line c k (Train m) ≡ record { reply = replied (with_parts old book rights k) [] []; link = None; silence = Some NotSupervised }
   not_supervised up none away =
       silent_effect line c k m NotSupervised (rw (h.known, h.parts.has_heard, h.timely, h.parts.has_phase, up, h.parts.has_mission, none, away) refl)
       ∙ ap (λ (r : Reply). record { reply = r; link = None; silence = Some NotSupervised }) (same_parts line c k old book rights h.parts)
 
-  -- and else its announcers are told
+  -- and else its announcers get a TakingOver
   pub takes_over : (e : List (Option Expectation)) (told : Announcers) → session_phase old.session_state ≡ Up → old.supervision.mission ≡ None → is_awaited line c k t position ≡ true
       → ((j : Centre) → HasExpectations line t j old.expectations → take_over line t j ≡ telling t told (expected_from e) (with_expectations t e j))
       → effect line c k (Train m)
@@ -58,7 +59,7 @@ module _ (line : Line) (c : ℕ) (k : Centre) (stamp : ℕ) (old : TrainState) (
       ∙ (λ i. posted (λ d. claims t told (λ b. sym (put_there (k.expects b) t (expected_from e b)) i) d) (replied (with_parts new book rights k) [] []))
       ∙ (λ i. posted (λ d. sym (append-nil (claims t told (λ b. put (k.expects b) t (expected_from e b) t) d)) i) (replied (with_parts new book rights k) [] [])))
 
-  -- what the train has cleared leaves its hand
+  -- the sections that the train has cleared leave its hand
   pub reports : (n : Mission) (place : Place) (new : TrainState) (book' : Pages) (rights' : Rights) (heard : Heard) → session_phase old.session_state ≡ Up → old.supervision.mission ≡ Some n
       → place_on line n.place.track position ≡ Some place → new.supervision.engine ≡ t
       → Does line c (clear line c t n place) (record old { heard = Some stamp }) book rights new book' rights' heard

@@ -1,39 +1,40 @@
--- A request for a movement authority comes to what its definition says.
-use Rattle.std.proofs.Common.{◌≡◌, ℕ, ◌+◌, ◌-◌, ◌≤◌, ◌&&◌, if◌then◌else◌, true, false, List, [], ◌∷◌, ◌++◌, is_some, Some, refl, sym, ap, subst, ◌∙◌, arith, Option, option_map, None}
-use Rattle.std.specs.Option.{option_map_or}
+-- A request for a movement authority has the effect of its definition.
+use Rattle.std.proofs.Common.{[], ◌&&◌, ◌++◌, ◌+◌, ◌-◌, ◌∙◌, ◌∷◌, ◌≡◌, ◌≤◌, ap, arith, false, if◌then◌else◌, is_some}
+use Rattle.std.proofs.Common.{List, None, Option, option_map, refl, Some, subst, sym, true, ℕ}
 use Rattle.std.proofs.lemmas.Bool.{cond-false, ne_eqb}
-use Rattle.rbc_spec.specs.Maps.{put}
-use Rattle.rbc_spec.specs.SectionRuns.{SectionRun, within, next_after, is_empty, joined}
-use Rattle.rbc_spec.specs.Line.{Line, end, next_centre}
-use Rattle.rbc_spec.specs.Place.{Place, Position, place_on, group_start}
-use Rattle.rbc_spec.specs.Message.{TrainMessage, Request, Authority}
-use Rattle.rbc_spec.specs.Frame.{Body}
-use Rattle.rbc_spec.specs.Centre.{Centre, Up, Mission, Taken, Expectation, is_open}
-use Rattle.rbc_spec.specs.Outcome.{Saying as Said}
-use Rattle.rbc_spec.specs.Acts.{Act, rest, ◌>>◌, booked, set_mission, say}
-use Rattle.rbc_spec.specs.Rules.{authority, extension, extended_by, at_border}
-use Rattle.rbc_spec.specs.Step.{Train, effect}
-use Rattle.rbc_book.specs.Book.{Pages, entry_at, wish_at}
-use Rattle.rbc_right.specs.Rights.{Rights, is_here}
-use Rattle.rbc_handover.specs.Giving.{with_count}
-use Rattle.rbc_handover.specs.Expectations.{expected_from}
-use Rattle.rbc_session.specs.SessionStates.{session_phase}
+use Rattle.std.specs.Option.{option_map_or}
+use Rattle.law_base.proofs.Lists.{put_over, put_there}
+use Rattle.rbc_allocation.specs.Sections.{next_of, TakesRun}
+use Rattle.rbc_book.specs.Book.{entry_at, Pages, wish_at}
 use Rattle.rbc_grant.specs.Grants as grants
-use Rattle.rbc_allocation.specs.Sections.{TakesRun, next_of}
 use Rattle.rbc_hand.specs.Hands.{Holding}
-use Rattle.rbc_mission.specs.Supervisions.{SupervisionState, with_next, HasSupervision, with_supervision}
-use Rattle.law_base.proofs.Puts.{put_there, put_over}
-use Rattle.rbc_train.specs.Desk.{HearsTrain, with_parts, counted_to, posted, replied}
-use Rattle.rbc_train.specs.Letters.{letters, notices}
-use Rattle.rbc_train.specs.Sayings.{sayings_of}
+use Rattle.rbc_handover.specs.Expectations.{expected_from}
+use Rattle.rbc_handover.specs.Giving.{with_count}
+use Rattle.rbc_mission.specs.Supervisions.{HasSupervision, SupervisionState, with_next, with_supervision}
+use Rattle.rbc_right.specs.Rights.{is_here, Rights}
+use Rattle.rbc_session.specs.SessionStates.{session_phase}
+use Rattle.rbc_spec.specs.Acts.{◌>>◌, Act, booked, rest, say, set_mission}
+use Rattle.rbc_spec.specs.Centre.{Centre, Expectation, is_open, Mission, Taken, Up}
+use Rattle.rbc_spec.specs.Frame.{Body}
+use Rattle.rbc_spec.specs.Line.{end, Line, next_centre}
+use Rattle.rbc_spec.specs.Maps.{put}
+use Rattle.rbc_spec.specs.Message.{Authority, Request, TrainMessage}
+use Rattle.rbc_spec.specs.Outcome.{Saying as Said}
+use Rattle.rbc_spec.specs.Place.{group_start, Place, place_on, Position}
+use Rattle.rbc_spec.specs.Rules.{at_border, authority, extended_by, extension}
+use Rattle.rbc_spec.specs.SectionRuns.{is_empty, joined, next_after, SectionRun, within}
+use Rattle.rbc_spec.specs.Step.{effect, Train}
+use Rattle.rbc_train.proofs.Desk.{answered_effect, by_reply, same_state}
+use Rattle.rbc_train.proofs.Turns.{heard_at, in_turn}
 use Rattle.rbc_train.specs.declared.letter.Letter.{Letter}
 use Rattle.rbc_train.specs.declared.mail.Notice.{Notice}
 use Rattle.rbc_train.specs.declared.saying.Saying.{Saying}
 use Rattle.rbc_train.specs.declared.train.TrainState.{TrainState}
-use Rattle.rbc_train.proofs.Desk.{by_reply, answered_effect, same_state}
-use Rattle.rbc_train.proofs.Turns.{heard_at, in_turn}
+use Rattle.rbc_train.specs.Desk.{counted_to, HearsTrain, posted, replied, with_parts}
+use Rattle.rbc_train.specs.Letters.{letters, notices}
+use Rattle.rbc_train.specs.Sayings.{sayings_of}
 
--- of what was left the count of messages and the supervision alone have changed
+-- only the count of messages and the supervision have changed
 supervision_over : (k : Centre) (p : TrainState) (book : Pages) (rights : Rights) (said : ℕ) (left : SupervisionState) → left.engine ≡ p.supervision.engine → left.number ≡ p.supervision.number
     → counted_to p.supervision.engine said (with_supervision left (with_parts p book rights k)) ≡ with_parts (record p { said = said; supervision = left }) book rights k
 supervision_over k p book rights said left engine number =
@@ -119,11 +120,11 @@ module _ (line : Line) (c : ℕ) (k : Centre) (stamp : ℕ) (old : TrainState) (
         ∙ (λ i. replied (with_parts (record { session_state = old.session_state; heard = Some stamp; said = old.said + 1; supervision = sym is i; waiting = old.waiting; expectations = old.expectations }) book' rights k)
         (record { nid_engine = (sym is i).engine; message = record { t_train = old.said + 1; nid_lrbg = place.group; body = Authority metres } } ∷ []) [])
 
-    -- what the next centre is told
+    -- the bodies for the next centre
     abbrev told : (ℕ → Option Expectation) → ℕ → List Body
     told e d = notices t e one d ++ letters letter d
 
-    -- then a handover is announced, and the next centre is asked, where that is due
+    -- then a handover is announced, and the next centre is asked, if that is due
     borders_there : (e : ℕ → Option Expectation) → bordering (with_parts mid book' rights k) ≡ posted (told e) (replied (with_count announced' (with_parts new book' rights k)) (sayings_of order) [])
     borders_there e =
         let j = with_parts mid book' rights k in
@@ -141,7 +142,7 @@ module _ (line : Line) (c : ℕ) (k : Centre) (stamp : ℕ) (old : TrainState) (
         answered_effect line c k m _ (rw (h.known, h.parts.has_heard, h.timely, h.parts.has_phase, up, stands, goes_on, known, none, on, may) refl)
         (rw (stands, on) (in_turn given bordering at (replied (with_parts mid book' rights k) answer []) (posted (told e) (replied (with_count announced' (with_parts new book' rights k)) (sayings_of order) [])) extends (borders_there e)))
 
--- the end of the hand with so many sections more
+-- the end of the hand with this many further sections
 pub end_is : (line : Line) (n : Mission) (place : Place) (count metres : ℕ) → 1 ≤ n.hand.count → metres ≡ end line (next_after n.hand + count - 1) - group_start line place → authority line (with_next place count n) ≡ metres
 end_is line n place count metres some is =
     let r = next_of count n.hand in
@@ -153,7 +154,7 @@ pub some_mapped : {A B : Type 0} (f : A → B) (o : Option A) → is_some (optio
 some_mapped f (Some x) = refl
 some_mapped f None = refl
 
--- what follows at a border for a train follows for the same train
+-- the acts at a border are the same for an equal train
 pub borders_as : (line : Line) (c track announced announced' : ℕ) (p q : TrainState) (said : ℕ) (new : SupervisionState) (order : Option Saying) (one : Notice) (letter : Option Letter) → p ≡ q
     → ((e : ℕ → Option Expectation) (j : Centre) → HasSupervision j p.supervision → j.said p.supervision.engine ≡ p.said → j.announced ≡ announced
     → option_map_or (at_border line c p.supervision.engine) (next_centre line c track) rest j

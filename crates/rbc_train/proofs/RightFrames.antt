@@ -1,36 +1,37 @@
--- Frames about the right to supervise a train come to what their definitions say.
-use Rattle.std.proofs.Common.{◌≡◌, ℕ, ◌+◌, ◌<◌, ◌&&◌, not, Bool, true, false, List, [], length, Option, Some, None, option_map, is_some, is_none, nat_lt, lt-ltb, refl, sym, ap, ◌∙◌, subst}
-use Rattle.rbc_spec.specs.Maps.{put}
-use Rattle.rbc_spec.specs.Line.{Line}
-use Rattle.rbc_spec.specs.Place.{Place}
-use Rattle.rbc_spec.specs.Message.{TrainAccepted, unknown_group}
-use Rattle.rbc_spec.specs.Centre.{Centre, is_registrar_of}
-use Rattle.rbc_spec.specs.Acts.{◌>>◌, say, begun}
-use Rattle.rbc_spec.specs.Rules.{begin}
-use Rattle.rbc_spec.specs.Links.{right_asked, right_given, right_returned}
-use Rattle.law_base.proofs.Puts.{put_same, put_there}
-use Rattle.rbc_book.specs.Book.{Pages, entry_at, wish_at}
-use Rattle.rbc_right.specs.Rights.{Rights, is_here, right_of}
-use Rattle.rbc_right.specs.Answers.{answer}
-use Rattle.rbc_right.specs.declared.right.Right.{Right}
-use Rattle.rbc_right.specs.declared.registrar.Asked.TheVariants.{Given, NotHere}
-use Rattle.rbc_pending_start.specs.Waits.{WaitState, nothing_waits, with_wait}
-use Rattle.rbc_pending_start.proofs.Waits.{given}
-use Rattle.rbc_linkmsg.specs.declared.body.Body.TheVariants as code
+-- Frames about the right to supervise a train have the effect of their definitions.
+use Rattle.std.proofs.Common.{[], ◌&&◌, ◌+◌, ◌<◌, ◌∙◌, ◌≡◌, ap, Bool, false, is_none, is_some, length, List, lt-ltb}
+use Rattle.std.proofs.Common.{nat_lt, None, not, Option, option_map, refl, Some, subst, sym, true, ℕ}
+use Rattle.law_base.proofs.Lists.{put_same, put_there}
+use Rattle.rbc_book.specs.Book.{entry_at, Pages, wish_at}
 use Rattle.rbc_hand.specs.Hands.{Holding}
-use Rattle.rbc_mission.specs.Supervisions.{SupervisionState, mission_at}
+use Rattle.rbc_linkmsg.specs.declared.body.Body.TheVariants as code
 use Rattle.rbc_mission.specs.declared.held.HeldRight.TheVariants.{Held}
-use Rattle.rbc_train.specs.Desk.{HasParts, with_parts, with_right, posted, replied, reply_left, unsaid}
+use Rattle.rbc_mission.specs.Supervisions.{mission_at, SupervisionState}
+use Rattle.rbc_pending_start.proofs.Waits.{given}
+use Rattle.rbc_pending_start.specs.Waits.{nothing_waits, WaitState, with_wait}
+use Rattle.rbc_right.specs.Answers.{answer}
+use Rattle.rbc_right.specs.declared.registrar.Asked.TheVariants.{Given, NotHere}
+use Rattle.rbc_right.specs.declared.right.Right.{Right}
+use Rattle.rbc_right.specs.Rights.{is_here, right_of, Rights}
+use Rattle.rbc_spec.specs.Acts.{◌>>◌, begun, say}
+use Rattle.rbc_spec.specs.Centre.{Centre, is_registrar_of}
+use Rattle.rbc_spec.specs.Line.{Line}
+use Rattle.rbc_spec.specs.Links.{right_asked, right_given, right_returned}
+use Rattle.rbc_spec.specs.Maps.{put}
+use Rattle.rbc_spec.specs.Message.{TrainAccepted, unknown_group}
+use Rattle.rbc_spec.specs.Place.{Place}
+use Rattle.rbc_spec.specs.Rules.{begin}
+use Rattle.rbc_train.proofs.Desk.{answer_to, has_waiting, same_parts, same_state}
+use Rattle.rbc_train.proofs.Turns.{says}
 use Rattle.rbc_train.specs.declared.heard.Heard.{Heard}
+use Rattle.rbc_train.specs.declared.letter.Letter.{Letter}
+use Rattle.rbc_train.specs.declared.mail.Mail.{Mail}
+use Rattle.rbc_train.specs.declared.train.TrainState.{TrainState}
+use Rattle.rbc_train.specs.Desk.{HasParts, posted, replied, reply_left, unsaid, with_parts, with_right}
 use Rattle.rbc_train.specs.Homes.{GoesHome}
 use Rattle.rbc_train.specs.Letters.{letters, mail_to}
-use Rattle.rbc_train.specs.declared.mail.Mail.{Mail}
-use Rattle.rbc_train.specs.declared.letter.Letter.{Letter}
-use Rattle.rbc_train.specs.declared.train.TrainState.{TrainState}
-use Rattle.rbc_train.proofs.Desk.{same_state, same_parts, has_waiting, answer_to}
-use Rattle.rbc_train.proofs.Turns.{says}
 
--- ## What a call tells
+-- ## The result of a call
 
 pub not_so : (b : Bool) → false ≡ not b → b ≡ true
 not_so true is = refl
@@ -59,12 +60,12 @@ pub was_gone : (b : Bool) (i : ℕ) → NotHere ≡ answer b i → b ≡ false
 was_gone true i is = cc
 was_gone false i is = refl
 
--- one that came back is here
+-- a returned right is here
 pub is_back : (rights rights' : Rights) (i : ℕ) (right : Right) → right ≡ right_of i → i < length rights → ((j : ℕ) → is_here rights' j ≡ put (is_here rights) right.train (nat_lt right.train (length rights)) j) → is_here rights' i ≡ true
 is_back rights rights' i right is few back =
     back i ∙ ap (λ (r : Right). put (is_here rights) r.train (nat_lt r.train (length rights)) i) is ∙ put_there (is_here rights) i (nat_lt i (length rights)) ∙ lt-ltb i (length rights) few
 
--- what was released says nothing
+-- released sections have no message
 pub released_as : (line : Line) (c t : ℕ) (k : Centre) (h : Heard) (told : List ℕ) (mail : Mail) → h ≡ unsaid mail told
     → reply_left line c t k h ≡ posted (mail_to line c t (λ d. k.expects d t) mail) (replied k [] told)
 released_as line c t k h told mail is = ap (reply_left line c t k) is
@@ -75,7 +76,7 @@ module _ (line : Line) (c : ℕ) (k : Centre) (p : TrainState) (book : Pages) (r
   abbrev t : ℕ
   t = p.supervision.engine
 
-  -- of the train its right alone has come or gone
+  -- only the train's right has changed
   pub right_is : (rights' : Rights) (b : Bool) → is_here rights' p.supervision.number ≡ b → with_right t b k ≡ with_parts p book rights' k
   right_is rights' b at =
       (λ i. record (same_state line c k p book rights has i) { has_right = put k.has_right t b })
@@ -94,7 +95,7 @@ module _ (line : Line) (c : ℕ) (k : Centre) (p : TrainState) (book : Pages) (r
       rw (here, has.has_right ∙ gone) (ap (λ (x : Centre). posted (letters (Some (record { to = d; body = code.RefuseRight t }))) (replied x [] []))
       ((λ i. record k { has_right = λ u. sym (put_same t false k.has_right (has.has_right ∙ gone) u) i }) ∙ right_is rights' false still))
 
-  -- ## A right comes back
+  -- ## A right is returned
 
   pub not_returned : (is_registrar_of line c t && is_none p.supervision.mission) ≡ false → right_returned line c t k ≡ replied (with_parts p book rights k) [] []
   not_returned other = rw (has.has_right, has.has_mission, cases (is_registrar_of line c t) (is_here rights p.supervision.number) (is_none p.supervision.mission) other) (same_parts line c k p book rights has)
@@ -113,7 +114,7 @@ module _ (line : Line) (c : ℕ) (k : Centre) (p : TrainState) (book : Pages) (r
           ((λ i. record k { has_right = λ u. sym (put_same t true k.has_right (has.has_right ∙ there) u) i }) ∙ right_is rights' true back))
       by false gone = rw (here, has.has_right ∙ gone, has.has_mission ∙ none) (ap (λ (x : Centre). replied x [] []) (right_is rights' true back))
 
-  -- ## A right comes
+  -- ## A right arrives
 
   -- a start that waits becomes a mission
   admitted_at : (place : Place) → p.waiting.has_asked ≡ true → p.supervision.mission ≡ None → p.waiting.wait ≡ Some place
@@ -147,7 +148,7 @@ module _ (line : Line) (c : ℕ) (k : Centre) (p : TrainState) (book : Pages) (r
           admitted_at place asked none at
           ∙ (λ i. replied (with_parts (record p { said = p.said + 1; supervision = sym left_is i; waiting = sym waits i }) book rights k) (answer_to t (p.said + 1) TrainAccepted) [])
 
-  -- a right that nothing waits for goes home
+  -- a right for which nothing waits is returned
   pub given_in_vain : (letter : Option Letter) (rights' : Rights) (w : WaitState) → p.waiting.has_asked ≡ true → (is_some p.waiting.wait && is_none p.supervision.mission) ≡ false → p.supervision.number < length rights
       → GoesHome line c t (Held (right_of p.supervision.number)) letter rights rights' → w ≡ record p.waiting { has_asked = false }
       → right_given line c t k ≡ posted (letters letter) (replied (with_parts (record p { waiting = w }) book rights' k) [] [])

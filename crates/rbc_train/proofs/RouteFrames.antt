@@ -1,4 +1,4 @@
--- Frames about lent sections come to what their definitions say.
+-- Frames about lent sections have the effect of their definitions.
 use Rattle.std.proofs.Common.{◌≡◌, ℕ, zero, suc, ◌+◌, ◌-◌, ◌<◌, ◌≤◌, if◌then◌else◌, Bool, true, false, List, [], ◌∷◌, map, length, Option, Some, None, option_map, is_some, slice_get, refl, sym, ap, ◌∙◌, subst, arith}
 use Rattle.std.proofs.lemmas.List.{append-nil}
 use Rattle.std.proofs.lemmas.Option.{slice_get_past, none-some}
@@ -28,13 +28,13 @@ use Rattle.rbc_train.proofs.Turns.{in_turn, parts_over, has_left}
 use Rattle.rbc_train.proofs.Letters.{sends_home}
 use Rattle.rbc_train.proofs.Runs.{all_each, all_fails}
 
--- a centre is told something of the train, by the number that was read of it
+-- a centre gets a body about the train, by the number that was read
 pub told_as : (line : Line) (c t d u : ℕ) (make : ℕ → Body) (k : Centre) (h : Heard) → u ≡ t → h ≡ record { saying = None; order = None; mail = mail_of (Some (record { to = d; body = make u })); told = [] }
     → send d (body_of (make t)) k ≡ reply_left line c t k h
 told_as line c t d u make k h same is = λ i. reply_left line c t k
     ((ap (λ (e : ℕ). record { saying = None; order = None; mail = mail_of (Some (record { to = d; body = make e })); told = [] }) (sym same) ∙ sym is) i)
 
--- sections go home, and nothing is said
+-- sections are returned, without a message
 pub goes_back : (line : Line) (c t track : ℕ) (sections : SectionRunCode) (k : Centre) (h : Heard) → h ≡ record { saying = None; order = None; mail = mail_home track sections notice.Nothing None; told = [] }
     → returned line c t track (run_of sections) k ≡ reply_left line c t k h
 goes_back line c t track sections k h is =
@@ -45,7 +45,7 @@ goes_back line c t track sections k h is =
 pub same_use : (line : Line) (c : ℕ) (k : Centre) (u t : ℕ) (b : Bool) → u ≡ t → b ≡ uses_some line c k u → uses_some line c k t ≡ b
 same_use line c k u t b same is = ap (uses_some line c k) (sym same) ∙ sym is
 
--- it is the same train that a section was withdrawn from
+-- the train from which a section was withdrawn is the same train
 pub same_train : (s : ℕ) (old left : SupervisionState) → left ≡ without_section s old → (left.engine ≡ old.engine) × (left.number ≡ old.number)
 same_train s old left is = by (within (pool_of old) s) is
   where
@@ -79,7 +79,7 @@ module _ (line : Line) (c : ℕ) (k : Centre) (p : TrainState) (book : Pages) (r
   abbrev t : ℕ
   t = p.supervision.engine
 
-  -- what it has of its book
+  -- the centre's part of its book
   pub has_pages : HasBook line c k book
   has_pages = record { homes = has.homes; has_book = has.has_book; has_wish = has.has_wish }
 
@@ -97,11 +97,11 @@ module _ (line : Line) (c : ℕ) (k : Centre) (p : TrainState) (book : Pages) (r
   unsupervised s false none = same_parts line c k p book rights has
   unsupervised s true none = let missing : k.mission t ≡ None = has.has_mission ∙ none in rw missing (same_parts line c k p book rights has)
 
-  -- with what it has of its supervision a centre is as it was
+  -- with its own supervision a centre is as it was
   same_supervision : with_supervision p.supervision k ≡ k
   same_supervision = λ i. record k { mission = λ u. sym (same_mission line c k p book rights has u) i; route_ask = λ u. sym (same_question line c k p book rights has u) i }
 
-  -- where the pool has it not, nothing leaves the pool
+  -- if the section is not in the pool, nothing leaves the pool
   pub kept_pool : (s : ℕ) (o : Option SectionRunCode) (left : SupervisionState) → o ≡ None → option_map run_of o ≡ (if within (pool_of p.supervision) s then Some (part_from s (pool_of p.supervision)) else None)
       → left ≡ without_section s p.supervision → left ≡ p.supervision
   kept_pool s o left none run is = is ∙ by (within (pool_of p.supervision) s) (sym (ap (option_map run_of) none) ∙ run)
@@ -119,7 +119,7 @@ module _ (line : Line) (c : ℕ) (k : Centre) (p : TrainState) (book : Pages) (r
       ∙ subst (λ (x : SupervisionState). (j : Centre) → HasTrain j x.engine (record p { supervision = x }) → propose_if_so line x.engine s j ≡ asked x.engine q sayings j) same asks k (has_train line c k p book rights has)
       ∙ asked_is line c k p book rights has q sayings (engine ∙ ap (λ (x : SupervisionState). x.engine) same) (number ∙ ap (λ (x : SupervisionState). x.number) same) (question ∙ ap (λ (x : SupervisionState). x.asked) same) session heard waiting expectations
 
-  -- ## Sections come home
+  -- ## Sections are returned
 
   pub comes_home : (u : ℕ) (r : SectionRun) (book' : Pages) (told : List ℕ) (after : Act) (q : TrainState) (sayings : List Saying) → u ≡ t → freed line c (is_out_for u) r k ≡ telling told (with_book book' k)
       → ((s : ℕ) → is_own book' s ≡ is_own book s) → q.supervision.engine ≡ t

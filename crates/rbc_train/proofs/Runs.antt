@@ -1,4 +1,4 @@
--- Tests of all sections of a run, and what may follow a hand.
+-- Tests of all sections of a run, and the sections that may follow a hand.
 use Rattle.std.proofs.Common.{◌≡◌, ℕ, zero, suc, ◌+◌, ◌-◌, ◌==◌, ◌<◌, ◌≤◌, ◌&&◌, ◌||◌, Bool, true, false, nat_le, length, Option, Some, None, nat_eq, refl, sym, ap, ◌∙◌, arith, is_some}
 use Rattle.std.specs.List.{list_all, range_with_len}
 use Rattle.std.specs.Option.{option_map_or, option_eq}
@@ -66,7 +66,7 @@ all_within hand run some low = by_end (nat_le (next_after run) (next_after hand)
     by_end true e = e ∙ sym (within_all hand run (rw (some, low, e) refl))
     by_end false e = e ∙ sym (within_past hand run some e)
 
--- of a book of the centre's home, a section is free where it is open
+-- in a book of the centre's home, a section is free if it is open
 pub free_open : (line : Line) (c : ℕ) (k : Centre) (book : Pages) (s : ℕ) → ((e : ℕ) → k.book e ≡ entry_at book e) → is_own book s ≡ is_home line c s → is_open (entry_at book s) ≡ is_free line c k s
 free_open line c k book s pages home = by_open (is_open (entry_at book s)) refl
   where
@@ -85,7 +85,7 @@ past_home line c s past = rw (slice_get_past line.sections s past) refl
 pub not_free_past : (line : Line) (c : ℕ) (k : Centre) (s : ℕ) → length line.sections ≤ s → false ≡ is_free line c k s
 not_free_past line c k s past = rw (past_home line c s past) refl
 
--- ## What may follow a hand
+-- ## The sections that may follow a hand
 
 same_longest : (f g : ℕ → Bool) (first most : ℕ) → ((s : ℕ) → f s ≡ g s) → longest f first most ≡ longest g first most
 same_longest f g first most same = ap (λ (h : ℕ → Bool). longest h first most) (λ i s. same s i)

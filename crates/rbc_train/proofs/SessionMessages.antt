@@ -1,23 +1,25 @@
 -- A train opens, confirms and closes its session.
-use Rattle.std.proofs.Common.{◌≡◌, ℕ, ◌+◌, ◌++◌, false, List, [], map, Some, None, option_map, refl, sym, ap, ◌∙◌}
+use Rattle.std.proofs.Common.{[], ◌++◌, ◌+◌, ◌∙◌, ◌≡◌, ap, false, List, map, None, option_map, refl, Some, sym, ℕ}
 use Rattle.std.proofs.lemmas.List.{append-nil}
-use Rattle.rbc_spec.specs.Maps.{put}
-use Rattle.rbc_spec.specs.Line.{Line}
-use Rattle.rbc_spec.specs.Message.{TrackBody, InitiationOfSession, TerminationOfSession, SessionEstablished, SystemVersion, TerminationAcknowledged, unknown_group}
-use Rattle.rbc_spec.specs.Outcome.{Word, Told}
-use Rattle.rbc_spec.specs.Centre.{Centre, Phase, Closed, Opened, Up, Mission, is_closed}
-use Rattle.rbc_spec.specs.Acts.{Reply, ◌>>◌, say}
-use Rattle.rbc_spec.specs.Rules.{set_phase, drop_wait, close_session}
-use Rattle.rbc_spec.specs.Step.{Train, effect}
-use Rattle.law_base.proofs.Puts.{put_over}
+use Rattle.law_base.proofs.Lists.{put_over}
 use Rattle.rbc_book.specs.Book.{Pages}
+use Rattle.rbc_pending_start.specs.Waits.{HasWait, nothing_waits, telling, WaitState, with_wait}
 use Rattle.rbc_right.specs.Rights.{Rights}
-use Rattle.rbc_pending_start.specs.Waits.{WaitState, HasWait, nothing_waits, with_wait, telling}
-use Rattle.rbc_session.specs.SessionStates.{session_phase}
 use Rattle.rbc_session.specs.declared.session.SessionState.{SessionState}
-use Rattle.rbc_train.specs.Desk.{HearsTrain, with_parts, replied}
+use Rattle.rbc_session.specs.SessionStates.{session_phase}
+use Rattle.rbc_spec.specs.Acts.{◌>>◌, Reply, say}
+use Rattle.rbc_spec.specs.Centre.{Centre, Closed, is_closed, Mission, Opened, Phase, Up}
+use Rattle.rbc_spec.specs.Line.{Line}
+use Rattle.rbc_spec.specs.Maps.{put}
+use Rattle.rbc_spec.specs.Message.{InitiationOfSession, SessionEstablished, SystemVersion, TerminationAcknowledged}
+use Rattle.rbc_spec.specs.Message.{TerminationOfSession, TrackBody, unknown_group}
+use Rattle.rbc_spec.specs.Outcome.{Told, Word}
+use Rattle.rbc_spec.specs.Rules.{close_session, drop_wait, set_phase}
+use Rattle.rbc_spec.specs.Step.{effect, Train}
+use Rattle.rbc_train.proofs.Desk.{answer_to, answered_effect, by_reply, has_waiting, left_is, left_with, same_mission}
+use Rattle.rbc_train.proofs.Desk.{same_said, turned}
 use Rattle.rbc_train.specs.declared.train.TrainState.{TrainState}
-use Rattle.rbc_train.proofs.Desk.{answer_to, by_reply, answered_effect, turned, left_is, left_with, has_waiting, same_said, same_mission}
+use Rattle.rbc_train.specs.Desk.{HearsTrain, replied, with_parts}
 
 abbrev unasked : Mission → Mission
 unasked m = record m { proposal = None }
@@ -26,7 +28,7 @@ unasked m = record m { proposal = None }
 abbrev closed_at : ℕ → Centre → Centre
 closed_at t k = record k { phase = put k.phase t Closed; mission = put k.mission t (option_map unasked (k.mission t)) }
 
--- and then a start that waits is dropped
+-- a session closes, and then a start that waits is dropped
 closes : (line : Line) (c t : ℕ) (k : Centre) → close_session line c t k ≡ drop_wait line c t (closed_at t k)
 unfolding ◌>>◌
 closes line c t k = refl
@@ -47,7 +49,7 @@ module _ (line : Line) (c : ℕ) (k : Centre) (stamp : ℕ) (old : TrainState) (
       (ap (λ (x : Centre). replied x [] []) (left_is line c k old book rights h.parts session (Some stamp) old.said old.supervision.mission
       (put k.phase t Up) k.said k.mission (λ u. ap (λ p. put k.phase t p u) (sym up)) (same_said line c k old book rights h.parts) (same_mission line c k old book rights h.parts)))
 
-  -- where a start that waits is dropped so
+  -- if a waiting start is dropped
   module _ (w : WaitState) (book' : Pages) (told : List ℕ) (none : w ≡ nothing_waits old.waiting.engine old.waiting.has_asked)
       (drops : (j : Centre) → HasWait line c j old.waiting book → drop_wait line c old.waiting.engine j ≡ telling (with_wait w book' j) told) where
     abbrev new : TrainState

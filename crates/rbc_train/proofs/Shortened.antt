@@ -1,43 +1,46 @@
--- A train grants a request to shorten its authority: what comes of it is what its definition says.
-use Rattle.std.proofs.Common.{◌≡◌, ℕ, ◌*◌, ◌<◌, length, nat_le, ◌==◌, ◌&&◌, true, false, if◌then◌else◌, List, [], is_none, is_some, Option, Some, None, Result, Ok, Err, Bool, option_map, option_and_then, refl, sym, ap, ◌∙◌, subst}
-use Rattle.rbc_spec.specs.SectionRuns.{SectionRun, joined}
-use Rattle.rbc_spec.specs.Line.{Line, end}
-use Rattle.rbc_spec.specs.Place.{Position}
-use Rattle.rbc_spec.specs.Message.{TrainMessage, ShorteningGranted}
-use Rattle.rbc_spec.specs.Centre.{Centre, Up, Mission, Proposal, Expectation}
-use Rattle.rbc_spec.specs.Acts.{Act, rest, ◌>>◌, change_mission}
-use Rattle.rbc_spec.specs.Step.{Train, effect, is_unasked}
-use Rattle.law_base.proofs.Acts.{then_rest}
+-- A train grants a request to shorten its authority: the effect is that of its definition.
+use Rattle.std.proofs.Common.{[], ◌&&◌, ◌*◌, ◌<◌, ◌==◌, ◌∙◌, ◌≡◌, ap, Bool, Err, false, if◌then◌else◌, is_none, is_some}
+use Rattle.std.proofs.Common.{length, List, nat_le, None, Ok, Option, option_and_then, option_map, refl, Result, Some}
+use Rattle.std.proofs.Common.{subst, sym, true, ℕ}
+use Rattle.law_base.proofs.Worlds.{then_rest}
+use Rattle.rbc_allocation.specs.Sections.{FreesRun, rest_of, wished}
 use Rattle.rbc_book.specs.Book.{Pages}
-use Rattle.rbc_handover.specs.Handings.{handover_name}
+use Rattle.rbc_hand.specs.Hands.{Holding}
 use Rattle.rbc_handover.specs.declared.handing.HandoverName.{HandoverName}
-use Rattle.rbc_right.specs.Rights.{Rights, right_of}
+use Rattle.rbc_handover.specs.Handings.{handover_name}
+use Rattle.rbc_line.specs.declared.section_run.SectionRun.{SectionRun as SectionRunCode}
+use Rattle.rbc_line.specs.SectionRuns.{run_of}
+use Rattle.rbc_mission.specs.declared.held.HeldRight.{HeldRight}
+use Rattle.rbc_mission.specs.declared.held.HeldRight.TheVariants.{Held, Nothing as Nothing_held}
+use Rattle.rbc_mission.specs.Supervisions.{cut_run, hand_of, handing_in, handover_left, right_left, SupervisionState}
+use Rattle.rbc_mission.specs.Supervisions.{with_front}
+use Rattle.rbc_right.specs.Rights.{right_of, Rights}
 use Rattle.rbc_session.specs.SessionStates.{session_phase}
-use Rattle.rbc_shorten.specs.Answers.{freeing, act_of, on_asked, cut_of}
+use Rattle.rbc_shorten.specs.Answers.{act_of, cut_of, freeing, on_asked}
 use Rattle.rbc_shorten.specs.declared.answer.Cut.{Cut}
-use Rattle.rbc_shorten.specs.declared.answer.Cut.TheVariants.{Nothing, Keep}
+use Rattle.rbc_shorten.specs.declared.answer.Cut.TheVariants.{Keep, Nothing}
 use Rattle.rbc_shorten.specs.declared.answer.Unasked.{Unasked}
 use Rattle.rbc_shorten.specs.declared.facts.Proposal.{Proposal as ProposalCode}
-use Rattle.rbc_hand.specs.Hands.{Holding}
-use Rattle.rbc_line.specs.SectionRuns.{run_of}
-use Rattle.rbc_line.specs.declared.section_run.SectionRun.{SectionRun as SectionRunCode}
-use Rattle.rbc_allocation.specs.Sections.{FreesRun, rest_of, wished}
-use Rattle.rbc_mission.specs.Supervisions.{SupervisionState, hand_of, handing_in, with_front, cut_run, right_left, handover_left}
-use Rattle.rbc_mission.specs.declared.held.HeldRight.{HeldRight}
-use Rattle.rbc_mission.specs.declared.held.HeldRight.TheVariants.{Nothing as Nothing_held, Held}
-use Rattle.rbc_train.specs.Desk.{HasParts, HearsTrain, IsKeptAt, with_parts, replied, reply_left}
-use Rattle.rbc_train.specs.Homes.{GoesHome}
-use Rattle.rbc_train.specs.Letters.{cancel_of, mail_home, mail_of, mail_to}
+use Rattle.rbc_spec.specs.Acts.{◌>>◌, Act, change_mission, rest}
+use Rattle.rbc_spec.specs.Centre.{Centre, Expectation, Mission, Proposal, Up}
+use Rattle.rbc_spec.specs.Line.{end, Line}
+use Rattle.rbc_spec.specs.Message.{ShorteningGranted, TrainMessage}
+use Rattle.rbc_spec.specs.Place.{Position}
+use Rattle.rbc_spec.specs.SectionRuns.{joined, SectionRun}
+use Rattle.rbc_spec.specs.Step.{effect, is_unasked, Train}
+use Rattle.rbc_train.proofs.Cuts.{cuts, kept_of}
+use Rattle.rbc_train.proofs.Desk.{answered_effect, by_reply, mission_changed, with_mission}
+use Rattle.rbc_train.proofs.Kept.{kept_changed}
+use Rattle.rbc_train.proofs.Requests.{some_mapped}
+use Rattle.rbc_train.proofs.Turns.{does_then, has_left, heard_at, left_heard, parts_heard}
 use Rattle.rbc_train.specs.declared.heard.Heard.{Heard}
 use Rattle.rbc_train.specs.declared.letter.Letter.{Letter}
 use Rattle.rbc_train.specs.declared.train.TrainState.{TrainState}
-use Rattle.rbc_train.proofs.Cuts.{kept_of, cuts}
-use Rattle.rbc_train.proofs.Requests.{some_mapped}
-use Rattle.rbc_train.proofs.Desk.{by_reply, answered_effect, with_mission, mission_changed}
-use Rattle.rbc_train.proofs.Turns.{heard_at, parts_heard, left_heard, does_then, has_left}
-use Rattle.rbc_train.proofs.Kept.{kept_changed}
+use Rattle.rbc_train.specs.Desk.{HasParts, HearsTrain, IsKeptAt, replied, reply_left, with_parts}
+use Rattle.rbc_train.specs.Homes.{GoesHome}
+use Rattle.rbc_train.specs.Letters.{cancel_of, mail_home, mail_of, mail_to}
 
--- the request that stands, where the answer is to it
+-- the pending request, if the answer is to it
 pub asked_is : (f : ProposalCode → Cut) (o : Option ProposalCode) (stamp : ℕ) (x : Cut) → on_asked f o stamp ≡ Ok x → (p : ProposalCode) × (o ≡ Some p) × (f p ≡ x)
 asked_is f None stamp x is = cc
 asked_is f (Some p) stamp x is = by_stamp (p.stamp == stamp) is
@@ -92,7 +95,7 @@ module _ (line : Line) (c : ℕ) (k : Centre) (stamp : ℕ) (old : TrainState) (
   mid_has : HasParts line c (with_parts mid book rights at) mid book rights
   mid_has = has_left line c at (record old { heard = Some stamp }) mid book book rights rights has (λ s. refl) mid_kept
 
-  -- what an answer comes to
+  -- the effect of an answer
   answers : (act : Act) (left : TrainState) (book' : Pages) (rights' : Rights) (heard : Heard) → freeing line c t position n p ≡ act → left.supervision.engine ≡ t
       → (change_mission t unasked >> act) at ≡ reply_left line c t (with_parts left book' rights' at) heard
       → effect line c k (Train m) ≡ by_reply (reply_left line c t (with_parts left book' rights' k) heard)
@@ -108,7 +111,7 @@ module _ (line : Line) (c : ℕ) (k : Centre) (stamp : ℕ) (old : TrainState) (
   keeps_all frees =
       answers rest mid book rights (record { saying = None; order = None; mail = mail_of None; told = [] }) frees refl (then_rest (change_mission t unasked) at ∙ dropped)
 
-  -- another gives back what follows it
+  -- another gives back the sections after the end
   pub gives_back : (keep : ℕ) (left : SupervisionState) (hand : Holding) (book' : Pages) (rights' : Rights) (told : List ℕ) (cancelled : Option HandoverName) (letter : Option Letter) (sections : SectionRunCode)
       → freeing line c t position n p ≡ act_of line c t n p (Keep keep)
       → keep ≡ kept_of p.last_kept n.hand → old.supervision.number < length rights → left ≡ record old.supervision { mission = option_and_then (with_front line keep) old.supervision.mission; hand = hand }

@@ -1,32 +1,34 @@
--- What leaves the hand of a train that ends its mission at standstill, after what it has cleared.
-use Rattle.std.proofs.Common.{◌≡◌, ℕ, zero, suc, ◌+◌, ◌-◌, ◌<◌, ◌≤◌, ◌==◌, ◌&&◌, ◌||◌, not, if◌then◌else◌, Bool, true, false, List, ◌∷◌, ◌++◌, Option, Some, None, is_some, is_none, option_and_then, refl, sym, ap, ◌∙◌, subst, arith, eqb-true}
-use Rattle.std.specs.Option.{option_map_or}
-use Rattle.std.specs.List.{filter, range_with_len}
-use Rattle.std.proofs.lemmas.Bool.{false≢true, eqb-false, ne_eqb}
+-- The sections that leave the hand of a train that ends its mission at standstill, after the cleared ones.
+use Rattle.std.proofs.Common.{◌&&◌, ◌++◌, ◌+◌, ◌-◌, ◌<◌, ◌==◌, ◌||◌, ◌∙◌, ◌∷◌, ◌≡◌, ◌≤◌, ap, arith, Bool, eqb-true}
+use Rattle.std.proofs.Common.{false, if◌then◌else◌, is_none, is_some, List, None, not, Option, option_and_then, refl}
+use Rattle.std.proofs.Common.{Some, subst, suc, sym, true, zero, ℕ}
+use Rattle.std.proofs.lemmas.Bool.{eqb-false, false≢true, ne_eqb}
 use Rattle.std.proofs.lemmas.Option.{same_Some}
-use Rattle.rbc_spec.specs.SectionRuns.{SectionRun, no_run, within, is_empty, passing}
-use Rattle.rbc_spec.specs.Line.{Line}
-use Rattle.rbc_spec.specs.Place.{Place, Position, place_on}
-use Rattle.rbc_spec.specs.Centre.{Mission, Shut, Open, is_taken_for}
-use Rattle.rbc_spec.specs.Acts.{rest}
-use Rattle.rbc_spec.specs.Rules.{cut_ahead, stand_still}
-use Rattle.law_base.proofs.Longest.{longest_few}
-use Rattle.law_base.proofs.Runs.{within_none, within_after}
-use Rattle.rbc_book.specs.Book.{Pages, entry_at, wish_at}
-use Rattle.rbc_hand.specs.Hands.{Holding}
+use Rattle.std.specs.List.{filter, range_with_len}
+use Rattle.std.specs.Option.{option_map_or}
+use Rattle.law_base.proofs.Runs.{longest_few, within_after, within_none}
 use Rattle.rbc_allocation.specs.Sections.{FreesRun, front_of, rest_of, wished}
-use Rattle.rbc_mission.specs.Supervisions.{SupervisionState, HasRouteForm, hand_of, without_front, with_front, still_handing, right_left}
-use Rattle.rbc_mission.specs.declared.held.HeldRight.TheVariants.{Nothing as HeldNothing, Held}
+use Rattle.rbc_book.specs.Book.{entry_at, Pages, wish_at}
+use Rattle.rbc_hand.specs.Hands.{Holding}
+use Rattle.rbc_mission.specs.declared.held.HeldRight.TheVariants.{Held, Nothing as HeldNothing}
+use Rattle.rbc_mission.specs.Supervisions.{hand_of, HasRouteForm, right_left, still_handing, SupervisionState}
+use Rattle.rbc_mission.specs.Supervisions.{with_front, without_front}
 use Rattle.rbc_right.specs.Rights.{right_of}
-use Rattle.rbc_shorten.specs.Standstill.{ahead_of, begins_before, standing_act}
 use Rattle.rbc_shorten.proofs.Ahead.{ahead_is_cut}
-use Rattle.rbc_shorten.specs.declared.answer.Cut.TheVariants.{Nothing, Keep}
-use Rattle.rbc_train.specs.Desk.{IsKeptAt}
-use Rattle.rbc_train.specs.Standstill.{cleared_count, uncleared, left_ahead, LeavesFront, IsAhead}
-use Rattle.rbc_train.specs.declared.train.TrainState.{TrainState}
+use Rattle.rbc_shorten.specs.declared.answer.Cut.TheVariants.{Keep, Nothing}
+use Rattle.rbc_shorten.specs.Standstill.{ahead_of, begins_before, standing_act}
+use Rattle.rbc_spec.specs.Acts.{rest}
+use Rattle.rbc_spec.specs.Centre.{is_taken_for, Mission, Open, Shut}
+use Rattle.rbc_spec.specs.Line.{Line}
+use Rattle.rbc_spec.specs.Place.{Place, place_on, Position}
+use Rattle.rbc_spec.specs.Rules.{cut_ahead, stand_still}
+use Rattle.rbc_spec.specs.SectionRuns.{is_empty, no_run, passing, SectionRun, within}
 use Rattle.rbc_train.proofs.Cuts.{kept_of}
+use Rattle.rbc_train.specs.declared.train.TrainState.{TrainState}
+use Rattle.rbc_train.specs.Desk.{IsKeptAt}
+use Rattle.rbc_train.specs.Standstill.{cleared_count, IsAhead, LeavesFront, left_ahead, uncleared}
 
--- some are kept where something is cut off, and not all
+-- if something is cut off, some sections are kept, but not all
 pub keeps_some : (line : Line) (r : SectionRun) (front keep : ℕ) → ahead_of line r front ≡ Keep keep → (1 ≤ keep) × (keep < r.count)
 keeps_some line r front keep is = by (passing (begins_before line front) r == 0) (passing (begins_before line front) r == r.count) refl refl is
   where
@@ -45,7 +47,7 @@ keeps_some line r front keep is = by (passing (begins_before line front) r == 0)
 pub kept_at : (keep : ℕ) (hand : SectionRun) → 1 ≤ keep → keep ≤ hand.count → keep ≡ kept_of (hand.first + keep - 1) hand
 kept_at keep hand some few = omega (arith, some, few)
 
--- ## What is left of the mission
+-- ## The rest of the mission
 
 front_left : (line : Line) (keep : ℕ) (o : Option Mission) (m : Mission) → option_and_then (with_front line keep) o ≡ Some m
     → (n : Mission) × (o ≡ Some n) × (keep ≡ 0 → ⊥)
@@ -70,7 +72,7 @@ pool_gone line keep (Some n) = by (keep == 0)
     by true = refl
     by false = refl
 
--- and no right goes back
+-- no right is returned
 pub none_back : (line : Line) (keep : ℕ) → 1 ≤ keep → (old left : SupervisionState) → left.mission ≡ option_and_then (with_front line keep) old.mission → right_left old left ≡ HeldNothing
 none_back line keep some old left is =
     (λ i. if is_some old.mission && is_none (is i) then Held (right_of old.number) else HeldNothing) ∙ by old.mission
@@ -110,7 +112,7 @@ kept_cut line c p left hand keep few is kept = subst (λ (x : SupervisionState).
       few = omega arith;
     }
 
--- where something is cut off, the mission stands with what the train has not cleared
+-- if something is cut off, the mission goes on with the sections that the train has not cleared
 pub goes_so : (line : Line) (t track : ℕ) (position : Position) (book book' : Pages) (old mid : SupervisionState) (n : Mission) (keep : ℕ) (told all : List ℕ) → old.mission ≡ Some n
     → (a : IsAhead line t track position (hand_of old) book keep all) → LeavesFront line a.place old mid told book book'
     → mid.mission ≡ Some (record n { place = a.place; hand = uncleared line a.place n.hand })
@@ -134,7 +136,7 @@ keeps_fit line t track position book book' old mid n keep told all there a leave
     let less = keeps_some line (uncleared line a.place n.hand) a.place.front keep ((λ i. ahead_of line (uncleared line a.place (hand_of (record old { mission = sym there i }))) a.place.front) ∙ a.cut) in
     subst (λ (o : Option Mission). keep ≤ (option_map_or (λ m. m.hand) o no_run).count) (sym (goes_so line t track position book book' old mid n keep told all there a leaves)) (omega (arith, less.1))
 
--- what a mission has that still stands
+-- the hand of a mission that is still here
 pub left_hand : (line : Line) (p : Place) (old mid : SupervisionState) (n y : Mission) (told : List ℕ) (book book' : Pages) → old.mission ≡ Some n → LeavesFront line p old mid told book book'
     → mid.mission ≡ Some y → y.hand ≡ uncleared line p n.hand
 left_hand line p old mid n y told book book' there leaves stays =
@@ -145,7 +147,7 @@ left_hand line p old mid n y told book book' there leaves stays =
     by true e = cc
     by false e = ap (λ (x : Mission). x.hand) (sym (same_Some (record n { place = p; hand = uncleared line p n.hand }) y e))
 
--- where nothing lies ahead, nothing is cut
+-- if no section is ahead, nothing is cut
 pub still_by : (line : Line) (c t : ℕ) (position : Position) (track : ℕ) (hand : SectionRun) → left_ahead line track position hand ≡ Nothing → (y : Mission) → y.place.track ≡ track
     → ((p : Place) → place_on line track position ≡ Some p → y.hand ≡ uncleared line p hand) → stand_still line c t position y ≡ rest
 still_by line c t position track hand nothing y on left = by (position.v_train == 0) nothing
@@ -159,7 +161,7 @@ still_by line c t position track hand nothing y on left = by (position.v_train =
     by false none = refl
     by true none = ap (λ (u : ℕ). option_map_or (cut_ahead line c t y) (place_on line u position) rest) on ∙ by_place (place_on line track position) refl none
 
--- ## What is told
+-- ## The reports
 
 filter-range_same : (p q : ℕ → Bool) (a n : ℕ) → ((s : ℕ) → a ≤ s → s < a + n → p s ≡ q s) → filter p (range_with_len a n) ≡ filter q (range_with_len a n)
 filter-range_same p q a zero same = refl
@@ -181,7 +183,7 @@ wished_after t front r book book' frees apart = filter-range_same _ _ r.first r.
         ∙ (λ i. is_taken_for t (if past i && is_taken_for t (entry_at book s) then (if wish_at book s then Shut else Open) else entry_at book s)
         && (not (past i && is_taken_for t (entry_at book s)) && wish_at book s))
 
--- what is told of both is told of all that leaves
+-- the reports of both are those of all that leave
 pub tells_all : (line : Line) (track : ℕ) (position : Position) (book book' : Pages) (old mid : SupervisionState) (n : Mission) (keep : ℕ) (told later all : List ℕ) → old.mission ≡ Some n
     → (a : IsAhead line old.engine track position (hand_of old) book keep all) → LeavesFront line a.place old mid told book book'
     → later ≡ wished old.engine (rest_of keep (uncleared line a.place n.hand)) book' → told ≡ wished old.engine (front_of (cleared_count line a.place (hand_of old)) (hand_of old)) book → told ++ later ≡ all

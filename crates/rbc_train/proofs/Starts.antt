@@ -1,41 +1,43 @@
--- A start of mission comes to what its definition says.
-use Rattle.std.proofs.Common.{◌≡◌, ℕ, ◌≤◌, ◌==◌, ◌&&◌, ◌+◌, if◌then◌else◌, Bool, true, false, [], ◌∷◌, Option, Some, None, option_map, is_some, refl, sym, ap, ◌∙◌, arith}
+-- A start of mission has the effect of its definition.
+use Rattle.std.proofs.Common.{[], ◌&&◌, ◌+◌, ◌==◌, ◌∙◌, ◌∷◌, ◌≡◌, ◌≤◌, ap, arith, Bool, false, if◌then◌else◌, is_some}
+use Rattle.std.proofs.Common.{None, Option, option_map, refl, Some, sym, true, ℕ}
 use Rattle.std.specs.Option.{option_map_or}
-use Rattle.rbc_spec.specs.Maps.{put}
-use Rattle.rbc_spec.specs.SectionRuns.{SectionRun, within, all_of}
-use Rattle.rbc_spec.specs.Line.{Line, IsLine, registrar}
-use Rattle.rbc_spec.specs.Place.{Place, Position, is_fit, covered, fit_place}
-use Rattle.rbc_spec.specs.Message.{TrackBody, StartOfMission, TrainAccepted, TrainRejected, unknown_group}
-use Rattle.rbc_spec.specs.Frame.{AskRight}
-use Rattle.rbc_spec.specs.Centre.{Centre, Up, Mission, Taken, is_open, is_free, is_registrar_of}
-use Rattle.rbc_spec.specs.Acts.{Reply, ◌>>◌, say}
-use Rattle.rbc_spec.specs.Rules.{start_mission, start_here, start_waiting}
-use Rattle.rbc_spec.specs.Step.{Train, effect}
-use Rattle.law_base.proofs.Puts.{put_there}
-use Rattle.law_base.proofs.LocalLemmas.Ordered.{is_ordered}
-use Rattle.law_base.proofs.LocalLemmas.Fits.{begun_local, fit_parts}
-use Rattle.rbc_book.specs.Book.{Pages}
-use Rattle.rbc_linkmsg.specs.declared.body.Body.TheVariants as code
-use Rattle.rbc_right.specs.Rights.{Rights, is_here, right_of}
-use Rattle.rbc_right.specs.Answers.{answer}
-use Rattle.rbc_right.specs.declared.right.Right.{Right}
-use Rattle.rbc_right.specs.declared.registrar.Asked.TheVariants.{Given}
-use Rattle.rbc_pending_start.specs.Waits.{WaitState, with_wait, asks, asking}
-use Rattle.rbc_session.specs.SessionStates.{session_phase}
-use Rattle.rbc_hand.specs.Hands.{Holding}
+use Rattle.law_base.proofs.Lists.{put_there}
+use Rattle.law_base.proofs.LocalLemmas.Homes.{begun_local, fit_parts}
+use Rattle.law_base.proofs.LocalLemmas.Worlds.{is_ordered}
 use Rattle.rbc_allocation.specs.Sections.{TakesRun}
-use Rattle.rbc_mission.specs.Supervisions.{SupervisionState, mission_at}
-use Rattle.rbc_train.specs.Desk.{HasParts, HearsTrain, with_parts, replied, posted, reply_left}
-use Rattle.rbc_train.specs.Letters.{letters, mail_of}
-use Rattle.rbc_train.specs.Sayings.{sayings_of}
-use Rattle.rbc_train.specs.Starts.{started}
+use Rattle.rbc_book.specs.Book.{Pages}
+use Rattle.rbc_hand.specs.Hands.{Holding}
+use Rattle.rbc_linkmsg.specs.declared.body.Body.TheVariants as code
+use Rattle.rbc_mission.specs.Supervisions.{mission_at, SupervisionState}
+use Rattle.rbc_pending_start.specs.Waits.{asking, asks, WaitState, with_wait}
+use Rattle.rbc_right.specs.Answers.{answer}
+use Rattle.rbc_right.specs.declared.registrar.Asked.TheVariants.{Given}
+use Rattle.rbc_right.specs.declared.right.Right.{Right}
+use Rattle.rbc_right.specs.Rights.{is_here, right_of, Rights}
+use Rattle.rbc_session.specs.SessionStates.{session_phase}
+use Rattle.rbc_spec.specs.Acts.{◌>>◌, Reply, say}
+use Rattle.rbc_spec.specs.Centre.{Centre, is_free, is_open, is_registrar_of, Mission, Taken, Up}
+use Rattle.rbc_spec.specs.Frame.{AskRight}
+use Rattle.rbc_spec.specs.Line.{IsLine, Line, registrar}
+use Rattle.rbc_spec.specs.Maps.{put}
+use Rattle.rbc_spec.specs.Message.{StartOfMission, TrackBody, TrainAccepted, TrainRejected, unknown_group}
+use Rattle.rbc_spec.specs.Place.{covered, fit_place, is_fit, Place, Position}
+use Rattle.rbc_spec.specs.Rules.{start_here, start_mission, start_waiting}
+use Rattle.rbc_spec.specs.SectionRuns.{all_of, SectionRun, within}
+use Rattle.rbc_spec.specs.Step.{effect, Train}
+use Rattle.rbc_train.proofs.Desk.{answer_to, answered_effect, by_reply, heard_said, mission_changed, mission_left}
+use Rattle.rbc_train.proofs.Desk.{same_state, wait_left, with_mission}
+use Rattle.rbc_train.proofs.Turns.{heard_at, left_heard, parts_heard, says}
 use Rattle.rbc_train.specs.declared.heard.Heard.{Heard}
 use Rattle.rbc_train.specs.declared.letter.Letter.{Letter}
 use Rattle.rbc_train.specs.declared.start_of_mission.Start.{Start}
 use Rattle.rbc_train.specs.declared.start_of_mission.Start.TheVariants.{Waiting}
 use Rattle.rbc_train.specs.declared.train.TrainState.{TrainState}
-use Rattle.rbc_train.proofs.Desk.{by_reply, answered_effect, same_state, wait_left, mission_left, with_mission, mission_changed, answer_to, heard_said}
-use Rattle.rbc_train.proofs.Turns.{heard_at, parts_heard, left_heard, says}
+use Rattle.rbc_train.specs.Desk.{HasParts, HearsTrain, posted, replied, reply_left, with_parts}
+use Rattle.rbc_train.specs.Letters.{letters, mail_of}
+use Rattle.rbc_train.specs.Sayings.{sayings_of}
+use Rattle.rbc_train.specs.Starts.{started}
 
 -- the sections of a place that is fit are one at least
 pub some_covered : (line : Line) (place : Place) (run : SectionRun) → IsLine line → is_fit line place ≡ true → run ≡ covered line place → 1 ≤ run.count
@@ -45,12 +47,12 @@ some_covered line place run of_line fit covers =
     let some = begun.some in
     omega (arith, some, count)
 
--- a mission that stands
+-- the mission that is here
 pub standing : (o : Option Mission) → is_some o ≡ true → (m : Mission) × (o ≡ Some m)
 standing (Some m) is = (m, refl)
 standing None is = cc
 
--- what is not there is not in another form either
+-- a missing value is missing in the other form too
 pub none_there : {X Y : Type 0} (f : X → Y) (o : Option X) → is_some o ≡ false → option_map f o ≡ None
 none_there f (Some x) is = cc
 none_there f None is = refl
@@ -63,7 +65,7 @@ given false i right is = cc
 abbrev again : Place → Mission → Mission
 again place m = record m { place = place; has_data = false; is_ended = false; proposal = None }
 
--- the letter to the registrar says what the rules have asked
+-- the letter to the registrar is the question of the rules
 asked_by_letter : (t : ℕ) (o : Option ℕ) → letters (option_map (λ (r : ℕ). record { to = r; body = code.AskRight t }) o) ≡ (λ d. option_map_or (λ r. if d == r then AskRight t ∷ [] else []) o [])
 asked_by_letter t (Some r) = refl
 asked_by_letter t None = refl
@@ -134,7 +136,7 @@ module _ (line : Line) (c : ℕ) (k : Centre) (old : TrainState) (book : Pages) 
   pub sends_ask : (letter : Option Letter) → letter ≡ option_map (λ (r : ℕ). record { to = r; body = code.AskRight t }) (registrar line t) → letters letter ≡ asks line t true
   sends_ask letter is = ap letters is ∙ asked_by_letter t (registrar line t)
 
--- a start of mission that was heard
+-- a start of mission with an answer
 module _ (line : Line) (c : ℕ) (k : Centre) (stamp : ℕ) (old : TrainState) (book : Pages) (rights : Rights) (h : HearsTrain line c k stamp old book rights) (is_valid : Bool) (position : Position)
     (start : Start) (mid : TrainState) (book' : Pages) (rights' : Rights) (up : session_phase old.session_state ≡ Up) (none : old.waiting.wait ≡ None) (engine : mid.supervision.engine ≡ old.supervision.engine)
     (starting : (j : Centre) → HasParts line c j (record old { heard = Some stamp }) book rights
@@ -162,7 +164,7 @@ module _ (line : Line) (c : ℕ) (k : Centre) (stamp : ℕ) (old : TrainState) (
       ∙ ap (λ (x : Centre). replied x (answer_to t' (mid.said + 1) body) []) (left_heard line c k stamp old book rights h.parts (record mid { said = mid.said + 1 }) book' rights' engine)
       ∙ sym (heard_said line c t' k new (record mid { said = mid.said + 1 }) book' rights' heard (answer_to t' (mid.said + 1) body) left (said ∙ ap (λ (e : ℕ). answer_to e (mid.said + 1) body) engine) nothing_else))
 
-  -- or its start waits
+  -- the start waits
   pub starts_waiting : (letter : Option Letter) → start ≡ Waiting letter
       → effect line c k (Train (record { t_train = stamp; nid_engine = old.supervision.engine; body = StartOfMission is_valid position }))
       ≡ by_reply (posted (letters letter) (replied (with_parts mid book' rights' k) [] []))

@@ -16,7 +16,7 @@ use Rattle.rbc_train.specs.declared.reason.Reason.{Reason as ReasonCode}
 use Rattle.rbc_train.specs.declared.train.TrainState.{TrainState}
 use Rattle.rbc_train.proofs.Desk.{silent_effect, same_parts}
 
--- what every message is looked at for first
+-- the first reasons that are checked for every message
 reasons_begin : (body : TrainBody) → (rest : List Reason) × (reasons_of body ≡ ForeignEngine ∷ StaleStamp ∷ rest)
 reasons_begin InitiationOfSession = (_, refl)
 reasons_begin TerminationOfSession = (_, refl)

@@ -1,4 +1,4 @@
--- What a set and an unset of the interlocking come to, each reply whole.
+-- The whole replies to a set and to an unset.
 use Rattle.std.proofs.Common.{◌≡◌, ℕ, ◌==◌, Bool, true, false, cond, refl, ap, ◌∙◌, [], ◌∷◌}
 use Rattle.rbc_spec.specs.Maps.{put}
 use Rattle.rbc_spec.specs.Outcome.{Done}
@@ -28,7 +28,7 @@ left_at_unset line c s k home = rw home refl
 
 -- ## A set
 
--- the same value put twice
+-- the same value put twice is put once
 put_twice : {X : Type 0} (f : ℕ → X) (s : ℕ) (x : X) (j : ℕ) → put (put f s x) s x j ≡ put f s x j
 put_twice f s x j = by_place (j == s)
   where
@@ -36,7 +36,7 @@ put_twice f s x j = by_place (j == s)
     by_place true = refl
     by_place false = refl
 
--- the wish of a section ends twice where it opens
+-- the wish for a section that is opened ends twice
 opened_twice : (line : Line) (c s : ℕ) (k : Centre) → is_home line c s ≡ true → is_unused (k.book s) ≡ true
     → set line c s k ≡ record { state = record k { book = put k.book s Open; wish = put (put k.wish s false) s false }; frames = λ d. []; sayings = []; words = Done s ∷ [] }
 unfolding ◌>>◌

@@ -1,22 +1,22 @@
 -- One act and then another at a centre, by the parts of its state that they change.
-use Rattle.std.proofs.Common.{◌≡◌, ℕ, List, [], ◌∷◌, ◌++◌, Some, refl, sym, ap, subst, ◌∙◌, ◌+◌}
-use Rattle.rbc_spec.specs.Maps.{put}
-use Rattle.rbc_spec.specs.Line.{Line}
-use Rattle.rbc_spec.specs.Message.{TrackBody}
-use Rattle.rbc_spec.specs.Frame.{Body}
-use Rattle.rbc_spec.specs.Outcome.{Saying}
-use Rattle.rbc_spec.specs.Centre.{Centre}
-use Rattle.rbc_spec.specs.Acts.{Act, Reply, ◌>>◌, say}
-use Rattle.law_base.proofs.Puts.{put_there, put_over}
-use Rattle.rbc_book.specs.Book.{Pages, is_own, entry_at, wish_at}
-use Rattle.rbc_right.specs.Rights.{Rights, is_here}
+use Rattle.std.proofs.Common.{[], ◌++◌, ◌+◌, ◌∙◌, ◌∷◌, ◌≡◌, ap, List, refl, Some, subst, sym, ℕ}
+use Rattle.law_base.proofs.Lists.{put_over, put_there}
+use Rattle.rbc_book.specs.Book.{entry_at, is_own, Pages, wish_at}
 use Rattle.rbc_handover.specs.Expectations.{expected_from}
+use Rattle.rbc_right.specs.Rights.{is_here, Rights}
 use Rattle.rbc_session.specs.SessionStates.{session_phase}
-use Rattle.rbc_train.specs.Desk.{HasParts, IsKeptAt, with_parts, replied, posted}
-use Rattle.rbc_train.specs.declared.train.TrainState.{TrainState}
+use Rattle.rbc_spec.specs.Acts.{◌>>◌, Act, Reply, say}
+use Rattle.rbc_spec.specs.Centre.{Centre}
+use Rattle.rbc_spec.specs.Frame.{Body}
+use Rattle.rbc_spec.specs.Line.{Line}
+use Rattle.rbc_spec.specs.Maps.{put}
+use Rattle.rbc_spec.specs.Message.{TrackBody}
+use Rattle.rbc_spec.specs.Outcome.{Saying}
 use Rattle.rbc_train.proofs.Desk.{same_state}
+use Rattle.rbc_train.specs.declared.train.TrainState.{TrainState}
+use Rattle.rbc_train.specs.Desk.{HasParts, IsKeptAt, posted, replied, with_parts}
 
--- by what each comes to
+-- by the effect of each
 pub in_turn : (a b : Act) (k : Centre) (r q : Reply) → a k ≡ r → b r.state ≡ q
     → (a >> b) k ≡ record { state = q.state; frames = λ d. r.frames d ++ q.frames d; sayings = r.sayings ++ q.sayings; words = r.words ++ q.words }
 unfolding ◌>>◌
@@ -44,7 +44,7 @@ parts_over mid new book book' rights rights' k engine = λ i. record k {
     over : {X : Type 0} (x y : X) (f : ℕ → X) (u : ℕ) → put (put f mid.supervision.engine y) new.supervision.engine x u ≡ put f new.supervision.engine x u
     over x y f u = (λ l. put (put f (sym engine l) y) new.supervision.engine x u) ∙ put_over new.supervision.engine x y f u
 
--- an act that says, tells and sends nothing, and then another
+-- an act without messages, reports and frames, and then another
 pub does_then : (a b : Act) (k : Centre) (mid new : TrainState) (book book' : Pages) (rights rights' : Rights) (sayings : List Saying) (told : List ℕ) (frames : ℕ → List Body)
     → new.supervision.engine ≡ mid.supervision.engine → a k ≡ replied (with_parts mid book rights k) [] []
     → b (with_parts mid book rights k) ≡ posted frames (replied (with_parts new book' rights' (with_parts mid book rights k)) sayings told)
@@ -74,7 +74,7 @@ has_left line c k old mid book book' rights rights' has homes kept = record {
   has_expects = λ d. put_there (k.expects d) mid.supervision.engine (expected_from mid.expectations d);
 }
 
--- a message that was heard, and then what it is answered
+-- a recorded message, and then its answer
 module _ (line : Line) (c : ℕ) (k : Centre) (stamp : ℕ) (old : TrainState) (book : Pages) (rights : Rights) (has : HasParts line c k old book rights) where
   abbrev pub heard_at : Centre
   heard_at = record k { heard = put k.heard old.supervision.engine (Some stamp) }
@@ -91,7 +91,7 @@ module _ (line : Line) (c : ℕ) (k : Centre) (stamp : ℕ) (old : TrainState) (
   pub left_heard : (new : TrainState) (book' : Pages) (rights' : Rights) → new.supervision.engine ≡ old.supervision.engine → with_parts new book' rights' heard_at ≡ with_parts new book' rights' k
   left_heard new book' rights' engine = ap (with_parts new book' rights') heard_is ∙ parts_over (record old { heard = Some stamp }) new book book' rights rights' k engine
 
--- something is said to the train after what was left
+-- a message is sent to the train after that
 pub says : (t group : ℕ) (body : TrackBody) (p : TrainState) (book : Pages) (rights : Rights) (k : Centre) → p.supervision.engine ≡ t
     → say t group body (with_parts p book rights k) ≡ replied (with_parts (record p { said = p.said + 1 }) book rights k)
     (record { nid_engine = t; message = record { t_train = p.said + 1; nid_lrbg = group; body = body } } ∷ []) []

@@ -1,4 +1,4 @@
--- A message that needs the session up, or a mission, is left without an answer where it does not find it.
+-- A message that needs the session up, or a mission, is silent if it does not find it.
 use Rattle.std.proofs.Common.{◌≡◌, ℕ, true, false, List, ◌∷◌, Some, None, option_map, is_none, Err, ap, sym, ◌∙◌}
 use Rattle.std.specs.List.{find}
 use Rattle.rbc_spec.specs.Line.{Line}
@@ -42,7 +42,7 @@ module _ (line : Line) (c : ℕ) (k : Centre) (stamp : ℕ) (old : TrainState) (
       by Opened at e = rw (h.known, h.parts.has_heard, h.timely, out k (ap is_up at), at) (ap (option_map reason_of) e)
       by Up at e = cc
 
-  -- it is, and no mission stands here
+  -- the session is up, and the train has no mission here
   pub no_mission : (rest : List spec.Reason) → reasons_of body ≡ spec.ForeignEngine ∷ spec.StaleStamp ∷ spec.NoSession ∷ spec.WrongPhase ∷ spec.NotSupervised ∷ rest
       → ((j : Centre) → is_up (j.phase t) ≡ true → is_out_of_phase j t body ≡ false) → ((j : Centre) → is_unsupervised line c j t body ≡ is_none (j.mission t))
       → session_phase old.session_state ≡ Up → (why : Reason) → (old.supervision.mission ≡ None) × (why ≡ reason.NotSupervised)

@@ -1,4 +1,4 @@
--- A mission is yielded to the centre that takes over, if its handover stands so.
+-- A mission is yielded to the centre that takes over, if its handover is pending.
 use Rattle.std.proofs.Common.{◌≡◌, ℕ, ◌==◌, if◌then◌else◌, List, [], ◌∷◌, ◌++◌, Option, Some, None, refl, sym, ap, ◌∙◌}
 use Rattle.std.specs.Option.{option_map_or}
 use Rattle.std.proofs.lemmas.List.{append-nil}
@@ -29,12 +29,12 @@ use Rattle.rbc_train.specs.declared.train.TrainState.{TrainState}
 use Rattle.rbc_train.proofs.Desk.{same_state}
 use Rattle.rbc_train.proofs.Letters.{sends_home}
 
--- an order that follows a saying
+-- an order after a message
 pub told_both : (saying order : Option Saying) → sayings_of saying ++ sayings_of order ≡ told_train saying order
 told_both saying None = append-nil (sayings_of saying)
 told_both saying (Some o) = refl
 
--- an order alone is all that the train is told
+-- only an order is sent to the train
 pub told_order : (order : Option Saying) → sayings_of order ≡ told_train None order
 told_order None = refl
 told_order (Some o) = refl
@@ -43,7 +43,7 @@ module _ (line : Line) (c from number : ℕ) (k : Centre) (old : TrainState) (bo
   abbrev t : ℕ
   t = old.supervision.engine
 
-  -- no handover stands so: nothing changes
+  -- no such handover is pending: nothing changes
   pub stays : (left : SupervisionState) (book' : Pages) → left ≡ old.supervision → book' ≡ book → taking_over line c from number t k ≡ rest (with_supervision left (with_book book' k))
       → taking_over line c from number t k
       ≡ reply_left line c t (with_parts (record old { supervision = left }) book' rights k) (record { saying = None; order = None; mail = mail_of None; told = [] })
@@ -102,7 +102,7 @@ module _ (line : Line) (c from number : ℕ) (k : Centre) (old : TrainState) (bo
     unfolding ◌>>◌ home off
     sent = refl
 
-    -- what is left, and said
+    -- the state after it, with the count of messages
     abbrev left : Centre
     left = counted_to t new.said at
 

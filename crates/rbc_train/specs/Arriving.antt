@@ -1,4 +1,4 @@
--- A mission that comes from the centre that hands it over.
+-- A mission that arrives from the handing-over centre.
 use Rattle.std.specs.Prelude.{◌≡◌, ◌+◌, ◌≤◌, ℕ, true, length, List, Option, Some, None, max}
 use Rattle.std.specs.Option.{option_map_or}
 use Rattle.rbc_spec.specs.Line.{Line}
@@ -20,14 +20,14 @@ abbrev pub yielded_at : Line → ℕ → ℕ → Arriving → Place → Act
 yielded_at line c t a =
     yielded line c a.from a.number t (run_of a.yielding.hand) a.yielding.heard a.yielding.has_data a.yielding.is_ended
 
--- a mission with this hand may go on with the train: none stands here, the sections are of the line, and those of the
--- book's home are out for it
+-- A mission with this hand may go on here. The train has no mission here, the sections are of the line, and those of
+-- the book's home are out for it.
 pub record MayGoOn (line : Line) (p : SupervisionState) (hand : SectionRun) (book : Pages) : Type 0 where
   pub none : p.mission ≡ None
   pub on_line : hand.first + hand.count ≤ length line.sections
   pub own : (s : ℕ) → within hand s ≡ true → is_own book s ≡ true → is_out_for p.engine (entry_at book s) ≡ true
 
--- the mission, at this place
+-- the mission that arrives, at this place
 abbrev pub coming_mission : Yielding → Place → Mission
 coming_mission y place = record {
   place = place;
@@ -39,7 +39,7 @@ coming_mission y place = record {
   handing = None;
 }
 
--- the train with it, with the later of both stamps, where this is held of the hand, and this is expected from then on
+-- the train with the mission, the later of both stamps, these holdings of the hand, and these expectations
 abbrev pub taken_up : Yielding → Place → Holding → List (Option Expectation) → TrainState → TrainState
 taken_up y place hand e p = record p {
   heard = Some (option_map_or (max y.heard) p.heard y.heard);

@@ -28,13 +28,13 @@ use Rattle.rbc_train.specs.declared.mail.Mail.{Mail}
 use Rattle.rbc_train.specs.declared.reason.Reason.{Reason}
 use Rattle.rbc_train.specs.declared.train.TrainState.{TrainState}
 
--- the pool of the mission, if one stands, follows its hand, and no section of it is of home c
+-- the pool of the mission, if there is one, follows its hand, and no section of it is of home c
 pub record HasPoolAt (line : Line) (c : ℕ) (mission : Option Mission) : Type 0 where
   pub follows : (m : Mission) → mission ≡ Some m → is_empty m.pool ≡ false → m.pool.first ≡ next_after m.hand
   pub away : (m : Mission) → mission ≡ Some m → (s : ℕ) → within m.pool s ≡ true → is_home line c s ≡ false
 
--- The pool of the train's mission follows its hand and is of other homes, what is claimed for a start that waits is
--- what its place covers, and of each centre of the line it is known whether the train is expected from there
+-- The pool of the train's mission follows its hand and is of other homes. The claims of a waiting start are the
+-- sections that its place covers. For each centre of the line it is known whether the train is expected from there.
 pub record IsKeptAt (line : Line) (c : ℕ) (p : TrainState) : Type 0 where
   pub one_train : p.waiting.engine ≡ p.supervision.engine
   pub form : (m : Mission) → p.supervision.mission ≡ Some m → HasRouteForm m
@@ -48,8 +48,7 @@ IsOnTrack line p =
     (m : Mission) → p.supervision.mission ≡ Some m → (s : ℕ) → within m.hand s ≡ true
     → is_on line m.place.track s ≡ true
 
--- each section of the train's hand is held as it has to be at centre c: one of its home by a claim, and another by its
--- name
+-- each section of the train's hand is held as centre c has to hold it: its own by a claim, others by name
 abbrev pub IsHeld : Line → ℕ → TrainState → Type 0
 IsHeld line c p = IsHeldAt p.supervision.engine (is_home line c) p.supervision.hand
 
@@ -81,7 +80,7 @@ pub record HasParts (line : Line) (c : ℕ) (k : Centre) (p : TrainState) (book 
   pub has_right : k.has_right p.supervision.engine ≡ is_here rights p.supervision.number
   pub has_expects : (d : ℕ) → k.expects d p.supervision.engine ≡ expected_from p.expectations d
 
--- and it hears the train, of the line, with a T_TRAIN above the last
+-- the centre has these parts, and may take a message of the train, which is of the line, with a T_TRAIN above the last
 pub record HearsTrain (line : Line) (c : ℕ) (k : Centre) (stamp : ℕ) (p : TrainState) (book : Pages)
     (rights : Rights) : Type 0 where
   pub parts : HasParts line c k p book rights
@@ -104,7 +103,7 @@ with_parts p book rights k = record k {
   expects = λ d. put (k.expects d) p.supervision.engine (expected_from p.expectations d);
 }
 
--- the centre that has said so many messages to the train
+-- the centre with this count of messages to the train
 abbrev pub counted_to : ℕ → ℕ → Centre → Centre
 counted_to t said k = record k { said = put k.said t said }
 
@@ -112,9 +111,9 @@ counted_to t said k = record k { said = put k.said t said }
 abbrev pub with_right : ℕ → Bool → Centre → Centre
 with_right t is_here k = record k { has_right = put k.has_right t is_here }
 
--- ## What an act and a message come to
+-- ## The effect of an act and of a message
 
--- a reply that leaves this, says and tells this, and sends no frame
+-- a reply with this state, these messages and these reports, without frames
 abbrev pub replied : Centre → List Saying → List ℕ → Reply
 replied k sayings told = record { state = k; frames = λ d. []; sayings = sayings; words = map (λ s. Told s) told }
 
@@ -122,15 +121,15 @@ replied k sayings told = record { state = k; frames = λ d. []; sayings = saying
 abbrev pub posted : (ℕ → List Body) → Reply → Reply
 posted frames reply = record reply { frames = frames }
 
--- nothing is said to the train, and other centres and the interlocking are told this
+-- no message to the train; this mail and these reports
 abbrev pub unsaid : Mail → List ℕ → Heard
 unsaid mail told = record { saying = None; order = None; mail = mail; told = told }
 
--- nothing is said, sent or told
+-- no message, mail or report
 abbrev pub nothing : Heard
 nothing = unsaid (mail_of None) []
 
--- nothing is written yet of what is said, sent or told, and one message more may be said to the train
+-- the effect is still empty, and one further message may be sent to the train
 pub record IsReady (p : TrainState) (h : Heard) : Type 0 where
   pub out : h ≡ nothing
   pub count : p.said < last_said
@@ -143,24 +142,24 @@ pub record IsAtDesk (line : Line) (c : ℕ) (p : TrainState) (pages : Pages) (ri
   pub held : IsHeld line c p
   pub out : h ≡ nothing
 
--- what a frame of train t came to at centre c, or a message that was answered, where it is left as k
+-- the reply for the effect of a frame about train t, or of an answered message, at centre c, with state k after it
 abbrev pub reply_left : Line → ℕ → ℕ → Centre → Heard → Reply
 reply_left line c t k h =
     posted (mail_to line c t (λ d. k.expects d t) h.mail) (replied k (told_train h.saying h.order) h.told)
 
--- wherever centre c has the old parts, the act leaves the new ones, and comes to this
+-- in every state of centre c with the old parts, the act leaves the new parts and has this effect
 abbrev pub Does : Line → ℕ → Act → TrainState → Pages → Rights → TrainState → Pages → Rights → Heard → Type 0
 Does line c act old book rights new book' rights' h =
     (k : Centre) → HasParts line c k old book rights
     → act k ≡ reply_left line c old.supervision.engine (with_parts new book' rights' k) h
 
--- what a message of train t came to at centre c, where it is left as k
+-- the effect of a message of train t at centre c, with state k after it
 abbrev pub effect_left : Line → ℕ → ℕ → Centre → Result Heard Reason → Effect
 effect_left line c t k (Ok h) = record { reply = reply_left line c t k h; link = None; silence = None }
 effect_left line c t k (Err why) = record { reply = replied k [] []; link = None; silence = Some (reason_of why) }
 
--- wherever centre c hears the train with this stamp and has the old parts, the message of this body leaves the new
--- ones, and comes to this
+-- Take a state of centre c with the old parts, in which the train's stamp is recorded. There the message leaves the new
+-- parts and has this effect.
 abbrev pub DoesMessage : Line → ℕ → ℕ → TrainBody → TrainState → Pages → Rights → TrainState → Pages → Rights
     → Result Heard Reason → Type 0
 DoesMessage line c stamp body old book rights new book' rights' h =
@@ -168,9 +167,9 @@ DoesMessage line c stamp body old book rights new book' rights' h =
     → effect line c k (Train (record { t_train = stamp; nid_engine = old.supervision.engine; body = body }))
     ≡ effect_left line c old.supervision.engine (with_parts new book' rights' k) h
 
--- ## What stays
+-- ## The parts that stay
 
--- it is the same train, and at most two messages more were said to it
+-- it is the same train, with at most two further messages
 pub record KeepsTrain (old new : TrainState) : Type 0 where
   pub number : new.supervision.number ≡ old.supervision.number
   pub engine : new.supervision.engine ≡ old.supervision.engine
@@ -187,29 +186,29 @@ pub record KeepsDesk (i : ℕ) (book book' : Pages) (from to : Rights) : Type 0 
   pub homes : (s : ℕ) → is_own book' s ≡ is_own book s
   pub rights : KeepsRights i from to
 
--- it is the same train at centre c: its hand is held, what is claimed for a start that waits is what its place covers
--- where it was, and of each centre of the line it is known whether the train is expected from there
+-- It is the same train at centre c. Its hand is held. If the claims of its waiting start were the sections that the
+-- place covers, they still are. For each centre of the line it is known whether the train is expected from there.
 pub record KeepsState (line : Line) (c : ℕ) (old new : TrainState) : Type 0 where
   pub train : KeepsTrain old new
   pub held : IsHeld line c new
   pub covers : IsCovered line old.waiting → IsCovered line new.waiting
   pub expected : length new.expectations ≡ length old.expectations
 
--- and of its desk what KeepsDesk says
+-- the facts of `KeepsState` of the train, and those of `KeepsDesk` of the desk
 pub record KeepsAtDesk (line : Line) (c : ℕ) (old new : TrainState) (book book' : Pages)
     (from to : Rights) : Type 0 where
   pub state : KeepsState line c old new
   pub desk : KeepsDesk old.supervision.number book book' from to
 
--- it is the same train on any line and at any centre: its hand is held, and what is claimed for a start that waits is
--- what its place covers, where they were; and as much is known of whether it is expected
+-- It is the same train at every centre of every line. If its hand was held, it still is; so are the claims of its
+-- waiting start. For as many centres it is known whether the train is expected from there.
 pub record KeepsItself (old new : TrainState) : Type 0 where
   pub train : KeepsTrain old new
   pub held : (line : Line) (c : ℕ) → IsHeld line c old → IsHeld line c new
   pub covers : (line : Line) → IsCovered line old.waiting → IsCovered line new.waiting
   pub expected : length new.expectations ≡ length old.expectations
 
--- no more has changed than one message changes that may have been said
+-- the only change is at most one further message
 pub record SaysOnce (old new : TrainState) : Type 0 where
   pub left : new ≡ record old { said = new.said }
   pub counted : (old.said ≤ new.said) × (new.said ≤ old.said + 1)

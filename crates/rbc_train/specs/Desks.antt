@@ -1,4 +1,4 @@
--- What a decision is made by, and the state of a centre that it shows.
+-- The facts on which a decision is based, and the state of a centre that they show.
 use Rattle.std.specs.Prelude.{◌≡◌, ℕ, Option, option_map}
 use Rattle.rbc_spec.specs.Line.{Line, is_home}
 use Rattle.rbc_spec.specs.Centre.{Centre, Mission, Handing}

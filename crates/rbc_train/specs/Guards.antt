@@ -1,4 +1,4 @@
--- What most messages of a train have to find.
+-- The premises of most messages of a train.
 use Rattle.std.specs.Prelude.{◌≡◌, Option, Some, None, Result, Ok, Err}
 use Rattle.rbc_spec.specs.Centre.{Phase, Closed, Opened, Up, Mission}
 use Rattle.rbc_mission.specs.Supervisions.{SupervisionState, hand_of, pool_of, handing_in, mission_of}
@@ -6,7 +6,7 @@ use Rattle.rbc_mission.specs.declared.facts.MissionFacts.{MissionFacts as Facts}
 use Rattle.rbc_train.specs.declared.reason.Reason.{Reason}
 use Rattle.rbc_train.specs.declared.reason.Reason.TheVariants as reason
 
--- why a message that needs the session up is left without an answer in this phase, if it is
+-- the reason for which a message that needs an established session is silent in this phase, if there is one
 abbrev pub not_up : Phase → Option Reason
 not_up Closed = Some reason.NoSession
 not_up Opened = Some reason.WrongPhase
@@ -21,7 +21,7 @@ TellsUp phase (Err why) = not_up phase ≡ Some why
 abbrev pub mission_in : SupervisionState → Facts → Mission
 mission_in s facts = mission_of (hand_of s) (pool_of s) (handing_in s) facts
 
--- it stands, or none does
+-- the result is the facts of the mission here, or NotSupervised if there is none
 abbrev pub TellsMission : SupervisionState → Result Facts Reason → Type 0
 TellsMission s (Ok facts) = s.mission ≡ Some (mission_in s facts)
 TellsMission s (Err why) = (s.mission ≡ None) × (why ≡ reason.NotSupervised)

@@ -1,4 +1,4 @@
--- How a right goes home that a mission or a registrar has handed out.
+-- The return of a right that a mission or a registrar has handed out.
 use Rattle.std.specs.Prelude.{◌≡◌, ◌<◌, ℕ, [], length, Option, None}
 use Rattle.rbc_spec.specs.Line.{Line}
 use Rattle.rbc_spec.specs.Centre.{Centre}
@@ -10,8 +10,8 @@ use Rattle.rbc_train.specs.Letters.{letters}
 use Rattle.rbc_train.specs.Desk.{KeepsRights, posted, replied, with_right}
 use Rattle.rbc_train.specs.declared.letter.Letter.{Letter}
 
--- at centre c, where one is given back: it is in the registrar again, if that is here, or this letter takes it there.
--- Nothing changes where none is given back
+-- At centre c, the right that is given back is in the registrar again, if that is here, or this letter takes it there.
+-- Nothing changes if none is given back.
 pub record GoesHome (line : Line) (c t : ℕ) (right : HeldRight) (letter : Option Letter)
     (rights rights' : Rights) : Type 0 where
   pub nothing : right ≡ Nothing → (letter ≡ None) × (rights' ≡ rights)

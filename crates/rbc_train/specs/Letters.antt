@@ -1,4 +1,4 @@
--- What goes to other centres, as the rules have it.
+-- The bodies for other centres, as the rules have them.
 use Rattle.std.specs.Prelude.{ℕ, ◌==◌, Bool, List, [], ◌∷◌, ◌++◌, true, false, if◌then◌else◌, Option, Some, None}
 use Rattle.rbc_spec.specs.SectionRuns.{SectionRun, is_empty}
 use Rattle.rbc_spec.specs.Line.{Line}
@@ -17,8 +17,8 @@ use Rattle.rbc_train.specs.declared.mail.Mail.{Mail}
 use Rattle.rbc_train.specs.declared.mail.Notice.{Notice}
 use Rattle.rbc_train.specs.declared.mail.Notice.TheVariants as notice
 
--- a train's message by which another centre may have to be told something: the right or sections may be asked for, or
--- go home, and a handover is announced, claimed, cancelled or yielded
+-- A train's message that may cause a frame to another centre. It may ask for the right or for sections, or return them.
+-- Or a handover is announced, claimed, cancelled or yielded.
 abbrev pub tells_others : TrainBody → Bool
 tells_others (StartOfMission is_valid position) = true
 tells_others (Request position) = true
@@ -32,24 +32,24 @@ abbrev pub bodies_in : Option BodyCode → List Body
 bodies_in None = []
 bodies_in (Some body) = body_of body ∷ []
 
--- what one letter or none sends to each centre
+-- the bodies of at most one letter for each centre
 abbrev pub letters : Option Letter → ℕ → List Body
 letters None d = []
 letters (Some l) d = if d == l.to then body_of l.body ∷ [] else []
 
--- what a notice of a handover of train t sends to each centre, where the train is expected so
+-- the bodies of a notice of a handover of train t for each centre, with these expectations
 abbrev pub notices : ℕ → (ℕ → Option Expectation) → Notice → ℕ → List Body
 notices t e notice.Nothing d = []
 notices t e (notice.Announce name track) d = if d == name.to then Announce name.number t track ∷ [] else []
 notices t e (notice.Cancel name) d = if d == name.to then Cancel name.number t ∷ [] else []
 notices t e (notice.TakingOver told) d = claims t told e d
 
--- what the sections of a run that go home from centre c send to each centre: frames hang on nothing that the centre
--- keeps
+-- The bodies that return the sections of a run from centre c, for each centre. They do not depend on the state of the
+-- centre.
 abbrev pub going_home : Line → ℕ → ℕ → ℕ → SectionRun → ℕ → List Body
 going_home line c t track r d = if is_empty r then [] else (returned line c t track r (beginning line c)).frames d
 
--- what the mail of a message of train t, which is expected so, sends to each centre
+-- the bodies of the mail about train t for each centre, with these expectations
 abbrev pub mail_to : Line → ℕ → ℕ → (ℕ → Option Expectation) → Mail → ℕ → List Body
 mail_to line c t e mail d =
     going_home line c t mail.track (run_of mail.first) d
@@ -68,7 +68,7 @@ mail_home track sections notice letter =
 abbrev pub mail_of : Option Letter → Mail
 mail_of letter = mail_home 0 no_sections notice.Nothing letter
 
--- the handover that stood is cancelled, if one did
+-- cancels the pending handover, if there is one
 abbrev pub cancel_of : Option HandoverName → Notice
 cancel_of None = notice.Nothing
 cancel_of (Some name) = notice.Cancel name

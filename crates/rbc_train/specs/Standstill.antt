@@ -1,4 +1,4 @@
--- What leaves the hand of a train that reports, and of one that ends its mission at standstill.
+-- The sections that leave the hand of a train that reports, and of one that ends its mission at standstill.
 use Rattle.std.specs.Prelude.{◌≡◌, ℕ, ◌+◌, ◌++◌, ◌==◌, true, List, Some, None, is_some, option_and_then, if◌then◌else◌}
 use Rattle.std.specs.Option.{option_map_or}
 use Rattle.rbc_spec.specs.SectionRuns.{SectionRun, passing}
@@ -18,11 +18,11 @@ use Rattle.rbc_train.specs.declared.mail.Notice.TheVariants as notice
 abbrev pub cleared_count : Line → Place → SectionRun → ℕ
 cleared_count line place hand = passing (is_cleared line place) hand
 
--- and what is left of the hand then
+-- the sections of a hand that a train at this place has not cleared
 abbrev pub uncleared : Line → Place → SectionRun → SectionRun
 uncleared line place hand = rest_of (cleared_count line place hand) hand
 
--- what a train at this place has cleared has left its hand, and this is told of it
+-- the sections that a train at this place has cleared have left its hand, with these reports
 pub record LeavesFront (line : Line) (place : Place) (old new : SupervisionState) (words : List ℕ)
     (from to : Pages) : Type 0 where
   pub supervision : new ≡ record old {
@@ -32,21 +32,21 @@ pub record LeavesFront (line : Line) (place : Place) (old new : SupervisionState
   pub told : words ≡ wished old.engine (front_of (cleared_count line place (hand_of old)) (hand_of old)) from
   pub book : FreesRun old.engine (front_of (cleared_count line place (hand_of old)) (hand_of old)) from to
 
--- what a report comes to that leaves this: no order, sections of this track that go home, and neither a letter nor a
--- notice while a mission stands
+-- The effect of a report with this state after it. It has no order; sections of this track are returned. While the
+-- mission is here, it has neither a letter nor a notice.
 pub record SendsHome (track : ℕ) (left : SupervisionState) (h : Heard) : Type 0 where
   pub order : h.order ≡ None
   pub mail : h.mail ≡ mail_home track h.mail.first h.mail.notice h.mail.letter
   pub letter : is_some left.mission ≡ true → (h.mail.letter ≡ None) × (h.mail.notice ≡ notice.Nothing)
 
--- what is cut off the hand of a train that stands still at its place on this track, after what it has cleared
+-- the cut ahead of a train at standstill at its place on this track, after the cleared sections
 abbrev pub left_ahead : Line → ℕ → Position → SectionRun → Cut
 left_ahead line track position hand =
     if position.v_train == 0
     then option_map_or (λ place. ahead_of line (uncleared line place hand) place.front)
     (place_on line track position) Nothing else Nothing
 
--- so many sections are kept after those that it has cleared, and this is told of all that leaves the hand
+-- `keep` sections are kept after the cleared ones, with these reports of all that leave the hand
 pub record IsAhead (line : Line) (t track : ℕ) (position : Position) (hand : SectionRun) (book : Pages) (keep : ℕ)
     (words : List ℕ) : Type 0 where
   pub still : position.v_train ≡ 0

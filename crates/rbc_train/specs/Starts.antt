@@ -1,4 +1,4 @@
--- What a start of mission comes to.
+-- The effect of a start of mission.
 use Rattle.std.specs.Prelude.{ℕ, []}
 use Rattle.rbc_spec.specs.Message.{TrainAccepted, TrainRejected, unknown_group}
 use Rattle.rbc_spec.specs.Centre.{Centre}
@@ -8,7 +8,7 @@ use Rattle.rbc_train.specs.Letters.{letters}
 use Rattle.rbc_train.specs.declared.start_of_mission.Start.{Start}
 use Rattle.rbc_train.specs.declared.start_of_mission.Start.TheVariants.{Accepted, Rejected, Waiting}
 
--- at a centre that is left so
+-- the reply to a start of mission, from the state that the start leaves
 abbrev pub started : ℕ → Start → Centre → Reply
 started t Accepted k = say t unknown_group TrainAccepted k
 started t Rejected k = say t unknown_group TrainRejected k

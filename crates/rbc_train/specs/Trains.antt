@@ -1,4 +1,4 @@
--- What a centre keeps of a train.
+-- The state that a centre keeps of a train.
 use Rattle.std.specs.Prelude.{◌≡◌, ℕ, List, [], Option, None, false}
 use Rattle.rbc_spec.specs.Maps.{put}
 use Rattle.rbc_spec.specs.Outcome.{Saying}
@@ -10,8 +10,8 @@ use Rattle.rbc_session.specs.SessionStates.{session_phase}
 use Rattle.rbc_session.specs.declared.session.SessionState.TheVariants as session_state
 use Rattle.rbc_train.specs.declared.train.TrainState.{TrainState}
 
--- what is kept of a train that was never heard, by its place in the line file and its NID_ENGINE, with what is expected
--- of it
+-- The state of a train from which no message was received, by its position in the line file and its NID_ENGINE, with
+-- these expectations.
 abbrev pub unknown_state : ℕ → ℕ → List (Option centre.Expectation) → TrainState
 unknown_state i t e = record {
   session_state = session_state.Closed;
@@ -22,7 +22,7 @@ unknown_state i t e = record {
   expectations = e;
 }
 
--- centre k has this session and this mission of train t, and has said so many messages to it
+-- centre k has this session and this mission of train t, and has sent it this number of messages
 pub record HasTrain (k : centre.Centre) (t : ℕ) (p : TrainState) : Type 0 where
   pub phase_is : k.phase t ≡ session_phase p.session_state
   pub mission_is : k.mission t ≡ p.supervision.mission

@@ -1,9 +1,9 @@
--- What a message comes to, where it is written in place.
+-- The effect of a message, written in place.
 use Rattle.std.specs.Prelude.{Result, Ok, Err}
 use Rattle.rbc_train.specs.declared.heard.Heard.{Heard}
 use Rattle.rbc_train.specs.declared.reason.Reason.{Reason}
 
--- this, or why it is left without an answer
+-- the outcome, or the reason of silence
 abbrev pub written : Result (Unit {0}) Reason → Heard → Result Heard Reason
 written (Ok _) h = Ok h
 written (Err why) h = Err why

@@ -1,5 +1,4 @@
-//! A request to shorten that a train's supervisor makes where the interlocking wishes a section of the hand back
-//! (3.8.6).
+//! A request to shorten (3.8.6), sent by a train's supervisor if the interlocking wishes a section of the hand back.
 
 ghost use Rattle.std.specs.Prelude.{◌≡◌, ◌+◌, ◌<◌, ◌≤◌};
 ghost use Rattle.rbc_spec.specs.Acts.{propose_if_so};
@@ -23,7 +22,7 @@ use rbc_shorten::{Proposal, ShorteningFacts, propose};
 use rbc_vars::LEndsection;
 
 impl TrainState {
-    /// Asks the train to end its movement authority before a section (3.8.6), where that may be asked.
+    /// Requests the train to end its movement authority before a section (3.8.6), if that request may be sent.
     #[inline(never)]
     pub fn ask_back(&mut self, line: &Line, s: u16) -> Option<Saying>
         requires count { self.old.said < last_said }
@@ -52,7 +51,7 @@ impl TrainState {
         Some(self.answer(mission.place.group, request))
     }
 
-    // What decides whether the train may be asked to shorten the authority of its mission.
+    // The facts that decide whether a request to shorten may be sent for a section of the mission.
     #[inline(always)]
     fn facts(&self, line: &Line, mission: &MissionFacts) -> ShorteningFacts
         ensures { (k : spec.Centre) → k.phase self.now.supervision.engine ≡ session_phase self.now.session_state

@@ -54,9 +54,9 @@ impl TrainState {
         Ok(())
     }
 
-    /// Message 132: the hand is extended by the sections that may follow it, first those of the pool, and the authority
-    /// is given up to its end. At a border a handover is announced, and the next centre is asked for the sections
-    /// after it, where they are due.
+    /// Message 132: the hand is extended by the sections that may follow it, those of the pool first. The authority is
+    /// sent, up to the end of the hand. At a border, if that is due, a handover is announced and the next centre is
+    /// asked for the sections after it.
     #[inline(never)]
     pub(crate) fn request(
         &mut self,

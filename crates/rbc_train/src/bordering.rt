@@ -1,4 +1,4 @@
-//! What follows the answer to a request at the border to the next centre (3.15.1, profile).
+//! The acts after the answer to a request, at the border to the next centre (3.15.1, profile).
 
 ghost use Rattle.std.specs.Prelude.{◌≡◌, ◌-◌, ◌≤◌, ◌++◌, ℕ, Option, None, []};
 ghost use Rattle.std.specs.Option.{option_map_or};
@@ -35,9 +35,9 @@ use rbc_place::{Place, group_start, section_start};
 use rbc_vars::{DRbctr, NidC, NidRbc};
 
 impl TrainState {
-    /// A handover to the next centre on the track is announced, where the hand has a section of its home and none
-    /// stands: the train is told where the border is. Then that centre is asked for the sections in advance of the
-    /// hand, where they are due.
+    /// Announces a handover to the next centre on the track, if the hand has a section of its home and none is pending.
+    /// The train gets the distance to the border. Then that centre is asked for the sections in advance of the hand, if
+    /// that is due.
     #[inline(always)]
     pub(crate) fn at_border(
         &mut self,
@@ -72,7 +72,7 @@ impl TrainState {
         self.ask_route(line, next, &mut out.mail.letter);
     }
 
-    // A handover to this centre is announced, where that is due.
+    // Announces a handover to this centre, if that is due.
     #[inline(never)]
     fn announce(&mut self, line: &Line, count: &mut HandoverCount, to: u8, out: &mut Heard)
         requires out { (out.old.order ≡ None) × (out.old.mail.notice ≡ notice.Nothing) }
@@ -105,7 +105,7 @@ impl TrainState {
         out.order = Some(self.answer(mission.place.group, order));
     }
 
-    // The next centre is asked for the sections in advance of the hand, where they are due.
+    // Asks the next centre for the sections in advance of the hand, if that is due.
     #[inline(never)]
     fn ask_route(&mut self, line: &Line, next: u8, letter: &mut Option<Letter>)
         requires { letter.old ≡ None }

@@ -22,7 +22,7 @@ use rbc_line::Line;
 use rbc_packets::Position;
 
 impl TrainState {
-    /// Announce of a centre: the train is expected from there under this number, where it is not expected from there
+    /// Announce from a centre: the train is expected from there under this number, unless it is expected from there
     /// already.
     pub(crate) fn announced(&mut self, line: &Line, from: u8, number: u32, track: u8)
         requires { from < length self.old.expectations }
@@ -38,7 +38,7 @@ impl TrainState {
         self.expectations.announced(from, number);
     }
 
-    /// Cancel of a centre: the train is not expected from there any more, where it was under this number.
+    /// Cancel from a centre: if the train is expected from there under this number, it is not any more.
     pub(crate) fn cancelled(&mut self, from: u8, number: u32)
         ensures exact { (line : track.Line) (c : ℕ) (book : Pages) (rights : Rights) → Does line c
             (links.cancelled from number self.old.supervision.engine)
@@ -49,9 +49,8 @@ impl TrainState {
         self.expectations.cancelled(from, number);
     }
 
-    /// Message 136 of a train that is supervised elsewhere, with its session up: where the train is expected here and
-    /// its safe front end is in a section of this home, each centre that announced it is told once that this one is
-    /// taking over.
+    /// Message 136 of a train that is supervised elsewhere, with its session up. If the train is expected, and its safe
+    /// front end is in a section of this home, each centre that announced it gets one TakingOver.
     pub(crate) fn report_elsewhere(
         &mut self,
         line: &Line,

@@ -1,4 +1,4 @@
-//! Where a reported train is that another centre hands over to this one.
+//! Whether a train that another centre hands over has its front in this centre's area.
 
 ghost use Rattle.std.specs.Prelude.{◌≡◌, ◌&&◌};
 ghost use Rattle.std.specs.List.{list_any, range_with_len};
@@ -26,7 +26,7 @@ pub(crate) fn is_in_area(line: &Line, centre: u8, position: &Position) -> bool
     }
 }
 
-// Whether the safe front end lies in a section of this home.
+// Whether the safe front end is in a section of this home.
 fn has_front_home(line: &Line, centre: u8, place: Place) -> bool
     ensures { result ≡ list_any (λ s. track.is_home line.now centre s && has_front line.now (place_of place) s)
         (range_with_len 0 (sections.section_count line.now)) }

@@ -1,4 +1,4 @@
-//! What most messages of a train have to find: its session up, and its mission at this centre.
+//! The premises of most messages of a train: its session is up, and its mission is at this centre.
 
 ghost use Rattle.rbc_session.specs.SessionStates.{session_phase};
 ghost use Rattle.rbc_train.specs.Guards.{TellsUp, TellsMission};
@@ -21,7 +21,7 @@ impl TrainState {
         }
     }
 
-    /// The mission that stands here, or that none does.
+    /// The mission at this centre, or the reason that there is none.
     #[inline(always)]
     pub(crate) fn supervised(&self) -> Result<MissionFacts, Reason>
         ensures { TellsMission self.now.supervision result }

@@ -31,9 +31,9 @@ use rbc_msgs::{NID_LRBG_UNKNOWN, TrackBody};
 use rbc_place::Place;
 
 impl TrainState {
-    /// TakingOver of a centre: the mission is yielded, if its handover stands under this number to that centre. Its
-    /// pool goes home, the mission goes in one frame, and a train that is no more to come here is ordered to end its
-    /// session.
+    /// TakingOver from a centre: the mission is yielded, if its handover to that centre is pending under this number.
+    /// The pool is returned, and the mission goes in one frame. If the train will not return to this centre, it is
+    /// ordered to end its session.
     pub(crate) fn taking_over(
         &mut self,
         line: &Line,
@@ -67,7 +67,7 @@ impl TrainState {
         );
     }
 
-    // The order to end its session, for a train that is no more to come here.
+    // The order to end its session, for a train that will not return to this centre.
     fn order_if_gone(&mut self, line: &Line, centre: u8, is_gone: bool) -> Option<Saying>
         requires { self.old.said < last_said }
         ensures exact { (k : spec.Centre) → k.phase self.old.supervision.engine ≡ session_phase self.old.session_state
@@ -82,7 +82,7 @@ impl TrainState {
         self.order_end(line, centre)
     }
 
-    /// The order to end its session, where that is up (3.5.5).
+    /// The order to end its session, if that is up (3.5.5).
     pub(crate) fn order_end(&mut self, line: &Line, centre: u8) -> Option<Saying>
         requires { self.old.said < last_said }
         ensures exact { (k : spec.Centre) → k.phase self.old.supervision.engine ≡ session_phase self.old.session_state
@@ -99,7 +99,7 @@ impl TrainState {
     }
 }
 
-// The frame in which a mission goes to the accepting centre, with the last T_TRAIN heard.
+// The frame that carries a mission to the accepting centre, with the last T_TRAIN received.
 fn yield_letter(nid_engine: u32, heard: Option<u32>, yielded: Yielded) -> Letter
     ensures to { result.to ≡ yielded.handover.to }
     ensures body { body_of result.body

@@ -5,20 +5,20 @@ use crate::mail::Mail;
 use crate::saying::Saying;
 use rbc_mission::Told;
 
-/// What a message comes to that is not left without an answer, or a frame: what the train is answered, and what it is
-/// ordered after that; what is left for other centres; and the sections that were wished back and are shut now, of
-/// which the interlocking is told, in rising order.
+/// The effect of an answered message, or of a frame: the reply to the train, an order after it, and mail for other
+/// centres. `told` are the sections that were wished back and are shut now, in rising order; they are reported to the
+/// interlocking.
 #[derive(Debug, Drop)]
 pub struct Heard {
     pub saying: Option<Saying>,
-    /// Where the next centre takes over (packet 131), or that the session with this one is to end (packet 42).
+    /// The order to contact the next centre (packet 131), or to end the session with this one (packet 42).
     pub order: Option<Saying>,
     pub mail: Mail,
     pub told: Told,
 }
 
 impl Heard {
-    /// Nothing is said.
+    /// No effect on the train, on other centres or on the interlocking.
     #[inline(always)]
     pub fn nothing() -> Heard
         ensures { result ≡ record { saying = None; order = None; mail = mail_of None; told = [] } }

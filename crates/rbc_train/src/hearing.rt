@@ -30,9 +30,9 @@ use rbc_right::Registrar;
 use rbc_session::Sessions;
 
 impl TrainState {
-    /// Takes a message of this train, at centre c with this book, these rights, these sessions and so many handovers
-    /// announced: what it comes to is written over `out`, or it is said why it is left without an answer, which changes
-    /// nothing. Then `out` has no meaning. There is room for a session that it opens.
+    /// Takes a message of this train at a centre with this book, these rights, these sessions and this count of
+    /// announced handovers. Its effect is written over `out`. Or the reason of its silence is returned: then nothing
+    /// changes, and `out` has no meaning. There must be room for a session that it opens.
     #[inline(always)]
     pub fn take(
         &mut self,
@@ -111,8 +111,8 @@ impl TrainState {
     }
 }
 
-/// Whether another centre may have to be told something by a train's message: the right or sections may be asked for,
-/// or go home, and a handover is announced, claimed, cancelled or yielded.
+/// Whether a train's message may cause a frame to another centre. It may ask for the right or for sections, or return
+/// them. Or a handover is announced, claimed, cancelled or yielded.
 pub fn tells_others(body: &TrainBody) -> bool
     ensures { (m : TrainText) → m.body ≡ body.now → result ≡ tells_others (step_message m).body }
 {

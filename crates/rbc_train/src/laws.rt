@@ -1,4 +1,4 @@
-//! Laws of what a section comes to that the interlocking releases or takes back.
+//! Laws of the effect of a set and of an unset.
 
 ghost use Rattle.std.specs.Prelude.{◌≡◌, ℕ, true, false};
 ghost use Rattle.rbc_spec.specs.Line.{Line, is_home};
@@ -7,8 +7,8 @@ ghost use Rattle.rbc_spec.specs.Acts.{Reply, propose_if_so};
 ghost use Rattle.rbc_spec.specs.Step.{set, unset};
 ghost use Rattle.rbc_train.specs.Tellings.{told_elsewhere, told_done, told_kept, told_asked, wishing};
 
-/// A section of home in no use is shut at once; of one that is in use for a train here, its train is asked, as far as
-/// may be, to end its authority before it; a section of another home is left alone.
+/// An unset shuts a home section at once if it is not in use. If the section is in use for a train here, that train
+/// gets a request to shorten before it, if it may be sent. A section of another home is left as it is.
 pub fn a_section_is_taken_back()
     ensures unused { (line : Line) (c s : ℕ) (k : Centre) → is_home line c s ≡ true → is_unused (k.book s) ≡ true
         → unset line c s k ≡ told_done s Shut k }
@@ -19,8 +19,8 @@ pub fn a_section_is_taken_back()
         → unset line c s k ≡ told_elsewhere s k }
 {}
 
-/// A section of home in no use is released at once; one that is in use stays so, and is not wished back any more; a
-/// section of another home is left alone.
+/// A set releases a home section at once if it is not in use. A section in use stays in use, and is not wished back any
+/// more. A section of another home is left as it is.
 pub fn a_section_is_released()
     ensures unused { (line : Line) (c s : ℕ) (k : Centre) → is_home line c s ≡ true → is_unused (k.book s) ≡ true
         → set line c s k ≡ told_done s Open k }

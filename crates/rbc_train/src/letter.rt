@@ -1,4 +1,4 @@
-//! What one other centre is told.
+//! One body for one other centre.
 
 ghost use Rattle.std.specs.Prelude.{◌≡◌, Some, None, option_map};
 ghost use Rattle.rbc_spec.specs.Line.{registrar};
@@ -10,7 +10,7 @@ use rbc_linkmsg::Body;
 use rbc_mission::HeldRight;
 use rbc_right::{Registrar, Right};
 
-/// What another centre is to be told: a frame before it has its number.
+/// A body for another centre, before its frame has a number.
 #[derive(Clone, Copy, Debug, PartialEq, Eq)]
 pub struct Letter {
     /// The number of the centre that it goes to.
@@ -19,7 +19,7 @@ pub struct Letter {
 }
 
 impl Letter {
-    /// What it tells this centre.
+    /// The body for this centre, if the letter is to it.
     pub fn to_centre(self, centre: u8) -> Option<Body>
         ensures { bodies_in result ≡ letters (Some self) centre }
     {
@@ -31,7 +31,7 @@ impl Letter {
     }
 }
 
-/// A letter to the registrar of a train. None where the train is not of the line.
+/// A letter to the registrar of a train; `None` if the train is not of the line.
 pub(crate) fn to_registrar(line: &Line, nid_engine: u32, body: Body) -> Option<Letter>
     ensures { result ≡ option_map (λ r. record { to = r; body = body }) (registrar line.now nid_engine) }
 {
@@ -39,8 +39,8 @@ pub(crate) fn to_registrar(line: &Line, nid_engine: u32, body: Body) -> Option<L
     Some(Letter { to, body })
 }
 
-/// The right of a train that its mission or its registrar has handed out goes home, where there is one: to the
-/// registrar, if that is this centre, or by a letter to it.
+/// Returns the right of a train that its mission or its registrar has handed out, if there is one. It goes to the
+/// registrar: directly if that is this centre, else by a letter.
 #[inline(always)]
 pub(crate) fn go_home(
     line: &Line,
@@ -59,7 +59,7 @@ pub(crate) fn go_home(
     }
 }
 
-// A right goes home.
+// Returns a right to its registrar.
 #[inline(never)]
 fn send_home(
     line: &Line,

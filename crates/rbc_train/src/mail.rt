@@ -1,4 +1,4 @@
-//! What a message leaves for other centres.
+//! The effect of a message or a frame on other centres.
 
 ghost use Rattle.std.specs.Prelude.{◌≡◌};
 ghost use Rattle.rbc_handover.specs.Expectations.{claims, expected_from};
@@ -13,21 +13,20 @@ use rbc_mission::HandoverName;
 /// No section.
 pub(crate) const NO_SECTIONS: SectionRun = SectionRun { first: 0, count: 0 };
 
-/// What other centres are told of a handover (3.15.1).
+/// A notice of a handover to other centres (3.15.1).
 #[derive(Clone, Copy, Debug, PartialEq, Eq)]
 pub enum Notice {
     Nothing,
-    /// The accepting centre is told that the train comes, which runs on this track.
+    /// The accepting centre gets an Announce: the train approaches on this track.
     Announce { name: HandoverName, track: u8 },
-    /// The accepting centre is told that the train does not come.
+    /// The accepting centre gets a Cancel: the train will not arrive.
     Cancel(HandoverName),
-    /// These centres are told, each under the number that the train is expected by from there, that this one is taking
-    /// over.
+    /// Each of these centres gets a TakingOver, under the number of the handover that is expected from there.
     TakingOver(Announcers),
 }
 
 impl Notice {
-    /// What it tells a centre about this train, of which this is expected.
+    /// The body for a centre about this train, which has these expectations.
     pub fn to_centre(self, nid_engine: u32, expectations: &Expectations, centre: u8) -> Option<Body>
         ensures { bodies_in result ≡ notices nid_engine (expected_from expectations.now) self centre }
     {
@@ -57,7 +56,7 @@ impl Notice {
     }
 }
 
-// What a centre is told, where it is one of those that are told that this one is taking over.
+// The TakingOver for a centre, if it is one of those that get it.
 fn claim_of(
     told: Announcers,
     nid_engine: u32,
@@ -76,19 +75,19 @@ fn claim_of(
     })
 }
 
-/// What a message leaves for other centres. On each link sections that were lent go home first, then a notice of a
-/// handover goes, and then a letter.
+/// The bodies for other centres. Each link gets returned sections first, then a notice of a handover, and then a
+/// letter.
 #[derive(Clone, Copy, Debug, PartialEq, Eq)]
 pub struct Mail {
     /// The track of the sections, by its number in the line file.
     pub track: u8,
-    /// Sections of which each goes to the centre of its home: an empty run where there are none.
+    /// Sections, each of which returns to its home; the run is empty if there are none.
     pub first: SectionRun,
-    /// Others that go home after these.
+    /// Others that are returned after these.
     pub second: SectionRun,
-    /// What is told of a handover.
+    /// The notice of a handover.
     pub notice: Notice,
-    /// What one centre is told.
+    /// The letter to one centre.
     pub letter: Option<Letter>,
 }
 
@@ -120,7 +119,7 @@ impl Mail {
         }
     }
 
-    /// A handover that stood is cancelled, if one did.
+    /// Cancels the pending handover, if there is one.
     #[inline(always)]
     pub(crate) fn cancel(&mut self, name: Option<HandoverName>)
         requires { self.old.notice ≡ Notice.Nothing }

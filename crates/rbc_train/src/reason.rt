@@ -3,9 +3,9 @@ ghost use Rattle.std.specs.Prelude.{◌≡◌};
 /// Why a train's message is left without an answer.
 #[derive(Clone, Copy, Debug, PartialEq, Eq)]
 pub enum Reason {
-    /// Its T_TRAIN is not above the last that the centre has heard of the train (3.16.3).
+    /// Its T_TRAIN is not above the last that the centre has received from the train (3.16.3).
     StaleStamp = 1,
-    /// No session stands with the train (3.5.3).
+    /// The train has no session here (3.5.3).
     NoSession = 2,
     /// The train is not of the line.
     ForeignEngine = 3,
@@ -15,9 +15,9 @@ pub enum Reason {
     NotSupervised = 5,
     /// Its train data are not known.
     NoTrainData = 6,
-    /// A request to shorten its authority stands (3.8.6).
+    /// A request to shorten its authority is pending (3.8.6).
     ProposalPending = 7,
-    /// It answers no request that stands.
+    /// It answers a request that is not pending.
     Unasked = 8,
     /// Its mission is ended.
     MissionEnded = 9,

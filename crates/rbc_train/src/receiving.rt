@@ -19,8 +19,7 @@ use rbc_linkmsg::Body;
 use rbc_right::Registrar;
 
 impl TrainState {
-    /// Takes what another centre says of this train, in a frame that is the next of its link: what it comes to
-    /// is written over `out`.
+    /// Takes the body of a frame about this train, which is the next of its link. Its effect is written over `out`.
     pub fn receive(
         &mut self,
         line: &Line,

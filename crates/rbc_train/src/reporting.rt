@@ -1,4 +1,5 @@
-//! A train position report (3.6.5) and the end of mission (5.5): what the train has cleared leaves its hand.
+//! A train position report (3.6.5) and the end of mission (5.5): the sections that the train has cleared leave its
+//! hand.
 
 ghost use Rattle.std.specs.Prelude.{◌≡◌, ◌≤◌, ◌+◌, ◌-◌, Some, None, IfSome};
 ghost use Rattle.rbc_spec.specs.SectionRuns.{no_run};
@@ -28,16 +29,16 @@ use rbc_place::{Place, cleared, place_on};
 use rbc_right::Registrar;
 use rbc_shorten::{Cut, cut_at_standstill};
 
-// What lies ahead of a train at standstill: how many of the first sections that are left of its hand are kept; and
-// those that were wished back of all that leaves the hand, in rising order.
+// The cut ahead of a train at standstill. `keep` of the first remaining sections of its hand are kept. `told` are those
+// sections of all that leave the hand which were wished back, in rising order.
 struct Ahead {
     keep: u16,
     told: Told,
 }
 
 impl TrainState {
-    /// Message 136: the sections of the hand that the train has cleared are given back, and a mission without a section
-    /// closes. Of a train that another centre hands over to this one, its announcers are told that this one takes over.
+    /// Message 136: the sections of the hand that the train has cleared are given back. A mission without a section is
+    /// closed. If another centre hands the train over to this one, its announcers get a TakingOver instead.
     #[inline(never)]
     pub(crate) fn report(
         &mut self,
@@ -71,8 +72,8 @@ impl TrainState {
         Ok(())
     }
 
-    /// Message 150: what the train has cleared is given back, where its report has a place; at standstill what lies
-    /// ahead is too; then its mission is ended, and its pool goes home.
+    /// Message 150: if the report has a place, cleared sections are given back, and at standstill also those ahead of
+    /// the train. Then the mission is ended, and its pool is returned.
     #[inline(never)]
     pub(crate) fn end_of_mission(
         &mut self,
@@ -118,8 +119,7 @@ impl TrainState {
         }
     }
 
-    // What lies ahead of a train that stands still at a place of this track, when what it has cleared there has left
-    // its hand.
+    // The cut ahead of a train at standstill at a place of this track, after the cleared sections have left its hand.
     fn ahead(&self, line: &Line, book: &Book, track: u8, position: &Position) -> Option<Ahead>
         ensures none { result ≡ None
             → left_ahead line.now track (position_of position.now) (hand_of self.now.supervision) ≡ Nothing }
@@ -146,7 +146,7 @@ impl TrainState {
         }
     }
 
-    // All but so many of the first sections leave the hand, and the pool goes home with them.
+    // All sections but the first `keep` leave the hand, and the pool is returned with them.
     fn leave_ahead(
         &mut self,
         line: &Line,
@@ -175,7 +175,7 @@ impl TrainState {
         self.released(line, centre, registrar, track, released, out);
     }
 
-    // What the train has cleared leaves its hand, where the report has a place on this track.
+    // The cleared sections leave the hand, if the report has a place on this track.
     #[inline(never)]
     fn report_here(
         &mut self,
@@ -207,8 +207,8 @@ impl TrainState {
         }
     }
 
-    /// The train is at this place of its track: what it has cleared is given back, and a mission without a section
-    /// closes.
+    /// The train is at this place of its track. The cleared sections are given back, and a mission without a section is
+    /// closed.
     #[inline(always)]
     pub(crate) fn clear(
         &mut self,

@@ -1,4 +1,4 @@
-//! The right to supervise a train goes between its registrar and the centres where it starts (profile).
+//! The right to supervise a train moves between its registrar and the centres at which it starts (profile).
 
 ghost use Rattle.std.specs.Prelude.{◌≡◌, ◌<◌, ℕ, None, length};
 ghost use Rattle.rbc_spec.specs.Centre as spec;
@@ -22,7 +22,7 @@ use rbc_msgs::TrackBody;
 use rbc_right::{Asked, Registrar, Right};
 
 impl TrainState {
-    /// AskRight of a centre: the registrar gives the right, where it is there, and else refuses it.
+    /// AskRight from a centre: the registrar gives the right if it has it, and else refuses it.
     pub(crate) fn right_asked(
         &mut self,
         line: &Line,
@@ -52,8 +52,8 @@ impl TrainState {
         out.mail.letter = Some(Letter { to: from, body });
     }
 
-    /// GiveRight: a start that waits becomes a mission, and the train is accepted. A right that nothing waits for goes
-    /// back.
+    /// GiveRight: a waiting start becomes a mission, and the train is accepted. A right for which nothing waits is
+    /// returned.
     pub(crate) fn right_given(
         &mut self,
         line: &Line,
@@ -113,7 +113,7 @@ impl TrainState {
         out.told = told;
     }
 
-    /// ReturnRight: the right is at its registrar again, where it is not in a mission of the registrar's own.
+    /// ReturnRight: the registrar has the right again, unless the right is in a mission there.
     pub(crate) fn right_returned(&mut self, line: &Line, centre: u8, registrar: &mut Registrar)
         requires number { self.old.supervision.number < length registrar.old }
         ensures exact { (book : Pages) → Does line.now centre
@@ -128,8 +128,8 @@ impl TrainState {
         }
     }
 
-    // What leaves a mission on this track: what it gives back is told, lent sections and its right go home, and its
-    // handover is cancelled.
+    // The effect of sections that leave a mission on this track: the reports, the returned sections and right, and the
+    // cancelled handover.
     #[inline(always)]
     pub(crate) fn released(
         &self,

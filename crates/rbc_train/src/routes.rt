@@ -1,5 +1,5 @@
-//! Sections that go over a border: a home lends them to a train at another centre, and takes them back (profile, in
-//! words of SUBSET-039: Route Related Information).
+//! Sections lent over a border: a home lends them to a train at another centre, and takes them back (profile;
+//! SUBSET-039: Route Related Information).
 
 ghost use Rattle.std.specs.Prelude.{◌≡◌, ◌+◌, ◌<◌, ◌≤◌, ◌&&◌, ℕ, not, if◌then◌else◌, is_some, is_none, []};
 ghost use Rattle.std.specs.List.{list_any};
@@ -31,8 +31,8 @@ use rbc_packets::SessionOrder;
 use rbc_vars::{NidC, NidRbc};
 
 impl TrainState {
-    /// RouteAsk of a centre: the longest run of released home sections from the first on, at most so many, is lent to
-    /// the train there, and that is told.
+    /// RouteAsk from a centre: the longest run of free home sections from the first on, up to the limit, is lent to the
+    /// train there. A RouteInfo names the run.
     pub(crate) fn route_asked(
         &self,
         line: &Line,
@@ -61,7 +61,8 @@ impl TrainState {
         }
     }
 
-    /// RouteInfo of a centre: the sections that were asked for are the pool of the train's mission, or go home again.
+    /// RouteInfo from a centre: the sections that were asked for become the pool of the train's mission, or are
+    /// returned.
     pub(crate) fn route_told(
         &mut self,
         line: &Line,
@@ -93,8 +94,8 @@ impl TrainState {
         }
     }
 
-    /// RouteWithdraw: a section of the pool goes home with all that follow it. The train is asked to end its authority
-    /// before one of its hand (3.8.6), where that may be asked.
+    /// RouteWithdraw: if the section is in the pool, the pool is returned from it on. If it is in the hand, the train
+    /// gets a request to shorten before it (3.8.6), if that may be sent.
     pub(crate) fn route_withdrawn(&mut self, line: &Line, s: u16, out: &mut Heard)
         requires ready { IsReady self.old out.old }
         ensures exact { (c : ℕ) (book : Pages) (rights : Rights) → Does line.now c
@@ -121,8 +122,8 @@ impl TrainState {
         }
     }
 
-    /// RouteReturn of a centre: the sections that are out for the train are given back. A train that is no more to come
-    /// here is told to end its session (3.5.5).
+    /// RouteReturn from a centre: the sections that are out for the train are given back. If the train will not return
+    /// to this centre, it is ordered to end its session (3.5.5).
     pub(crate) fn route_returned(
         &mut self,
         line: &Line,
@@ -149,7 +150,7 @@ impl TrainState {
         out.saying = saying;
     }
 
-    // The order to end its session, for a train that is no more to come here.
+    // The order to end its session, for a train that will not return to this centre.
     fn end_order(&mut self, line: &Line, centre: u8, book: &Book) -> Option<Saying>
         requires { self.old.said < last_said }
         ensures exact { (rights : Rights) (k : spec.Centre) → HasParts line.now centre k self.old book.now rights

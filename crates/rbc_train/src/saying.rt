@@ -15,7 +15,7 @@ pub struct Saying {
 }
 
 impl Saying {
-    /// A message that counts so many to the train, from this balise group or `NID_LRBG_UNKNOWN`.
+    /// A message with this count as its T_TRAIN, from this balise group or `NID_LRBG_UNKNOWN`.
     pub(crate) fn of_count(nid_engine: u32, count: u32, nid_lrbg: u32, body: TrackBody) -> Saying
         requires count { count < 4294967295 }
         requires group { nid_lrbg < 16777216 }
@@ -37,7 +37,7 @@ impl Saying {
 }
 
 impl Default for Saying {
-    /// What fills the places of a row of messages that are not in use.
+    /// The value of unused positions in a list of messages.
     fn default() -> Saying {
         Saying {
             nid_engine: 0,
@@ -47,7 +47,7 @@ impl Default for Saying {
 }
 
 impl TrainState {
-    /// The next message to the train says this, and counts from this balise group or `NID_LRBG_UNKNOWN`.
+    /// The next message to the train has this body, and refers to this balise group or `NID_LRBG_UNKNOWN`.
     pub(crate) fn answer(&mut self, nid_lrbg: u32, body: TrackBody) -> Saying
         requires count { self.old.said < last_said }
         requires group { nid_lrbg < 16777216 }
@@ -67,7 +67,7 @@ impl TrainState {
         Saying::of_count(nid_engine, self.said, nid_lrbg, body)
     }
 
-    /// The next message to the train says this, from no balise group.
+    /// The next message to the train has this body, and refers to no balise group.
     pub(crate) fn answered(&mut self, body: TrackBody) -> Saying
         requires { self.old.said < last_said }
         ensures said { sayings_of (Some result)

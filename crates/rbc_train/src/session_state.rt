@@ -1,4 +1,4 @@
-//! What becomes of the session that stands with a train.
+//! The changes of a train's session.
 
 ghost use Rattle.std.specs.Prelude.{◌≡◌};
 ghost use Rattle.rbc_spec.specs.Centre as spec;
@@ -26,7 +26,7 @@ fn established(
     }
 }
 
-/// The session that stands with the train is closed, and another is opened.
+/// Closes the train's session, if there is one, and opens another.
 pub(crate) fn open(session_state: &mut SessionState, sessions: &mut Sessions, nid_engine: u32)
     requires stands { StandsFor sessions.old session_state.old nid_engine }
     requires room { HasRoom sessions.old }
@@ -51,7 +51,7 @@ pub(crate) fn establish(session_state: &mut SessionState, sessions: &mut Session
     sessions.end(left);
 }
 
-/// The session that stands with the train is closed.
+/// Closes the train's session, if there is one.
 pub(crate) fn close(session_state: &mut SessionState, sessions: &mut Sessions, nid_engine: u32)
     requires stands { StandsFor sessions.old session_state.old nid_engine }
     ensures { Enters sessions.old sessions.new session_state.new nid_engine spec.Closed }

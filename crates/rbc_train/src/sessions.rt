@@ -20,8 +20,8 @@ use rbc_msgs::{NID_LRBG_UNKNOWN, TrackBody};
 use rbc_session::{Phase, Sessions};
 
 impl TrainState {
-    /// Message 155: a session that stands is closed, with a request to shorten that stands and a start of mission that
-    /// waits, and another is opened.
+    /// Message 155: a session is opened. An earlier session is closed; a pending request to shorten and a waiting start
+    /// of mission end with it.
     #[inline(never)]
     pub(crate) fn initiation_of_session(
         &mut self,
@@ -84,8 +84,7 @@ impl TrainState {
         Ok(())
     }
 
-    /// Message 156: the session that stands is closed, with a request to shorten that stands and a start of mission
-    /// that waits.
+    /// Message 156: the session is closed. A pending request to shorten and a waiting start of mission end with it.
     #[inline(never)]
     pub(crate) fn termination_of_session(
         &mut self,

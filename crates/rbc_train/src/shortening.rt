@@ -22,8 +22,8 @@ use rbc_shorten::{Cut, granted, rejected};
 use rbc_vars::TTrain;
 
 impl TrainState {
-    /// Message 137: the request that is answered stands no more. A train that has not run past the proposed end gives
-    /// back what follows it, and a mission without a section closes.
+    /// Message 137: the answered request ends. If the train has not run past the proposed end, it gives back the
+    /// sections after that. A mission without a section is closed.
     #[inline(never)]
     pub(crate) fn shortening_granted(
         &mut self,
@@ -68,7 +68,7 @@ impl TrainState {
         }
     }
 
-    /// Message 138: the request that is answered, if it stands, stands no more.
+    /// Message 138: the answered request ends, if it is pending.
     #[inline(never)]
     pub(crate) fn shortening_rejected(
         &mut self,
@@ -94,7 +94,7 @@ impl TrainState {
     }
 }
 
-// The safe front end in decimetres, where the report has a place on this track.
+// The safe front end in decimetres, if the report has a place on this track.
 fn front_on(line: &Line, track: u8, position: &Position) -> Option<u32>
     ensures { result ≡ option_map (λ p. p.front) (place.place_on line.now track (position_of position.now)) }
 {

@@ -71,8 +71,8 @@ impl TrainState {
         Ok(())
     }
 
-    // Within the hand of a train that is supervised here its mission goes on; another begins where its sections are
-    // released and the train's right is here, or waits for the right where that is registered elsewhere.
+    // A train that is supervised here goes on within its hand. Another mission begins if its sections are free and the
+    // train's right is here. If the right is registered elsewhere, the start waits for it.
     fn start(
         &mut self,
         line: &Line,
@@ -112,7 +112,7 @@ impl TrainState {
         }
     }
 
-    // A start at the registrar: the right is taken into the mission, where it is there.
+    // A start at the registrar: the mission takes the right, if that is here.
     fn start_here(
         &mut self,
         place: Place,
@@ -164,7 +164,7 @@ impl TrainState {
     }
 }
 
-/// What a start of mission comes to.
+/// The effect of a start of mission.
 #[derive(Clone, Copy, Debug)]
 pub(crate) enum Start {
     Accepted,

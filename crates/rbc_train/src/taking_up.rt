@@ -1,4 +1,4 @@
-//! A mission comes from the centre that hands it over (3.15.1).
+//! A mission arrives from the handing-over centre (3.15.1).
 
 ghost use Rattle.std.specs.Prelude.{◌≡◌, ◌+◌, ◌<◌, ◌≤◌, ◌&&◌, ◌*◌, ℕ, true, None, is_none, nat_le, not, length, max, option_map};
 ghost use Rattle.std.specs.Option.{option_map_or};
@@ -35,7 +35,7 @@ use rbc_place::{Place, group_start};
 use rbc_right::{Registrar, Right};
 use std::cmp::max;
 
-/// A mission that another centre yields: the centre, the number of the handover, and what goes over.
+/// A mission that another centre yields: that centre, the number of the handover, and the mission.
 #[derive(Clone, Copy, Debug)]
 pub(crate) struct Arriving {
     pub from: u8,
@@ -44,9 +44,9 @@ pub(crate) struct Arriving {
 }
 
 impl TrainState {
-    /// Yield of a centre: where it is expected, and this centre has said that it takes over, the mission goes on here,
-    /// with its sections and with the right. The later of both stamps is kept, and the train is asked to end its
-    /// authority before the first section of this home that is wished back (3.8.6), where that may be asked.
+    /// Yield from a centre. If it is expected, and this centre has replied that it takes over, the mission goes on here
+    /// with its sections and the right. The later of both stamps is kept. For the first section of this home that is
+    /// wished back, the train gets a request to shorten (3.8.6), if that may be sent.
     pub(crate) fn yielded(
         &mut self,
         line: &Line,
@@ -86,9 +86,9 @@ impl TrainState {
         }
     }
 
-    // Whether the mission may go on here: the train is expected from that centre under this number, and it was told
-    // that this one is taking over; neither a mission nor the right is here; and each section may arrive, on the track
-    // of the place, whose group is on it and not in advance of its front.
+    // Whether the mission may go on here. The train is expected from that centre under this number, and that centre has
+    // got a TakingOver. Neither a mission nor the right is here. Each section may arrive, on the track of the place.
+    // The place's group is on that track and not in advance of the front.
     fn may_take(
         &self,
         line: &Line,
@@ -120,8 +120,8 @@ impl TrainState {
         may_arrive(line, centre, book, train, hand)
     }
 
-    // Whether the train is expected from that centre under this number, and it was told that this one is taking over;
-    // and neither a mission nor the right is here.
+    // Whether the train is expected from that centre under this number, and that centre has got a TakingOver. Besides,
+    // neither a mission nor the right is here.
     fn awaits(&self, registrar: &Registrar, from: u8, number: u32) -> bool
         ensures { result ≡ (is_taking_under number (expected_from self.now.expectations from) &&
             (is_none self.now.supervision.mission && not (is_here registrar.now self.now.supervision.number))) }
@@ -167,7 +167,7 @@ fn later(heard: Option<u32>, other: u32) -> u32
     }
 }
 
-// The place that a Yield carries. None where its front lies before the start of the track.
+// The place that a Yield carries; `None` if its front is before the start of the track.
 fn arriving_place(place: YieldedPlace) -> Option<Place>
     requires { HasPlaceRange (bodies.place_of place) }
     ensures { option_map place_of result ≡ carried_place (bodies.place_of place) }

@@ -18,35 +18,35 @@ use rbc_place::Place;
 use rbc_session::{Phase, SessionState, Sessions};
 use std::alloc::{AllocError, Global};
 
-/// What is known of a train at a centre.
+/// A view of a train at a centre.
 #[derive(Clone, Copy, Debug, PartialEq, Eq)]
 pub struct TrainPage {
-    /// How far the communication session with it has come (3.5.3).
+    /// The phase of the communication session with it (3.5.3).
     pub phase: Phase,
-    /// The last T_TRAIN heard.
+    /// The last T_TRAIN received.
     pub heard: Option<u32>,
-    /// How many messages were said to the train.
+    /// The number of messages sent to the train.
     pub said: u32,
     /// The mission that the centre supervises.
     pub mission: Option<MissionFacts>,
-    /// The sections of its movement authority, none where there is no mission.
+    /// The sections of its movement authority; empty if it has no mission.
     pub hand: SectionRun,
-    /// The lent sections that follow them, none where there is no mission.
+    /// The lent sections in advance of them; empty if it has no mission.
     pub pool: SectionRun,
     /// The place of a start of mission that waits for the right to supervise the train.
     pub waiting: Option<Place>,
 }
 
-/// What a centre keeps of a train of the line.
+/// The state that a centre keeps of a train of the line.
 #[derive(Debug)]
 pub struct TrainState {
-    /// The session that stands with it.
+    /// Its session.
     pub session_state: SessionState,
-    /// The last T_TRAIN heard.
+    /// The last T_TRAIN received.
     pub heard: Option<u32>,
-    /// How many messages were said to it.
+    /// The number of messages sent to it.
     pub said: u32,
-    /// Its mission, where one stands at this centre.
+    /// Its mission, if it has one at this centre.
     pub supervision: Supervision,
     /// Its start of mission that waits, and whether its right is asked for.
     pub waiting: WaitingStart,
@@ -55,8 +55,8 @@ pub struct TrainState {
 }
 
 impl TrainState {
-    /// What is kept of a train of this line that was never heard, with this place in the line file.
-    /// For want of memory the book ends what was made.
+    /// The state of a train of this line from which no message was received, at this position in the line file. If
+    /// memory runs out, the book ends the parts already made.
     pub fn unknown(
         alloc: Global,
         line: &Line,
@@ -93,7 +93,7 @@ impl TrainState {
         self.supervision.nid_engine()
     }
 
-    /// The sections of its movement authority; none where no mission stands.
+    /// The sections of its movement authority; empty if it has no mission.
     pub(crate) fn hand(&self) -> SectionRun
         ensures value { run_of result ≡ hand_of self.now.supervision }
         ensures most { result.count ≤ 32 }
@@ -102,7 +102,7 @@ impl TrainState {
         self.supervision.hand()
     }
 
-    /// What is known of it.
+    /// The view of its state.
     pub fn page(&self) -> TrainPage
         ensures phase { phase_of result.phase ≡ session_phase self.now.session_state }
         ensures heard { result.heard ≡ self.now.heard }
@@ -124,7 +124,7 @@ impl TrainState {
         }
     }
 
-    /// Ends it with its centre: its session ends, and its sections go back.
+    /// Ends it with its centre: its session ends, and its sections return to the book.
     pub fn end(self, sessions: &mut Sessions, book: &mut Book) {
         let TrainState {
             session_state,
@@ -140,7 +140,7 @@ impl TrainState {
         expectations.end();
     }
 
-    /// Whether a message came late or again (3.16.3).
+    /// Whether a message is late or repeated (3.16.3).
     pub fn is_stale(&self, t_train: u32) -> bool
         ensures { result ≡ is_stale t_train self.now.heard }
     {

@@ -1,16 +1,17 @@
--- A value with a name stands for one number, and no other has it.
-use Rattle.std.proofs.Common.{◌≡◌, ◌^◌, ◌<◌, Some, refl, arith}
-use Rattle.rbc_vars.specs.Values.{q_scale_value, q_scale_of, direction_value, direction_of, q_length_value, q_length_of, m_level_value, m_level_of, q_status_value, q_status_of}
-use Rattle.rbc_vars.specs.declared.scale.QScale.{QScale}
-use Rattle.rbc_vars.specs.declared.scale.QScale.TheVariants as scale
+-- A named value has one number, and no other value has it.
+use Rattle.std.proofs.Common.{◌<◌, ◌^◌, ◌≡◌, arith, refl, Some}
 use Rattle.rbc_vars.specs.declared.direction.Direction.{Direction}
 use Rattle.rbc_vars.specs.declared.direction.Direction.TheVariants as direction
 use Rattle.rbc_vars.specs.declared.length.QLength.{QLength}
 use Rattle.rbc_vars.specs.declared.length.QLength.TheVariants as q_length
 use Rattle.rbc_vars.specs.declared.level.MLevel.{MLevel}
 use Rattle.rbc_vars.specs.declared.level.MLevel.TheVariants as level
+use Rattle.rbc_vars.specs.declared.scale.QScale.{QScale}
+use Rattle.rbc_vars.specs.declared.scale.QScale.TheVariants as scale
 use Rattle.rbc_vars.specs.declared.status.QStatus.{QStatus}
 use Rattle.rbc_vars.specs.declared.status.QStatus.TheVariants as status
+use Rattle.rbc_vars.specs.Values.{direction_of, direction_value, m_level_of, m_level_value, q_length_of, q_length_value}
+use Rattle.rbc_vars.specs.Values.{q_scale_of, q_scale_value, q_status_of, q_status_value}
 
 pub q_scale-again : (v : QScale) → q_scale_of (q_scale_value v) ≡ Some v
 unfolding q_scale_of

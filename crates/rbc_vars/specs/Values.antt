@@ -1,4 +1,4 @@
--- Which value of a variable stands for what (SUBSET-026 7.5).
+-- The meanings of the values of variables (SUBSET-026 7.5).
 use Rattle.std.specs.Prelude.{ℕ, ◌==◌, List, [], ◌∷◌, Option}
 use Rattle.std.specs.List.{find}
 use Rattle.rbc_vars.specs.declared.scale.QScale.{QScale}

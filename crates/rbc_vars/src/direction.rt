@@ -1,8 +1,8 @@
 ghost use Rattle.std.specs.Prelude.{◌≡◌, ◌^◌, ◌<◌, IfSome};
 ghost use Rattle.rbc_vars.specs.Values.{direction_of, direction_value};
 
-/// Q_DIRLRBG, Q_DLRBG and Q_DIRTRAIN, which have the same values: which way the train stands, on which side of the
-/// balise group its front is, and which way it moves.
+/// Q_DIRLRBG, Q_DLRBG and Q_DIRTRAIN, which have the same values. They are the orientation of the train, the side of
+/// the balise group on which its front is, and the direction in which it moves.
 #[derive(Clone, Copy, Debug, PartialEq, Eq)]
 pub enum Direction {
     /// Against the direction of the balise group.

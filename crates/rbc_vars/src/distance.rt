@@ -151,7 +151,7 @@ impl LDoubtunder {
     }
 }
 
-/// L_TRAININT: the length of the train whose integrity is confirmed, in metres whatever Q_SCALE is (profile).
+/// L_TRAININT: the length of a train with confirmed integrity, in metres for every Q_SCALE (profile).
 #[derive(Clone, Copy, Debug, PartialEq, Eq)]
 pub struct LTrainint {
     value: u16,

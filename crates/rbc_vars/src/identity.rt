@@ -1,10 +1,10 @@
-//! Variables that say who or what is meant (SUBSET-026 7.5).
+//! Variables that identify something or somebody (SUBSET-026 7.5).
 
 ghost use Rattle.std.specs.Prelude.{◌≡◌, ◌^◌, ◌<◌, Some, None, nat_lt, if◌then◌else◌};
 
 use std::marker::Model;
 
-/// NID_ENGINE: the on-board equipment, which stands for the train.
+/// NID_ENGINE: the on-board equipment, which identifies the train.
 #[derive(Clone, Copy, Debug, PartialEq, Eq)]
 pub struct NidEngine {
     value: u32,

@@ -1,7 +1,7 @@
 ghost use Rattle.std.specs.Prelude.{◌≡◌, ◌^◌, ◌<◌, IfSome};
 ghost use Rattle.rbc_vars.specs.Values.{q_length_of, q_length_value};
 
-/// Q_LENGTH: what is known of the train's integrity.
+/// Q_LENGTH: whether train integrity is confirmed, and by which source.
 #[derive(Clone, Copy, Debug, PartialEq, Eq)]
 pub enum QLength {
     /// Nothing.

@@ -1,7 +1,7 @@
 //! The variables of radio messages (SUBSET-026 7.5): of each a type whose values are those that its bits can have and
 //! that are read. `of` tests a number, `new` takes one that is known to fit.
 //!
-//! Bodies and proofs are free. The clauses of public functions stay, since the crates above stand on them.
+//! Bodies and proofs may change. The clauses of public functions have to stay: the crates above depend on them.
 #![tactic(auto)]
 
 mod authority;

@@ -1,4 +1,4 @@
-//! Variables that say when a train speaks, how it runs and what it asks for (SUBSET-026 7.5).
+//! Variables of a train's time, of its state of running, and of its requests (SUBSET-026 7.5).
 
 ghost use Rattle.std.specs.Prelude.{◌≡◌, ◌^◌, ◌<◌, Some, None, nat_lt, if◌then◌else◌};
 

@@ -1,7 +1,7 @@
 ghost use Rattle.std.specs.Prelude.{◌≡◌, ◌^◌, ◌<◌, IfSome};
 ghost use Rattle.rbc_vars.specs.Values.{q_status_of, q_status_value};
 
-/// Q_STATUS: what a train that starts its mission knows of its position.
+/// Q_STATUS: whether a train that starts its mission knows its position.
 #[derive(Clone, Copy, Debug, PartialEq, Eq)]
 pub enum QStatus {
     /// The position is not valid.

@@ -35,7 +35,7 @@ centres_of-set line cs c k within d = elim (eqb_tells d c) as (λ _. centres_of 
   | inr e ↦ rw (e.0) (ap (λ o. option_map_or one.state_of o (centre.beginning line d)) (slice_get-set_other cs c d k (e.1)))
 ]
 
--- a centre that means what it meant leaves the centres as they were
+-- a centre with the same state leaves the states of the centres as they were
 pub centres_of-kept : (line : Line) (cs : List Centre) (c : ℕ) (k new : Centre) → slice_get cs c ≡ Some k → c < length cs → one.state_of new ≡ one.state_of k → (d : ℕ) → centres_of line (set cs c new) d ≡ centres_of line cs d
 centres_of-kept line cs c k new at within same d = centres_of-set line cs c new within d
     ∙ elim (eqb_tells d c) as (λ _. put (centres_of line cs) c (one.state_of new) d ≡ centres_of line cs d) [
@@ -54,7 +54,7 @@ unfolding stands_for new_world
 new_world_stands cs line own trains same each none =
     ap (λ l. stands_for l cs trains) same ∙ (λ i. record { at = λ c. beginning_by cs line c (slice_get cs c) refl each i; trains = none i })
 
--- what holds of each centre by its number is kept where the centre that stepped keeps it
+-- a property of each centre by its number is kept if the centre that stepped keeps it
 pub each_kept : (P : ℕ → Centre → Type 0) (cs : List Centre) (c : ℕ) (new : Centre) → c < length cs → P c new
     → ((d : ℕ) (j : Centre) → slice_get cs d ≡ Some j → P d j) → (d : ℕ) (j : Centre) → slice_get (set cs c new) d ≡ Some j → P d j
 each_kept P cs c new within holds each d j found = elim (eqb_tells d c) as (λ _. P d j) [
@@ -65,7 +65,7 @@ each_kept P cs c new within holds each d j found = elim (eqb_tells d c) as (λ _
   | inr e ↦ each d j (sym (slice_get-set_other cs c d new (e.1)) ∙ found)
 ]
 
--- what holds of each item of a row, and of one more
+-- a property of each item of a list, and of one more item
 pub each_pushed : {X : Type 0} (P : ℕ → X → Type 0) (xs : List X) (x : X) → ((d : ℕ) (k : X) → slice_get xs d ≡ Some k → P d k) → P (length xs) x → (d : ℕ) (k : X) → slice_get (xs ++ x ∷ []) d ≡ Some k → P d k
 each_pushed P [] x each p zero k found = let is : x ≡ k = cc in subst (P zero) is p
 each_pushed P [] x each p (suc d) k found = cc

@@ -1,21 +1,22 @@
--- What is known of a world that events led to.
-use Rattle.std.proofs.Common.{◌≡◌, ℕ, ◌&&◌, ◌==◌, ◌-◌, Bool, true, false, if◌then◌else◌, List, [], Option, Some, None, slice_get, refl, sym, ap, ◌∙◌}
+-- The facts that are known of a world after a list of events.
+use Rattle.std.proofs.Common.{[], ◌&&◌, ◌-◌, ◌==◌, ◌∙◌, ◌≡◌, ap, Bool, false, if◌then◌else◌, List, None, Option, refl}
+use Rattle.std.proofs.Common.{slice_get, Some, sym, true, ℕ}
 use Rattle.std.proofs.Math.Logic.{∥∥₁_elim}
 use Rattle.std.specs.Option.{IfSome}
-use Rattle.rbc_spec.specs.Line.{Line, IsLine, is_centre}
-use Rattle.rbc_spec.specs.Frame.{Frame}
-use Rattle.rbc_spec.specs.World.{World, frame_sent}
-use Rattle.rbc_spec.specs.ReadOff.{StandsFor, read_off}
-use Rattle.rbc_spec.specs.Promises.{IsSound}
-use Rattle.rbc_spec.specs.Theorems.{IsOneCentreLine}
 use Rattle.law_base.specs.Local.Local.{IsLocal}
-use Rattle.law_reached.specs.Seen.{AreMissionsSeen, AreSectionsSeen}
-use Rattle.law_reached.specs.Known.{IsKnown}
 use Rattle.law_reached.proofs.Known as seen
+use Rattle.law_reached.proofs.Known.{sections_seen}
+use Rattle.law_reached.proofs.Missions as forced
 use Rattle.law_reached.proofs.Missions.{missions_seen}
-use Rattle.law_reached.proofs.Marks.{sections_seen}
-use Rattle.law_reached.proofs.Forced as forced
+use Rattle.law_reached.specs.Known.{IsKnown}
+use Rattle.law_reached.specs.Seen.{AreMissionsSeen, AreSectionsSeen}
 use Rattle.rbc_centre.specs.Views.{frame_number}
+use Rattle.rbc_spec.specs.Frame.{Frame}
+use Rattle.rbc_spec.specs.Line.{is_centre, IsLine, Line}
+use Rattle.rbc_spec.specs.Promises.{IsSound}
+use Rattle.rbc_spec.specs.ReadOff.{read_off, StandsFor}
+use Rattle.rbc_spec.specs.Theorems.{IsOneCentreLine}
+use Rattle.rbc_spec.specs.World.{frame_sent, World}
 use Rattle.rbc_world.specs.Reached.{WasReached}
 
 -- ## After the events that led to it
@@ -24,7 +25,7 @@ module _ (line : Line) (w : World) (ok : IsLine line) (reached : ∥ WasReached 
   pub world_known : IsKnown line w
   world_known = ∥∥₁_elim reached (seen.one_proof line w) (λ r. seen.is_known line ok r.events r.answers w r.run)
 
-  -- the state that is read off it stands for it, and is seen by looking at its centres
+  -- the state that is read off represents the world, and is seen at its centres
   pub world_stands : StandsFor line w (read_off line w)
   world_stands = seen.stands line w world_known
 
@@ -43,7 +44,7 @@ module _ (line : Line) (w : World) (ok : IsLine line) (reached : ∥ WasReached 
 
 -- ## Frames that were sent
 
--- none is at any number where none was sent
+-- no frame has a number if none was sent
 pub none_at : (number : ℕ) → None ≡ frame_number [] number
 none_at number = by_number (number == 0)
   where

@@ -1,20 +1,21 @@
--- A run of a world as it goes on, and what a whole one is.
-use Rattle.std.proofs.Common.{◌≡◌, ℕ, ◌+◌, ◌<◌, ◌≤◌, zero, suc, List, [], ◌∷◌, ◌++◌, length, map, drop, get_or, Option, Result, Ok, Err, refl, sym, subst, ap, arith}
-use Rattle.std.specs.Result.{IfOk, IfErr}
-use Rattle.rbc_spec.specs.Line.{Line, IsLine}
-use Rattle.rbc_spec.specs.Step.{ClockEnd as AtClockEnd, LinkFull as AtLinkFull}
-use Rattle.rbc_spec.specs.LineCentre.{line_beginning}
-use Rattle.rbc_spec.specs.World.{World, Event, Answer, world_step, world_run, new_world, all_named}
-use Rattle.rbc_spec.specs.Run.{Run}
-use Rattle.rbc_spec.specs.ReadOff.{IsLineRun, read_off}
-use Rattle.rbc_spec.specs.Promises.{IsSound}
-use Rattle.rbc_spec.specs.Theorems.{IsOneCentreLine, IsOneCentreRun, ForcedRun}
-use Rattle.law_outside.specs.Outside.{Spoken, IsSafeOutside, sees_all, nothing_seen, spoken_of}
+-- A run of a world while it goes on, and a whole run.
+use Rattle.std.proofs.Common.{[], ◌++◌, ◌+◌, ◌<◌, ◌∷◌, ◌≡◌, ◌≤◌, ap, arith, drop, Err, get_or, length, List, map, Ok}
+use Rattle.std.proofs.Common.{Option, refl, Result, subst, suc, sym, zero, ℕ}
+use Rattle.std.specs.Result.{IfErr, IfOk}
+use Rattle.law_outside.specs.Outside.{IsSafeOutside, nothing_seen, sees_all, Spoken, spoken_of}
 use Rattle.law_promises.proofs.Pieces.{run_safe}
-use Rattle.law_reached.proofs.Whole.{Reaches, at_start, stops_at, run_names, run_refused, run_read, the_run, run_sound}
-use Rattle.law_reached.proofs.Forced as forced
+use Rattle.law_reached.proofs.Known.{at_start, Reaches, run_names, run_read, run_refused, run_sound, stops_at, the_run}
+use Rattle.law_reached.proofs.Missions as forced
 use Rattle.rbc_centre.specs.declared.fault.StepFault.{StepFault}
-use Rattle.rbc_centre.specs.declared.fault.StepFault.TheVariants.{Memory, LinkFull, ClockEnd}
+use Rattle.rbc_centre.specs.declared.fault.StepFault.TheVariants.{ClockEnd, LinkFull, Memory}
+use Rattle.rbc_spec.specs.Line.{IsLine, Line}
+use Rattle.rbc_spec.specs.LineCentre.{line_beginning}
+use Rattle.rbc_spec.specs.Promises.{IsSound}
+use Rattle.rbc_spec.specs.ReadOff.{IsLineRun, read_off}
+use Rattle.rbc_spec.specs.Run.{Run}
+use Rattle.rbc_spec.specs.Step.{ClockEnd as AtClockEnd, LinkFull as AtLinkFull}
+use Rattle.rbc_spec.specs.Theorems.{ForcedRun, IsOneCentreLine, IsOneCentreRun}
+use Rattle.rbc_spec.specs.World.{all_named, Answer, Event, new_world, World, world_run, world_step}
 use Rattle.rbc_world.specs.Answers.{Gives, IsRefusal, IsRefusedRun}
 
 -- at the first event
@@ -27,10 +28,10 @@ stops line all rest answers w event Memory so_far s = tt
 stops line all rest answers w event LinkFull so_far s = stops_at line all rest answers w event AtLinkFull so_far s
 stops line all rest answers w event ClockEnd so_far s = stops_at line all rest answers w event AtClockEnd so_far s
 
--- ## What a whole run is
+-- ## A whole run
 
 module _ {X : Type 0} (line : Line) (events : List Event) (answers : X → List Answer) (world : X → World) where
-  -- what the definition of a world's run gives
+  -- the result of the definition of a world's run
   abbrev Runs : Result X StepFault → Type 0
   Runs result = Gives (λ o. (answers o, world o)) result (world_run line (new_world line) events)
 
@@ -78,9 +79,9 @@ module _ {X : Type 0} (line : Line) (events : List Event) (answers : X → List 
       ends_forced (Ok o) e = forced.run_read line ok c one events (answers o) (world o) e
       ends_forced (Err fault) e = tt
 
--- ## The events to come
+-- ## The events that are left
 
--- what is left at place i begins with the item there
+-- the rest of a list from position i begins with the item there
 pub map_drop : {X Y : Type 0} (f : X → Y) (xs : List X) (i : ℕ) (x : X) → i < length xs → x ≡ get_or xs i x → map f (drop i xs) ≡ f x ∷ map f (drop (i + 1) xs)
 map_drop f [] i x h e = absurd (let never : ⊥ = omega arith in never)
 map_drop f (y ∷ ys) zero x h e = ap (λ z. f z ∷ map f ys) (sym e)

@@ -42,7 +42,7 @@ or_false : (b : Bool) → (b || false) ≡ b
 or_false true = refl
 or_false false = refl
 
--- a train is one of the list where it was put after it, and another as it was before
+-- a train is in the list after it was added, and any other is as before
 listed : (u t : ℕ) (trains : List ℕ) (b : Bool) → (u == t) ≡ b → list_any (λ v. u == v) (trains ++ t ∷ []) ≡ (list_any (λ v. u == v) trains || b)
 listed u t trains b is = list_any-append (λ v. u == v) trains (t ∷ []) ∙ ap (λ x. list_any (λ v. u == v) trains || x) (last b is)
   where
@@ -93,7 +93,7 @@ pub none_named : (line : Line) (marks : List Bool) (trains : List ℕ) (n : ℕ)
 none_named line marks trains n is none =
     subst (λ (bs : List Bool). AreNamed line bs trains) (sym is) (subst (AreNamed line (replicate n false)) (sym none) (none_marked line n))
 
--- what the mark of a train says of a first mention
+-- the mark of a train and whether it is a first mention
 unmarked : (first listed : Bool) → not first ≡ listed → first ≡ not listed
 unmarked true listed is = ap not is
 unmarked false listed is = ap not is

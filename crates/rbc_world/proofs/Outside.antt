@@ -1,22 +1,23 @@
--- What the world outside sees of a step after whatever events led to it, and of a list of answers.
-use Rattle.std.proofs.Common.{◌≡◌, ◌∙◌, Bool, List, [], ◌∷◌, ◌++◌, map, Option, Some, None, option_map, is_none, Result, Ok, Err, refl, ap}
+-- The view from outside after a step that follows a list of events, and after a list of answers.
+use Rattle.std.proofs.Common.{[], ◌++◌, ◌∙◌, ◌∷◌, ◌≡◌, ap, Bool, Err, is_none, List, map, None, Ok, Option, option_map}
+use Rattle.std.proofs.Common.{refl, Result, Some}
 use Rattle.std.specs.Result.{IfOk}
-use Rattle.rbc_spec.specs.Line.{Line, IsLine}
-use Rattle.rbc_spec.specs.Outcome.{Told}
-use Rattle.rbc_spec.specs.World.{World, Answer, new_world, world_step}
-use Rattle.law_outside.specs.Outside.{Spoken, StaysSafeOutside, spoken_of}
+use Rattle.law_outside.specs.Outside.{Spoken, spoken_of, StaysSafeOutside}
 use Rattle.law_promises.proofs.Pieces.{run_safe}
-use Rattle.law_reached.proofs.Whole.{the_run}
+use Rattle.law_reached.proofs.Known.{the_run}
 use Rattle.rbc_centre.specs.declared.fault.StepFault.{StepFault}
-use Rattle.rbc_world.specs.Answers.{Gives}
 use Rattle.rbc_centre.specs.rbc_train.Reasons.{reason_of}
 use Rattle.rbc_centre.specs.rbc_train.Sayings.{saying_of}
 use Rattle.rbc_centre.specs.Views.{words_of}
-use Rattle.rbc_world.specs.Views.{event_of, answer_of, spoken_by}
+use Rattle.rbc_spec.specs.Line.{IsLine, Line}
+use Rattle.rbc_spec.specs.Outcome.{Told}
+use Rattle.rbc_spec.specs.World.{Answer, new_world, World, world_step}
+use Rattle.rbc_world.proofs.Reached.{run_on}
+use Rattle.rbc_world.specs.Answers.{Gives}
 use Rattle.rbc_world.specs.declared.event.Answer.{Answer as AnswerCode}
 use Rattle.rbc_world.specs.declared.event.Answer.TheVariants as answer
 use Rattle.rbc_world.specs.declared.event.WorldEvent.{WorldEvent}
-use Rattle.rbc_world.proofs.Reached.{run_on}
+use Rattle.rbc_world.specs.Views.{answer_of, event_of, spoken_by}
 
 pub step_outside : {X : Type 0} (answer : X → Answer) (line : Line) (ok : IsLine line) (w new : World) (e : WorldEvent) (result : Result X StepFault)
     → Gives (λ x. (answer x, new)) result (world_step line w (event_of e)) → IfOk result (λ x. StaysSafeOutside line w (event_of e) (answer x))
@@ -26,7 +27,7 @@ step_outside answer line ok w new e (Ok x) s = λ events answers led.
     run_safe line ok (events ++ event_of e ∷ []) (answers ++ answer x ∷ []) h.last h.is_run
 step_outside answer line ok w new e (Err fault) s = tt
 
--- ## The messages and words of answers
+-- ## The messages and replies of answers
 
 none_if_none : {X Y : Type 0} (f : X → Y) (o : Option X) → is_none (option_map f o) ≡ is_none o
 none_if_none f None = refl

@@ -1,26 +1,29 @@
 -- The events that led to a world go on by one.
-use Rattle.std.proofs.Common.{◌≡◌, ℕ, ◌<◌, true, List, [], ◌∷◌, ◌++◌, length, Some, None, slice_get, set, Result, Ok, Err, refl, sym, ap, subst, ◌∙◌}
+use Rattle.std.proofs.Common.{[], ◌++◌, ◌<◌, ◌∙◌, ◌∷◌, ◌≡◌, ap, Err, length, List, None, Ok, refl, Result, set}
+use Rattle.std.proofs.Common.{slice_get, Some, subst, sym, true, ℕ}
 use Rattle.std.proofs.Math.Logic.{∥∥₁_map}
 use Rattle.std.specs.Result.{OnErr}
-use Rattle.rbc_spec.specs.Line.{Line, is_centre, train_number}
-use Rattle.rbc_spec.specs.Message.{TrainMessage}
-use Rattle.rbc_spec.specs.Outcome.{Outcome}
-use Rattle.rbc_spec.specs.Step as step
-use Rattle.rbc_spec.specs.Step.{Refusal}
-use Rattle.rbc_spec.specs.World.{World, Event, Bytes, Set, Unset, Delivery, Answer, Answered, new_world, world_step, world_run, at_centre as told_at, takes, mention}
 use Rattle.law_base.proofs.Worlds.{bind_ok}
-use Rattle.law_reached.proofs.Whole.{whole_run, run_of_none, run_of_cons}
-use Rattle.rbc_centre.specs.States as one
+use Rattle.law_reached.proofs.Known.{run_of_cons, run_of_none, whole_run}
 use Rattle.rbc_centre.specs.Answer.{Steps}
-use Rattle.rbc_centre.specs.Views.{event_of as one_event}
 use Rattle.rbc_centre.specs.declared.centre.Centre.{Centre}
 use Rattle.rbc_centre.specs.declared.event.Event.{Event as CentreEvent}
 use Rattle.rbc_centre.specs.declared.event.Event.TheVariants as of_centre
 use Rattle.rbc_centre.specs.declared.fault.StepFault.{StepFault}
-use Rattle.rbc_world.specs.States.{stands_for}
-use Rattle.rbc_world.specs.Reached.{WasReached, MayBeTold}
+use Rattle.rbc_centre.specs.States as one
+use Rattle.rbc_centre.specs.Views.{event_of as one_event}
+use Rattle.rbc_spec.specs.Line.{is_centre, Line, train_number}
+use Rattle.rbc_spec.specs.Message.{TrainMessage}
+use Rattle.rbc_spec.specs.Outcome.{Outcome}
+use Rattle.rbc_spec.specs.Step as step
+use Rattle.rbc_spec.specs.Step.{Refusal}
+use Rattle.rbc_spec.specs.World.{Answer, Answered, at_centre as told_at, Bytes, Delivery, Event, mention, new_world}
+use Rattle.rbc_spec.specs.World.{Set, takes, Unset, World, world_run, world_step}
 use Rattle.rbc_world.proofs.Mentions.{foreign_mention}
-use Rattle.rbc_world.proofs.Steps.{is_centre_within, at_centre, set_told, unset_told, delivered, step_ok, told_ok, world_kept}
+use Rattle.rbc_world.proofs.Steps.{at_centre, delivered, is_centre_within, set_told, step_ok, told_ok, unset_told}
+use Rattle.rbc_world.proofs.Steps.{world_kept}
+use Rattle.rbc_world.specs.Reached.{MayBeTold, WasReached}
+use Rattle.rbc_world.specs.States.{stands_for}
 
 of_ok : {X : Type 0} (p q : X) → ◌≡◌ {A = Result X Refusal} (Ok p) (Ok q) → p ≡ q
 of_ok p q e = cc
@@ -59,7 +62,7 @@ led_on line w new event answer s before = record {
 goes_on : (line : Line) (w new : World) (event : Event) (answer : Answer) → world_step line w event ≡ Ok (answer, new) → ∥ WasReached line w ∥₁ → ∥ WasReached line new ∥₁
 goes_on line w new event answer s before = ∥∥₁_map before (led_on line w new event answer s)
 
--- so does what a centre of the line is told
+-- an event of a centre of the line leads on
 told_on : (line : Line) (w new : World) (c : ℕ) (event : CentreEvent) (answer : Answer) → is_centre line c ≡ true → MayBeTold w c event
     → told_at line w c (takes line w c w.trains (one_event event)) ≡ Ok (answer, new) → ∥ WasReached line w ∥₁ → ∥ WasReached line new ∥₁
 told_on line w new c (of_centre.Train m) answer here never s before = absurd never
@@ -76,7 +79,7 @@ module _ (line : Line) (cs : List Centre) (trains : List ℕ) (c : ℕ) (k new :
   pub reached_still : (after : List ℕ) → after ≡ trains → one.state_of new ≡ one.state_of k → ∥ WasReached line (stands_for line (set cs c new) after) ∥₁
   reached_still after same kept = subst (λ (w : World). ∥ WasReached line w ∥₁) (sym (ap (stands_for line (set cs c new)) same ∙ world_kept line cs trains c k new at within kept)) before
 
-  -- after what the centre is told
+  -- after the event of the centre
   pub reached_by_word : {X : Type 0} (outcome : X → Outcome) (event : CentreEvent) (result : Result X StepFault) → MayBeTold (stands_for line cs trains) c event
       → Steps (λ x. (outcome x, one.state_of new)) result (step.step (one.line_of k) (one.number_of k) (one_event event) (one.state_of k)) → OnErr result (one.state_of new ≡ one.state_of k)
       → ∥ WasReached line (stands_for line (set cs c new) trains) ∥₁

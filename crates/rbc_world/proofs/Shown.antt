@@ -1,4 +1,4 @@
--- What is shown of a world.
+-- The view of a world.
 use Rattle.std.proofs.Common.{◌≡◌, ℕ, zero, suc, ◌+◌, ◌-◌, ◌==◌, ◌≤◌, true, false, List, [], ◌∷◌, ◌++◌, length, Option, Some, None, option_map, is_some, length-append, slice_get, refl, sym, ap, ◌∙◌, subst, arith, eqb-true}
 use Rattle.std.specs.List.{filter_map, flat_map}
 use Rattle.std.specs.Option.{option_or, option_map_or, IfSome}
@@ -27,7 +27,7 @@ use Rattle.rbc_world.proofs.Centres.{centre_at}
 use Rattle.rbc_world.proofs.Known.{none_at}
 use Rattle.rbc_world.proofs.Firsts.{first_of_two, in_lists}
 
--- ## What is read of a centre
+-- ## The values that are read at a centre
 
 module _ (line : Line) (cs : List Centre) (trains : List ℕ) (c : ℕ) where
   pub seen_at : {X : Type 0} (part : centre.Centre → X) (k : Centre) → slice_get cs c ≡ Some k → part (one.state_of k) ≡ part ((stands_for line cs trains).at c)
@@ -62,11 +62,11 @@ no_section None e = refl
 
 -- ## The mission of a train
 
--- what centre c holds by a mission
+-- the mission of centre c, with its hand
 abbrev pub held_by : ℕ → Mission → Held
 held_by c m = record { mission = seen c m; hand = m.hand }
 
--- it is found at the centres, and else on the way
+-- the mission is found at the centres, or else on the way
 pub held_is : (line : Line) (w : World) (t : ℕ) → held line w t ≡ option_or (held_by_a_centre line w t) (yielded_on_way line w t)
 held_is line w t = first_of_two (filter_map (held_at w t) (centres_of line)) (filter_map (λ (f : Frame). handed_over t f.body) (frames_on_way line w))
 
@@ -81,12 +81,12 @@ pub next_number : (frames : List Frame) (i : ℕ) → frame_number frames (i + 1
 next_number frames i = let some : ((i + 1) == 0) ≡ false = grind (arith, nat_tests) in let back : (i + 1) - 1 ≡ i = omega arith in rw some (ap (slice_get frames) back)
 
 module _ (line : Line) (w : World) (t : ℕ) (missions : AreMissionsSeen line w) where
-  -- what is shown as it is held is what is read off
+  -- a mission shown as it is held is the one that is read off
   mission_is : (shown : Option MissionView) → option_map held_shown shown ≡ held line w t → option_map mission_shown shown ≡ (read_off line w).mission t
   mission_is (Some m) is = ap (option_map (λ (h : Held). h.mission)) is ∙ sym (missions.mission t)
   mission_is None is = ap (option_map (λ (h : Held). h.mission)) is ∙ sym (missions.mission t)
 
-  -- and its hand has the sections that are given to the train
+  -- the hand of a shown mission has the sections that are given to the train
   hand_is : (shown : Option MissionView) → option_map held_shown shown ≡ held line w t → IfSome shown (λ m. IsHand (read_off line w) t (run_of m.hand))
   hand_is (Some m) is = missions.hand t (held_shown m) (sym is)
   hand_is None is = tt
@@ -124,7 +124,7 @@ trains_shown line w missions trains seen = record {
       record { engine = it.engine; sessions = it.sessions; mission = mission_is line w p.nid_engine missions p.mission it.mission; hand = hand_is line w p.nid_engine missions p.mission it.mission };
 }
 
--- ## Rows of what is shown
+-- ## Lists in a view
 
 placed : {X : Type 0} (P : ℕ → X → Type 0) (xs : List X) (x : X) → ((i : ℕ) (y : X) → slice_get xs i ≡ Some y → P i y) → P (length xs) x → (i : ℕ) (y : X) → slice_get (xs ++ x ∷ []) i ≡ Some y → P i y
 placed P [] x each p zero y at = let is : x ≡ y = cc in subst (P 0) is p

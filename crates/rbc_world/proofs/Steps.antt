@@ -1,39 +1,41 @@
--- What a world stands for before and after a step.
-use Rattle.std.proofs.Common.{◌≡◌, ℕ, ◌<◌, ◌≤◌, ◌≢◌, true, false, List, length, Option, Some, None, slice_get, set, refl, sym, ap, ◌∙◌, arith, Result, Ok, Err}
-use Rattle.std.specs.Result.{IfOk, IfErr}
-use Rattle.std.specs.Option.{option_map_or}
+-- The state of a world before and after a step.
+use Rattle.std.proofs.Common.{◌<◌, ◌∙◌, ◌≡◌, ◌≢◌, ◌≤◌, ap, arith, Err, false, length, List, None, Ok, Option, refl}
+use Rattle.std.proofs.Common.{Result, set, slice_get, Some, sym, true, ℕ}
 use Rattle.std.proofs.lemmas.Bool.Decides.{nat_tests}
-use Rattle.rbc_spec.specs.Line.{Line, IsLine, is_centre}
-use Rattle.rbc_spec.specs.Message.{TrainMessage}
-use Rattle.rbc_spec.specs.Frame.{Frame}
-use Rattle.rbc_spec.specs.Outcome.{Outcome}
-use Rattle.rbc_spec.specs.Step as step
-use Rattle.rbc_spec.specs.World.{World, Answer, Bytes, Set, Unset, Delivery, Answered, NoCentre, NotSent, Fault, world_step, frame_sent, at_centre as told_at, reads, stepped, takes, mention}
-use Rattle.rbc_spec.specs.Run.{Goes}
-use Rattle.rbc_spec.specs.ReadOff.{read_off}
-use Rattle.rbc_spec.specs.Promises.{KeepsPromises}
-use Rattle.rbc_spec.specs.Theorems.{IsOneCentreLine, GoesForced}
+use Rattle.std.specs.Option.{option_map_or}
+use Rattle.std.specs.Result.{IfErr, IfOk}
 use Rattle.law_reached.proofs.Known.{goes, promises}
-use Rattle.law_reached.proofs.Forced.{forced}
-use Rattle.rbc_msgs.specs.TrainText.{TrainText}
-use Rattle.rbc_msgs.specs.StepMessage.{step_message}
-use Rattle.rbc_msgs.specs.Faults.{fault_number}
-use Rattle.rbc_msgs.specs.declared.fault.MsgFault.{MsgFault}
-use Rattle.rbc_msgs.specs.declared.fault.MsgFault.TheVariants as of_message
-use Rattle.rbc_centre.specs.States as one
+use Rattle.law_reached.proofs.Missions.{forced}
 use Rattle.rbc_centre.specs.Answer as one_step
 use Rattle.rbc_centre.specs.declared.centre.Centre.{Centre}
-use Rattle.rbc_centre.specs.declared.outcome.Outcome.{Outcome as OutcomeInMemory}
 use Rattle.rbc_centre.specs.declared.fault.StepFault.{StepFault}
-use Rattle.rbc_centre.specs.declared.fault.StepFault.TheVariants.{Memory, LinkFull, ClockEnd}
-use Rattle.rbc_world.specs.States.{centres_of, stands_for}
+use Rattle.rbc_centre.specs.declared.fault.StepFault.TheVariants.{ClockEnd, LinkFull, Memory}
+use Rattle.rbc_centre.specs.declared.outcome.Outcome.{Outcome as OutcomeInMemory}
+use Rattle.rbc_centre.specs.States as one
+use Rattle.rbc_msgs.specs.declared.fault.MsgFault.{MsgFault}
+use Rattle.rbc_msgs.specs.declared.fault.MsgFault.TheVariants as of_message
+use Rattle.rbc_msgs.specs.Faults.{fault_number}
+use Rattle.rbc_msgs.specs.StepMessage.{step_message}
+use Rattle.rbc_msgs.specs.TrainText.{TrainText}
+use Rattle.rbc_spec.specs.Frame.{Frame}
+use Rattle.rbc_spec.specs.Line.{is_centre, IsLine, Line}
+use Rattle.rbc_spec.specs.Message.{TrainMessage}
+use Rattle.rbc_spec.specs.Outcome.{Outcome}
+use Rattle.rbc_spec.specs.Promises.{KeepsPromises}
+use Rattle.rbc_spec.specs.ReadOff.{read_off}
+use Rattle.rbc_spec.specs.Run.{Goes}
+use Rattle.rbc_spec.specs.Step as step
+use Rattle.rbc_spec.specs.Theorems.{GoesForced, IsOneCentreLine}
+use Rattle.rbc_spec.specs.World.{Answer, Answered, at_centre as told_at, Bytes, Delivery, Fault, frame_sent, mention}
+use Rattle.rbc_spec.specs.World.{NoCentre, NotSent, reads, Set, stepped, takes, Unset, World, world_step}
+use Rattle.rbc_world.proofs.Centres.{centre_at, centres_of-kept, centres_of-set}
+use Rattle.rbc_world.proofs.Known.{world_known, world_local}
 use Rattle.rbc_world.specs.Answers.{Gives, IsRefusal}
-use Rattle.rbc_world.specs.Reached.{WasReached}
-use Rattle.rbc_world.specs.Views.{event_of, answer_by, numbered, IsFaultOf}
 use Rattle.rbc_world.specs.declared.event.Reply.{Reply}
 use Rattle.rbc_world.specs.declared.event.WorldEvent.{WorldEvent}
-use Rattle.rbc_world.proofs.Centres.{centre_at, centres_of-set, centres_of-kept}
-use Rattle.rbc_world.proofs.Known.{world_known, world_local}
+use Rattle.rbc_world.specs.Reached.{WasReached}
+use Rattle.rbc_world.specs.States.{centres_of, stands_for}
+use Rattle.rbc_world.specs.Views.{answer_by, event_of, IsFaultOf, numbered}
 
 -- ## An event that centre c takes
 
@@ -124,7 +126,7 @@ unread_gives line w cs c read fault (Err e) out each within shows ok err = rw er
 
 -- ## Deliveries
 
--- a frame that was sent comes to its receiver, which is a centre of the line
+-- a frame that was sent is delivered to its receiver, which is a centre of the line
 pub delivered : (line : Line) (w : World) (from to number : ℕ) (f : Frame) → is_centre line to ≡ true → frame_sent w from to number ≡ Some f
     → world_step line w (Delivery from to number) ≡ told_at line w to (takes line w to w.trains (step.Deliver from f))
 unfolding world_step
@@ -138,7 +140,7 @@ not_sent line w from to number none = ap (λ (o : Option Frame). option_map_or (
 -- ## The piece, after the events that led to the world
 
 module _ {X : Type 0} (answer : X → Answer) (line : Line) (ok : IsLine line) (w new : World) (e : WorldEvent) (reached : ∥ WasReached line w ∥₁) where
-  -- what the definition of a world's step gives
+  -- the result of the definition of a world's step
   abbrev Steps : Result X StepFault → Type 0
   Steps result = Gives (λ x. (answer x, new)) result (world_step line w (event_of e))
 

@@ -1,4 +1,4 @@
--- What wants memory where bytes of a train come to a centre of the line.
+-- The cases in which a train's bytes at a centre of the line need memory.
 use Rattle.std.proofs.Common.{◌≡◌, inl, inr, ℕ, ◌+◌, ◌<◌, true, List, length, Option, Some, Result, Ok, Err}
 use Rattle.std.specs.Result.{OnErr}
 use Rattle.rbc_spec.specs.Line.{Line, is_centre}
@@ -18,7 +18,7 @@ use Rattle.rbc_world.specs.Answers.{IfWanted, MakesRoom, BytesTakeMemory}
 use Rattle.rbc_world.specs.declared.event.Reply.{Reply}
 use Rattle.rbc_world.proofs.Steps.{is_centre_within}
 
--- a fault is wanted by the same, whatever would be returned else
+-- the condition of a fault does not depend on the type of other results
 pub fault_wants : (X Y : Type 0) (k : centre.Centre) (event : step.Event) (fault : StepFault) → IsWantedBy {X = X} k event (Err fault) → IsWantedBy {X = Y} k event (Err fault)
 fault_wants X Y k event Memory h = h
 fault_wants X Y k event LinkFull h = tt

@@ -1,4 +1,4 @@
--- What the calls of a world answer, beside their definitions.
+-- The answers of a world's calls, beside their definitions.
 use Rattle.std.specs.Prelude.{◌≡◌, ◌≢◌, ◌⊎◌, ◌+◌, ℕ, true, List, [], ◌∷◌, ◌++◌, Some, Result, Ok, Err}
 use Rattle.rbc_spec.specs.Line.{Line, is_centre}
 use Rattle.rbc_spec.specs.Centre.{Out}
@@ -17,26 +17,26 @@ use Rattle.rbc_world.specs.declared.event.WorldEvent.TheVariants as event
 use Rattle.rbc_centre.specs.declared.fault.StepFault.{StepFault}
 use Rattle.rbc_centre.specs.declared.fault.StepFault.TheVariants.{Memory, LinkFull, ClockEnd}
 
--- but for want of memory the fault is the refusal that the definition gives
+-- while memory suffices, the fault is the refusal of the definition
 abbrev pub IsRefusal : {Y : Type 0} → StepFault → Result Y Refusal → Type 0
 IsRefusal Memory step = Unit {0}
 IsRefusal LinkFull step = step ≡ Err AtLinkFull
 IsRefusal ClockEnd step = step ≡ Err AtClockEnd
 
--- what was returned, seen by view, is what the definition gives
+-- the returned value, seen by `view`, is that of the definition
 abbrev pub Gives : {X Y : Type 0} → (X → Y) → Result X StepFault → Result Y Refusal → Type 0
 Gives view (Ok x) step = step ≡ Ok (view x)
 Gives view (Err fault) step = IsRefusal fault step
 
--- a message makes room where it opens a session, where another centre may have to be told something, or where it is the
--- first to name a train of the line
+-- A message needs room in three cases. It opens a session; another centre may get a frame; or it is the first to name a
+-- train of the line.
 abbrev pub MakesRoom : Line → List ℕ → TrainMessage → Type 0
 MakesRoom line trains m =
     ((m.body ≡ InitiationOfSession) ⊎ (tells_others m.body ≡ true))
     ⊎ (mention line m.nid_engine trains ≡ trains ++ m.nid_engine ∷ [])
 
--- bytes of a train want memory only where their message keeps a packet or makes room, or where their fault can be found
--- after a packet
+-- The bytes of a train need memory in two cases. Their message keeps a packet or needs room; or their fault can be
+-- found after a packet.
 abbrev pub BytesTakeMemory : Line → List ℕ → Result TrainText MsgFault → Type 0
 BytesTakeMemory line trains (Ok m) = (kept_packets m ≢ []) ⊎ MakesRoom line trains (step_message m)
 BytesTakeMemory line trains (Err fault) = IsAfterPackets fault
@@ -46,8 +46,8 @@ abbrev pub IsNextSent : World → ℕ → ℕ → ℕ → Type 0
 IsNextSent w from to number =
     (f : Frame) × (frame_sent w from to number ≡ Some f) × (f.number ≡ (w.at to).taken from + 1)
 
--- an event wants memory only where it is such bytes, at a centre of the line, takes a section back that is out at its
--- home, or brings the next frame of its link
+-- An event needs memory in three cases. It is such bytes at a centre of the line; an unset of a section that is out; or
+-- the next frame of its link.
 abbrev pub TakesMemory : Line → World → WorldEvent → Type 0
 TakesMemory line w (event.Train c bytes) =
     (is_centre line c ≡ true) × BytesTakeMemory line w.trains (read_train bytes.items)
@@ -55,12 +55,12 @@ TakesMemory line w (event.Deliver from to number) = IsNextSent w from to number
 TakesMemory line w (event.Unset c s) = (t : ℕ) × ((w.at c).book s ≡ Out t)
 TakesMemory line w other = ⊥
 
--- where memory was wanted, this holds
+-- if memory ran out, this holds
 abbrev pub IfWanted : {X : Type 0} → Result X StepFault → Type 0 → Type 0
 IfWanted (Err Memory) so = so
 IfWanted result so = Unit {0}
 
--- a whole run is refused for want of memory, or as one of its steps is
+-- a whole run is refused if memory runs out, or as one of its steps is
 abbrev pub IsRefusedRun : Line → List Event → StepFault → Type 0
 IsRefusedRun line events Memory = Unit {0}
 IsRefusedRun line events LinkFull = IsRefused line (new_world line) events AtLinkFull

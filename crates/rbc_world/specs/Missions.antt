@@ -1,11 +1,11 @@
--- Where a train's mission is looked for: at the centres of the line, and in the Yields on the way between them.
+-- The places in which a train's mission is looked up: the centres of the line, and the Yields on the way between them.
 use Rattle.std.specs.Prelude.{ℕ, List, Option, slice_get}
 use Rattle.std.specs.List.{filter_map}
 use Rattle.rbc_spec.specs.Line.{Line}
 use Rattle.rbc_spec.specs.World.{World, way}
 use Rattle.rbc_spec.specs.ReadOff.{Held, held_at, handed_over, centres_of}
 
--- what is given by the first item that gives something
+-- the value for the first item that has one
 abbrev pub first_given : {X Y : Type 0} → (X → Option Y) → List X → Option Y
 first_given g xs = slice_get (filter_map g xs) 0
 
@@ -17,6 +17,6 @@ held_by_a_centre line w t = first_given (held_at w t) (centres_of line)
 abbrev pub carried_between : World → ℕ → ℕ → ℕ → Option Held
 carried_between w t a b = first_given (λ f. handed_over t f.body) (way w a b)
 
--- the same, on the way from a
+-- the mission that the first Yield of the train on the way from a carries
 abbrev pub carried_from : Line → World → ℕ → ℕ → Option Held
 carried_from line w t a = first_given (carried_between w t a) (centres_of line)

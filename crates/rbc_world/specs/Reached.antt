@@ -5,14 +5,13 @@ use Rattle.rbc_spec.specs.World.{World, Event, Answer, new_world, frame_sent, wo
 use Rattle.rbc_centre.specs.declared.event.Event.{Event as CentreEvent}
 use Rattle.rbc_centre.specs.declared.event.Event.TheVariants as of_centre
 
--- some list of events, each with its answer, led from the line's beginning to this world
+-- some list of events, each with its answer, led from the line's initial state to this world
 pub record WasReached (line : Line) (w : World) : Type 0 where
   pub events : List Event
   pub answers : List Answer
   pub run : world_run line (new_world line) events ≡ Ok (answers, w)
 
--- centre c of this world may be told it: the interlocking says it, or it is a frame that was sent to the centre under
--- some number
+-- Centre c of this world may get this event: a set, an unset, or a frame that was sent to the centre with a number.
 abbrev pub MayBeTold : World → ℕ → CentreEvent → Type 0
 MayBeTold w c (of_centre.Train m) = ⊥
 MayBeTold w c (of_centre.Set s) = Unit {0}

@@ -1,4 +1,4 @@
--- When what is shown of a line is a state of it.
+-- The relation between a view of a line and its state.
 use Rattle.std.specs.Prelude.{◌≡◌, ℕ, List, length, slice_get, Option, Some, None, IfSome, option_and_then, option_map}
 use Rattle.rbc_spec.specs.Line.{Line}
 use Rattle.rbc_spec.specs.LineCentre as line_centre
@@ -52,7 +52,7 @@ centre_in (line_centre.Parted heard) = None
 abbrev pub seat_of : TrainView → Option ℕ
 seat_of train = option_and_then (λ m. centre_in (supervisor_shown m.supervisor)) train.mission
 
--- there are n items, and each at its place is as wanted
+-- the list has n items, each with property P at its position
 pub record EachOf {X : Type 0} (P : ℕ → X → Type 0) (n : ℕ) (xs : List X) : Type 0 where
   pub count : length xs ≡ n
   pub each : (i : ℕ) (x : X) → slice_get xs i ≡ Some x → P i x
@@ -61,7 +61,7 @@ pub record ShowsSection (v : LineState) (s : ℕ) (shown : SectionView) : Type 0
   pub mark : mark_shown shown.mark ≡ v.mark s
   pub wish : shown.is_wished ≡ v.wish s
 
--- what centre c has of train t
+-- the session of centre c with train t
 pub record ShowsSession (v : LineState) (t c : ℕ) (shown : SessionView) : Type 0 where
   pub phase : phase_of shown.phase ≡ v.phase t c
   pub heard : shown.heard ≡ v.heard t c
@@ -82,7 +82,7 @@ pub record Shows (line : Line) (v : LineState) (shown : LineView) : Type 0 where
 
 -- ## How it is found
 
--- the train at place i of the line file: its mission with its hand, wherever that is
+-- the train at position i of the line file: its mission with its hand, at a centre or on the way
 pub record IsTrainSeen (line : Line) (w : World) (i : ℕ) (shown : TrainView) : Type 0 where
   pub engine : option_map (λ p. p.nid_engine) (slice_get line.trains i) ≡ Some shown.nid_engine
   pub sessions : EachOf (λ c p. ShowsSession (read_off line w) shown.nid_engine c p)

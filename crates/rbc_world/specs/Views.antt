@@ -1,4 +1,4 @@
--- What events and answers stand for.
+-- The plain data of events and answers.
 use Rattle.std.specs.Prelude.{◌≡◌, ◌≢◌, ℕ, ◌++◌, map, Option, Some, None, is_none, Result, Ok, Err}
 use Rattle.rbc_spec.specs.Message.{TrainMessage}
 use Rattle.rbc_spec.specs.World.{Event, Bytes, Set, Unset, Delivery}
@@ -21,7 +21,7 @@ use Rattle.rbc_world.specs.declared.event.Reply.{Reply}
 use Rattle.rbc_world.specs.declared.event.Reply.TheVariants as reply
 use Rattle.rbc_centre.specs.declared.outcome.Outcome.{Outcome}
 
--- what a step reads of a message, or a fault by its number
+-- the fields of a message that a step reads, or a fault by its number
 abbrev pub numbered : Result TrainText MsgFault → Result TrainMessage ℕ
 numbered (Ok m) = Ok (step_message m)
 numbered (Err fault) = Err (fault_number fault)
@@ -39,7 +39,7 @@ answer_of answer.NoCentre = world.NoCentre
 answer_of answer.NotSent = world.NotSent
 answer_of (answer.Fault fault) = world.Fault (fault_number fault)
 
--- the messages and words that leave the line with an answer
+-- the messages and replies that leave the line with an answer
 abbrev pub spoken_by : Answer → Option Spoken
 spoken_by (answer.Outcome o) = Some (record {
   is_heard = is_none o.silence;

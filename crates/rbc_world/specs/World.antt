@@ -1,4 +1,4 @@
--- What a world in memory stands for.
+-- The plain data of a world in memory.
 use Rattle.rbc_spec.specs.Line.{Line}
 use Rattle.rbc_spec.specs.World as spec
 use Rattle.rbc_world.specs.States.{stands_for}

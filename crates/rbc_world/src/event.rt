@@ -3,10 +3,10 @@ ghost use Rattle.std.specs.Prelude.{◌≡◌};
 use rbc_centre::Outcome;
 use rbc_msgs::MsgFault;
 
-/// What happens to the centres of a line.
+/// An event of the centres of a line.
 #[derive(Debug, Drop)]
 pub enum WorldEvent {
-    /// Bytes come from a train to a centre.
+    /// Bytes from a train arrive at a centre.
     Train { centre: u8, bytes: Vec<u8> },
     /// The interlocking releases a section at a centre.
     Set { centre: u8, section: u16 },
@@ -25,14 +25,14 @@ pub enum Reply {
     NoCentre,
     /// No frame was sent under that number. Nothing changes.
     NotSent,
-    /// The bytes are no message. Nothing changes.
+    /// The bytes spell no message. Nothing changes.
     Fault(MsgFault),
 }
 
 impl Reply {
     ghost use Rattle.rbc_world.specs.Views.{answer_of, answer_by};
 
-    /// The answer, with the outcome that was written where a centre took a step.
+    /// The answer, with the outcome that was written if a centre took a step.
     pub(crate) fn with(self, outcome: Outcome) -> Answer
         ensures { answer_of result ≡ answer_by self outcome }
     {
@@ -45,7 +45,7 @@ impl Reply {
     }
 }
 
-/// What is answered to an event.
+/// The answer to an event.
 #[derive(Debug, Drop)]
 pub enum Answer {
     /// A centre took a step.
@@ -54,6 +54,6 @@ pub enum Answer {
     NoCentre,
     /// No frame was sent under that number. Nothing changes.
     NotSent,
-    /// The bytes are no message. Nothing changes.
+    /// The bytes spell no message. Nothing changes.
     Fault(MsgFault),
 }

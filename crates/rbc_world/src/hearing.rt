@@ -1,4 +1,4 @@
-//! A train's message comes to a centre of the line.
+//! A train's message arrives at a centre of the line.
 
 ghost use Rattle.std.specs.Prelude.{◌≡◌, ◌<◌, Some, None, true, not, if◌then◌else◌, nat_eq, length, slice_get, OnOk, OnErr};
 ghost use Rattle.std.proofs.Math.ListN.{set};
@@ -19,7 +19,7 @@ use rbc_msgs::TrainMsg;
 use std::alloc::AllocError;
 
 impl World {
-    // A message comes to a centre of the line.
+    // A message arrives at a centre of the line.
     #[inline(always)]
     pub(crate) fn hear(
         &mut self,
@@ -33,7 +33,7 @@ impl World {
             (takes (line_of self.old) (state_of self.old) c
             (mention (line_of self.old) message.now.nid_engine (state_of self.old).trains)
             (Train (step_message message.now))) }
-        // Memory is wanted only for a session, a frame or a first mention.
+        // Memory is needed only for a session, a frame or a first mention.
         ensures memory { IfWanted result
             (MakesRoom (line_of self.old) (state_of self.old).trains (step_message message.now)) }
         ensures err { OnErr result (state_of self.new ≡ state_of self.old) }
@@ -44,8 +44,8 @@ impl World {
         }
     }
 
-    // It is from the train with this place in the line file. Where it is the first mention of the train, room for that
-    // is made first.
+    // The message is from the train at this position in the line file. If it is the first mention of the train, room
+    // for that is made first.
     #[inline(always)]
     fn hear_from(
         &mut self,
@@ -79,7 +79,7 @@ impl World {
         Ok(Reply::Outcome)
     }
 
-    // It is from no train of the line.
+    // The message is from an engine that is not of the line.
     fn hear_foreign(
         &mut self,
         c: usize,
@@ -102,7 +102,7 @@ impl World {
     }
 }
 
-// Whether no message named the train with this place in the line file before.
+// Whether no message has named the train at this position in the line file before.
 #[inline(always)]
 fn is_first_mention(named: &Vec<bool>, i: usize) -> bool
     requires { i < length named.now.items }
@@ -124,7 +124,7 @@ fn make_room(trains: &mut IndexSet<u32>, is_first: bool) -> Result<(), AllocErro
     Ok(())
 }
 
-// A message of the train with this place in the line file was heard, perhaps the first.
+// Notes the message of the train at this position in the line file, which is perhaps its first mention.
 #[inline(always)]
 fn add_mention(
     trains: &mut IndexSet<u32>,

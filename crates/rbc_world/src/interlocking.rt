@@ -1,4 +1,4 @@
-//! What the interlocking says of a section, to a centre of the line.
+//! An event of the interlocking for a section, at a centre of the line.
 
 ghost use Rattle.std.specs.Prelude.{◌≡◌, OnErr};
 ghost use Rattle.rbc_spec.specs.World.{at_centre, takes};

@@ -1,9 +1,9 @@
-//! The centres of a line side by side, and the theorem that together they are one line centre.
+//! The centres (RBCs) of a line side by side, and the theorem that together they act as one line centre.
 //!
-//! A [`World`] has each centre of a line, the frames that they have sent, and the trains that messages have named.
-//! [`World::step`] takes one [`WorldEvent`] and answers it. [`World::run`] takes a list of events from the beginning.
-//! Its contract is the headline: the answers and the last state are a run of one line centre (`rbc_spec.specs.Run`).
-//! [`World::view`] reads the line off: the use of each section, and each train with its mission.
+//! A [`World`] has each centre of a line, the frames that they have sent, and the trains that messages have named. Its
+//! [`World::step`] takes one [`WorldEvent`] and answers it. Its [`World::run`] takes a list of events from the
+//! beginning. The contract of `run` is the main theorem: the answers and the last state are a run of one line centre
+//! (`rbc_spec.specs.Run`). A [`World::view`] gives the use of each section, and each train with its mission.
 //!
 //! ```
 //! let line = Line::from_toml(alloc, text)?;
@@ -17,9 +17,9 @@
 //! let view = world.view(alloc)?;
 //! ```
 //!
-//! Types of the crates below that an event or an answer has are passed on from here.
+//! The types of an event and an answer that belong to crates below are passed on from here.
 //!
-//! Bodies and proofs are free. The clauses of public functions stay, since the crates above stand on them.
+//! Bodies and proofs may change. The clauses of public functions have to stay: the crates above depend on them.
 #![tactic(auto)]
 
 mod event;

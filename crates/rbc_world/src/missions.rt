@@ -1,4 +1,4 @@
-//! Where the mission of each train is: at the centre that supervises the train, or in the frame that hands it over.
+//! The place of each train's mission: the centre that supervises the train, or the frame that hands it over.
 
 ghost use Rattle.std.specs.Prelude.{◌≡◌, ◌<◌, ◌^◌, length, option_and_then, option_map};
 ghost use Rattle.rbc_spec.specs.Frame as frame;
@@ -141,7 +141,7 @@ fn handed_over(nid_engine: u32, body: Body) -> Option<MissionView>
     })
 }
 
-// The place that a Yield carries: none where its front lies before the start of the track.
+// The place that a Yield carries; `None` if its front is before the start of the track.
 fn carried_place(place: YieldedPlace) -> Option<Place>
     requires { place.group < 2 ^ 24 }
     ensures { option_map place_of result ≡ frame.carried_place (bodies.place_of place) }

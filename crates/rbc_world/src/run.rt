@@ -17,7 +17,7 @@ use rbc_centre::StepFault;
 use rbc_line::Line;
 use std::alloc::Global;
 
-/// What a list of events came to.
+/// The result of a list of events.
 #[derive(Drop)]
 pub struct Outputs {
     /// The answer to each event.
@@ -36,21 +36,21 @@ impl Outputs {
 }
 
 impl World {
-    /// Runs the events one after another, from the line's beginning, and stops at the first refusal.
+    /// Runs the events in order, from the line's initial state, and stops at the first refusal.
     pub fn run(alloc: Global, line: &Line, events: &[WorldEvent]) -> Result<Outputs, StepFault>
-        // What the centres answer and hold is a run of the one line centre.
+        // The answers and states of the centres are a run of the one line centre.
         ensures run { IfOk result
             (λ o. IsLineRun line.now (map event_of events.now) (map answer_of o.answers.items) (state_of o.world)) }
-        // By what they were told no two trains may run over one section, and none over one that the interlocking has
-        // not released, or has taken back.
+        // By the messages to trains, no two trains may run over one section. None may run over one that the
+        // interlocking has not released, or has taken back.
         ensures outside { IfOk result (λ o. IsSafeOutside line.now
             (sees_all line.now (map event_of events.now) (map spoken_by o.answers.items) nothing_seen)) }
         // It ends in the state that is read off them.
         ensures last { IfOk result
             (λ o. line_run.Run line.now line_beginning (map event_of events.now) (map answer_of o.answers.items)
             (read_off line.now (state_of o.world))) }
-        // So each train has one supervisor at most, each section one train, and no section in use and no right is lost
-        // or in two places.
+        // So each train has at most one supervisor, and each section at most one train. No section in use and no right
+        // is lost or in two places.
         ensures sound { IfOk result (λ o. IsSound line.now (state_of o.world)) }
         // On a one-centre line the run leaves no choice.
         ensures one_centre { (c : ℕ) → IsOneCentreLine line.now c
@@ -62,7 +62,7 @@ impl World {
         // The trains are those that messages at centres of the line named, each once, by first mention.
         ensures trains { IfOk result
             (λ o. (state_of o.world).trains ≡ all_named line.now (map event_of events.now) []) }
-        // But for want of memory a run is refused exactly where one of its steps is.
+        // While memory suffices, a run is refused if and only if one of its steps is.
         ensures refused { IfErr result (IsRefusedRun line.now (map event_of events.now)) }
         ensures exact { Gives (λ o. (map answer_of o.answers.items, state_of o.world)) result
             (world_run line.now (new_world line.now) (map event_of events.now)) }

@@ -16,7 +16,7 @@ use rbc_centre::{MissionFacts, Phase, Place, SectionRun};
 use rbc_line::Line;
 use std::alloc::{AllocError, Global};
 
-/// What a section is used for, as the line sees it.
+/// The use of a section, as the line sees it.
 #[derive(Clone, Copy, Debug, PartialEq, Eq)]
 pub enum Mark {
     /// Not released by the interlocking.
@@ -37,13 +37,13 @@ pub struct SectionView {
     pub is_wished: bool,
 }
 
-/// What a centre has of a train.
+/// The session of a centre with a train.
 #[derive(Clone, Copy, Debug, PartialEq, Eq)]
 pub struct SessionView {
     pub phase: Phase,
-    /// The last T_TRAIN heard.
+    /// The last T_TRAIN that was received.
     pub heard: Option<u32>,
-    /// How many messages were said to the train.
+    /// The number of messages sent to the train.
     pub said: u32,
     /// The place of a start of mission that waits for the right to supervise the train.
     pub waiting: Option<Place>,
@@ -54,7 +54,7 @@ pub struct SessionView {
 pub enum Supervisor {
     /// The centre of this number.
     At { centre: u8 },
-    /// No centre: it is on the way from one to the next, with the last T_TRAIN that was heard.
+    /// No centre: the mission is on the way between two, with the last T_TRAIN that was received.
     Parted { heard: u32 },
 }
 
@@ -62,7 +62,7 @@ pub enum Supervisor {
 #[derive(Clone, Copy, Debug, PartialEq, Eq)]
 pub struct MissionView {
     pub supervisor: Supervisor,
-    /// Its last place, its train data, its end, and the request to shorten that stands.
+    /// Its last place, train data, end, and pending request to shorten.
     pub facts: MissionFacts,
     /// The sections of its movement authority.
     pub hand: SectionRun,
@@ -72,15 +72,15 @@ pub struct MissionView {
 #[derive(Debug, Drop)]
 pub struct TrainView {
     pub nid_engine: u32,
-    /// What each centre has of it, by the centre's number.
+    /// Its session with each centre, by the centre's number.
     pub sessions: Vec<SessionView>,
     /// Its mission, at the centre that supervises it or on the way between two.
     pub mission: Option<MissionView>,
 }
 
 impl TrainView {
-    /// The number of the centre that supervises the train. None where it has no mission, or its mission is on the way
-    /// between two.
+    /// The number of the centre that supervises the train. `None` if the train has no mission, or its mission is on the
+    /// way between two centres.
     pub fn supervisor(&self) -> Option<u8>
         ensures { result ≡ seat_of self.now }
     {
@@ -114,10 +114,10 @@ impl World {
     /// The state of the line, read off the centres and the frames on the way between them.
     pub fn view(&self, alloc: Global) -> Result<LineView, AllocError>
         ensures shows { IfOk result (Shows (line_of self.now) (read_off (line_of self.now) (state_of self.now))) }
-        // That state stands for the centres and those frames.
+        // That state represents the centres and those frames.
         ensures stands { StandsFor (line_of self.now) (state_of self.now)
             (read_off (line_of self.now) (state_of self.now)) }
-        // Some list of events led from the line's beginning to the centres as they are.
+        // Some list of events led from the line's initial state to these centres.
         ensures reached { ∥ WasReached (line_of self.now) (state_of self.now) ∥₁ }
     {
         known_line(&self.line);
@@ -144,7 +144,7 @@ impl World {
         Ok(views)
     }
 
-    // A section, as its home has it, and the hand of its train wherever its mission is.
+    // A section, as its home has it, and the hand of its train, whose mission may be at any centre or on the way.
     fn section_view(&self, s: u16, trains: &[TrainView]) -> SectionView
         requires { AreTrainsSeen (line_of self.now) (state_of self.now) trains.now }
         ensures { ShowsSection (read_off (line_of self.now) (state_of self.now)) s result }
@@ -173,8 +173,8 @@ impl World {
         }
     }
 
-    // What a section is used for of which its home's book has this. In use, it is in its train's movement authority, or
-    // kept for it.
+    // The mark of a section with this entry in its home's book. A section in use is in its train's movement authority,
+    // or is kept for the train.
     fn mark_at(&self, s: u16, entry: Entry, trains: &[TrainView]) -> Mark
         requires { AreTrainsSeen (line_of self.now) (state_of self.now) trains.now }
         ensures { mark_shown result ≡ shown (entry_of entry) (is_in_its_hand (line_of self.now) (state_of self.now) s) }
@@ -192,7 +192,8 @@ impl World {
         }
     }
 
-    // Whether a section is in the movement authority of the train, wherever its mission is. A foreign engine has none.
+    // Whether a section is in the movement authority of the train, whose mission may be at any centre or on the way. An
+    // engine that is not of the line has none.
     fn is_given(&self, s: u16, nid_engine: u32, trains: &[TrainView]) -> bool
         requires { AreTrainsSeen (line_of self.now) (state_of self.now) trains.now }
         ensures { result ≡ is_in_its_hand (line_of self.now) (state_of self.now) s nid_engine }
@@ -204,7 +205,7 @@ impl World {
         }
     }
 
-    // What the book of centre c has of a section.
+    // The page of a section in the book of centre c.
     fn page_at(&self, c: u8, s: u16) -> Page
         ensures entry { entry_of result.entry ≡ ((state_of self.now).at c).book s }
         ensures wish { result.is_wished ≡ ((state_of self.now).at c).wish s }

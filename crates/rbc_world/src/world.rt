@@ -33,7 +33,7 @@ pub struct World {
     pub(crate) centres: Vec<Centre>,
     /// The trains of the line that messages have named, in the order of first mention.
     pub(crate) trains: IndexSet<u32>,
-    /// Whether messages have named a train, by its place in the line file.
+    /// Whether messages have named a train, by its position in the line file.
     pub(crate) named: Vec<bool>,
     ghost each_centre: { length centres.items ≡ length line.centres },
     ghost one_line: { (c : ℕ) → (k : Centre) → slice_get centres.items c ≡ Some k → one.line_of k ≡ line },
@@ -48,7 +48,7 @@ impl World {
     ghost use Rattle.rbc_world.specs.Views.{event_of, answer_of, answer_by, numbered};
     ghost use Rattle.rbc_world.specs.Answers.{Gives, TakesMemory, BytesTakeMemory, IsNextSent, IfWanted};
 
-    /// The centres of the line at their beginning. A copy of the line is kept.
+    /// The centres of the line in their initial state. A copy of the line is kept.
     pub fn new(alloc: Global, line: &Line) -> Result<World, AllocError>
         ensures line { IfOk result (λ w. line_of w ≡ line.now) }
         ensures beginning { IfOk result (λ w. state_of w ≡ new_world line.now) }
@@ -71,38 +71,39 @@ impl World {
         &self.trains
     }
 
-    /// Takes an event, and answers it. A refusal, for want of memory, of stamps or of a link's numbers, changes
-    /// nothing.
+    /// Takes an event, and answers it. A refusal changes nothing: memory, stamps, or the numbers of a link have run
+    /// out.
     pub fn step(&mut self, event: &WorldEvent) -> Result<Answer, StepFault>
         ensures line { line_of self.new ≡ line_of self.old }
-        // What is answered and left is what the definition of a world's step gives.
+        // The answer and the new state are those of the definition of a world's step.
         ensures exact { Gives (λ a. (answer_of a, state_of self.new)) result
             (world_step (line_of self.old) (state_of self.old) (event_of event.now)) }
         // It is one piece of the one line centre's run, or none.
         ensures piece { IfOk result (λ a. Goes (line_of self.old) (read_off (line_of self.old) (state_of self.old))
             (event_of event.now) (answer_of a) (read_off (line_of self.old) (state_of self.new))) }
-        // Some list of events led from the line's beginning to the world that is left.
+        // Some list of events leads from the line's initial state to the new world.
         ensures reached { ∥ WasReached (line_of self.new) (state_of self.new) ∥₁ }
-        // The state that is read off the centres stands for them, whatever was refused before.
+        // The state that is read off represents the centres, after refused events too.
         ensures stands { StandsFor (line_of self.new) (state_of self.new)
             (read_off (line_of self.new) (state_of self.new)) }
-        // So each train has one supervisor at most, each section one train, and no section in use and no right is lost
-        // or in two places.
+        // So each train has at most one supervisor, and each section at most one train. No section in use and no right
+        // is lost or in two places.
         ensures sound { IsSound (line_of self.new) (state_of self.new) }
-        // A section leaves an authority only by what its train said, and the interlocking is told what is so.
+        // A section leaves an authority only by a message of its train, and the reports to the interlocking are true.
         ensures promises { IfOk result
             (λ a. KeepsPromises (line_of self.old) (state_of self.old) (event_of event.now) (answer_of a)
             (state_of self.new)) }
-        // By what they were told, after whatever led here, no two trains may run over one section, and none over one
-        // that is not released.
+        // This holds for all events that led here. By the messages to trains, no two trains may run over one section,
+        // and none over a section that is not released.
         ensures outside { IfOk result
             (λ a. StaysSafeOutside (line_of self.old) (state_of self.old) (event_of event.now) (answer_of a)) }
         // On a one-centre line the piece leaves no choice.
         ensures one_centre { (c : ℕ) → IsOneCentreLine (line_of self.old) c
             → IfOk result (λ a. GoesForced (line_of self.old) (read_off (line_of self.old) (state_of self.old))
             (event_of event.now) (answer_of a) (read_off (line_of self.old) (state_of self.new))) }
-        // Memory is wanted only by a train's bytes at a centre of the line, for packets that are kept, a session, a
-        // frame or a first mention, by a section that is out, and by a frame that is the next of its link.
+        // Only three events need memory. A train's bytes, at a centre of the line, need it for kept packets, a session,
+        // a frame or a first mention. An unset needs it if the section is out. A frame needs it if it is the next of
+        // its link.
         ensures memory { IfWanted result (TakesMemory (line_of self.old) (state_of self.old) event.now) }
         ensures err { OnErr result (state_of self.new ≡ state_of self.old) }
     {
@@ -113,38 +114,39 @@ impl World {
         }
     }
 
-    /// The same step, which writes the outcome of a centre's step over this one, and uses its list of frames again.
-    /// Where no centre took a step, the outcome has no meaning.
+    /// The same step, which writes the outcome of a centre's step over `out`, and uses its list of frames again. If no
+    /// centre took a step, `out` has no meaning.
     pub fn step_to(&mut self, event: &WorldEvent, out: &mut Outcome) -> Result<Reply, StepFault>
         ensures line { line_of self.new ≡ line_of self.old }
-        // What is answered and left is what the definition of a world's step gives.
+        // The answer and the new state are those of the definition of a world's step.
         ensures exact { Gives (λ r. (answer_by r out.new, state_of self.new)) result
             (world_step (line_of self.old) (state_of self.old) (event_of event.now)) }
         // It is one piece of the one line centre's run, or none.
         ensures piece { IfOk result (λ r. Goes (line_of self.old) (read_off (line_of self.old) (state_of self.old))
             (event_of event.now) (answer_by r out.new) (read_off (line_of self.old) (state_of self.new))) }
-        // Some list of events led from the line's beginning to the world that is left.
+        // Some list of events leads from the line's initial state to the new world.
         ensures reached { ∥ WasReached (line_of self.new) (state_of self.new) ∥₁ }
-        // The state that is read off the centres stands for them, whatever was refused before.
+        // The state that is read off represents the centres, after refused events too.
         ensures stands { StandsFor (line_of self.new) (state_of self.new)
             (read_off (line_of self.new) (state_of self.new)) }
-        // So each train has one supervisor at most, each section one train, and no section in use and no right is lost
-        // or in two places.
+        // So each train has at most one supervisor, and each section at most one train. No section in use and no right
+        // is lost or in two places.
         ensures sound { IsSound (line_of self.new) (state_of self.new) }
-        // A section leaves an authority only by what its train said, and the interlocking is told what is so.
+        // A section leaves an authority only by a message of its train, and the reports to the interlocking are true.
         ensures promises { IfOk result
             (λ r. KeepsPromises (line_of self.old) (state_of self.old) (event_of event.now) (answer_by r out.new)
             (state_of self.new)) }
-        // By what they were told, after whatever led here, no two trains may run over one section, and none over one
-        // that is not released.
+        // This holds for all events that led here. By the messages to trains, no two trains may run over one section,
+        // and none over a section that is not released.
         ensures outside { IfOk result
             (λ r. StaysSafeOutside (line_of self.old) (state_of self.old) (event_of event.now) (answer_by r out.new)) }
         // On a one-centre line the piece leaves no choice.
         ensures one_centre { (c : ℕ) → IsOneCentreLine (line_of self.old) c
             → IfOk result (λ r. GoesForced (line_of self.old) (read_off (line_of self.old) (state_of self.old))
             (event_of event.now) (answer_by r out.new) (read_off (line_of self.old) (state_of self.new))) }
-        // Memory is wanted only by a train's bytes at a centre of the line, for packets that are kept, a session, a
-        // frame or a first mention, by a section that is out, and by a frame that is the next of its link.
+        // Only three events need memory. A train's bytes, at a centre of the line, need it for kept packets, a session,
+        // a frame or a first mention. An unset needs it if the section is out. A frame needs it if it is the next of
+        // its link.
         ensures memory { IfWanted result (TakesMemory (line_of self.old) (state_of self.old) event.now) }
         ensures err { OnErr result (state_of self.new ≡ state_of self.old) }
     {
@@ -168,7 +170,7 @@ impl World {
         }
     }
 
-    // A centre takes what it may be told, as a frame that was sent to it.
+    // A centre takes an event that it may get, such as a frame that was sent to it.
     fn tell(&mut self, c: u8, event: &Event, out: &mut Outcome) -> Result<Reply, StepFault>
         requires { MayBeTold (state_of self.old) c event.now }
         ensures line { line_of self.new ≡ line_of self.old }
@@ -185,7 +187,7 @@ impl World {
         Ok(Reply::Outcome)
     }
 
-    // A frame that one centre sent to another under this number comes to it.
+    // The frame that one centre sent to another under this number is delivered.
     fn deliver(
         &mut self,
         from: u8,
@@ -205,7 +207,7 @@ impl World {
         }
     }
 
-    // The frame that one centre sent to another under this number. Only a centre of the line is sent one.
+    // The frame that one centre sent to another under this number. Frames are sent only to centres of the line.
     pub(crate) fn frame_sent(&self, from: u8, to: u8, number: u32) -> Option<Frame>
         ensures value { result ≡ frame_sent (state_of self.now) from to number }
         ensures receiver { IfSome result (λ f. is_centre (line_of self.now) to ≡ true) }
@@ -218,7 +220,7 @@ impl World {
         }
     }
 
-    // Bytes from a train come to a centre.
+    // Bytes from a train arrive at a centre.
     #[inline(always)]
     fn receive(&mut self, c: u8, bytes: &[u8], out: &mut Outcome) -> Result<Reply, StepFault>
         ensures line { line_of self.new ≡ line_of self.old }
@@ -266,7 +268,7 @@ fn centres_of(alloc: Global, line: &Line) -> Result<Vec<Centre>, AllocError>
     Ok(centres)
 }
 
-// What bytes without a message lead to.
+// The answer to bytes without a message.
 fn unread(fault: MsgFault) -> Result<Reply, StepFault>
     ensures ok { IfOk result (IsFaultOf fault) }
     ensures err { IfErr result (λ e. e ≡ Memory) }

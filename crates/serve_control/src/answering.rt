@@ -7,7 +7,7 @@ use rbc_node::ShareFault;
 use std::alloc::Global;
 use std::io::Write;
 use text_script::print::{name_of, print_event, print_outcome};
-use text_script::status::Fault;
+use text_script::status::PrintFault;
 use text_script::{Outcome, WorldEvent};
 
 /// Prints the answer to the interlocking after its event at a centre. This is the event and its effects, as a run
@@ -19,7 +19,7 @@ pub fn print_commit<W: Write>(
     centre: u8,
     event: &WorldEvent,
     answer: &Result<Outcome, ShareFault>,
-) -> Result<(), Fault<'static>>
+) -> Result<(), PrintFault>
     ensures { OnOk result ((text : List ℕ) × IsCommitPrint line.now centre event.now answer.now text
         × Appends (W.contents out.old) (W.contents out.new) text) }
 {

@@ -52,7 +52,7 @@ fn print_entries<O: Write>(
         print_outcome(alloc, out, line, name, &entry.outcome)?;
         world.step(&event)?;
     }
-    print_line(alloc, out, line, &world)
+    Ok(print_line(alloc, out, line, &world)?)
 }
 
 /// The event of an entry as its centre received it. The bytes of a train's message spell the whole message.

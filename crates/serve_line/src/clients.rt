@@ -4,6 +4,7 @@
 //! Bodies are free. docs/FORMATS.md fixes the bytes of each connection.
 
 mod answer;
+mod binding;
 mod control;
 mod cutter;
 mod endpoint_loop;
@@ -17,3 +18,4 @@ mod sending;
 mod sessions;
 
 pub use endpoint_loop::run_endpoint;
+pub(crate) use entrance::is_idle;

@@ -1,4 +1,5 @@
 use crate::browsers::{PageEndpoint, Seen};
+use crate::clients::is_idle;
 use crate::state::{Endpoint, Peer, Server};
 use crate::status::Notes;
 use serve_page::{Asked, LineNow, Refusal, answer, asked_of, refusal};
@@ -55,7 +56,7 @@ pub(crate) fn run_pages<R: Threads + Wait + Sync + Clock, N: Notes + Sync>(
     });
 }
 
-// The next connection that waits. It rests if there is none.
+// The next connection; `None` if none came for a while. It rests if the system can give none.
 fn next_browser<R: Wait>(
     rt: &R,
     server: &Server<'_>,
@@ -63,6 +64,7 @@ fn next_browser<R: Wait>(
 ) -> Option<Arc<TcpStream, Global>> {
     match endpoint.listener.accept() {
         Ok((stream, _)) => Arc::new(server.alloc, stream).ok(),
+        Err(error) if is_idle(error.kind()) => None,
         Err(_) => {
             endpoint.rest(rt);
             None

@@ -8,7 +8,7 @@ use crate::state::{
     DirectedLink, Endpoint, Endpoints, ServeOptions, Server, Slot, State, connections_of,
     endpoints_of, journals_of, links_of, nodes_of, sinks_of, wakers_of,
 };
-use crate::status::{Backlog, Notes, QueuedNotes, write_notes};
+use crate::status::{Backlog, MentionOrder, Notes, QueuedNotes, write_notes};
 use crate::tally::Tally;
 use crossbeam_channel::bounded;
 use rbc_line::Line;
@@ -17,7 +17,7 @@ use serve_control::{ServeFault, print_family};
 use std::alloc::{AllocError, Global};
 use std::fs::OpenFile;
 use std::io::{Seek, Write};
-use std::sync::Wait;
+use std::sync::{Mutex, Wait};
 use std::thread;
 use std::thread::Threads;
 use std::time::Clock;
@@ -82,8 +82,8 @@ fn serve_noted<
     let nodes = nodes_of(alloc, line)?;
     let Record { files, entries } = record;
     let resumed = resume_noted(rt, alloc, line, &nodes, entries, notes)?;
-    let (listening, page) = endpoints.all();
-    let endpoints = endpoints_of(alloc, line, &nodes, listening)?;
+    let (listening, socket, page) = endpoints.all();
+    let endpoints = endpoints_of(alloc, line, &nodes, listening, socket)?;
     let page = match page {
         Some(listening) => Some(PageEndpoint::new(
             rt,
@@ -166,6 +166,7 @@ fn run_centres<
         journals_of(rt, alloc, nodes)?
     };
     let sinks = sinks_of(alloc, line, &connections, endpoints, &journals, options)?;
+    let mentions = Mutex::new(MentionOrder::new(alloc, line)?);
     let state = State::new(line.centre_count());
     let server = Server {
         alloc,
@@ -176,6 +177,7 @@ fn run_centres<
         links,
         wakers: &wakers,
         journals: &journals,
+        mentions: &mentions,
         state: &state,
         options,
     };

@@ -4,6 +4,7 @@
 //! Bodies are free. docs/FORMATS.md fixes the bytes of each connection.
 
 mod build;
+mod control_socket;
 mod endpoints;
 mod limits;
 mod options;
@@ -12,11 +13,13 @@ mod queue;
 mod server;
 mod sink;
 mod slots;
+mod streams;
 
 pub use build::{
     connections_of, endpoints_of, journals_of, links_of, nodes_of, sinks_of, wakers_of,
 };
-pub use endpoints::{Endpoints, Listening};
+pub use control_socket::{SocketFault, free_path, listen_at_path};
+pub use endpoints::{Endpoints, Listening, ListeningAt};
 pub use limits::ENDPOINT_REST_MS;
 pub use options::ServeOptions;
 pub use paces::Paces;
@@ -24,3 +27,5 @@ pub use queue::{Queue, Watch};
 pub use server::{DirectedLink, Peer, Server, State};
 pub use sink::CentreSink;
 pub use slots::{Endpoint, Slot};
+pub(crate) use streams::set_waits;
+pub use streams::{Address, Listener, PeerStream};

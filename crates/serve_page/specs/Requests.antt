@@ -1,5 +1,5 @@
 -- The meaning of a request.
-use Rattle.std.specs.Prelude.{◌≡◌, ◌≢◌, ◌<◌, ◌≤◌, ℕ, Bool, true, false, ◌&&◌, ◌||◌, ◌==◌, List, [], ◌∷◌, length, take, drop, map, filter, codes, ⊤}
+use Rattle.std.specs.Prelude.{◌≡◌, ◌≢◌, ◌<◌, ◌≤◌, ℕ, Bool, true, false, ◌&&◌, ◌||◌, ◌==◌, List, [], ◌∷◌, length, take, drop, map, filter, position, codes, Option, Some, None, if◌then◌else◌, ⊤}
 use Rattle.std.specs.Char.{to_ascii_lowercase}
 use Rattle.std.specs.Str.{bytes_eq}
 use Rattle.httparse.specs.Grammar.{RequestHead, ReadsRequest, MayBecomeRequest}
@@ -40,7 +40,36 @@ is_reading method = bytes_eq method (codes "GET") || bytes_eq method (codes "HEA
 abbrev pub is_now : List ℕ → Bool
 is_now target = bytes_eq target (codes "/now") || bytes_eq (take 11 target) (codes "/now?since=")
 
--- the meaning of a target: three addresses are known
+-- the first slash
+abbrev pub slash_in : List ℕ → Option ℕ
+slash_in bytes = position (λ b. b == 47) bytes
+
+-- the bytes before that slash, and those from it on; without one, all of them, and the address of the page
+abbrev pub host_before : List ℕ → Option ℕ → List ℕ
+host_before rest (Some i) = take i rest
+host_before rest None = rest
+
+abbrev pub address_from : List ℕ → Option ℕ → List ℕ
+address_from rest (Some i) = drop i rest
+address_from rest None = codes "/"
+
+-- a target in absolute form, as "http://localhost:8080/now"
+abbrev pub is_absolute : List ℕ → Bool
+is_absolute target = bytes_eq (take 7 target) (codes "http://")
+
+-- a target names no host, or this one
+abbrev pub is_ours : List ℕ → Bool
+is_ours target = if is_absolute target then is_loopback (host_before (drop 7 target) (slash_in (drop 7 target))) else true
+
+-- a host is this one, and the target names no other
+abbrev pub is_for_us : List ℕ → List ℕ → Bool
+is_for_us host target = is_loopback host && is_ours target
+
+-- the address in a target
+abbrev pub address_in : List ℕ → List ℕ
+address_in target = if is_absolute target then address_from (drop 7 target) (slash_in (drop 7 target)) else target
+
+-- the meaning of an address: three are known
 abbrev pub IsAskedAt : List ℕ → Asked → Type 0
 IsAskedAt target asked.Page = target ≡ codes "/"
 IsAskedAt target asked.Line = target ≡ codes "/line.json"
@@ -53,16 +82,16 @@ IsAskedAt target other = ⊥
 abbrev pub hosts_in : RequestHead → List (List ℕ × List ℕ)
 hosts_in h = hosts_of (map name_and_value h.fields)
 
--- exactly one field names a host; whether the host has such a name
+-- exactly one field names a host; whether that host, and the one in the target, are this one
 abbrev pub HasHost : RequestHead → Bool → Type 0
-HasHost h is_ours = (host : List ℕ × List ℕ) × (hosts_in h ≡ host ∷ []) × (is_loopback host.1 ≡ is_ours)
+HasHost h is_right = (host : List ℕ × List ℕ) × (hosts_in h ≡ host ∷ []) × (is_for_us host.1 h.target ≡ is_right)
 
 -- the meaning of a complete head: the host is checked before the method, and the method before the target
 abbrev pub IsAskedBy : RequestHead → Asked → Type 0
 IsAskedBy h (asked.Refused refusal.Form) = length (hosts_in h) ≢ 1
 IsAskedBy h (asked.Refused refusal.Host) = HasHost h false
 IsAskedBy h (asked.Refused refusal.Method) = HasHost h true × (is_reading h.method ≡ false)
-IsAskedBy h other = HasHost h true × (is_reading h.method ≡ true) × IsAskedAt h.target other
+IsAskedBy h other = HasHost h true × (is_reading h.method ≡ true) × IsAskedAt (address_in h.target) other
 
 -- More bytes are awaited only if they may still become a head, and are fewer than 8192. Any other result but a refusal
 -- needs a complete head that asks for it.

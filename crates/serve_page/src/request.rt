@@ -4,7 +4,7 @@ ghost use Rattle.std.specs.Prelude.{◌≡◌, ◌≤◌, ℕ, List, ◌∷◌, 
 ghost use Rattle.httparse.specs.declared.spans.HeaderSpan.{HeaderSpan};
 ghost use Rattle.httparse.specs.Grammar.{RequestHead, ReadsRequest};
 ghost use Rattle.httparse.specs.Spans.{span_bytes, IsRequestAt};
-ghost use Rattle.serve_page.specs.Requests.{names_host, has_name, is_loopback, is_reading, named_in, AreHosts, AreHostsOf, IsAsked, IsAskedAt, IsAskedBy};
+ghost use Rattle.serve_page.specs.Requests.{names_host, has_name, is_loopback, is_reading, is_for_us, is_ours, address_in, slash_in, named_in, AreHosts, AreHostsOf, IsAsked, IsAskedAt, IsAskedBy};
 
 use httparse::Status;
 use httparse::spans::{EMPTY_HEADER_SPAN, HeaderSpan, RequestSpans, Span, parse_request};
@@ -14,6 +14,9 @@ pub const MOST_REQUEST: usize = 8_192;
 
 /// The most header fields of a request.
 const MOST_FIELDS: usize = 64;
+
+/// The beginning of a target in absolute form.
+const SCHEME: &[u8] = b"http://";
 
 /// The meaning of a request.
 #[derive(Clone, Copy)]
@@ -72,16 +75,57 @@ fn asked_by(bytes: &[u8], head: &RequestSpans, fields: &[HeaderSpan]) -> Asked
         Hosts::One(field) => field.value,
         Hosts::Nothing | Hosts::Several => return Asked::Refused(Refusal::Form),
     };
-    if !is_loopback(part(bytes, host)) {
+    let target = part(bytes, head.path);
+    if !is_for_us(part(bytes, host), target) {
         return Asked::Refused(Refusal::Host);
     }
     if !is_reading(part(bytes, head.method)) {
         return Asked::Refused(Refusal::Method);
     }
-    asked_at(part(bytes, head.path))
+    asked_at(address_in(target))
 }
 
-// The meaning of a target.
+// Whether a host is this one, and the target names no other.
+fn is_for_us(host: &[u8], target: &[u8]) -> bool
+    ensures { result ≡ is_for_us host.now target.now }
+{
+    is_loopback(host) && is_ours(target)
+}
+
+// Whether a target names no host, or this one.
+fn is_ours(target: &[u8]) -> bool
+    ensures { result ≡ is_ours target.now }
+{
+    let Some(rest) = target.strip_prefix(SCHEME) else {
+        return true;
+    };
+    match slash_in(rest) {
+        Some(end) => is_loopback(&rest[..end]),
+        None => is_loopback(rest),
+    }
+}
+
+// The address in a target.
+fn address_in(target: &[u8]) -> &[u8]
+    ensures { result.now ≡ address_in target.now }
+{
+    let Some(rest) = target.strip_prefix(SCHEME) else {
+        return target;
+    };
+    match slash_in(rest) {
+        Some(end) => &rest[end..],
+        None => b"/",
+    }
+}
+
+// The place of the first slash.
+fn slash_in(bytes: &[u8]) -> Option<usize>
+    ensures { result ≡ slash_in bytes.now }
+{
+    bytes.iter().position(|byte| *byte == b'/')
+}
+
+// The meaning of an address.
 fn asked_at(target: &[u8]) -> Asked
     ensures { IsAskedAt target.now result }
 {

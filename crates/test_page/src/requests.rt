@@ -21,7 +21,7 @@ fn status_of(alloc: Global, method: &str, target: &str, host: &str) -> Result<u1
     status(alloc, text.as_bytes())
 }
 
-static ADDRESSES: [(&str, u16); 17] = [
+static ADDRESSES: [(&str, u16); 25] = [
     ("/", 200),
     ("/line.json", 200),
     ("/now", 200),
@@ -37,7 +37,15 @@ static ADDRESSES: [(&str, u16); 17] = [
     ("/line.json/", 404),
     ("//", 404),
     ("/../etc/passwd", 404),
-    ("http://localhost/", 404),
+    ("http://localhost/", 200),
+    ("http://localhost:8080/now?since=512", 304),
+    ("http://127.0.0.1/line.json", 200),
+    ("http://127.0.0.1:1", 200),
+    ("http://localhost/nowhere", 404),
+    ("http://example.com/", 421),
+    ("http://localhost.example.com/now", 421),
+    ("http:///now", 421),
+    ("https://localhost/", 404),
     ("*", 404),
 ];
 
@@ -96,6 +104,17 @@ fn another_host_is_not_answered(rt: HostRuntime) -> Result<(), Fail> {
     for (host, expected) in &HOSTS {
         assert!(rt;
             status_of(rt.alloc(), "GET", "/now", host)? == *expected,
+            "{host}"
+        );
+    }
+    Ok(())
+}
+
+#[test]
+fn a_target_of_this_host_needs_its_host_too(rt: HostRuntime) -> Result<(), Fail> {
+    for (host, expected) in &HOSTS {
+        assert!(rt;
+            status_of(rt.alloc(), "GET", "http://localhost/now", host)? == *expected,
             "{host}"
         );
     }

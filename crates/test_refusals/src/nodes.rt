@@ -2,7 +2,8 @@
 
 use crate::line::{BEGINS, START};
 use crate::playing::Stopped;
-use rbc_centre::{Event, Frame};
+use rbc_centre::{Event, Frame, StepFault};
+use rbc_log::CommitFault;
 use rbc_node::{Node, Open, Share, ShareFault};
 use serve_workers::reading::Reads;
 use serve_workers::{NoSink, SessionEnd, run_session};
@@ -38,7 +39,8 @@ fn commit<R: Wait>(
     let before = counts(rt, seat, to);
     match seat.node.commit(rt, &Open, &mut seat.share, first) {
         Ok(_) => return Ok(()),
-        Err(ShareFault::Memory) if counts(rt, seat, to) == before => {}
+        Err(ShareFault::Commit(CommitFault::Step(StepFault::Memory)))
+            if counts(rt, seat, to) == before => {}
         Err(_) => return Err(Stopped::Otherwise),
     }
     match seat.node.commit(rt, &Open, &mut seat.share, second) {

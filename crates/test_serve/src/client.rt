@@ -26,8 +26,10 @@ pub enum Missed {
     StillOpen,
     /// An entry, in a journal.
     Entry,
-    /// A print, when the centres ended.
+    /// A print or a journal, when the centres ended.
     Print,
+    /// The status by which they end.
+    Status,
     /// A run, in the print.
     Audit,
     /// Hexadecimal digits.

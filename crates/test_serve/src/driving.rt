@@ -38,79 +38,110 @@ impl Write for Centre<'_> {
     }
 }
 
-// How a train ends that does these lines at the centre, and what it prints.
-fn driven(alloc: Global, lines: &str, centre: &mut Centre<'_>) -> Result<Driven, Fail> {
-    let steps = steps_of(alloc, lines).ok().ok_or("the lines have a form")?;
-    let mut out = Vec::new(alloc);
-    let end = drive(alloc, &steps, centre, &mut out);
-    Ok((end, out))
-}
-
-#[test]
-fn a_train_sends_its_lines_and_prints_what_is_answered(rt: HostRuntime) -> Result<(), Fail> {
-    let sent = bytes_of(rt.alloc(), "9B028000009B02")?;
-    let ((end, printed), seen_off, heard) = seen_off_after(rt.alloc())?;
-    assert!(rt; (end, printed.as_slice()) == (Ok(()), b"2002C00000005FFFFFE800\n".as_slice()));
-    assert!(rt; (heard.as_slice(), seen_off) == (sent.as_slice(), Ok(())));
-    Ok(())
-}
-
-/// How a train ends, and what it prints.
-type Driven = (Result<(), DriveFault>, Vec<u8>);
-
-// How a train ends that waits for a message between its own and prints it, how it is seen off, and what the centre
-// heard.
-fn seen_off_after(alloc: Global) -> Result<(Driven, Result<(), DriveFault>, Vec<u8>), Fail> {
-    let answers = bytes_of(alloc, VERSION)?;
-    let mut centre = Centre {
-        answers: &answers,
-        is_faulty: false,
-        heard: Vec::new(alloc),
-    };
-    let driven = driven(alloc, "9b02800000\nwait 1\n9B02", &mut centre)?;
-    let seen_off = see_off(&mut centre);
-    Ok((driven, seen_off, centre.heard))
-}
-
-// How a train ends that waits for two messages, where these bytes come, and what it prints.
-fn ended_after(alloc: Global, digits: &str, is_faulty: bool) -> Result<Driven, Fail> {
-    let answers = bytes_of(alloc, digits)?;
-    let mut centre = Centre {
-        answers: &answers,
-        is_faulty,
-        heard: Vec::new(alloc),
-    };
-    driven(alloc, "wait 2\n", &mut centre)
-}
-
-// The same, by how much it prints.
-fn counted_after(
-    alloc: Global,
-    digits: &str,
+/// What a train does at a centre that answers so, and how it ends.
+struct Row<'a> {
+    name: &'a str,
+    lines: &'a str,
+    answers: &'a str,
     is_faulty: bool,
-) -> Result<(Result<(), DriveFault>, usize), Fail> {
-    let (end, printed) = ended_after(alloc, digits, is_faulty)?;
-    Ok((end, printed.len()))
+    end: Result<(), DriveFault>,
+    printed: &'a str,
+    heard: &'a str,
+    /// None where the train is not seen off.
+    seen_off: Option<Result<(), DriveFault>>,
 }
 
-#[test]
-fn an_answer_that_does_not_come_whole_ends_the_train(rt: HostRuntime) -> Result<(), Fail> {
-    let (early, one) = counted_after(rt.alloc(), "2002C00000005FFFFFE8002002", false)?;
-    let (late, none) = counted_after(rt.alloc(), "", true)?;
-    let (other, nothing) = counted_after(rt.alloc(), HALF_AN_INITIATION, false)?;
-    assert!(rt; [early, late, other] == [Err(DriveFault::Socket); 3]);
-    assert!(rt; (one, none, nothing) == (23, 0, 0));
-    Ok(())
-}
-
-#[test]
-fn a_centre_that_takes_no_more_is_not_seen_off(rt: HostRuntime) -> Result<(), Fail> {
-    let answers = bytes_of(rt.alloc(), VERSION)?;
-    let mut centre = Centre {
-        answers: &answers,
+static ROWS: [Row<'_>; 5] = [
+    // It waits for a message between its own, and prints it.
+    Row {
+        name: "a_train_sends_its_lines_and_prints_what_is_answered",
+        lines: "9b02800000\nwait 1\n9B02",
+        answers: VERSION,
+        is_faulty: false,
+        end: Ok(()),
+        printed: "2002C00000005FFFFFE800\n",
+        heard: "9B028000009B02",
+        seen_off: Some(Ok(())),
+    },
+    Row {
+        name: "an_answer_that_does_not_come_whole_ends_the_train",
+        lines: "wait 2\n",
+        answers: "2002C00000005FFFFFE8002002",
+        is_faulty: false,
+        end: Err(DriveFault::Socket),
+        printed: "2002C00000005FFFFFE800\n",
+        heard: "",
+        seen_off: None,
+    },
+    Row {
+        name: "an_answer_that_does_not_come_whole_ends_the_train, none",
+        lines: "wait 2\n",
+        answers: "",
         is_faulty: true,
-        heard: Vec::new(rt.alloc()),
-    };
-    assert!(rt; see_off(&mut centre) == Err(DriveFault::Socket));
+        end: Err(DriveFault::Socket),
+        printed: "",
+        heard: "",
+        seen_off: None,
+    },
+    Row {
+        name: "an_answer_that_does_not_come_whole_ends_the_train, no message of a centre",
+        lines: "wait 2\n",
+        answers: HALF_AN_INITIATION,
+        is_faulty: false,
+        end: Err(DriveFault::Socket),
+        printed: "",
+        heard: "",
+        seen_off: None,
+    },
+    Row {
+        name: "a_centre_that_takes_no_more_is_not_seen_off",
+        lines: "",
+        answers: VERSION,
+        is_faulty: true,
+        end: Ok(()),
+        printed: "",
+        heard: "",
+        seen_off: Some(Err(DriveFault::Socket)),
+    },
+];
+
+#[test]
+fn each_train_ends_as_it_should(rt: HostRuntime) -> Result<(), Fail> {
+    for wanted in &ROWS {
+        let is_so = ends_so(rt.alloc(), wanted)?;
+        let name = wanted.name;
+        assert!(rt; is_so, "{name}");
+    }
     Ok(())
+}
+
+fn ends_so(alloc: Global, wanted: &Row<'_>) -> Result<bool, Fail> {
+    let answers = bytes_of(alloc, wanted.answers)?;
+    let sent = bytes_of(alloc, wanted.heard)?;
+    let centre = Centre {
+        answers: &answers,
+        is_faulty: wanted.is_faulty,
+        heard: Vec::new(alloc),
+    };
+    driven_so(alloc, wanted, centre, &sent)
+}
+
+// Whether the train ends so at this centre, which then has heard these bytes.
+fn driven_so(
+    alloc: Global,
+    wanted: &Row<'_>,
+    mut centre: Centre<'_>,
+    sent: &[u8],
+) -> Result<bool, Fail> {
+    let steps = steps_of(alloc, wanted.lines)
+        .ok()
+        .ok_or("the lines have a form")?;
+    let mut out = Vec::new(alloc);
+    let end = drive(alloc, &steps, &mut centre, &mut out);
+    let seen_off = match wanted.seen_off {
+        Some(_) => Some(see_off(&mut centre)),
+        None => None,
+    };
+    let ends = (end, seen_off) == (wanted.end, wanted.seen_off);
+    Ok(ends && (out.as_slice(), centre.heard.as_slice()) == (wanted.printed.as_bytes(), sent))
 }

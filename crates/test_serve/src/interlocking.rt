@@ -1,53 +1,59 @@
 //! The control endpoint: what its lines are answered, and how it ends.
 
 use crate::line::INITIATION_OF_ONE;
-use crate::play::{Act, Step, begins_so, printed_after};
-use serve_line::ServeOptions;
-use std::test::*;
+use crate::play::Act;
+use crate::plays::{OPENED_FIRST, Play, Seen, ServeMode};
 
-// Lines of the control endpoint, and what each is answered; and how it ends.
-static LINES: [Step<'_>; 11] = [
-    (0, Act::Control),
-    (0, Act::Asks("set A 1\n", "> set A 1\nA 1 Done\n")),
-    (0, Act::Asks("set A 2\n", "> set A 2\nA 2 NotHome\n")),
-    (0, Act::Asks("set C 1\n", "script fault\n")),
-    (0, Act::Asks("set A 65536\n", "script fault\n")),
-    (0, Act::Asks("train A 9B\n", "script fault\n")),
-    (0, Act::Asks("deliver A B 1\n", "script fault\n")),
-    (
-        0,
-        Act::Asks(
-            "\n# no line\nshow\n",
-            "> show\nsection 0 A shut\nsection 1 A open\nsection 2 B shut\n",
-        ),
-    ),
-    (0, Act::Asks("unset A 1\n", "> unset A 1\nA 1 Done\n")),
-    (0, Act::Asks("stop\n", "")),
-    (0, Act::Ends),
+pub static PLAYS: [Play<'_>; 2] = [
+    // Lines of the control endpoint, and what each is answered; and how it ends.
+    Play {
+        name: "each_line_is_answered_as_a_run_prints_it",
+        mode: ServeMode::Usual,
+        journals: None,
+        rounds: &[(
+            1,
+            &[
+                (0, Act::Control),
+                (0, Act::Asks("set A 1\n", "> set A 1\nA 1 Done\n")),
+                (0, Act::Asks("set A 2\n", "> set A 2\nA 2 NotHome\n")),
+                (0, Act::Asks("set C 1\n", "script fault\n")),
+                (0, Act::Asks("set A 65536\n", "script fault\n")),
+                (0, Act::Asks("train A 9B\n", "script fault\n")),
+                (0, Act::Asks("deliver A B 1\n", "script fault\n")),
+                (
+                    0,
+                    Act::Asks(
+                        "\n# no line\nshow\n",
+                        "> show\nsection 0 A shut\nsection 1 A open\nsection 2 B shut\n",
+                    ),
+                ),
+                (0, Act::Asks("unset A 1\n", "> unset A 1\nA 1 Done\n")),
+                (0, Act::Asks("stop\n", "")),
+                (0, Act::Ends),
+            ],
+        )],
+        status: 0,
+        seen: &[Seen::Prints(
+            "> set A 1\nA 1 Done\n> set A 2\nA 2 NotHome\n> unset A 1\nA 1 Done\nsection 0 A shut\nsection 1 A shut\nsection 2 B shut\n",
+        )],
+    },
+    // Connection 1 says bytes with a fault, and ends; a train on connection 0 is answered after that.
+    Play {
+        name: "bytes_with_a_fault_end_their_connection_alone",
+        mode: ServeMode::Usual,
+        journals: None,
+        rounds: &[(
+            1,
+            &[
+                (0, Act::Train),
+                (1, Act::Train),
+                (1, Act::Sends("9B0240")),
+                (1, Act::Ends),
+                (0, Act::Sends(INITIATION_OF_ONE)),
+                (0, Act::Takes(11)),
+            ],
+        )],
+        status: 0,
+        seen: &[OPENED_FIRST],
+    },
 ];
-
-#[test]
-fn each_line_is_answered_as_a_run_prints_it(rt: HostRuntime) -> Result<(), Fail> {
-    let printed = printed_after(&rt, rt.alloc(), ServeOptions::default(), &LINES)?;
-    let wanted =
-        "> set A 1\nA 1 Done\n> set A 2\nA 2 NotHome\n> unset A 1\nA 1 Done\nsection 0 A shut\nsection 1 A shut\nsection 2 B shut\n";
-    assert!(rt; printed.as_slice() == wanted.as_bytes());
-    Ok(())
-}
-
-// Connection 1 says bytes with a fault, and ends; a train on connection 0 is answered after that.
-static A_FAULT_BESIDE_A_TRAIN: [Step<'_>; 6] = [
-    (0, Act::Train),
-    (1, Act::Train),
-    (1, Act::Sends("9B0240")),
-    (1, Act::Ends),
-    (0, Act::Sends(INITIATION_OF_ONE)),
-    (0, Act::Takes(11)),
-];
-
-#[test]
-fn bytes_with_a_fault_end_their_connection_alone(rt: HostRuntime) -> Result<(), Fail> {
-    let wanted = b"> train A 9B028000000040000040\n";
-    assert!(rt; begins_so(&rt, rt.alloc(), &A_FAULT_BESIDE_A_TRAIN, wanted)?);
-    Ok(())
-}

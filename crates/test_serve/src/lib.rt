@@ -10,6 +10,8 @@ mod driving;
 #[cfg(test)]
 mod files;
 #[cfg(test)]
+mod initiations;
+#[cfg(test)]
 mod interlocking;
 #[cfg(test)]
 mod journals;
@@ -22,6 +24,8 @@ mod order;
 #[cfg(test)]
 mod play;
 #[cfg(test)]
+mod plays;
+#[cfg(test)]
 mod railway;
 #[cfg(test)]
 mod refusing;
@@ -31,6 +35,8 @@ mod sheet;
 mod sinks;
 #[cfg(test)]
 mod slots;
+#[cfg(test)]
+mod sockets;
 #[cfg(test)]
 mod torn;
 #[cfg(test)]

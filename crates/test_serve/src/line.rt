@@ -4,7 +4,9 @@ ghost use Rattle.std.specs.Prelude.{◌≤◌, length, IfOk};
 
 use crate::client::{Done, Missed};
 use rbc_line::Line;
+use rbc_node::Node;
 use std::alloc::Global;
+use std::test::*;
 
 const TWO_CENTRES: &str = "nid_c = 5
 [[centre]]
@@ -39,6 +41,12 @@ pub fn two_centres(alloc: Global) -> Result<Line, &'static str>
     Line::from_toml(alloc, TWO_CENTRES)
         .ok()
         .ok_or("the line file is accepted")
+}
+
+/// A node of centre A.
+pub fn node_of_a(alloc: Global) -> Result<Node, Fail> {
+    let line = two_centres(alloc)?;
+    Ok(Node::new(alloc, &line, 0)?)
 }
 
 // Train 1 opens its session.

@@ -1,130 +1,110 @@
-//! What `serve` may be asked for: how fast trains may be, words to the interlocking, and how much is used up.
+//! The options of `serve`: how fast trains may be, words to the interlocking, how much is used up, and over which
+//! connection a train is served.
 
-use crate::client::{Done, Missed, connect, heard, say};
-use crate::line::{MISSION_OF_ONE, REQUEST_OF_ONE, bytes_of};
-use crate::play::{Act, Step, printed_after};
-use crate::railway::{Addresses, printed_of_two_centres};
-use serve_line::ServeOptions;
-use serve_workers::reading::Rate;
-use std::alloc::Global;
-use std::net::{Net, TcpStream};
-use std::sync::atomic::{AtomicU64, Ordering};
-use std::test::*;
-use std::time::Clock;
+use crate::line::{INITIATION_OF_ONE, MISSION_OF_ONE, REQUEST_OF_ONE, VERSION};
+use crate::play::Act;
+use crate::plays::{OPENED_FIRST, Play, Seen, ServeMode};
 
-// How often the train opens its session.
-const OPENED: u64 = 6;
+// Train 1 establishes its session with T_TRAIN 2, and initiates it again with T_TRAIN 3 and 4.
+const ESTABLISHED: &str = "9F028000000080000040";
 
-// As where each train may say two messages at once, and twenty a second after them.
-fn slow() -> ServeOptions {
-    ServeOptions {
-        rate: Rate {
-            per_second: 20,
-            burst: 2,
-        },
-        ..ServeOptions::default()
-    }
-}
+const THIRD_INITIATION: &str = "9B0280000000C0000040";
 
-#[test]
-fn a_train_that_is_too_fast_is_held_back_and_loses_nothing(rt: HostRuntime) -> Result<(), Fail> {
-    let took = AtomicU64::new(0);
-    let printed = printed_of_two_centres(&rt, rt.alloc(), slow(), |addresses| {
-        took.store(
-            open_again_and_again(&rt, rt.alloc(), addresses)?,
-            Ordering::SeqCst,
-        );
-        Ok(())
-    })?;
-    // Two pass at once, and one each 50 milliseconds after them. The clock's milliseconds may be cut off at both ends.
-    assert!(rt; took.load(Ordering::SeqCst) >= (OPENED - 2) * 50 - 2);
-    assert!(rt; openings_in(&printed) == OPENED);
-    Ok(())
-}
+const FOURTH_INITIATION: &str = "9B028000000100000040";
 
-// How many messages of trains to centre A are in the print; none where it is no text.
-fn openings_in(printed: &[u8]) -> u64 {
-    match std::str::from_utf8(printed) {
-        Ok(printed) => printed.matches("> train A ").count() as u64,
-        Err(_) => 0,
-    }
-}
+// Message 32 with T_TRAIN 2 and 3.
+const SECOND_VERSION: &str = "2002C00000009FFFFFE800";
 
-// The time in milliseconds.
-fn now<R: Clock>(rt: &R) -> Done<u64> {
-    let now = rt.monotonic().ok().ok_or(Missed::Clock)?;
-    Ok(
-        now.as_secs()
-            .saturating_mul(1000)
-            .saturating_add(u64::from(now.subsec_millis())),
-    )
-}
-
-// Train 1 opens its session again and again, all at once, and hears as many answers. How many milliseconds that took.
-fn open_again_and_again<R: Net<Stream = TcpStream> + Clock>(
-    rt: &R,
-    alloc: Global,
-    addresses: Addresses,
-) -> Done<u64> {
-    let begun = now(rt)?;
-    let stream = connect(rt, addresses.centre)?;
-    say_openings(alloc, &stream)?;
-    Ok(now(rt)?.saturating_sub(begun))
-}
-
-fn say_openings(alloc: Global, stream: &TcpStream) -> Done<()> {
-    for t_train in 1..=OPENED {
-        say(stream, &opening(alloc, t_train)?)?;
-    }
-    heard(alloc, stream, OPENED as usize * 11)?;
-    Ok(())
-}
-
-// The message by which train 1 opens its session, with this T_TRAIN.
-fn opening(alloc: Global, t_train: u64) -> Done<Vec<u8>> {
-    let sixty_fourths = t_train.saturating_mul(64);
-    let digits = format!(in alloc; "9B02800000{sixty_fourths:04X}000040")
-        .ok()
-        .ok_or(Missed::Memory)?;
-    bytes_of(alloc, &digits)
-}
+const THIRD_VERSION: &str = "2002C0000000DFFFFFE800";
 
 // Train 1 has left section 0.
 const REPORT: &str = "880680000001C0000040010280A0328190500140051019001060";
 
-// The interlocking wishes section 0 back, while the train covers it; the train leaves it. Connection 1 of the
-// interlocking only listens.
-static WISHED_BACK: [Step<'_>; 14] = [
-    (0, Act::Control),
-    (1, Act::Control),
-    (0, Act::Asks("set A 0\n", "> set A 0\nA 0 Done\n")),
-    (0, Act::Asks("set A 1\n", "> set A 1\nA 1 Done\n")),
-    (
-        0,
-        Act::Asks(
-            "show\n",
-            "> show\nsection 0 A open\nsection 1 A open\nsection 2 B shut\nA log 2 of 1000000\nA clock 2 of 1073741823\nA link B 0 of 65536\nB log 0 of 1000000\nB clock 0 of 1073741823\nB link A 0 of 65536\n",
-        ),
-    ),
-    (2, Act::Train),
-    (2, Act::Sends(MISSION_OF_ONE)),
-    (2, Act::Takes(11 + 10 + 14)),
-    (2, Act::Sends(REQUEST_OF_ONE)),
-    (2, Act::Takes(18)),
-    (0, Act::Asks("unset A 0\n", "> unset A 0\nA 0 Asked\n")),
-    (2, Act::Sends(REPORT)),
-    (0, Act::Asks("", "A 0 Told\n")),
-    (1, Act::Asks("", "A 0 Told\n")),
+pub static PLAYS: [Play<'_>; 3] = [
+    // A message of train 1 before its first initiation ends its connection. Connection 1 opens the session; a message
+    // over connection 2 ends that one, and an initiation over connection 3 is taken. No other message is in the log.
+    Play {
+        name: "a_train_is_served_over_the_connection_that_opened_its_session",
+        mode: ServeMode::Bound,
+        journals: None,
+        rounds: &[(
+            1,
+            &[
+                (0, Act::Train),
+                (0, Act::Sends(ESTABLISHED)),
+                (0, Act::Ends),
+                (1, Act::Train),
+                (1, Act::Sends(INITIATION_OF_ONE)),
+                (1, Act::Hears(VERSION)),
+                (2, Act::Train),
+                (2, Act::Sends(ESTABLISHED)),
+                (2, Act::Ends),
+                (1, Act::Sends(ESTABLISHED)),
+                (1, Act::Sends(THIRD_INITIATION)),
+                (1, Act::Hears(SECOND_VERSION)),
+                (3, Act::Train),
+                (3, Act::Sends(FOURTH_INITIATION)),
+                (3, Act::Hears(THIRD_VERSION)),
+                (1, Act::Ends),
+            ],
+        )],
+        status: 0,
+        seen: &[
+            OPENED_FIRST,
+            Seen::Counts("> train A ", 4),
+            Seen::Counts("> train A 9F028000000080000040\n", 1),
+        ],
+    },
+    // Train 1 opens its session six times, all at once, and hears as many answers. Two pass at once, and one each
+    // 50 milliseconds after them. The clock's milliseconds may be cut off at both ends.
+    Play {
+        name: "a_train_that_is_too_fast_is_held_back_and_loses_nothing",
+        mode: ServeMode::Slow,
+        journals: None,
+        rounds: &[(
+            1,
+            &[
+                (0, Act::Train),
+                (0, Act::Opens(6)),
+                (0, Act::Takes(6 * 11)),
+                (0, Act::Lasts(4 * 50 - 2)),
+            ],
+        )],
+        status: 0,
+        seen: &[Seen::Counts("> train A ", 6)],
+    },
+    // The interlocking wishes section 0 back, while the train covers it; the train leaves it. Connection 1 of the
+    // interlocking only listens.
+    Play {
+        name: "the_interlocking_is_told_of_a_section_that_is_shut",
+        mode: ServeMode::Reporting,
+        journals: None,
+        rounds: &[(
+            1,
+            &[
+                (0, Act::Control),
+                (1, Act::Control),
+                (0, Act::Asks("set A 0\n", "> set A 0\nA 0 Done\n")),
+                (0, Act::Asks("set A 1\n", "> set A 1\nA 1 Done\n")),
+                (
+                    0,
+                    Act::Asks(
+                        "show\n",
+                        "> show\nsection 0 A open\nsection 1 A open\nsection 2 B shut\nA log 2 of 1000000\nA clock 2 of 1073741823\nA link B 0 of 65536\nB log 0 of 1000000\nB clock 0 of 1073741823\nB link A 0 of 65536\n",
+                    ),
+                ),
+                (2, Act::Train),
+                (2, Act::Sends(MISSION_OF_ONE)),
+                (2, Act::Takes(11 + 10 + 14)),
+                (2, Act::Sends(REQUEST_OF_ONE)),
+                (2, Act::Takes(18)),
+                (0, Act::Asks("unset A 0\n", "> unset A 0\nA 0 Asked\n")),
+                (2, Act::Sends(REPORT)),
+                (0, Act::Asks("", "A 0 Told\n")),
+                (1, Act::Asks("", "A 0 Told\n")),
+            ],
+        )],
+        status: 0,
+        seen: &[Seen::Begins("> set A 0\nA 0 Done\n> set A 1\nA 1 Done\n")],
+    },
 ];
-
-#[test]
-fn the_interlocking_is_told_of_a_section_that_is_shut(rt: HostRuntime) -> Result<(), Fail> {
-    let options = ServeOptions {
-        is_telling: true,
-        shows_life: true,
-        ..ServeOptions::default()
-    };
-    let printed = printed_after(&rt, rt.alloc(), options, &WISHED_BACK)?;
-    assert!(rt; printed.starts_with(b"> set A 0\nA 0 Done\n> set A 1\nA 1 Done\n"));
-    Ok(())
-}

@@ -2,15 +2,14 @@
 
 use crate::client::{Done, Missed, TURNS, connect, say};
 use crate::line::{INITIATION_OF_ONE, VERSION, bytes_of};
-use crate::play::{Act, Step, play};
-use crate::railway::{Addresses, printed_of_two_centres};
+use crate::play::{Act, hear, send};
+use crate::plays::{OPENED_FIRST, Play, ServeMode};
+use crate::railway::Addresses;
 use rbc_msgs::decode_track;
-use serve_line::ServeOptions;
 use std::alloc::Global;
 use std::io::{ErrorKind, Read};
 use std::net::{Net, Shutdown, TcpStream};
 use std::sync::atomic::{AtomicBool, Ordering};
-use std::test::*;
 use std::thread;
 use std::thread::Threads;
 
@@ -27,52 +26,62 @@ struct Told {
     is_said: AtomicBool,
 }
 
-#[test]
-fn a_train_hears_all_in_order_though_two_threads_commit(rt: HostRuntime) -> Result<(), Fail> {
+pub static PLAYS: [Play<'_>; 1] = [Play {
+    name: "a_train_hears_all_in_order_though_two_threads_commit",
+    mode: ServeMode::Usual,
+    journals: None,
+    rounds: &[(1, &[(0, Act::StartsOverTwo)])],
+    status: 0,
+    seen: &[OPENED_FIRST],
+}];
+
+/// Opens a train's session, and starts its missions over two connections at once, by two threads. All answers come over
+/// the first connection, in order.
+pub fn start_over_two<R: Threads + Sync + Net<Stream = TcpStream>>(
+    rt: &R,
+    alloc: Global,
+    addresses: Addresses,
+) -> Done<()> {
     let told = Told {
         is_open: AtomicBool::new(false),
         is_said: AtomicBool::new(false),
     };
-    let numbers = AtomicBool::new(false);
-    let printed = printed_of_two_centres(&rt, rt.alloc(), ServeOptions::default(), |addresses| {
-        let (opened, other) = thread::join(
-            &rt,
-            || open_and_start(&rt, rt.alloc(), addresses, &told),
-            || start(&rt, rt.alloc(), addresses, &told),
-        );
-        other?;
-        let is_in_order = is_counted_from_two(opened?.as_slice())?;
-        numbers.store(is_in_order, Ordering::SeqCst);
-        Ok(())
-    })?;
-    assert!(rt; numbers.load(Ordering::SeqCst));
-    assert!(rt; printed.starts_with(b"> train A 9B028000000040000040\n"));
-    Ok(())
+    let (opened, other) = thread::join(
+        rt,
+        || open_and_start(rt, alloc, addresses, &told),
+        || start(rt, alloc, addresses, &told),
+    );
+    other?;
+    opened
 }
 
 // The train opens its session, and establishes it.
-static OPENING: [Step<'_>; 4] = [
-    (0, Act::Train),
-    (0, Act::Sends(INITIATION_OF_ONE)),
-    (0, Act::Hears(VERSION)),
-    (0, Act::Sends("9F028000000080000040")),
-];
+fn opened<R: Net<Stream = TcpStream>>(
+    rt: &R,
+    alloc: Global,
+    addresses: Addresses,
+) -> Done<TcpStream> {
+    let stream = connect(rt, addresses.centre)?;
+    send(alloc, &stream, INITIATION_OF_ONE)?;
+    hear(alloc, &stream, VERSION)?;
+    send(alloc, &stream, "9F028000000080000040")?;
+    Ok(stream)
+}
 
-// Opens the train's session, and starts missions that are rejected, while another connection does. It gives what came
-// after the version.
+// Opens the train's session, and starts missions that are rejected, while another connection does. What comes after
+// the version is in order.
 fn open_and_start<R: Net<Stream = TcpStream>>(
     rt: &R,
     alloc: Global,
     addresses: Addresses,
     told: &Told,
-) -> Done<Vec<u8>> {
-    let streams = play(rt, alloc, addresses, &OPENING)?;
-    let stream = streams.first().ok_or(Missed::Endpoint)?;
+) -> Done<()> {
+    let stream = opened(rt, alloc, addresses)?;
     told.is_open.store(true, Ordering::SeqCst);
-    say_starts(alloc, stream, "00")?;
+    say_starts(alloc, &stream, "00")?;
     wait_for(&told.is_said)?;
     stream.shutdown(Shutdown::Write).ok().ok_or(Missed::Taking)?;
-    heard_to_the_end(alloc, stream)
+    are_counted_from_two(&heard_to_the_end(alloc, &stream)?)
 }
 
 // Starts missions of the train over a connection that does not serve it.
@@ -134,15 +143,19 @@ pub fn heard_to_the_end(alloc: Global, stream: &TcpStream) -> Done<Vec<u8>> {
     Err(Missed::StillOpen)
 }
 
-// Whether these are messages with T_TRAIN 2, 3, 4 and so on, some at least.
-fn is_counted_from_two(bytes: &[u8]) -> Done<bool> {
+// That these are messages with T_TRAIN 2, 3, 4 and so on, some at least.
+fn are_counted_from_two(bytes: &[u8]) -> Done<()> {
     let mut next = 2;
     for message in bytes.chunks(REJECTED) {
         let message = decode_track(message).ok().ok_or(Missed::Digits)?;
         if message.t_train() != next {
-            return Ok(false);
+            return Err(Missed::OtherAnswer);
         }
         next = next.saturating_add(1);
     }
-    Ok(next > 50)
+    if next > 50 {
+        Ok(())
+    } else {
+        Err(Missed::NoAnswer)
+    }
 }

@@ -1,56 +1,100 @@
-//! What peers do at the endpoints of running centres, one step after another.
+//! The steps of peers at the endpoints of running centres, in order.
 
 use crate::client::{Done, Missed, answers, connect, heard, is_ended, say};
 use crate::line::bytes_of;
-use crate::railway::{Addresses, printed_of_two_centres};
-use serve_line::ServeOptions;
+use crate::order::start_over_two;
+use crate::railway::Addresses;
+use crate::sheet::Paper;
+use crate::sinks::ask_until_both_come;
 use std::alloc::Global;
-use std::net::{Net, SocketAddr, TcpListener, TcpStream};
-use std::sync::Wait;
-use std::test::*;
+use std::net::{Net, SocketAddr, TcpStream};
 use std::thread::Threads;
 use std::time::Clock;
 
-/// What one connection does.
+/// A step of one connection, or a comparison beside the connections.
 #[derive(Clone, Copy)]
 pub enum Act<'a> {
     /// It comes to centre A.
     Train,
     /// It comes to the control endpoint.
     Control,
-    /// It says this text, and is answered so.
+    /// It sends this text, and gets this answer.
     Asks(&'a str, &'a str),
-    /// It says the bytes that these digits spell.
+    /// It sends the bytes of these digits.
     Sends(&'a str),
-    /// The bytes come that these digits spell.
+    /// It opens train 1's session this many times, all at once. T_TRAIN begins with 1, and goes on from turn to turn.
+    Opens(u32),
+    /// It asks for train 1's authority until it reaches over the border.
+    Crosses,
+    /// It receives the bytes of these digits.
     Hears(&'a str),
-    /// So many bytes come.
+    /// It receives this many bytes.
     Takes(usize),
     /// The other side ends it.
     Ends,
+    /// Two connections start train 1's missions at once.
+    StartsOverTwo,
+    /// At least this many milliseconds have passed since the play began.
+    Lasts(u64),
+    /// The journal of centre A is this text.
+    Written(&'a str),
+    /// It becomes this text, and the centre notices that it is full.
+    Fills(&'a str),
+    /// It may have this many bytes from now on.
+    HasRoom(usize),
 }
 
-/// The number of a connection, in the order in which they come, and what it does.
+/// The number of a connection, in the order in which they connect, and its step.
 pub type Step<'a> = (usize, Act<'a>);
 
-/// Plays the steps, and gives the connections.
-pub fn play<R: Net<Stream = TcpStream>>(
-    rt: &R,
-    alloc: Global,
-    addresses: Addresses,
-    steps: &[Step<'_>],
-) -> Done<Vec<TcpStream>> {
-    let mut streams = Vec::new(alloc);
-    for (number, act) in steps {
-        match endpoint_of(addresses, *act) {
-            Some(endpoint) => come(rt, &mut streams, endpoint)?,
-            None => done(alloc, &streams, *number, *act)?,
-        }
-    }
-    Ok(streams)
+/// The number of times that these steps are played, each time over connections of their own.
+pub type Round<'a> = (u32, &'a [Step<'a>]);
+
+/// The centres at which steps are played.
+#[derive(Clone, Copy)]
+pub struct Stage<'a> {
+    pub alloc: Global,
+    pub addresses: Addresses,
+    /// The journal of centre A.
+    pub journal: Paper<'a>,
+    /// When the play began, in milliseconds.
+    pub begun: u64,
 }
 
-// The endpoint to which a connection comes, if it does.
+/// Plays the rounds.
+pub fn play_rounds<R: Threads + Sync + Net<Stream = TcpStream> + Clock>(
+    rt: &R,
+    stage: Stage<'_>,
+    rounds: &[Round<'_>],
+) -> Done<()> {
+    for (times, steps) in rounds {
+        for turn in 0..*times {
+            play_once(rt, stage, turn, steps)?;
+        }
+    }
+    Ok(())
+}
+
+fn play_once<R: Threads + Sync + Net<Stream = TcpStream> + Clock>(
+    rt: &R,
+    stage: Stage<'_>,
+    turn: u32,
+    steps: &[Step<'_>],
+) -> Done<()> {
+    let mut streams = Vec::new(stage.alloc);
+    for (number, act) in steps {
+        match endpoint_of(stage.addresses, *act) {
+            Some(endpoint) => come(rt, &mut streams, endpoint)?,
+            None => match streams.get(*number) {
+                Some(stream) => done(rt, stage, turn, stream, *act)?,
+                None => done_beside(rt, stage, *act)?,
+            },
+        }
+    }
+    Ok(())
+}
+
+// The endpoint to which a step connects.
 fn endpoint_of(addresses: Addresses, act: Act<'_>) -> Option<SocketAddr> {
     match act {
         Act::Train => Some(addresses.centre),
@@ -70,23 +114,87 @@ fn come<R: Net<Stream = TcpStream>>(
         .ok_or(Missed::Memory)
 }
 
-fn done(alloc: Global, streams: &[TcpStream], number: usize, act: Act<'_>) -> Done<()> {
-    let stream = streams.get(number).ok_or(Missed::Endpoint)?;
+fn done<R: Threads + Sync + Net<Stream = TcpStream> + Clock>(
+    rt: &R,
+    stage: Stage<'_>,
+    turn: u32,
+    stream: &TcpStream,
+    act: Act<'_>,
+) -> Done<()> {
     match act {
-        Act::Asks(said, wanted) => answers(alloc, stream, said, wanted),
-        Act::Sends(digits) => send(alloc, stream, digits),
-        Act::Hears(digits) => hear(alloc, stream, digits),
-        Act::Takes(count) => take(alloc, stream, count),
+        Act::Asks(said, wanted) => answers(stage.alloc, stream, said, wanted),
+        Act::Sends(digits) => send(stage.alloc, stream, digits),
+        Act::Opens(count) => open_sessions(stage.alloc, stream, turn.saturating_mul(count), count),
+        Act::Crosses => ask_until_both_come(rt, stage.alloc, stream),
+        Act::Hears(digits) => hear(stage.alloc, stream, digits),
+        Act::Takes(count) => take(stage.alloc, stream, count),
         Act::Ends if !is_ended(stream) => Err(Missed::StillOpen),
-        _ => Ok(()),
+        Act::Ends => Ok(()),
+        _ => done_beside(rt, stage, act),
     }
 }
 
-fn send(alloc: Global, stream: &TcpStream, digits: &str) -> Done<()> {
+// A step of no connection, or a comparison.
+fn done_beside<R: Threads + Sync + Net<Stream = TcpStream> + Clock>(
+    rt: &R,
+    stage: Stage<'_>,
+    act: Act<'_>,
+) -> Done<()> {
+    match act {
+        Act::StartsOverTwo => start_over_two(rt, stage.alloc, stage.addresses),
+        Act::Lasts(least) => lasts(rt, stage.begun, least),
+        Act::Written(text) if !stage.journal.has(text.as_bytes()) => Err(Missed::Entry),
+        Act::Fills(text) => stage.journal.fills(rt, text.as_bytes()),
+        Act::HasRoom(room) => {
+            stage.journal.allow(room);
+            Ok(())
+        }
+        Act::Written(_) => Ok(()),
+        _ => Err(Missed::Endpoint),
+    }
+}
+
+fn lasts<R: Clock>(rt: &R, begun: u64, least: u64) -> Done<()> {
+    if now(rt)?.saturating_sub(begun) < least {
+        return Err(Missed::Clock);
+    }
+    Ok(())
+}
+
+/// The time in milliseconds.
+pub fn now<R: Clock>(rt: &R) -> Done<u64> {
+    let now = rt.monotonic().ok().ok_or(Missed::Clock)?;
+    Ok(
+        now.as_secs()
+            .saturating_mul(1000)
+            .saturating_add(u64::from(now.subsec_millis())),
+    )
+}
+
+/// Sends the bytes of these digits.
+pub fn send(alloc: Global, stream: &TcpStream, digits: &str) -> Done<()> {
     say(stream, &bytes_of(alloc, digits)?)
 }
 
-fn hear(alloc: Global, stream: &TcpStream, digits: &str) -> Done<()> {
+fn open_sessions(alloc: Global, stream: &TcpStream, before: u32, count: u32) -> Done<()> {
+    for k in 0..count {
+        let t_train = before.saturating_add(k).saturating_add(1);
+        say(stream, &opening(alloc, t_train)?)?;
+    }
+    Ok(())
+}
+
+// The message by which train 1 opens its session, with this T_TRAIN.
+fn opening(alloc: Global, t_train: u32) -> Done<Vec<u8>> {
+    let sixty_fourths = t_train.saturating_mul(64);
+    let digits = format!(in alloc; "9B02800000{sixty_fourths:04X}000040")
+        .ok()
+        .ok_or(Missed::Memory)?;
+    bytes_of(alloc, &digits)
+}
+
+/// Receives the bytes of these digits.
+pub fn hear(alloc: Global, stream: &TcpStream, digits: &str) -> Done<()> {
     let wanted = bytes_of(alloc, digits)?;
     if heard(alloc, stream, wanted.len())?.as_slice() != wanted.as_slice() {
         return Err(Missed::OtherAnswer);
@@ -97,22 +205,4 @@ fn hear(alloc: Global, stream: &TcpStream, digits: &str) -> Done<()> {
 fn take(alloc: Global, stream: &TcpStream, count: usize) -> Done<()> {
     heard(alloc, stream, count)?;
     Ok(())
-}
-
-/// Serves the line of two centres while the steps are played, and gives what was printed.
-pub fn printed_after<
-    R: Threads + Wait + Sync + Net<Stream = TcpStream, Listener = TcpListener> + Clock,
->(rt: &R, alloc: Global, options: ServeOptions, steps: &[Step<'_>]) -> Result<Vec<u8>, Fail> {
-    printed_of_two_centres(rt, alloc, options, |addresses| {
-        play(rt, alloc, addresses, steps)?;
-        Ok(())
-    })
-}
-
-/// Whether the print begins so after these steps, where nothing else is asked for.
-pub fn begins_so<
-    R: Threads + Wait + Sync + Net<Stream = TcpStream, Listener = TcpListener> + Clock,
->(rt: &R, alloc: Global, steps: &[Step<'_>], wanted: &[u8]) -> Result<bool, Fail> {
-    let printed = printed_after(rt, alloc, ServeOptions::default(), steps)?;
-    Ok(printed.starts_with(wanted))
 }

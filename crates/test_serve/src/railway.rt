@@ -1,19 +1,22 @@
 //! The centres of a line, served while a play goes on.
 
 use crate::client::{Done, Missed, connect, say};
-use crate::line::{CONTROL, two_centres};
+use crate::line::{CONTROL, bytes_of};
+use crate::play::{Stage, now, play_rounds};
+use crate::plays::{Before, Papers, Play, Scene, ServeMode, Taken};
+use crate::sheet::Sheet;
 use cli_commands::auditing::{Audit, Verdict};
 use rbc_line::Line;
-use serve_line::{Endpoints, NoNotes, Record, ServeOptions, serve};
+use rbc_world::WorldEvent;
+use serve_line::{Endpoints, JournalFile, NoNotes, Record, ServeOptions, serve};
+use serve_workers::reading::Rate;
 use std::alloc::Global;
-use std::fs::{File, OpenFile};
-use std::io::{Seek, Write};
 use std::net::{Net, SocketAddr, TcpListener, TcpStream};
 use std::sync::Wait;
-use std::test::*;
 use std::thread;
 use std::thread::Threads;
 use std::time::Clock;
+use text_journal::Entry;
 
 /// The addresses of centre A and of the control endpoint.
 #[derive(Clone, Copy)]
@@ -22,105 +25,159 @@ pub struct Addresses {
     pub control: SocketAddr,
 }
 
-/// Serves the line while the play goes on, then says `stop`, and gives what was printed.
-pub fn printed_with<
-    R: Threads + Wait + Sync + Net<Stream = TcpStream, Listener = TcpListener> + Clock,
-    P: FnOnce(Addresses) -> Done<()>,
->(rt: &R, alloc: Global, line: &Line, options: ServeOptions, play: P) -> Done<Vec<u8>>
-    requires { P.IsAlwaysCallable play }
-{
-    let none: Record<File> = Record::none(alloc);
-    printed_of(rt, alloc, line, options, none, play)
-}
-
-/// The same of centres that keep journals, or go on from them.
-pub fn printed_of<
-    R: Threads + Wait + Sync + Net<Stream = TcpStream, Listener = TcpListener> + Clock,
-    F: Write + Seek + OpenFile + Drop + Send,
-    P: FnOnce(Addresses) -> Done<()>,
->(
+/// Serves the line while the play goes on, then says `stop`. It gives the status by which the centres end, and what
+/// was printed.
+pub fn served<R: Threads + Wait + Sync + Net<Stream = TcpStream, Listener = TcpListener> + Clock>(
     rt: &R,
-    alloc: Global,
-    line: &Line,
-    options: ServeOptions,
-    record: Record<F>,
-    play: P,
-) -> Done<Vec<u8>>
-    requires { P.IsAlwaysCallable play }
-{
-    match served_with(rt, alloc, line, options, record, play)? {
-        (0, printed) => Ok(printed),
-        _ => Err(Missed::Print),
-    }
-}
-
-/// The same, with the status by which the centres end.
-pub fn served_with<
-    R: Threads + Wait + Sync + Net<Stream = TcpStream, Listener = TcpListener> + Clock,
-    F: Write + Seek + OpenFile + Drop + Send,
-    P: FnOnce(Addresses) -> Done<()>,
->(
-    rt: &R,
-    alloc: Global,
-    line: &Line,
-    options: ServeOptions,
-    record: Record<F>,
-    play: P,
-) -> Done<(u8, Vec<u8>)>
-    requires { P.IsAlwaysCallable play }
-{
-    let endpoints = Endpoints::open(rt, alloc, line, 0, &NoNotes)
+    scene: Scene<'_>,
+) -> Done<(u8, Vec<u8>)> {
+    let endpoints = Endpoints::open(rt, scene.alloc, scene.line, 0, &NoNotes)
         .ok()
         .ok_or(Missed::Endpoint)?;
-    let addresses = Addresses {
-        centre: endpoints.address(0).ok_or(Missed::Endpoint)?,
-        control: endpoints.address(CONTROL).ok_or(Missed::Endpoint)?,
-    };
+    let addresses = addresses_of(&endpoints)?;
     let (served, played) = thread::join(
         rt,
-        || served(rt, alloc, line, endpoints, record, options),
-        || {
-            let played = play(addresses);
-            stop(rt, addresses);
-            played
-        },
+        || ended(rt, scene, endpoints),
+        || played(rt, scene, addresses),
     );
-    played?;
-    Ok(served)
-}
-
-/// The same, with the line of two centres.
-pub fn printed_of_two_centres<
-    R: Threads + Wait + Sync + Net<Stream = TcpStream, Listener = TcpListener> + Clock,
-    P: FnOnce(Addresses) -> Done<()>,
->(rt: &R, alloc: Global, options: ServeOptions, play: P) -> Result<Vec<u8>, Fail>
-    requires { P.IsAlwaysCallable play }
-{
-    let line = two_centres(alloc)?;
-    Ok(printed_with(rt, alloc, &line, options, play)?)
-}
-
-fn served<R: Threads + Wait + Sync + Clock, F: Write + Seek + OpenFile + Drop + Send>(
-    rt: &R,
-    alloc: Global,
-    line: &Line,
-    endpoints: Endpoints,
-    record: Record<F>,
-    options: ServeOptions,
-) -> (u8, Vec<u8>) {
-    let mut out = Vec::new(alloc);
-    match serve(
-        rt, alloc, line, endpoints, record, options, &NoNotes, &mut out,
-    ) {
-        Ok(()) => (0, out),
-        Err(fault) => (fault.status(), out),
+    match played {
+        Ok(()) => served,
+        Err(missed) => Err(missed),
     }
+}
+
+fn addresses_of(endpoints: &Endpoints) -> Done<Addresses> {
+    Ok(Addresses {
+        centre: endpoints.address(0).ok_or(Missed::Endpoint)?,
+        control: endpoints.address(CONTROL).ok_or(Missed::Endpoint)?,
+    })
+}
+
+fn played<R: Threads + Sync + Net<Stream = TcpStream> + Clock>(
+    rt: &R,
+    scene: Scene<'_>,
+    addresses: Addresses,
+) -> Done<()> {
+    let stage = Stage {
+        alloc: scene.alloc,
+        addresses,
+        journal: scene.papers.a,
+        begun: match now(rt) {
+            Ok(begun) => begun,
+            Err(_) => u64::MAX,
+        },
+    };
+    let played = play_rounds(rt, stage, scene.play.rounds);
+    stop(rt, addresses);
+    played
 }
 
 // Says `stop`. If the centres have ended already, the endpoint is closed, or closes before it takes the line.
 fn stop<R: Net<Stream = TcpStream>>(rt: &R, addresses: Addresses) {
     if let Ok(control) = connect(rt, addresses.control) {
         let _ = say(&control, b"stop\n");
+    }
+}
+
+// How the centres end.
+fn ended<R: Threads + Wait + Sync + Clock>(
+    rt: &R,
+    scene: Scene<'_>,
+    endpoints: Endpoints,
+) -> Done<(u8, Vec<u8>)> {
+    let record = record_of(scene.alloc, scene.play, scene.papers)?;
+    let options = options_of(scene.play.mode);
+    let mut out = Vec::new(scene.alloc);
+    match serve(
+        rt,
+        scene.alloc,
+        scene.line,
+        endpoints,
+        record,
+        options,
+        &NoNotes,
+        &mut out,
+    ) {
+        Ok(()) => Ok((0, out)),
+        Err(fault) => Ok((fault.status(), out)),
+    }
+}
+
+fn options_of(mode: ServeMode) -> ServeOptions {
+    let usual = ServeOptions::default();
+    match mode {
+        ServeMode::Usual => usual,
+        ServeMode::Slow => ServeOptions {
+            rate: Rate {
+                per_second: 20,
+                burst: 2,
+            },
+            ..usual
+        },
+        ServeMode::Bound => ServeOptions {
+            is_bound: true,
+            ..usual
+        },
+        ServeMode::Reporting => ServeOptions {
+            is_telling: true,
+            shows_life: true,
+            ..usual
+        },
+    }
+}
+
+// Journals of the two centres, which are written on these papers.
+fn record_of<'a>(alloc: Global, play: &Play<'_>, papers: Papers<'a>) -> Done<Record<Sheet<'a>>> {
+    match play.journals {
+        Some(journals) => Ok(Record {
+            files: files_of(alloc, papers)?,
+            entries: entries_of(alloc, journals.before)?,
+        }),
+        None => Ok(Record::none(alloc)),
+    }
+}
+
+fn files_of<'a>(alloc: Global, papers: Papers<'a>) -> Done<Vec<JournalFile<Sheet<'a>>>> {
+    let mut files = Vec::new(alloc);
+    for paper in [papers.a, papers.b] {
+        files
+            .push(JournalFile::new(paper.open(), 0, true))
+            .ok()
+            .ok_or(Missed::Memory)?;
+    }
+    Ok(files)
+}
+
+fn entries_of(alloc: Global, before: &[Before<'_>]) -> Done<Vec<Entry>> {
+    let mut entries = Vec::new(alloc);
+    for (stamp, taken) in before {
+        let event = event_of(alloc, *taken)?;
+        entries
+            .push(Entry {
+                stamp: *stamp,
+                event,
+            })
+            .ok()
+            .ok_or(Missed::Memory)?;
+    }
+    Ok(entries)
+}
+
+fn event_of(alloc: Global, taken: Taken<'_>) -> Done<WorldEvent> {
+    match taken {
+        Taken::Set => Ok(WorldEvent::Set {
+            centre: 1,
+            section: 2,
+        }),
+        Taken::Said(digits) => Ok(WorldEvent::Train {
+            centre: 1,
+            bytes: bytes_of(alloc, digits)?,
+        }),
+        Taken::Delivered(from, to) => Ok(WorldEvent::Deliver {
+            from,
+            to,
+            number: 1,
+        }),
     }
 }
 

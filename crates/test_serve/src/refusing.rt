@@ -9,10 +9,11 @@ use serve_line::clients::run_endpoint;
 use serve_line::state::{
     Server, State, connections_of, endpoints_of, nodes_of, sinks_of, wakers_of,
 };
+use serve_line::status::MentionOrder;
 use serve_line::{Endpoints, NoNotes, ServeOptions};
 use std::alloc::Global;
 use std::net::{Net, SocketAddr, TcpListener, TcpStream};
-use std::sync::Wait;
+use std::sync::{Mutex, Wait};
 use std::test::*;
 use std::thread;
 use std::thread::Threads;
@@ -60,11 +61,12 @@ fn ask_at_the_door<R: Threads + Wait + Sync + Net<Stream = TcpStream> + Clock>(
     server: &Server<'_>,
 ) -> Done<()> {
     let endpoint = server.endpoints.last().ok_or(Missed::Endpoint)?;
+    let address = endpoint.address.socket().ok_or(Missed::Endpoint)?;
     let ((), asked) = thread::join(
         rt,
         || run_endpoint(rt, server, &NoNotes, endpoint),
         || {
-            let asked = ask_all(rt, server.alloc, endpoint.address);
+            let asked = ask_all(rt, server.alloc, address);
             server.stop();
             asked
         },
@@ -81,8 +83,8 @@ fn asked<R: Threads + Wait + Sync + Net<Stream = TcpStream, Listener = TcpListen
     let endpoints = Endpoints::open(rt, alloc, line, 0, &NoNotes)
         .ok()
         .ok_or(Missed::Endpoint)?;
-    let (listening, _) = endpoints.all();
-    let endpoints = endpoints_of(alloc, line, nodes, listening)?;
+    let (listening, socket, _) = endpoints.all();
+    let endpoints = endpoints_of(alloc, line, nodes, listening, socket)?;
     let wakers = wakers_of(alloc, line)?;
     let connections = connections_of(alloc, line, &wakers)?;
     let sinks = sinks_of(
@@ -93,6 +95,7 @@ fn asked<R: Threads + Wait + Sync + Net<Stream = TcpStream, Listener = TcpListen
         &[],
         ServeOptions::default(),
     )?;
+    let mentions = Mutex::new(MentionOrder::new(alloc, line)?);
     let state = State::new(line.centre_count());
     let server = Server {
         alloc,
@@ -103,6 +106,7 @@ fn asked<R: Threads + Wait + Sync + Net<Stream = TcpStream, Listener = TcpListen
         links: &[],
         wakers: &wakers,
         journals: &[],
+        mentions: &mentions,
         state: &state,
         options: ServeOptions::default(),
     };

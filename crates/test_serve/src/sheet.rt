@@ -1,10 +1,12 @@
 //! A file of a journal, in memory.
 
+use crate::client::{Done, Missed, TURNS};
 use std::alloc::{AllocError, Global};
 use std::fs::{Metadata, OpenFile};
-use std::io;
 use std::io::{ErrorKind, Seek, SeekFrom, Write};
 use std::sync::atomic::{AtomicU8, AtomicUsize, Ordering};
+use std::time::{Clock, Duration};
+use std::{io, thread};
 
 /// Cells for a file of 256 bytes at most.
 pub fn cells(alloc: Global) -> Result<Vec<AtomicU8>, AllocError> {
@@ -38,6 +40,23 @@ impl<'a> Paper<'a> {
             }
         }
         true
+    }
+
+    /// Waits until these are its bytes, and then a while, for the centre to know that it has no more room.
+    pub fn fills<R: Clock>(&self, rt: &R, text: &[u8]) -> Done<()> {
+        for _ in 0..TURNS {
+            if self.has(text) {
+                thread::sleep(rt, Duration::from_millis(400));
+                return Ok(());
+            }
+            thread::yield_now();
+        }
+        Err(Missed::Entry)
+    }
+
+    /// It may have so many bytes from now on.
+    pub fn allow(&self, room: usize) {
+        self.room.store(room, Ordering::SeqCst);
     }
 
     /// The file, opened for writing.

@@ -1,52 +1,101 @@
 //! Where the answers of one centre go: to the train that each is for, over the connection that serves it.
 
 use crate::client::{Done, Missed, heard, say};
-use crate::line::{INITIATION_OF_ONE, MISSION_OF_ONE, REQUEST_OF_ONE, bytes_of};
-use crate::play::{Act, Step, begins_so, play};
-use crate::railway::{Addresses, printed_of_two_centres};
+use crate::line::{INITIATION_OF_ONE, MISSION_OF_ONE, REQUEST_OF_ONE, VERSION, bytes_of};
+use crate::play::Act;
+use crate::plays::{Play, Seen, ServeMode};
 use rbc_msgs::{TrackBody, TrackMsg, decode_track};
-use serve_line::ServeOptions;
 use std::alloc::Global;
-use std::net::{Net, TcpStream};
-use std::test::*;
+use std::net::TcpStream;
 use std::thread;
 use std::time::{Clock, Duration};
 
 // How often the train asks for its authority at most.
 const REQUESTS: u32 = 1_000;
 
-// Train 1 opens its session, and starts its mission. Sections 0 and 1 are released, and these too.
-static ON_ITS_WAY: [Step<'_>; 7] = [
-    (0, Act::Control),
-    (0, Act::Asks("set A 0\n", "> set A 0\nA 0 Done\n")),
-    (0, Act::Asks("set A 1\n", "> set A 1\nA 1 Done\n")),
-    (0, Act::Asks("set B 2\n", "> set B 2\nB 2 Done\n")),
-    (1, Act::Train),
-    (1, Act::Sends(MISSION_OF_ONE)),
-    (1, Act::Takes(11 + 10 + 14)),
+pub static PLAYS: [Play<'_>; 3] = [
+    // Train 1 opens its session, and starts its mission. Sections 0 and 1 are released, and these too.
+    Play {
+        name: "a_train_hears_both_messages_of_one_step",
+        mode: ServeMode::Usual,
+        journals: None,
+        rounds: &[(
+            1,
+            &[
+                (0, Act::Control),
+                (0, Act::Asks("set A 0\n", "> set A 0\nA 0 Done\n")),
+                (0, Act::Asks("set A 1\n", "> set A 1\nA 1 Done\n")),
+                (0, Act::Asks("set B 2\n", "> set B 2\nB 2 Done\n")),
+                (1, Act::Train),
+                (1, Act::Sends(MISSION_OF_ONE)),
+                (1, Act::Takes(11 + 10 + 14)),
+                (1, Act::Crosses),
+            ],
+        )],
+        status: 0,
+        seen: &[Seen::Begins("> set A 0\nA 0 Done\n")],
+    },
+    // Section 1 is wished back: the train is asked that its authority ends 1 000 m past the start of section 0, message
+    // 9 with T_TRAIN 5.
+    Play {
+        name: "a_train_hears_what_the_interlocking_wishes",
+        mode: ServeMode::Usual,
+        journals: None,
+        rounds: &[(
+            1,
+            &[
+                (0, Act::Control),
+                (0, Act::Asks("set A 0\n", "> set A 0\nA 0 Done\n")),
+                (0, Act::Asks("set A 1\n", "> set A 1\nA 1 Done\n")),
+                (0, Act::Asks("set B 2\n", "> set B 2\nB 2 Done\n")),
+                (1, Act::Train),
+                (1, Act::Sends(MISSION_OF_ONE)),
+                (1, Act::Takes(11 + 10 + 14)),
+                (1, Act::Sends(REQUEST_OF_ONE)),
+                (1, Act::Takes(18)),
+                (
+                    0,
+                    Act::Asks(
+                        "unset A 1\n",
+                        "> unset A 1\nA -> 1 09048000000140280C81E810901FF801F400\nA 1 Asked\n",
+                    ),
+                ),
+                (1, Act::Hears("09048000000140280C81E810901FF801F400")),
+            ],
+        )],
+        status: 0,
+        seen: &[Seen::Begins("> set A 0\nA 0 Done\n")],
+    },
+    // The train opens its session with T_TRAIN 2; with T_TRAIN 1 and then bytes with a fault a second connection ends
+    // unanswered. What is said to the train comes over the first one.
+    Play {
+        name: "a_session_that_is_not_heard_moves_no_train",
+        mode: ServeMode::Usual,
+        journals: None,
+        rounds: &[(
+            1,
+            &[
+                (0, Act::Train),
+                (0, Act::Sends("9B028000000080000040")),
+                (0, Act::Hears(VERSION)),
+                (1, Act::Train),
+                (1, Act::Sends(INITIATION_OF_ONE)),
+                (1, Act::Sends("9B0240")),
+                (1, Act::Ends),
+                (0, Act::Sends("9B0280000000C0000040")),
+                (0, Act::Hears("2002C00000009FFFFFE800")),
+            ],
+        )],
+        status: 0,
+        seen: &[Seen::Begins(
+            "> train A 9B028000000080000040\nA -> 1 2002C00000005FFFFFE800\n> train A 9B028000000040000040\nA silent 1\n",
+        )],
+    },
 ];
 
-#[test]
-fn a_train_hears_both_messages_of_one_step(rt: HostRuntime) -> Result<(), Fail> {
-    let printed = printed_of_two_centres(&rt, rt.alloc(), ServeOptions::default(), |addresses| {
-        ask_on_its_way(&rt, rt.alloc(), addresses)
-    })?;
-    assert!(rt; printed.starts_with(b"> set A 0\nA 0 Done\n"));
-    Ok(())
-}
-
-fn ask_on_its_way<R: Net<Stream = TcpStream> + Clock>(
-    rt: &R,
-    alloc: Global,
-    addresses: Addresses,
-) -> Done<()> {
-    let streams = play(rt, alloc, addresses, &ON_ITS_WAY)?;
-    ask_until_both_come(rt, alloc, streams.get(1).ok_or(Missed::Endpoint)?)
-}
-
-// Asks for the authority until it reaches over the border: after message 3 of that step comes message 24, with the
-// next T_TRAIN.
-fn ask_until_both_come<R: Clock>(rt: &R, alloc: Global, train: &TcpStream) -> Done<()> {
+/// Asks for the authority until it reaches over the border: after message 3 of that step comes message 24, with the
+/// next T_TRAIN.
+pub fn ask_until_both_come<R: Clock>(rt: &R, alloc: Global, train: &TcpStream) -> Done<()> {
     let mut before = None;
     for k in 0..REQUESTS {
         say(train, &request(alloc, 5 + k)?)?;
@@ -88,55 +137,4 @@ fn length_in(bytes: &[u8]) -> Done<usize> {
         [_, second, third, ..] => Ok(usize::from(*second) * 4 + usize::from(*third) / 64),
         _ => Err(Missed::Read),
     }
-}
-
-// Section 1 is wished back: the train is asked that its authority ends 1 000 m past the start of section 0, message 9
-// with T_TRAIN 5.
-static WISHED_BACK: [Step<'_>; 11] = [
-    (0, Act::Control),
-    (0, Act::Asks("set A 0\n", "> set A 0\nA 0 Done\n")),
-    (0, Act::Asks("set A 1\n", "> set A 1\nA 1 Done\n")),
-    (0, Act::Asks("set B 2\n", "> set B 2\nB 2 Done\n")),
-    (1, Act::Train),
-    (1, Act::Sends(MISSION_OF_ONE)),
-    (1, Act::Takes(11 + 10 + 14)),
-    (1, Act::Sends(REQUEST_OF_ONE)),
-    (1, Act::Takes(18)),
-    (
-        0,
-        Act::Asks(
-            "unset A 1\n",
-            "> unset A 1\nA -> 1 09048000000140280C81E810901FF801F400\nA 1 Asked\n",
-        ),
-    ),
-    (1, Act::Hears("09048000000140280C81E810901FF801F400")),
-];
-
-#[test]
-fn a_train_hears_what_the_interlocking_wishes(rt: HostRuntime) -> Result<(), Fail> {
-    let wanted = b"> set A 0\nA 0 Done\n";
-    assert!(rt; begins_so(&rt, rt.alloc(), &WISHED_BACK, wanted)?);
-    Ok(())
-}
-
-// The train opens its session with T_TRAIN 2; with T_TRAIN 1 and then bytes with a fault a second connection ends
-// unanswered. What is said to the train comes over the first one.
-static OPENED_TWICE: [Step<'_>; 9] = [
-    (0, Act::Train),
-    (0, Act::Sends("9B028000000080000040")),
-    (0, Act::Hears("2002C00000005FFFFFE800")),
-    (1, Act::Train),
-    (1, Act::Sends(INITIATION_OF_ONE)),
-    (1, Act::Sends("9B0240")),
-    (1, Act::Ends),
-    (0, Act::Sends("9B0280000000C0000040")),
-    (0, Act::Hears("2002C00000009FFFFFE800")),
-];
-
-#[test]
-fn a_session_that_is_not_heard_moves_no_train(rt: HostRuntime) -> Result<(), Fail> {
-    let wanted =
-        b"> train A 9B028000000080000040\nA -> 1 2002C00000005FFFFFE800\n> train A 9B028000000040000040\nA silent 1\n";
-    assert!(rt; begins_so(&rt, rt.alloc(), &OPENED_TWICE, wanted)?);
-    Ok(())
 }

@@ -4,6 +4,8 @@
 
 mod ending;
 mod fault;
+mod print_fault;
 
 pub use ending::{ended, report};
 pub use fault::Fault;
+pub use print_fault::PrintFault;

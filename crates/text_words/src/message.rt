@@ -46,10 +46,7 @@ pub fn name_of(bytes: &[u8]) -> Option<Field> {
 }
 
 fn is_of_train(bytes: &[u8]) -> bool {
-    match bytes.first() {
-        Some(number) => *number >= 128,
-        None => false,
-    }
+    bytes.first().is_some_and(|number| *number >= 128)
 }
 
 fn field_of_number(number: u64, from: &'static str) -> Field {

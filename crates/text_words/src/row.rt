@@ -253,8 +253,5 @@ fn fault_of<'a>(centre: &'a str, number: &str) -> Option<Row<'a>> {
 
 /// The name, if a centre of the line has it.
 pub fn centre_of<'a>(line: &Line, name: &'a str) -> Option<&'a str> {
-    match line.centre_named(name) {
-        Some(_) => Some(name),
-        None => None,
-    }
+    line.centre_named(name).map(|_| name)
 }

@@ -1,17 +1,18 @@
 -- A rerun of entries, one by one.
-use Rattle.std.proofs.Common.{◌≡◌, ℕ, zero, suc, ◌+◌, ◌<◌, ◌≤◌, List, [], ◌∷◌, ◌++◌, length, map, take, drop, get_or, Some, Ok, Err, refl, sym, ap, ◌∙◌, arith}
+use Rattle.std.proofs.Common.{[], ◌++◌, ◌+◌, ◌<◌, ◌∙◌, ◌∷◌, ◌≡◌, ◌≤◌, ap, arith, drop, Err, get_or, length, List, map}
+use Rattle.std.proofs.Common.{Ok, refl, Some, suc, sym, take, zero, ℕ}
 use Rattle.std.proofs.lemmas.List.{map-append}
+use Rattle.cli_commands.specs.Rerunning.Rerun.{happened, IsRerun, stamp_of}
+use Rattle.law_reached.proofs.Known.{run_of_none}
 use Rattle.rbc_spec.specs.Line.{Line}
-use Rattle.rbc_spec.specs.Step.{Refusal, ClockEnd as AtClockEnd, LinkFull as AtLinkFull}
-use Rattle.rbc_spec.specs.World.{World, Answer, IsRefused, new_world, world_run, world_step}
-use Rattle.text_script.specs.rbc_centre.declared.fault.StepFault.{StepFault}
-use Rattle.text_script.specs.rbc_centre.declared.fault.StepFault.TheVariants.{Memory, LinkFull, ClockEnd}
-use Rattle.text_script.specs.rbc_world.Answers.{IsRefusal, IsRefusedRun}
+use Rattle.rbc_spec.specs.Step.{ClockEnd as AtClockEnd, LinkFull as AtLinkFull, Refusal}
+use Rattle.rbc_spec.specs.World.{Answer, IsRefused, new_world, World, world_run, world_step}
+use Rattle.text_journal.specs.declared.entry.Entry.{Entry}
 use Rattle.text_script.proofs.rbc_world_lemmas.Loop.{map_push}
 use Rattle.text_script.proofs.rbc_world_lemmas.Reached.{run_on}
-use Rattle.law_reached.proofs.Whole.{run_of_none}
-use Rattle.text_journal.specs.declared.entry.Entry.{Entry}
-use Rattle.cli_commands.specs.Rerunning.Rerun.{IsRerun, happened, stamp_of}
+use Rattle.text_script.specs.rbc_centre.declared.fault.StepFault.{StepFault}
+use Rattle.text_script.specs.rbc_centre.declared.fault.StepFault.TheVariants.{ClockEnd, LinkFull, Memory}
+use Rattle.text_script.specs.rbc_world.Answers.{IsRefusal, IsRefusedRun}
 
 -- no entries are a run
 pub begins : (line : Line) (w : World) → w ≡ new_world line → IsRerun line [] w

@@ -2,7 +2,7 @@ use rbc_line::Line;
 use std::alloc::Global;
 use text_script::print::{print_answer, print_event, print_line, print_show};
 use text_script::script::Entry;
-use text_script::status::Fault;
+use text_script::status::PrintFault;
 use text_script::{StepFault, World, WorldEvent};
 
 /// The centres of the line, which replay the entries of a print.
@@ -51,10 +51,6 @@ impl<'a> Played<'a> {
 }
 
 // Printing into memory fails only if memory runs out.
-fn told(printed: Result<(), Fault<'static>>) -> Result<(), StepFault> {
-    match printed {
-        Ok(()) => Ok(()),
-        Err(Fault::Step(fault)) => Err(fault),
-        Err(_) => Err(StepFault::Memory),
-    }
+fn told(printed: Result<(), PrintFault>) -> Result<(), StepFault> {
+    printed.map_err(|_| StepFault::Memory)
 }

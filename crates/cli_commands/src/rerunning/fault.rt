@@ -1,6 +1,6 @@
 use crate::rerunning::place::Place;
 use text_script::StepFault;
-use text_script::status::Fault;
+use text_script::status::PrintFault;
 
 /// Why the print of journals is not complete.
 #[derive(Debug, Drop)]
@@ -9,6 +9,6 @@ pub enum RerunFault {
     Unfit(Place),
     /// The step of an event is refused.
     Refused(StepFault),
-    /// The writer refused a write.
-    Untold(Fault<'static>),
+    /// The writer refused a write, or memory ran out.
+    Untold(PrintFault),
 }

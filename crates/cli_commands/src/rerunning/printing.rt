@@ -9,7 +9,7 @@ use std::alloc::{AllocError, Global};
 use std::io::Write;
 use text_journal::Entry;
 use text_script::play::PlayFault;
-use text_script::status::Fault;
+use text_script::status::PrintFault;
 use text_script::{StepFault, script};
 
 /// Writes the print of the entries' events. The entries must be a run of the line: each has the stamp of its event's
@@ -40,7 +40,7 @@ fn print_run<W: Write>(
     line: &Line,
     entries: Vec<Entry>,
     out: &mut W,
-) -> Result<(), PlayFault<Fault<'static>>>
+) -> Result<(), PlayFault<PrintFault>>
     ensures { OnOk result (PrintsRun line.now entries.items (W.contents out.old) (W.contents out.new)) }
 {
     match script_of(alloc, entries) {

@@ -3,11 +3,11 @@ ghost use Rattle.cli_commands.specs.Running.Printed.{LeavesPrint};
 use crate::running::played::print_played;
 use crate::running::underlying::Underlying;
 use rbc_line::Line;
-use std::alloc::{AllocError, Global};
+use std::alloc::Global;
 use std::io::{BufWriter, Write};
 use text_script::play::PlayFault;
 use text_script::script::Entry;
-use text_script::status::Fault;
+use text_script::status::PrintFault;
 
 /// Prints like `print_played`, through a buffer that is empty afterwards. If the writer refused a write, it may have
 /// any part of the print.
@@ -16,15 +16,15 @@ pub fn print_buffered<O: Write>(
     line: &Line,
     entries: &[Entry],
     out: &mut O,
-) -> Result<(), PlayFault<Fault<'static>>>
+) -> Result<(), PlayFault<PrintFault>>
     ensures { LeavesPrint line.now entries.now result (O.contents out.old) (O.contents out.new) }
 {
     let Ok(mut held) = BufWriter::new(alloc, Underlying { out }) else {
-        return Err(PlayFault::Untold(AllocError.into()));
+        return Err(PlayFault::Untold(PrintFault::Memory));
     };
     let done = print_played(alloc, line, entries, &mut held);
     if held.flush().is_err() {
-        return Err(PlayFault::Untold(Fault::Write));
+        return Err(PlayFault::Untold(PrintFault::Write));
     }
     let (underlying, _) = held.into_parts();
     let Underlying { out } = underlying;

@@ -7,7 +7,7 @@ use std::io::Write;
 use text_script::World;
 use text_script::play::PlayFault;
 use text_script::script::Entry;
-use text_script::status::Fault;
+use text_script::status::PrintFault;
 
 /// Plays the entries of a script on the line from its beginning. Prints each entry, its answer, and at the end the
 /// line. It stops at the first event whose step is refused: the print then ends with this event.
@@ -16,12 +16,12 @@ pub fn print_played<W: Write>(
     line: &Line,
     entries: &[Entry],
     out: &mut W,
-) -> Result<(), PlayFault<Fault<'static>>>
+) -> Result<(), PlayFault<PrintFault>>
     ensures { LeavesPrint line.now entries.now result (W.contents out.old) (W.contents out.new) }
 {
     let mut world = match World::new(alloc, line) {
         Ok(world) => world,
-        Err(error) => return Err(PlayFault::Untold(error.into())),
+        Err(_) => return Err(PlayFault::Untold(PrintFault::Memory)),
     };
     let mut printer = Printer { alloc, line, out };
     let done = printer.print_all(&mut world, entries);

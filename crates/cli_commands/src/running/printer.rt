@@ -13,7 +13,7 @@ use std::io::Write;
 use text_script::play::{Observer, PlayFault, play};
 use text_script::print::{print_answer, print_event, print_line, print_show};
 use text_script::script::Entry;
-use text_script::status::Fault;
+use text_script::status::PrintFault;
 use text_script::{Answer, World, WorldEvent};
 
 /// Prints each event of a script, and then its answer.
@@ -26,7 +26,7 @@ pub struct Printer<'a, W> {
 
 impl<W: Write> Printer<'_, W> {
     /// Prints the line as the centres supervise it.
-    pub fn show_line(&mut self, world: &World) -> Result<(), Fault<'static>>
+    pub fn show_line(&mut self, world: &World) -> Result<(), PrintFault>
         ensures writer { self.new.out.ghost_name ≡ self.old.out.ghost_name }
         ensures line { self.new.line.now ≡ self.old.line.now }
         ensures shown { OnOk result (self.old.line.now ≡ line_of world.now
@@ -41,7 +41,7 @@ impl<W: Write> Printer<'_, W> {
         &mut self,
         world: &mut World,
         entries: &[Entry],
-    ) -> Result<(), PlayFault<Fault<'static>>>
+    ) -> Result<(), PlayFault<PrintFault>>
         ensures { self.old.line.now ≡ line_of world.old → state_of world.old ≡ new_world self.old.line.now
             → PrintsAll self.old.line.now entries.now result self.old.out.ghost_name self.new.out.ghost_name
             (W.contents self.old.out.now) (W.contents self.new.out.now) }
@@ -60,21 +60,21 @@ impl<W: Write> Observer for Printer<'_, W> {
     ghost use Rattle.std.specs.Prelude.{◌≡◌};
     ghost use Rattle.cli_commands.specs.Running.Printed.{IsTold};
 
-    type Fault = Fault<'static>;
+    type Fault = PrintFault;
 
     ghost tells = { λ t telling u. (u.out.ghost_name ≡ t.out.ghost_name) × (u.line.now ≡ t.line.now)
         × IsTold t.line.now telling (W.contents t.out.now) (W.contents u.out.now) };
 
-    fn show(&mut self, world: &World) -> Result<(), Fault<'static>> {
+    fn show(&mut self, world: &World) -> Result<(), PrintFault> {
         print_show(self.out)?;
         self.show_line(world)
     }
 
-    fn comes(&mut self, event: &WorldEvent) -> Result<(), Fault<'static>> {
+    fn comes(&mut self, event: &WorldEvent) -> Result<(), PrintFault> {
         print_event(self.alloc, self.out, self.line, event)
     }
 
-    fn answered(&mut self, event: &WorldEvent, answer: &Answer) -> Result<(), Fault<'static>> {
+    fn answered(&mut self, event: &WorldEvent, answer: &Answer) -> Result<(), PrintFault> {
         print_answer(self.alloc, self.out, self.line, event, answer)
     }
 }

@@ -1,24 +1,32 @@
 -- The coin is in one place after each schedule, and each letter is opened in its turn.
-use Rattle.std.proofs.Common.{◌≡◌, ◌≢◌, ℕ, zero, suc, ◌+◌, ◌-◌, ◌<◌, ◌≤◌, ◌==◌, ◌&&◌, false, if◌then◌else◌, nat_lt, List, [], ◌∷◌, All, true≢false, Option, Some, None, refl, sym, ap, ◌∙◌, subst, subst₂, arith, ⊎_elim, ltb-true, eq-eqb, ne_eqb, lt-ltb}
+use Rattle.std.proofs.Common.{[], ⊎_elim, ◌&&◌, ◌+◌, ◌-◌, ◌<◌, ◌==◌, ◌∙◌, ◌∷◌, ◌≡◌, ◌≢◌, ◌≤◌, All, ap, arith, eq-eqb}
+use Rattle.std.proofs.Common.{false, if◌then◌else◌, List, lt-ltb, ltb-true, nat_lt, ne_eqb, None, Option, refl, Some}
+use Rattle.std.proofs.Common.{subst, subst₂, suc, sym, true≢false, zero, ℕ}
+use Rattle.std.proofs.lemmas.Bool.{and_parts, cases_eq, cond-false, cond-true, cond_both}
 use Rattle.std.proofs.lemmas.List.Elements.{All-head, All-tail}
-use Rattle.std.proofs.lemmas.Bool.{cond-true, cond-false, cases_eq, and_parts, cond_both}
-use Rattle.law_base.specs.Counting.Sums.{one_if}
-use Rattle.law_base.specs.Counting.Network.{Net, way, numbered, took, came, acted, to_one, IsCounted}
-use Rattle.law_base.specs.Counting.Resource.{placed, allowed, IsFair, IsExact, IsWithinCap, IsAtCap}
+use Rattle.law_base.proofs.CountingLemmas.Chain.{chain_none, chain_took, opening_in_turn, still_in_turn, turn_only}
+use Rattle.law_base.proofs.CountingLemmas.Chain.{writing_in_turn}
+use Rattle.law_base.proofs.CountingLemmas.Network.{came_head, came_next, came_other, counted_acted, counted_came}
+use Rattle.law_base.proofs.CountingLemmas.Network.{counted_start, next_is_head}
+use Rattle.law_base.proofs.CountingLemmas.Places.{frame_only, held_only, one_place}
+use Rattle.law_base.proofs.CountingLemmas.Resource.{allowed_at, at_cap_start, exact_still, fair_from_exact, fair_still}
+use Rattle.law_base.proofs.CountingLemmas.Resource.{placed_exact, placed_exact_came, placed_sound, placed_sound_came}
+use Rattle.law_base.proofs.CountingLemmas.Resource.{sent_none, sent_single, within_start}
+use Rattle.law_base.proofs.CountingLemmas.Sums.{one_if_false, one_if_true}
 use Rattle.law_base.specs.Counting.Chain.{Chain}
-use Rattle.law_base.specs.Counting.Coin.{Purse, Letter, Event, is_loss, letter, after_writing, after_losing, after_opening, after_coming, comes, happens, run, start, coin, IsInOnePlace, IsInOnePlaceAtMost, turn, IsInTurn}
-use Rattle.law_base.specs.Counting.Coin.Event.{Writes, Loses, Comes}
-use Rattle.law_base.proofs.CountingLemmas.Sums.{one_if_true, one_if_false}
-use Rattle.law_base.proofs.CountingLemmas.Network.{next_is_head, came_next, came_other, came_head, counted_came, counted_start, counted_acted}
-use Rattle.law_base.proofs.CountingLemmas.Resource.{sent_none, sent_single, within_start, at_cap_start, allowed_at, fair_still, fair_from_exact, exact_still, placed_sound, placed_sound_came, placed_exact, placed_exact_came}
-use Rattle.law_base.proofs.CountingLemmas.Places.{held_only, frame_only, one_place}
-use Rattle.law_base.proofs.CountingLemmas.Letters.{turn_only, writing_in_turn, opening_in_turn, still_in_turn}
-use Rattle.law_base.proofs.CountingLemmas.Chain.{chain_none, chain_took}
+use Rattle.law_base.specs.Counting.Coin.{after_coming, after_losing, after_opening, after_writing, coin, comes, Event}
+use Rattle.law_base.specs.Counting.Coin.{happens, is_loss, IsInOnePlace, IsInOnePlaceAtMost, IsInTurn, Letter, letter}
+use Rattle.law_base.specs.Counting.Coin.{Purse, run, start, turn}
+use Rattle.law_base.specs.Counting.Coin.Event.{Comes, Loses, Writes}
+use Rattle.law_base.specs.Counting.Network.{acted, came, IsCounted, Net, numbered, to_one, took, way}
+use Rattle.law_base.specs.Counting.Resource.{allowed, IsAtCap, IsExact, IsFair, IsWithinCap, placed}
+use Rattle.law_base.specs.Counting.Sums.{one_if}
 
 -- writing a letter makes no coin and loses none
 writing_exact : (n c d : ℕ) (x : Purse) → d < n
     → IsExact coin n c x 0 (after_writing d x) (to_one d (letter d x ∷ []))
-writing_exact n c d x small = record { law = omega (arith, sent_single coin n c d (letter d x) small, one_or_none x.coins) }
+writing_exact n c d x small =
+    record { law = omega (arith, sent_single coin n c d (letter d x) small, one_or_none x.coins) }
   where
     one_or_none : (k : ℕ) → k - 1 + one_if (nat_lt 0 k) ≡ k
     one_or_none zero = refl
@@ -33,13 +41,13 @@ opening_exact n a b f x = record { law = omega (arith, sent_none coin n b) }
 losing_fair : (n c : ℕ) (x : Purse) → IsFair coin n c x 0 (after_losing x) (λ d. [])
 losing_fair n c x = fair_still coin n c x (after_losing x) (omega arith) (omega arith)
 
--- a letter that comes is opened
+-- a letter that arrives next is opened
 coming_next : (w : Net Purse Letter) (a b number : ℕ) (f : Letter) → number ≡ w.taken a b + 1
     → after_coming w a b number f ≡ after_opening a f (w.at b)
 coming_next w a b number f next =
     cond-true (number == w.taken a b + 1) (after_opening a f (w.at b)) (w.at b) (eq-eqb number (w.taken a b + 1) next)
 
--- or is not
+-- a letter that is not the next one changes nothing
 coming_other : (w : Net Purse Letter) (a b number : ℕ) (f : Letter) → number ≢ w.taken a b + 1
     → after_coming w a b number f ≡ w.at b
 coming_other w a b number f other =
@@ -58,7 +66,7 @@ coming_other_exact n w a b number f other =
     subst (λ z. IsExact coin n b (w.at b) 0 z (λ d. [])) (sym (coming_other w a b number f other))
     (exact_still coin n b (w.at b) (w.at b) refl refl)
 
--- what holds of each state that a schedule reaches
+-- the invariant of each state of a schedule
 record IsSound (n : ℕ) (w : Net Purse Letter) : Type 0 where
   counted : IsCounted w
   within_cap : IsWithinCap coin n w
@@ -79,7 +87,7 @@ sound_start n = record {
   in_turn = record { chain = λ a b. chain_none turn 0 };
 }
 
--- a letter comes, by a number: the next is opened, or nothing happens
+-- a letter arrives, by its number: the next is opened, or nothing happens
 sound_comes : (n : ℕ) (w : Net Purse Letter) (a b number : ℕ) → a < n → b < n → IsSound n w → (o : Option Letter)
     → numbered (w.sent a b) number ≡ o → IsSound n (comes w a b number o)
 sound_comes n w a b number small below sound None is = sound
@@ -101,7 +109,7 @@ sound_comes n w a b number small below sound (Some f) is = record {
     y : Purse
     y = after_coming w a b number f
 
--- and no coin is lost by it
+-- no coin is lost by the arrival of a letter
 full_comes : (n : ℕ) (w : Net Purse Letter) (a b number : ℕ) → a < n → b < n → IsSound n w → IsAtCap coin n w
     → (o : Option Letter) → numbered (w.sent a b) number ≡ o → IsAtCap coin n (comes w a b number o)
 full_comes n w a b number small below sound full None is = full
@@ -109,14 +117,14 @@ full_comes n w a b number small below sound full (Some f) is =
     placed_exact_came coin n w a b number f (after_coming w a b number f) (λ d. []) sound.counted small below is
     (coming_next_exact n w a b number f) (coming_other_exact n w a b number f) full
 
--- what is shown of centres below n is shown of a test that two are
+-- if P holds for all centres below n, it holds under the test that two centres are below n
 of_both : {A : Type 0} (P : A → Type 0) (n c d : ℕ) (new old : A) → (c < n → d < n → P new) → P old
     → P (if nat_lt c n && nat_lt d n then new else old)
 of_both P n c d new old shown was = cond_both (nat_lt c n && nat_lt d n) new old P
     (λ both. let ends = and_parts (nat_lt c n) (nat_lt d n) both in shown (ltb-true c n ends.0) (ltb-true d n ends.1))
     (λ _. was)
 
--- whatever happens, it stays so
+-- each event keeps it so
 sound_happens : (n : ℕ) (w : Net Purse Letter) (e : Event) → IsSound n w → IsSound n (happens n w e)
 sound_happens n w (Writes c d) sound = of_both (IsSound n) n c d (acted w c y sends) w
     (λ small below. record {
@@ -147,19 +155,20 @@ sound_happens n w (Comes a b number) sound =
     of_both (IsSound n) n a b (comes w a b number (numbered (w.sent a b) number)) w
     (λ small below. sound_comes n w a b number small below sound (numbered (w.sent a b) number) refl) sound
 
--- and where it is no loss, there is one coin still
+-- if the event is not a loss, there is still one coin
 full_happens : (n : ℕ) (w : Net Purse Letter) (e : Event) → IsSound n w → is_loss e ≡ false → IsAtCap coin n w
     → IsAtCap coin n (happens n w e)
 full_happens n w (Writes c d) sound no_loss full =
     of_both (IsAtCap coin n) n c d (acted w c (after_writing d (w.at c)) (to_one d (letter d (w.at c) ∷ []))) w
-    (λ small below. placed_exact coin n w c (after_writing d (w.at c)) (to_one d (letter d (w.at c) ∷ [])) sound.counted small
+    (λ small below. placed_exact coin n w c (after_writing d (w.at c))
+    (to_one d (letter d (w.at c) ∷ [])) sound.counted small
     (writing_exact n c d (w.at c) below) full) full
 full_happens n w (Loses c) sound no_loss full = absurd (true≢false no_loss)
 full_happens n w (Comes a b number) sound no_loss full =
     of_both (IsAtCap coin n) n a b (comes w a b number (numbered (w.sent a b) number)) w
     (λ small below. full_comes n w a b number small below sound full (numbered (w.sent a b) number) refl) full
 
--- and after all of a schedule
+-- the net is sound after each schedule
 sound_run : (n : ℕ) (es : List Event) (w : Net Purse Letter) → IsSound n w → IsSound n (run n es w)
 sound_run n [] w sound = sound
 sound_run n (e ∷ es) w sound = sound_run n es (happens n w e) (sound_happens n w e sound)
@@ -175,7 +184,8 @@ full_run n (e ∷ es) w sound no_loss full = full_run n es (happens n w e) (soun
 pub coin_in_one_place_at_most : (n : ℕ) (events : List Event) → 0 < n → IsInOnePlaceAtMost n (run n events start)
 coin_in_one_place_at_most n events some = record {
   centres = λ c small has. held_only coin n w c one small has;
-  letters = λ a b k f from to on_way full. frame_only coin n w a b k f one from to on_way (omega (arith, one_if_true f.full full));
+  letters = λ a b k f from to on_way full. frame_only coin n w a b k f one from to on_way
+      (omega (arith, one_if_true f.full full));
 }
   where
     w : Net Purse Letter
@@ -184,18 +194,18 @@ coin_in_one_place_at_most n events some = record {
     one : placed coin n w ≤ 1
     one = omega (arith, (sound_run n events start (sound_start n)).within_cap.law, allowed_one n w some)
 
--- and in one place where nobody loses it
+-- after each schedule without a loss the coin is in one place
 pub coin_in_one_place : (n : ℕ) (events : List Event) → 0 < n → All (λ e. is_loss e ≡ false) events
     → IsInOnePlace n (run n events start)
 coin_in_one_place n events some no_loss =
     one_place coin n (run n events start)
     ((full_run n events start (sound_start n) no_loss (full_start n)).law ∙ allowed_one n (run n events start) some)
 
--- and its letters are in turn
+-- after each schedule the letters are in turn
 pub letters_in_turn : (n : ℕ) (events : List Event) → IsInTurn (run n events start)
 letters_in_turn n events = (sound_run n events start (sound_start n)).in_turn
 
--- so the next letter says how many were opened before it
+-- the next letter names the number of letters opened before it
 pub next_in_turn : (n : ℕ) (events : List Event) (a b : ℕ) (f : Letter)
     → numbered ((run n events start).sent a b) ((run n events start).taken a b + 1) ≡ Some f
     → f.page ≡ ((run n events start).at b).opened a

@@ -1,19 +1,23 @@
 -- Laws of the queues between centres: a delivery takes the head of a queue or nothing, an act adds at the ends.
-use Rattle.std.proofs.Common.{◌≡◌, ◌≢◌, ◌⊎◌, ℕ, zero, suc, ◌+◌, ◌<◌, ◌≤◌, ◌==◌, List, [], ◌∷◌, ◌++◌, length, drop, Some, slice_get, refl, sym, ap, ◌∙◌, subst, arith, eq-eqb, ne_eqb, ⊎_elim, inl, inr, length-append, append-nil, subst₂, All}
-use Rattle.std.proofs.lemmas.List.Elements.{All-nil, All-append, All-head, All-tail}
-use Rattle.std.proofs.lemmas.Bool.{cond-true, cond-false, cases_eq}
+use Rattle.std.proofs.Common.{[], ⊎_elim, ◌++◌, ◌+◌, ◌<◌, ◌==◌, ◌∙◌, ◌∷◌, ◌≡◌, ◌≢◌, ◌≤◌, ◌⊎◌, All, ap, append-nil}
+use Rattle.std.proofs.Common.{arith, drop, eq-eqb, inl, inr, length, length-append, List, ne_eqb, refl, slice_get, Some}
+use Rattle.std.proofs.Common.{subst, subst₂, suc, sym, zero, ℕ}
+use Rattle.std.proofs.lemmas.Bool.{cases_eq, cond-false, cond-true}
 use Rattle.std.proofs.lemmas.List.{drop-append-le}
+use Rattle.std.proofs.lemmas.List.Elements.{All-append, All-head, All-nil, All-tail}
+use Rattle.law_base.proofs.CountingLemmas.Sums.{cases_link, put_keeps, put_link_other, put_link_same, put_other}
+use Rattle.law_base.proofs.CountingLemmas.Sums.{put_same}
+use Rattle.law_base.specs.Counting.Network.{acted, came, EachOnTheWay, IsCounted, Net, numbered, TakesHead, to_one}
+use Rattle.law_base.specs.Counting.Network.{took, way}
 use Rattle.law_base.specs.Counting.Sums.{put}
-use Rattle.law_base.specs.Counting.Network.{Net, way, IsCounted, EachOnTheWay, TakesHead, numbered, took, came, acted, to_one}
-use Rattle.law_base.proofs.CountingLemmas.Sums.{cases_link, put_same, put_other, put_keeps, put_link_same, put_link_other}
 
--- the frame at a place stands before those after it
+-- the list from a position on begins with the frame at that position
 at_place : {F : Type 0} (fs : List F) (k : ℕ) (f : F) → slice_get fs k ≡ Some f → drop k fs ≡ f ∷ drop (suc k) fs
 at_place [] k f e = absurd (cc)
 at_place (g ∷ fs) zero f e = ap (λ x. x ∷ fs) (let h : Some g ≡ Some f = e in cc)
 at_place (g ∷ fs) (suc k) f e = at_place fs k f e
 
--- what stands after a place is not empty where the list is longer
+-- if something is left after k frames, the list is longer than k
 left_over : {F : Type 0} (fs : List F) (k : ℕ) (f : F) (rest : List F) → drop k fs ≡ f ∷ rest → k < length fs
 left_over [] zero f rest e = absurd (cc)
 left_over [] (suc k) f rest e = absurd (cc)
@@ -24,29 +28,34 @@ left_over (g ∷ fs) (suc k) f rest e = omega (arith, left_over fs k f rest e)
 counted_up : {X F : Type 0} (w : Net X F) (a b : ℕ) → (took w a b).taken a b ≡ suc (w.taken a b)
 counted_up w a b = omega (arith, put_link_same w.taken a b (w.taken a b + 1))
 
--- the next frame is the head of what is on the way, and the others are on the way after it
+-- the next frame is the head of the frames on the way, and the others follow it
 pub next_is_head : {X F : Type 0} (w : Net X F) (a b : ℕ) (f : F)
     → numbered (w.sent a b) (suc (w.taken a b)) ≡ Some f → TakesHead w a b f
 next_is_head w a b f next =
-    record { head = at_place (w.sent a b) (w.taken a b) f next ∙ ap (λ k. f ∷ drop k (w.sent a b)) (sym (counted_up w a b)) }
+    record {
+      head = at_place (w.sent a b) (w.taken a b) f next
+          ∙ ap (λ k. f ∷ drop k (w.sent a b)) (sym (counted_up w a b));
+    }
 
--- the next frame that comes is taken
+-- the next frame that arrives is taken
 pub came_next : {X F : Type 0} (w : Net X F) (a b number : ℕ) → number ≡ w.taken a b + 1
     → came w a b number ≡ took w a b
-came_next w a b number next = cond-true (number == w.taken a b + 1) (took w a b) w (eq-eqb number (w.taken a b + 1) next)
+came_next w a b number next = cond-true (number == w.taken a b + 1) (took w a b) w
+    (eq-eqb number (w.taken a b + 1) next)
 
 -- an old or early one changes nothing
 pub came_other : {X F : Type 0} (w : Net X F) (a b number : ℕ) → number ≢ w.taken a b + 1 → came w a b number ≡ w
-came_other w a b number other = cond-false (number == w.taken a b + 1) (took w a b) w (ne_eqb number (w.taken a b + 1) other)
+came_other w a b number other = cond-false (number == w.taken a b + 1) (took w a b) w
+    (ne_eqb number (w.taken a b + 1) other)
 
--- the next frame, by its number, is the head of what is on the way
+-- the next frame, by its number, is the head of the frames on the way
 pub came_head : {X F : Type 0} (w : Net X F) (a b number : ℕ) (f : F) → numbered (w.sent a b) number ≡ Some f
     → number ≡ w.taken a b + 1 → TakesHead w a b f
 came_head w a b number f sent next =
     let counted : suc (w.taken a b) ≡ number = omega arith in
     next_is_head w a b f (ap (numbered (w.sent a b)) counted ∙ sent)
 
--- a frame that was ever sent comes, again, late or early: the head of the queue is taken, or nothing happens
+-- a frame that was ever sent arrives, again, late or early: the head of the queue is taken, or nothing happens
 pub came_either : {X F : Type 0} (w : Net X F) (a b number : ℕ) (f : F) → numbered (w.sent a b) number ≡ Some f
     → (TakesHead w a b f × (came w a b number ≡ took w a b)) ⊎ (came w a b number ≡ w)
 came_either w a b number f sent = ⊎_elim
@@ -58,7 +67,7 @@ came_either w a b number f sent = ⊎_elim
 pub way_took_other : {X F : Type 0} (w : Net X F) (a b i j : ℕ) → (i ≡ a → j ≢ b) → way (took w a b) i j ≡ way w i j
 way_took_other w a b i j apart = ap (λ k. drop k (w.sent i j)) (put_link_other w.taken a b (w.taken a b + 1) i j apart)
 
--- what an act sends stands at the end of what is on the way
+-- the frames of an act are at the end of those on the way
 pub way_acted : {X F : Type 0} (w : Net X F) (c : ℕ) (x : X) (frames : ℕ → List F) → IsCounted w → (d : ℕ)
     → way (acted w c x frames) c d ≡ way w c d ++ frames d
 way_acted w c x frames counted d =
@@ -77,7 +86,7 @@ pub way_acted_none : {X F : Type 0} (w : Net X F) (c : ℕ) (x : X) (a b : ℕ)
 way_acted_none w c x a b =
     ap (drop (w.taken a b)) (put_keeps (λ i row. row b) w.sent c (λ d. w.sent c d ++ []) (append-nil (w.sent c b)) a)
 
--- frames to one centre: what it is sent, and what others are
+-- frames to one centre: those that it gets, and those of others
 pub to_one_same : {F : Type 0} (d : ℕ) (frames : List F) → to_one d frames d ≡ frames
 to_one_same d frames = cond-true (d == d) frames [] (eq-eqb d d refl)
 
@@ -90,7 +99,7 @@ pub counted_start : {X F : Type 0} (at : ℕ → X)
     → IsCounted {X = X} {F = F} (record { at = at; sent = λ a b. []; taken = λ a b. 0 })
 counted_start at = record { counts = λ a b. omega arith }
 
--- the counts stay within what was sent when the head of a queue is taken
+-- when the head of a queue is taken, the counts still do not exceed the number of frames sent
 pub counted_took : {X F : Type 0} (w : Net X F) (a b : ℕ) (f : F) → TakesHead w a b f → IsCounted w
     → IsCounted (took w a b)
 counted_took w a b f takes counted = record {
@@ -99,13 +108,15 @@ counted_took w a b f takes counted = record {
       (λ (same : j ≡ b). subst (λ k. (took w a b).taken k j ≤ length (w.sent k j)) (sym here)
       (subst (λ k. (took w a b).taken a k ≤ length (w.sent a k)) (sym same)
       (omega (arith, counted_up w a b, left_over (w.sent a b) (w.taken a b) f (way (took w a b) a b) takes.head))))
-      (λ (apart : j ≢ b). omega (arith, put_link_other w.taken a b (w.taken a b + 1) i j (λ _. apart), counted.counts i j))
+      (λ (apart : j ≢ b).
+      omega (arith, put_link_other w.taken a b (w.taken a b + 1) i j (λ _. apart), counted.counts i j))
       (cases_eq j b))
-      (λ (apart : i ≢ a). omega (arith, put_link_other w.taken a b (w.taken a b + 1) i j (λ e. absurd (apart e)), counted.counts i j))
+      (λ (apart : i ≢ a).
+      omega (arith, put_link_other w.taken a b (w.taken a b + 1) i j (λ e. absurd (apart e)), counted.counts i j))
       (cases_eq i a);
 }
 
--- and when a centre acts
+-- when a centre acts, the counts still do not exceed the number of frames sent
 pub counted_acted : {X F : Type 0} (w : Net X F) (c : ℕ) (x : X) (frames : ℕ → List F) → IsCounted w
     → IsCounted (acted w c x frames)
 counted_acted w c x frames counted = record {
@@ -117,12 +128,15 @@ counted_acted w c x frames counted = record {
         length-append (w.sent c b) (frames b),
         counted.counts c b,
       )))
-      (λ (apart : a ≢ c). omega
-      (arith, ap (λ row. length (row b)) (put_other w.sent c (λ d. w.sent c d ++ frames d) a apart), counted.counts a b))
+      (λ (apart : a ≢ c). omega (
+        arith,
+        ap (λ row. length (row b)) (put_other w.sent c (λ d. w.sent c d ++ frames d) a apart),
+        counted.counts a b,
+      ))
       (cases_eq a c);
 }
 
--- and whatever frame comes
+-- after each arriving frame, the counts still do not exceed the number of frames sent
 pub counted_came : {X F : Type 0} (w : Net X F) (a b number : ℕ) (f : F) → numbered (w.sent a b) number ≡ Some f
     → IsCounted w → IsCounted (came w a b number)
 counted_came w a b number f sent counted = ⊎_elim
@@ -131,12 +145,12 @@ counted_came w a b number f sent counted = ⊎_elim
     (λ (same : came w a b number ≡ w). subst IsCounted (sym same) counted)
     (came_either w a b number f sent)
 
--- where nothing was sent, each frame on the way is as it has to be
+-- if nothing was sent, each frame on the way has the property
 pub each_start : {X F : Type 0} (P : ℕ → ℕ → F → Type 0) (w : Net X F) → ((a b : ℕ) → way w a b ≡ [])
     → EachOnTheWay P w
 each_start P w unsent = record { each = λ a b. subst (All (P a b)) (sym (unsent a b)) (All-nil (P a b)) }
 
--- it stays so if each frame that an act sends is as it has to be
+-- each frame on the way has the property after an act, if each frame that the act sends has it
 pub each_acted : {X F : Type 0} (P : ℕ → ℕ → F → Type 0) (w : Net X F) (c : ℕ) (x : X) (frames : ℕ → List F)
     → IsCounted w → ((d : ℕ) → All (P c d) (frames d)) → EachOnTheWay P w → EachOnTheWay P (acted w c x frames)
 each_acted P w c x frames counted sends on_way = record {
@@ -151,9 +165,10 @@ each_acted P w c x frames counted sends on_way = record {
 -- the head of a queue is as it has to be
 pub each_head : {X F : Type 0} (P : ℕ → ℕ → F → Type 0) (w : Net X F) (a b : ℕ) (f : F) → TakesHead w a b f
     → EachOnTheWay P w → P a b f
-each_head P w a b f takes on_way = All-head (P a b) f (way (took w a b) a b) (subst (All (P a b)) takes.head (on_way.each a b))
+each_head P w a b f takes on_way = All-head (P a b) f (way (took w a b) a b)
+    (subst (All (P a b)) takes.head (on_way.each a b))
 
--- and so are the others when it is taken
+-- when the head of a queue is taken, each other frame on the way still has the property
 pub each_took : {X F : Type 0} (P : ℕ → ℕ → F → Type 0) (w : Net X F) (a b : ℕ) (f : F) → TakesHead w a b f
     → EachOnTheWay P w → EachOnTheWay P (took w a b)
 each_took P w a b f takes on_way = record {

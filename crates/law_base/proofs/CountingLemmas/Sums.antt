@@ -1,7 +1,8 @@
 -- Laws of sums below a bound.
-use Rattle.std.proofs.Common.{◌≡◌, ◌≢◌, ◌⊎◌, ℕ, zero, suc, ◌+◌, ◌<◌, ◌≤◌, ◌==◌, Bool, true, false, refl, sym, ap, ◌∙◌, arith, eq-eqb, ne_eqb, ⊎_elim, inl, inr}
-use Rattle.std.proofs.lemmas.Bool.{cond-true, cond-false, cases_eq}
-use Rattle.law_base.specs.Counting.Sums.{put, put_link, one_if, sum_below, sum_links}
+use Rattle.std.proofs.Common.{⊎_elim, ◌+◌, ◌<◌, ◌==◌, ◌∙◌, ◌≡◌, ◌≢◌, ◌≤◌, ◌⊎◌, ap, arith, Bool, eq-eqb, false, inl, inr}
+use Rattle.std.proofs.Common.{ne_eqb, refl, suc, sym, true, zero, ℕ}
+use Rattle.std.proofs.lemmas.Bool.{cases_eq, cond-false, cond-true}
+use Rattle.law_base.specs.Counting.Sums.{one_if, put, put_link, sum_below, sum_links}
 
 -- reading a changed function at the place of the change
 pub put_same : {A : Type 0} (f : ℕ → A) (k : ℕ) (v : A) → put f k v k ≡ v
@@ -11,11 +12,12 @@ put_same f k v = cond-true (k == k) v (f k) (eq-eqb k k refl)
 pub put_other : {A : Type 0} (f : ℕ → A) (k : ℕ) (v : A) (j : ℕ) → j ≢ k → put f k v j ≡ f j
 put_other f k v j apart = cond-false (j == k) v (f j) (ne_eqb j k apart)
 
--- what is read of each entry stays, if it stays at the place of the change
+-- a value read from each entry stays, if it is the same at the changed entry
 pub put_keeps : {A B : Type 0} (read : ℕ → A → B) (f : ℕ → A) (k : ℕ) (v : A) → read k v ≡ read k (f k) → (j : ℕ)
     → read j (put f k v j) ≡ read j (f j)
 put_keeps read f k v same j = ⊎_elim
-    (λ (here : j ≡ k). ap (λ i. read i (put f k v i)) here ∙ ap (read k) (put_same f k v) ∙ same ∙ sym (ap (λ i. read i (f i)) here))
+    (λ (here : j ≡ k). ap (λ i. read i (put f k v i)) here ∙ ap (read k) (put_same f k v) ∙ same
+    ∙ sym (ap (λ i. read i (f i)) here))
     (λ (apart : j ≢ k). ap (read j) (put_other f k v j apart))
     (cases_eq j k)
 
@@ -52,12 +54,12 @@ pub one_if_some : (b : Bool) → 0 < one_if b → b ≡ true
 one_if_some true some = refl
 one_if_some false some = absurd (omega arith)
 
--- it counts for one at most
+-- a test counts for one at most
 pub one_if_le_one : (b : Bool) → one_if b ≤ 1
 one_if_le_one true = omega arith
 one_if_le_one false = omega arith
 
--- a test that holds wherever another does counts for no less
+-- a test that follows from another counts for at least as much
 pub one_if_le : (a b : Bool) → (a ≡ true → b ≡ true) → one_if a ≤ one_if b
 one_if_le true b to = omega (arith, one_if_true b (to refl))
 one_if_le false b to = omega arith
@@ -81,7 +83,8 @@ sum_same (suc n) f g same =
 -- sums of terms of which each is at most the other
 pub sum_le : (n : ℕ) (f g : ℕ → ℕ) → ((k : ℕ) → k < n → f k ≤ g k) → sum_below n f ≤ sum_below n g
 sum_le zero f g le = omega (arith, sum_none f, sum_none g)
-sum_le (suc n) f g le = omega (arith, sum_more n f, sum_more n g, sum_le n f g (λ k below. le k (omega arith)), le n (omega arith))
+sum_le (suc n) f g le =
+    omega (arith, sum_more n f, sum_more n g, sum_le n f g (λ k below. le k (omega arith)), le n (omega arith))
 
 -- the sum of sums
 pub sum_plus : (n : ℕ) (f g : ℕ → ℕ) → sum_below n (λ k. f k + g k) ≡ sum_below n f + sum_below n g
@@ -91,15 +94,21 @@ sum_plus (suc n) f g = omega (arith, sum_more n f, sum_more n g, sum_more n (λ 
 -- a sum of nothing
 pub sum_zero : (n : ℕ) (f : ℕ → ℕ) → ((k : ℕ) → k < n → f k ≡ 0) → sum_below n f ≡ 0
 sum_zero zero f none = sum_none f
-sum_zero (suc n) f none = omega (arith, sum_more n f, sum_zero n f (λ k below. none k (omega arith)), none n (omega arith))
+sum_zero (suc n) f none =
+    omega (arith, sum_more n f, sum_zero n f (λ k below. none k (omega arith)), none n (omega arith))
 
 -- a change at one place changes the sum by that much
 pub sum_put : (n : ℕ) (f : ℕ → ℕ) (k v : ℕ) → k < n → sum_below n (put f k v) + f k ≡ sum_below n f + v
 sum_put zero f k v below = absurd (omega arith)
 sum_put (suc n) f k v below = ⊎_elim
     (λ (last : k ≡ n). sum_put_last n f k v last)
-    (λ (earlier : k ≢ n). omega
-    (arith, sum_more n f, sum_more n (put f k v), put_other f k v n (λ e. earlier (sym e)), sum_put n f k v (omega arith)))
+    (λ (earlier : k ≢ n). omega (
+      arith,
+      sum_more n f,
+      sum_more n (put f k v),
+      put_other f k v n (λ e. earlier (sym e)),
+      sum_put n f k v (omega arith),
+    ))
     (cases_eq k n)
   where
     sum_put_last : (n : ℕ) (f : ℕ → ℕ) (k v : ℕ) → k ≡ n
@@ -115,7 +124,7 @@ sum_put (suc n) f k v below = ⊎_elim
           sum_same n (put f k v) f (λ j small. put_other f k v j (omega arith)),
         )
 
--- a change at one place of what is summed up: g is read at what stands there
+-- a change of one entry under a sum: g is read at the entries
 pub sum_put_by : {A : Type 0} (n : ℕ) (g : ℕ → A → ℕ) (f : ℕ → A) (k : ℕ) (v : A) → k < n
     → sum_below n (λ j. g j (put f k v j)) + g k (f k) ≡ sum_below n (λ j. g j (f j)) + g k v
 sum_put_by n g f k v below =
@@ -135,9 +144,10 @@ term_le_sum n f k below = omega (arith, sum_put n f k 0 below)
 
 -- two terms together are at most the sum
 pub two_le_sum : (n : ℕ) (f : ℕ → ℕ) (j k : ℕ) → j < n → k < n → j ≢ k → f j + f k ≤ sum_below n f
-two_le_sum n f j k small below apart = omega (arith, sum_put n f k 0 below, put_other f k 0 j apart, term_le_sum n (put f k 0) j small)
+two_le_sum n f j k small below apart =
+    omega (arith, sum_put n f k 0 below, put_other f k 0 j apart, term_le_sum n (put f k 0) j small)
 
--- where all other terms are nothing, the sum is the one term
+-- if all other terms are zero, the sum is the one term
 pub sum_only : (n : ℕ) (f : ℕ → ℕ) (k : ℕ) → k < n → ((j : ℕ) → j < n → j ≢ k → f j ≡ 0) → sum_below n f ≡ f k
 sum_only n f k below others =
     omega (
@@ -166,7 +176,8 @@ links_same n f g same = sum_same n (λ a. sum_below n (f a)) (λ a. sum_below n 
 -- a sum of nothing over links
 pub links_zero : (n : ℕ) (f : ℕ → ℕ → ℕ) → ((a b : ℕ) → a < n → b < n → f a b ≡ 0) → sum_links n f ≡ 0
 unfolding sum_links
-links_zero n f none = sum_zero n (λ a. sum_below n (f a)) (λ a small. sum_zero n (f a) (λ b below. none a b small below))
+links_zero n f none = sum_zero n (λ a. sum_below n (f a))
+    (λ a small. sum_zero n (f a) (λ b below. none a b small below))
 
 -- a change on one link changes the sum by that much
 pub links_put : (n : ℕ) (f : ℕ → ℕ → ℕ) (a b v : ℕ) → a < n → b < n
@@ -186,7 +197,7 @@ pub row_le_links : (n : ℕ) (f : ℕ → ℕ → ℕ) (a : ℕ) → a < n → s
 unfolding sum_links
 row_le_links n f a small = term_le_sum n (λ i. sum_below n (f i)) a small
 
--- what one link has is at most the sum
+-- the value of one link is at most the sum
 pub link_le_links : (n : ℕ) (f : ℕ → ℕ → ℕ) (a b : ℕ) → a < n → b < n → f a b ≤ sum_links n f
 link_le_links n f a b small below = omega (arith, row_le_links n f a small, term_le_sum n (f a) b below)
 
@@ -198,7 +209,7 @@ links_some n f some =
     let to = sum_some n (f from.0) from.2 in
     (from.0, to.0, from.1, to.1, to.2)
 
--- what two links have together is at most the sum
+-- the values of two links together are at most the sum
 pub two_links_le : (n : ℕ) (f : ℕ → ℕ → ℕ) (a b c d : ℕ) → a < n → b < n → c < n → d < n → (a ≡ c → b ≢ d)
     → f a b + f c d ≤ sum_links n f
 two_links_le n f a b c d small below small' below' apart =

@@ -1,13 +1,15 @@
 -- Entries of the book as sections are taken and given back.
-use Rattle.std.proofs.Common.{◌≡◌, ℕ, ◌&&◌, ◌||◌, not, if◌then◌else◌, Bool, true, false, refl, sym, ap, ◌∙◌, eqb-true, eq-eqb}
-use Rattle.std.proofs.lemmas.Bool.{both_ways, ne_eqb, false_from_ne_true, or_right}
-use Rattle.rbc_spec.specs.Centre.{Entry, Shut, Open, Taken, Out, is_open, is_unused, is_taken_for, is_out_for}
+use Rattle.std.proofs.Common.{◌&&◌, ◌||◌, ◌∙◌, ◌≡◌, ap, Bool, eq-eqb, eqb-true, false, if◌then◌else◌, not, refl, sym}
+use Rattle.std.proofs.Common.{true, ℕ}
+use Rattle.std.proofs.lemmas.Bool.{both_ways, false_from_ne_true, ne_eqb, or_right}
+use Rattle.rbc_spec.specs.Centre.{Entry, is_open, is_out_for, is_taken_for, is_unused, Open, Out, Shut, Taken}
 
--- given back: open, or shut where it is wished back
+-- the entry after a return: open, or shut if it is wished back
 abbrev pub given : Bool → Bool → Entry → Entry
 given back wish e = if back then (if wish then Shut else Open) else e
 
-pub taken_given : (u : ℕ) (back wish : Bool) (e : Entry) → is_taken_for u (given back wish e) ≡ (not back && is_taken_for u e)
+pub taken_given : (u : ℕ) (back wish : Bool) (e : Entry)
+    → is_taken_for u (given back wish e) ≡ (not back && is_taken_for u e)
 taken_given u true true e = refl
 taken_given u true false e = refl
 taken_given u false wish e = refl
@@ -17,7 +19,7 @@ out_given u true true e = refl
 out_given u true false e = refl
 out_given u false wish e = refl
 
--- an entry is taken for one train alone
+-- an entry is taken for at most one train
 pub taken_once : (t u : ℕ) (e : Entry) → is_taken_for t e ≡ true → is_taken_for u e ≡ true → u ≡ t
 taken_once t u Shut one two = cc
 taken_once t u Open one two = cc
@@ -27,8 +29,9 @@ taken_once t u (Out v) one two = cc
 pub taken_for_one : (t u : ℕ) (e : Entry) → (u ≡ t → ⊥) → is_taken_for t e ≡ true → is_taken_for u e ≡ false
 taken_for_one t u e apart one = false_from_ne_true (is_taken_for u e) (λ two. apart (taken_once t u e one two))
 
--- what is given back of the hand leaves the rest of it
-pub hand_given : (within home taken hand : Bool) → taken ≡ hand → (home ≡ false → taken ≡ false) → (not ((within && home) && taken) && taken) ≡ (hand && not within)
+-- the sections given back leave the rest of the hand
+pub hand_given : (within home taken hand : Bool) → taken ≡ hand → (home ≡ false → taken ≡ false)
+    → (not ((within && home) && taken) && taken) ≡ (hand && not within)
 hand_given true true true hand e away = ap (λ b. b && false) e
 hand_given true true false hand e away = ap (λ b. b && false) e
 hand_given true false true hand e away = absurd (both_ways true (away refl) refl)
@@ -38,13 +41,13 @@ hand_given false true false hand e away = ap (λ b. b && true) e
 hand_given false false true hand e away = absurd (both_ways true (away refl) refl)
 hand_given false false false hand e away = ap (λ b. b && true) e
 
--- those of other trains stay
+-- sections that are given back change nothing for other trains
 pub others_given : (there mine other : Bool) → (mine ≡ true → other ≡ false) → (not (there && mine) && other) ≡ other
 others_given true true other apart = sym (apart refl)
 others_given true false other apart = refl
 others_given false mine other apart = refl
 
--- taken for t, where it is open
+-- the entry of an open section, taken for t
 abbrev pub booked_for : ℕ → Bool → Entry → Entry
 booked_for t there e = if there then Taken t else e
 
@@ -54,7 +57,8 @@ open_taken u Open free = refl
 open_taken u (Taken v) free = cc
 open_taken u (Out v) free = refl
 
-pub taken_here : (t : ℕ) (there hand : Bool) (e : Entry) → is_taken_for t e ≡ hand → (there ≡ true → is_open e ≡ true) → is_taken_for t (booked_for t there e) ≡ (hand || there)
+pub taken_here : (t : ℕ) (there hand : Bool) (e : Entry) → is_taken_for t e ≡ hand → (there ≡ true → is_open e ≡ true)
+    → is_taken_for t (booked_for t there e) ≡ (hand || there)
 taken_here t true hand e is is_free = eq-eqb t t refl ∙ sym (or_right hand true refl)
 taken_here t false hand e is is_free = is ∙ or_none hand
   where
@@ -62,15 +66,18 @@ taken_here t false hand e is is_free = is ∙ or_none hand
     or_none true = refl
     or_none false = refl
 
-pub taken_elsewhere : (t u : ℕ) (there : Bool) (e : Entry) → (u ≡ t → ⊥) → (there ≡ true → is_open e ≡ true) → is_taken_for u (booked_for t there e) ≡ is_taken_for u e
+pub taken_elsewhere : (t u : ℕ) (there : Bool) (e : Entry) → (u ≡ t → ⊥) → (there ≡ true → is_open e ≡ true)
+    → is_taken_for u (booked_for t there e) ≡ is_taken_for u e
 taken_elsewhere t u true e apart is_free = ne_eqb t u (λ same. apart (sym same)) ∙ sym (open_taken u e (is_free refl))
 taken_elsewhere t u false e apart is_free = refl
 
-pub out_booked : (t u : ℕ) (there : Bool) (e : Entry) → is_out_for u e ≡ false → is_out_for u (booked_for t there e) ≡ false
+pub out_booked : (t u : ℕ) (there : Bool) (e : Entry) → is_out_for u e ≡ false
+    → is_out_for u (booked_for t there e) ≡ false
 out_booked t u true e is = refl
 out_booked t u false e is = is
 
-pub unused_booked : (t : ℕ) (there wish : Bool) (e : Entry) → (is_unused e ≡ true → wish ≡ false) → is_unused (booked_for t there e) ≡ true → wish ≡ false
+pub unused_booked : (t : ℕ) (there wish : Bool) (e : Entry) → (is_unused e ≡ true → wish ≡ false)
+    → is_unused (booked_for t there e) ≡ true → wish ≡ false
 unused_booked t true wish e is unused = cc
 unused_booked t false wish e is unused = is unused
 

@@ -1,166 +1,65 @@
--- Each event keeps its promises, whatever state the one line centre goes on from.
-use Rattle.std.proofs.Common.{◌≡◌, ◌⊎◌, ℕ, ◌*◌, ◌<◌, ◌==◌, arith, ◌&&◌, Bool, true, false, Option, Some, None, refl, sym, ap, ◌∙◌, inl, inr, List, [], ◌∷◌, ◌++◌, map, Ok, Err, if◌then◌else◌, eqb-true, eq-eqb, leb-true, ltb-true, nat_le, nat_lt, subst}
-use Rattle.std.specs.Option.{option_map_or}
+use Rattle.std.proofs.Common.{[], ◌++◌, ◌==◌, ◌∙◌, ◌∷◌, ◌≡◌, ap, Bool, eqb-true, Err, false, if◌then◌else◌, inl, inr}
+use Rattle.std.proofs.Common.{List, None, Ok, Option, refl, Some, subst, sym, true, ℕ}
+use Rattle.std.proofs.lemmas.List.Elements.{All-append, All-cons, All-contains}
 use Rattle.std.specs.List.{All}
-use Rattle.std.proofs.lemmas.List.Elements.{All-append, All-contains, All-cons}
-use Rattle.std.proofs.lemmas.Bool.{and_parts, not-false}
-use Rattle.std.proofs.lemmas.Option.{slice_get_cases}
-use Rattle.rbc_spec.specs.Line.{Line, Section, section, is_centre, is_home, start, end}
-use Rattle.rbc_spec.specs.Sections.{section_count}
-use Rattle.rbc_spec.specs.Place.{place_on}
-use Rattle.rbc_spec.specs.Message.{TrainMessage, TrainBody, TrainData, Request, Report, ShorteningGranted, ShorteningRejected, EndOfMission, InitiationOfSession, TerminationOfSession, StartOfMission, SessionEstablished}
-use Rattle.rbc_spec.specs.Outcome.{Outcome, Word, Told, Done, Asked, NotHome, Reason, NotSupervised, Unasked, reasons_of}
-use Rattle.rbc_spec.specs.Centre as centre
-use Rattle.rbc_spec.specs.Step as step
-use Rattle.rbc_spec.specs.LineCentre.{LineState, LineMission, Mark, Shut, Open, Kept, Given, is_at, is_given_to, hears, Said}
-use Rattle.rbc_spec.specs.OwnSteps.{Sets, Unsets, is_unused_mark, set_mark, wished_back, last_kept_of}
-use Rattle.rbc_spec.specs.World.{World, Event, Bytes, Set, Unset, Delivery, Answer, Answered, NoCentre, NotSent, Fault}
-use Rattle.rbc_spec.specs.Run as run
-use Rattle.rbc_spec.specs.Run.{Piece, Goes, Steps, silent, heard, listened, OwnStep, has_here, answers_it}
-use Rattle.rbc_spec.specs.ReadOff.{StandsFor, seen, holder, mark_of, read_off}
-use Rattle.rbc_spec.proofs.Held.{is_the_centres, found_passes}
+use Rattle.law_base.proofs.Lists.{put_there}
+use Rattle.law_base.proofs.PiecesLemmas.Frees.{by_test, Frees, of_leaves, OwnLeaves}
+use Rattle.law_base.proofs.PiecesLemmas.GivenSections.{frees_is, given_held, given_home, given_is, is_not_used}
+use Rattle.law_base.proofs.PiecesLemmas.OwnFrees.{own_leaves}
+use Rattle.law_base.proofs.PiecesLemmas.Waits.{if_not, Leaves, plain_leaves, quiets_leave, wait_on, WaitsKeep}
+use Rattle.law_base.proofs.PiecesLemmas.Words.{Fits, fits_on, IsShut, no_words, own_fits, quiets_fit}
 use Rattle.rbc_spec.proofs.Safe.{given_mark}
-use Rattle.rbc_spec.specs.Promises.{is_given, MayFree, cleared, shortened, stopped, KeepsPromises}
-use Rattle.law_base.proofs.Lists.{none_passes}
-use Rattle.law_base.proofs.Puts.{put_there}
-use Rattle.law_base.proofs.PiecesLemmas.Waits.{WaitsKeep, Leaves, if_not, wait_on, plain_leaves, quiets_leave}
-use Rattle.law_base.proofs.PiecesLemmas.Frees.{Frees, by_report, by_end, by_standstill, by_cut, OwnLeaves, of_leaves, by_test, own_leaves}
-use Rattle.law_base.proofs.PiecesLemmas.Words.{IsShut, Fits, no_words, fits_on, quiets_fit, own_fits}
-
-pub given_is : (t : ℕ) (m : Mark) → is_given_to t m ≡ true → m ≡ Given t
-given_is t Shut h = cc
-given_is t Open h = cc
-given_is t (Kept u) h = cc
-given_is t (Given u) h = ap (λ (x : ℕ). Given x) (eqb-true u t h)
-
--- a section that is given in a state that is read off has a home
-pub given_home : (line : Line) (w : World) (t s : ℕ) → (read_off line w).mark s ≡ Given t → (c : ℕ) × (is_home line c s ≡ true)
-unfolding read_off
-given_home line w t s = by_section (section line s) _
-  where
-    by_section : (o : Option Section) (mark : Section → Mark) → option_map_or mark o Shut ≡ Given t → (c : ℕ) × (option_map_or (λ p. p.home == c) o false ≡ true)
-    by_section None mark h = cc
-    by_section (Some p) mark h = (p.home, eq-eqb p.home p.home refl)
-
--- a section that is given is in the hand of its train
-pub given_held : (line : Line) (w : World) (v : LineState) → StandsFor line w v → (t s c : ℕ) → is_home line c s ≡ true → v.mark s ≡ Given t → is_given line w t s ≡ true
-given_held line w v stands t s c home is = by_holder (holder line w s) refl (sym (stands.mark s c home) ∙ is)
-  where
-    by_entry : (entry : centre.Entry) → mark_of None entry ≡ Given t → ⊥
-    by_entry centre.Shut is = cc
-    by_entry centre.Open is = cc
-    by_entry (centre.Taken u) is = cc
-    by_entry (centre.Out u) is = cc
-
-    by_holder : (o : Option ℕ) → holder line w s ≡ o → mark_of o ((w.at c).book s) ≡ Given t → is_given line w t s ≡ true
-    by_holder None none given = absurd (by_entry ((w.at c).book s) given)
-    by_holder (Some u) some given =
-        let same : u ≡ t = cc in
-        subst (λ (x : ℕ). is_given line w x s ≡ true) same (found_passes (λ x. is_given line w x s) (map (λ p. p.nid_engine) line.trains) u some)
-
--- a section of the line has a home
-home_below : (line : Line) (s : ℕ) → s < section_count line → (c : ℕ) × (is_home line c s ≡ true)
-home_below line s below = elim (slice_get_cases line.sections s).1 [
-  | inl at ↦ (at.0.home, ap (λ (o : Option Section). option_map_or (λ p. p.home == at.0.home) o false) at.2 ∙ eq-eqb at.0.home at.0.home refl)
-  | inr past ↦ let far = past.0 in absurd (let no : ⊥ = omega (arith, far, below) in no)
-]
-
--- ## The supervisor of a train
-
--- the mission that the line centre sees at the centre is the centre's
-pub record IsSupervisor (w : World) (c t : ℕ) (v : LineState) : Type 0 where
-  pub mission : centre.Mission
-  pub has : (w.at c).mission t ≡ Some mission
-  pub is_seen : v.mission t ≡ Some (seen c mission)
-
-module _ (line : Line) (w : World) (v : LineState) (stands : StandsFor line w v) where
-  here_is : (c t : ℕ) (test : LineMission → Bool) → has_here v c t test ≡ true → (h : IsSupervisor w c t v) × (test (seen c h.mission) ≡ true)
-  here_is c t test = by_mission (v.mission t) refl
-    where
-      by_mission : (o : Option LineMission) → v.mission t ≡ o → option_map_or (λ m. is_at c m.supervisor && test m) o false ≡ true → (h : IsSupervisor w c t v) × (test (seen c h.mission) ≡ true)
-      by_mission None is h = cc
-      by_mission (Some m) is h =
-          let parts = and_parts (is_at c m.supervisor) (test m) h in
-          let theirs = is_the_centres line w v stands t c m is parts.0 in
-          (record { mission = theirs.0; has = theirs.1; is_seen = is ∙ ap (λ x. Some x) theirs.2 }, sym (ap test theirs.2) ∙ parts.1)
-
-  -- the request that is answered stands
-  asked_is : (stamp : ℕ) (n : LineMission) → answers_it stamp n ≡ true → (p : centre.Proposal) × (n.proposal ≡ Some p) × (stamp ≡ p.stamp)
-  asked_is stamp n = by_proposal n.proposal
-    where
-      by_proposal : (o : Option centre.Proposal) → option_map_or (λ p. p.stamp == stamp) o false ≡ true → (p : centre.Proposal) × (o ≡ Some p) × (stamp ≡ p.stamp)
-      by_proposal None h = cc
-      by_proposal (Some p) h = (p, refl, sym (eqb-true p.stamp stamp h))
-
-  -- what the line's own step frees, the event may free
-  module _ (c : ℕ) (t_train t : ℕ) (same : (body : TrainBody) → run.silence line v c (record { t_train = t_train; nid_engine = t; body = body }) ≡ None → step.silence line c (w.at c) (record { t_train = t_train; nid_engine = t; body = body }) ≡ None) where
-    abbrev message : TrainBody → TrainMessage
-    message body = record { t_train = t_train; nid_engine = t; body = body }
-
-    frees_is : (body : TrainBody) → run.silence line v c (message body) ≡ None → (u s : ℕ) → Frees line (hears c (message body) v) t u s body → MayFree line w u s (Bytes c (Ok (message body)))
-    frees_is (Report position) fair u s (by_report _ place train on is) =
-        let h = here_is c t (λ n. true) (not-false (has_here v c t (λ n. true)) (none_passes (run.holds line v c (message (Report position)) (Report position)) (reasons_of (Report position)) 4 NotSupervised fair refl)) in
-        cleared c (message (Report position)) position h.0.mission place train (same (Report position) fair) (subst (λ (x : ℕ). (w.at c).mission x ≡ Some h.0.mission) train h.0.has) (inl refl)
-        (subst (λ (o : Option LineMission). place_on line (option_map_or (λ n. n.place.track) o 0) position ≡ Some place) h.0.is_seen on) is
-    frees_is (EndOfMission position) fair u s (by_end _ place train on is) =
-        let h = here_is c t (λ n. true) (not-false (has_here v c t (λ n. true)) (none_passes (run.holds line v c (message (EndOfMission position)) (EndOfMission position)) (reasons_of (EndOfMission position)) 4 NotSupervised fair refl)) in
-        cleared c (message (EndOfMission position)) position h.0.mission place train (same (EndOfMission position) fair) (subst (λ (x : ℕ). (w.at c).mission x ≡ Some h.0.mission) train h.0.has) (inr refl)
-        (subst (λ (o : Option LineMission). place_on line (option_map_or (λ n. n.place.track) o 0) position ≡ Some place) h.0.is_seen on) is
-    frees_is (EndOfMission position) fair u s (by_standstill _ place r train on still on_line reached near ahead) =
-        let h = here_is c t (λ n. true) (not-false (has_here v c t (λ n. true)) (none_passes (run.holds line v c (message (EndOfMission position)) (EndOfMission position)) (reasons_of (EndOfMission position)) 4 NotSupervised fair refl)) in
-        let home = home_below line r on_line in
-        stopped c (message (EndOfMission position)) position h.0.mission place r train (same (EndOfMission position) fair) (subst (λ (x : ℕ). (w.at c).mission x ≡ Some h.0.mission) train h.0.has) refl
-        (eqb-true position.v_train 0 still)
-        (subst (λ (o : Option LineMission). place_on line (option_map_or (λ n. n.place.track) o 0) position ≡ Some place) h.0.is_seen on)
-        (subst (λ (x : ℕ). is_given line w x r ≡ true) train (given_held line w v stands t r home.0 home.1 (given_is t (v.mark r) reached)))
-        (ltb-true (10 * start line r) place.front near) (leb-true place.front (10 * start line s) ahead)
-    frees_is (ShorteningGranted stamp position) fair u s (by_cut _ _ place train on time past) =
-        let h = here_is c t (answers_it stamp) (not-false (has_here v c t (answers_it stamp)) (none_passes (run.holds line v c (message (ShorteningGranted stamp position)) (ShorteningGranted stamp position)) (reasons_of (ShorteningGranted stamp position)) 5 Unasked fair refl)) in
-        let p = asked_is stamp (seen c h.0.mission) h.1 in
-        let last : last_kept_of v t ≡ p.0.last_kept = ap (λ (o : Option LineMission). option_map_or (λ m. option_map_or (λ q. q.last_kept) m.proposal 0) o 0) h.0.is_seen ∙ ap (λ (o : Option centre.Proposal). option_map_or (λ q. q.last_kept) o 0) p.1 in
-        shortened c (message (ShorteningGranted stamp position)) position h.0.mission p.0 place train (same (ShorteningGranted stamp position) fair) (subst (λ (x : ℕ). (w.at c).mission x ≡ Some h.0.mission) train h.0.has)
-        p.1 (ap (λ (x : ℕ). ShorteningGranted x position) p.2)
-        (subst (λ (o : Option LineMission). place_on line (option_map_or (λ n. n.place.track) o 0) position ≡ Some place) h.0.is_seen on)
-        (leb-true place.front (10 * end line p.0.last_kept) (subst (λ (x : ℕ). nat_le place.front (10 * end line x) ≡ true) last time))
-        (ltb-true p.0.last_kept s (subst (λ (x : ℕ). nat_lt x s ≡ true) last past))
-    frees_is InitiationOfSession fair u s frees = elim frees [ ]
-    frees_is TerminationOfSession fair u s frees = elim frees [ ]
-    frees_is SessionEstablished fair u s frees = elim frees [ ]
-    frees_is (StartOfMission is_valid position) fair u s frees = elim frees [ ]
-    frees_is (TrainData position) fair u s frees = elim frees [ ]
-    frees_is (Request position) fair u s frees = elim frees [ ]
-    frees_is (ShorteningRejected stamp position) fair u s frees = elim frees [ ]
-
--- ## An own step
-
-is_not_used : (m : Mark) (t : ℕ) → is_unused_mark m ≡ true → (m ≡ Given t) ⊎ (m ≡ Kept t) → ⊥
-is_not_used m t unused (inl is) = let wrong : true ≡ false = sym unused ∙ ap is_unused_mark is in cc
-is_not_used m t unused (inr is) = let wrong : true ≡ false = sym unused ∙ ap is_unused_mark is in cc
+use Rattle.rbc_spec.specs.Centre as centre
+use Rattle.rbc_spec.specs.Line.{is_centre, is_home, Line}
+use Rattle.rbc_spec.specs.LineCentre.{Given, hears, LineState, Mark, Open, Said, Shut}
+use Rattle.rbc_spec.specs.Message.{TrainMessage}
+use Rattle.rbc_spec.specs.Outcome.{Asked, Done, NotHome, Outcome, Reason, Told, Word}
+use Rattle.rbc_spec.specs.OwnSteps.{is_unused_mark, set_mark, Sets, Unsets, wished_back}
+use Rattle.rbc_spec.specs.Promises.{is_given, KeepsPromises, MayFree}
+use Rattle.rbc_spec.specs.ReadOff.{holder, mark_of, read_off, StandsFor}
+use Rattle.rbc_spec.specs.Run as run
+use Rattle.rbc_spec.specs.Run.{Goes, heard, listened, OwnStep, Piece, silent, Steps}
+use Rattle.rbc_spec.specs.Step as step
+use Rattle.rbc_spec.specs.World.{Answer, Answered, Bytes, Delivery, Event, Fault, NoCentre, NotSent, Set, Unset, World}
 
 module _ (line : Line) (w : World) (v : LineState) (keep : WaitsKeep line v) (stands : StandsFor line w v)
     (same : (c : ℕ) (m : TrainMessage) → run.silence line v c m ≡ None → step.silence line c (w.at c) m ≡ None) where
-  -- what an own step frees and tells is as promised
+  -- the freed sections and the replies of an own step keep the promises
   pub record Keeps (event : Event) (said : Said) (mid : LineState) : Type 0 where
     pub leaves : OwnLeaves line v mid (λ t s. MayFree line w t s event)
     pub fits : All (Fits line event mid) said.words
 
-  unchanged : (event : Event) (words : List Word) (said : Said) (mid changed : LineState) → All (Fits line event mid) words → said.words ≡ words → mid ≡ changed → changed.mark ≡ v.mark → changed.wish ≡ v.wish → changed.wait ≡ v.wait
+  unchanged : (event : Event) (words : List Word) (said : Said) (mid changed : LineState)
+      → All (Fits line event mid) words → said.words ≡ words → mid ≡ changed → changed.mark ≡ v.mark
+      → changed.wish ≡ v.wish → changed.wait ≡ v.wait
       → Keeps event said mid
   unchanged event words said mid changed fits are is marks wishes waits = record {
-    leaves = of_leaves line v mid _ (subst (Leaves line v) (sym is) (plain_leaves line v keep changed marks wishes waits));
+    leaves = of_leaves line v mid _
+        (subst (Leaves line v) (sym is) (plain_leaves line v keep changed marks wishes waits));
     fits = subst (All (Fits line event mid)) (sym are) fits;
   }
 
-  heard_keeps : (c : ℕ) (m : TrainMessage) (said : Said) (mid : LineState) → OwnLeaves line (hears c m v) mid (λ t s. Frees line (hears c m v) m.nid_engine t s m.body)
+  heard_keeps : (c : ℕ) (m : TrainMessage) (said : Said) (mid : LineState)
+      → OwnLeaves line (hears c m v) mid (λ t s. Frees line (hears c m v) m.nid_engine t s m.body)
       → run.silence line v c m ≡ None → OwnLeaves line v mid (λ t s. MayFree line w t s (Bytes c (Ok m)))
   heard_keeps c m said mid leaves fair = record {
-    given = λ t s is. elim (leaves.given t s is) [ inl stays ↦ inl stays | inr frees ↦ inr (frees_is line w v stands c m.t_train m.nid_engine (λ body. same c (record m { body = body })) m.body fair t s frees) ];
+    given = λ t s is. elim (leaves.given t s is) [
+      | inl stays ↦ inl stays
+      | inr frees ↦
+          inr (frees_is line w v stands c m.t_train m.nid_engine (λ body. same c (record m { body = body }))
+          m.body fair t s frees)
+    ];
     waits = leaves.waits;
   }
 
-  steps_keep : (c : ℕ) (m : TrainMessage) (said : Said) (mid : LineState) (why : Option Reason) → is_centre line c ≡ true → Steps line v c m said mid why → Keeps (Bytes c (Ok m)) said mid
-  steps_keep c m said mid why at (silent reason is so none new) = unchanged (Bytes c (Ok m)) [] said mid v (no_words line (Bytes c (Ok m)) mid) (ap (λ (x : Said). x.words) none) new refl refl refl
-  steps_keep c m said mid why at (listened may so none new) = unchanged (Bytes c (Ok m)) [] said mid (hears c m v) (no_words line (Bytes c (Ok m)) mid) (ap (λ (x : Said). x.words) none) new refl refl refl
+  steps_keep : (c : ℕ) (m : TrainMessage) (said : Said) (mid : LineState) (why : Option Reason)
+      → is_centre line c ≡ true → Steps line v c m said mid why → Keeps (Bytes c (Ok m)) said mid
+  steps_keep c m said mid why at (silent reason is so none new) =
+      unchanged (Bytes c (Ok m)) [] said mid v (no_words line (Bytes c (Ok m)) mid)
+      (ap (λ (x : Said). x.words) none) new refl refl refl
+  steps_keep c m said mid why at (listened may so none new) =
+      unchanged (Bytes c (Ok m)) [] said mid (hears c m v) (no_words line (Bytes c (Ok m)) mid)
+      (ap (λ (x : Said). x.words) none) new refl refl refl
   steps_keep c m said mid why at (heard is so hearing) =
       let still = wait_on line v keep (hears c m v) refl (λ t d s waited. refl) in
       record {
@@ -169,27 +68,36 @@ module _ (line : Line) (w : World) (v : LineState) (keep : WaitsKeep line v) (st
       }
 
   -- an unused section gets another mark
-  entered : (event : Event) (words : List Word) (said : Said) (mid : LineState) (s : ℕ) (mark : Mark) → All (Fits line event mid) words → said.words ≡ words → mid ≡ set_mark s mark v → is_unused_mark (v.mark s) ≡ true → Keeps event said mid
+  entered : (event : Event) (words : List Word) (said : Said) (mid : LineState) (s : ℕ) (mark : Mark)
+      → All (Fits line event mid) words → said.words ≡ words → mid ≡ set_mark s mark v
+      → is_unused_mark (v.mark s) ≡ true → Keeps event said mid
   entered event words said mid s mark fits are is unused = record {
     leaves = record {
-      given = λ t e given. inl (ap (λ (x : LineState). x.mark e) is ∙ if_not (e == s) mark (v.mark e) (λ so. is_not_used (v.mark s) t unused (inl (ap v.mark (sym (eqb-true e s so)) ∙ given))) ∙ given);
+      given = λ t e given. inl (ap (λ (x : LineState). x.mark e) is
+          ∙ if_not (e == s) mark (v.mark e)
+          (λ so. is_not_used (v.mark s) t unused (inl (ap v.mark (sym (eqb-true e s so)) ∙ given))) ∙ given);
       waits = wait_on line v keep mid (ap (λ (x : LineState). x.wait) is)
-          (λ t d e waited. ap (λ (x : LineState). x.mark e) is ∙ if_not (e == s) mark (v.mark e) (λ so. is_not_used (v.mark s) t unused (inr (ap v.mark (sym (eqb-true e s so)) ∙ waited.kept))));
+          (λ t d e waited. ap (λ (x : LineState). x.mark e) is
+          ∙ if_not (e == s) mark (v.mark e)
+          (λ so. is_not_used (v.mark s) t unused (inr (ap v.mark (sym (eqb-true e s so)) ∙ waited.kept))));
     };
     fits = subst (All (Fits line event mid)) (sym are) fits;
   }
 
   -- a section is wished back, or not any more
-  wished : (event : Event) (words : List Word) (said : Said) (mid : LineState) (s : ℕ) (wish : Bool) → All (Fits line event mid) words → said.words ≡ words → mid ≡ wished_back s wish v → Keeps event said mid
+  wished : (event : Event) (words : List Word) (said : Said) (mid : LineState) (s : ℕ) (wish : Bool)
+      → All (Fits line event mid) words → said.words ≡ words → mid ≡ wished_back s wish v → Keeps event said mid
   wished event words said mid s wish fits are is = record {
     leaves = record {
       given = λ t e given. inl (ap (λ (x : LineState). x.mark e) is ∙ given);
-      waits = wait_on line v keep mid (ap (λ (x : LineState). x.wait) is) (λ t d e waited. ap (λ (x : LineState). x.mark e) is);
+      waits = wait_on line v keep mid (ap (λ (x : LineState). x.wait) is)
+          (λ t d e waited. ap (λ (x : LineState). x.mark e) is);
     };
     fits = subst (All (Fits line event mid)) (sym are) fits;
   }
 
-  one_word : (event : Event) (mid : LineState) (word : Word) → Fits line event mid word → All (Fits line event mid) (word ∷ [])
+  one_word : (event : Event) (mid : LineState) (word : Word) → Fits line event mid word
+      → All (Fits line event mid) (word ∷ [])
   one_word event mid word fits = All-cons (Fits line event mid) word [] fits (no_words line event mid)
 
   set_fits : (c s : ℕ) (mid : LineState) → Fits line (Set c s) mid (Done s)
@@ -198,36 +106,51 @@ module _ (line : Line) (w : World) (v : LineState) (keep : WaitsKeep line v) (st
   sets_keep : (c s : ℕ) (said : Said) (mid : LineState) → Sets line v c s said mid → Keeps (Set c s) said mid
   sets_keep c s said mid h = by_test (is_home line c s) _ _
       (λ _ tells. by_use (is_unused_mark (v.mark s)) refl (ap (λ (x : Said). x.words) tells.said_is) tells.new_is)
-      (λ _ tells. unchanged (Set c s) (NotHome s ∷ []) said mid v (one_word (Set c s) mid (NotHome s) tt) (ap (λ (x : Said). x.words) tells.said_is) tells.new_is refl refl refl) h
+      (λ _ tells. unchanged (Set c s) (NotHome s ∷ []) said mid v (one_word (Set c s) mid (NotHome s) tt)
+      (ap (λ (x : Said). x.words) tells.said_is) tells.new_is refl refl refl) h
     where
-      by_use : (b : Bool) → is_unused_mark (v.mark s) ≡ b → said.words ≡ Done s ∷ [] → mid ≡ (if b then set_mark s Open v else wished_back s false v) → Keeps (Set c s) said mid
-      by_use true unused are is = entered (Set c s) (Done s ∷ []) said mid s Open (one_word (Set c s) mid (Done s) (set_fits c s mid)) are is unused
-      by_use false used are is = wished (Set c s) (Done s ∷ []) said mid s false (one_word (Set c s) mid (Done s) (set_fits c s mid)) are is
+      by_use : (b : Bool) → is_unused_mark (v.mark s) ≡ b → said.words ≡ Done s ∷ []
+          → mid ≡ (if b then set_mark s Open v else wished_back s false v) → Keeps (Set c s) said mid
+      by_use true unused are is = entered (Set c s) (Done s ∷ []) said mid s Open
+          (one_word (Set c s) mid (Done s) (set_fits c s mid)) are is unused
+      by_use false used are is = wished (Set c s) (Done s ∷ []) said mid s false
+          (one_word (Set c s) mid (Done s) (set_fits c s mid)) are is
 
   unsets_keep : (c s : ℕ) (said : Said) (mid : LineState) → Unsets line v c s said mid → Keeps (Unset c s) said mid
   unsets_keep c s said mid h = by_test (is_home line c s) _ _
       (λ home n. by_test (is_unused_mark (v.mark s)) _ _
-      (λ unused tells. entered (Unset c s) (Done s ∷ []) said mid s Shut (one_word (Unset c s) mid (Done s) (λ d is. (shut tells.new_is, subst (λ (x : ℕ). is_home line x s ≡ true) (same_centre d is) home))) (ap (λ (x : Said). x.words) tells.said_is) tells.new_is unused)
-      (λ _ tells. wished (Unset c s) (Asked s ∷ []) said mid s true (one_word (Unset c s) mid (Asked s) tt) (ap (λ (x : Said). x.words) tells.said_is) tells.new_is) n)
-      (λ _ tells. unchanged (Unset c s) (NotHome s ∷ []) said mid v (one_word (Unset c s) mid (NotHome s) tt) (ap (λ (x : Said). x.words) tells.said_is) tells.new_is refl refl refl) h
+      (λ unused tells. entered (Unset c s) (Done s ∷ []) said mid s Shut
+      (one_word (Unset c s) mid (Done s)
+      (λ d is. (shut tells.new_is, subst (λ (x : ℕ). is_home line x s ≡ true) (same_centre d is) home)))
+      (ap (λ (x : Said). x.words) tells.said_is) tells.new_is unused)
+      (λ _ tells. wished (Unset c s) (Asked s ∷ []) said mid s true (one_word (Unset c s) mid (Asked s) tt)
+      (ap (λ (x : Said). x.words) tells.said_is) tells.new_is) n)
+      (λ _ tells. unchanged (Unset c s) (NotHome s ∷ []) said mid v (one_word (Unset c s) mid (NotHome s) tt)
+      (ap (λ (x : Said). x.words) tells.said_is) tells.new_is refl refl refl) h
     where
       same_centre : (d : ℕ) → Unset c s ≡ Unset d s → c ≡ d
       same_centre d is = cc
 
       shut : mid ≡ set_mark s Shut v → IsShut mid s
-      shut is = (ap (λ (x : LineState). x.mark s) is ∙ put_there v.mark s Shut, ap (λ (x : LineState). x.wish s) is ∙ put_there v.wish s false)
+      shut is = (
+        ap (λ (x : LineState). x.mark s) is ∙ put_there v.mark s Shut,
+        ap (λ (x : LineState). x.wish s) is
+            ∙ put_there v.wish s false,
+      )
 
-  pub own_keeps : (event : Event) (said : Said) (mid : LineState) (why : Option Reason) → OwnStep line v event said mid why → Keeps event said mid
+  pub own_keeps : (event : Event) (said : Said) (mid : LineState) (why : Option Reason)
+      → OwnStep line v event said mid why → Keeps event said mid
   own_keeps (Bytes c (Ok m)) said mid why h = steps_keep c m said mid why h.0 h.1
   own_keeps (Bytes c (Err n)) said mid why h = absurd h
   own_keeps (Set c s) said mid why h = sets_keep c s said mid h.1
   own_keeps (Unset c s) said mid why h = unsets_keep c s said mid h.1
   own_keeps (Delivery a b n) said mid why h =
-      unchanged (Delivery a b n) [] said mid v (no_words line (Delivery a b n) mid) (ap (λ (x : Said). x.words) h.0) h.1 refl refl refl
+      unchanged (Delivery a b n) [] said mid v (no_words line (Delivery a b n) mid)
+      (ap (λ (x : Said). x.words) h.0) h.1 refl refl refl
 
   -- ## A piece, and each event
 
-  -- what the event leaves
+  -- the state after the event
   pub record Ends (event : Event) (answer : Answer) (u : LineState) : Type 0 where
     pub leaves : OwnLeaves line v u (λ t s. MayFree line w t s event)
     pub fits : (o : Outcome) → answer ≡ Answered o → All (Fits line event u) o.words
@@ -238,11 +161,15 @@ module _ (line : Line) (w : World) (v : LineState) (keep : WaitsKeep line v) (st
       let rest = quiets_leave line p.mid own.leaves.waits p.quiets p.later u p.quiet_steps in
       let words : o.words ≡ p.own.words ++ p.later.words = ap (λ (x : Said). x.words) p.says in
       let fits : All (Fits line event u) o.words = subst (All (Fits line event u)) (sym words)
-      (All-append (Fits line event u) p.own.words p.later.words (fits_on line event p.mid u p.own.words rest own.fits) (quiets_fit line event p.mid own.leaves.waits p.quiets p.later u p.quiet_steps))
+      (All-append (Fits line event u) p.own.words p.later.words (fits_on line event p.mid u p.own.words rest own.fits)
+      (quiets_fit line event p.mid own.leaves.waits p.quiets p.later u p.quiet_steps))
       in
       record {
         leaves = record {
-          given = λ t s is. elim (own.leaves.given t s is) [ inl stays ↦ inl (rest.given t s stays) | inr may ↦ inr may ];
+          given = λ t s is. elim (own.leaves.given t s is) [
+            | inl stays ↦ inl (rest.given t s stays)
+            | inr may ↦ inr may
+          ];
           waits = rest.waits;
         };
         fits = λ q is. subst (λ (x : Outcome). All (Fits line event u) x.words) (same_outcome o q is) fits;
@@ -251,7 +178,8 @@ module _ (line : Line) (w : World) (v : LineState) (keep : WaitsKeep line v) (st
       same_outcome : (a b : Outcome) → Answered a ≡ Answered b → a ≡ b
       same_outcome a b is = cc
 
-  nothing_ends : (event : Event) (answer : Answer) (u : LineState) → u ≡ v → ((o : Outcome) → answer ≡ Answered o → ⊥) → Ends event answer u
+  nothing_ends : (event : Event) (answer : Answer) (u : LineState) → u ≡ v
+      → ((o : Outcome) → answer ≡ Answered o → ⊥) → Ends event answer u
   nothing_ends event answer u is none = record {
     leaves = of_leaves line v u _ (subst (Leaves line v) (sym is) (plain_leaves line v keep v refl refl refl));
     fits = λ o answered. absurd (none o answered);
@@ -276,7 +204,8 @@ module _ (line : Line) (w : World) (v : LineState) (keep : WaitsKeep line v) (st
 -- ## Worlds
 
 -- a section whose mark is shut is shut at its home
-shut_at : (line : Line) (new : World) (v : LineState) → StandsFor line new v → (s c : ℕ) → is_home line c s ≡ true → v.mark s ≡ Shut → (new.at c).book s ≡ centre.Shut
+shut_at : (line : Line) (new : World) (v : LineState) → StandsFor line new v → (s c : ℕ) → is_home line c s ≡ true
+    → v.mark s ≡ Shut → (new.at c).book s ≡ centre.Shut
 shut_at line new v ends s c home is = by_mark (holder line new s) ((new.at c).book s) (sym (ends.mark s c home) ∙ is)
   where
     by_mark : (o : Option ℕ) (entry : centre.Entry) → mark_of o entry ≡ Shut → entry ≡ centre.Shut
@@ -286,16 +215,24 @@ shut_at line new v ends s c home is = by_mark (holder line new s) ((new.at c).bo
     by_mark None (centre.Taken t) shut = cc
     by_mark None (centre.Out t) shut = cc
 
--- each event of worlds that states stand for keeps its promises, where starts that wait keep their sections and the
--- reasons of silence agree
+-- Each event between worlds that states represent keeps its promises. Premises: waiting starts keep their sections, and
+-- the reasons of silence agree.
 pub keeps_promises : (line : Line) (w new : World) (event : Event) (answer : Answer) → WaitsKeep line (read_off line w)
-    → ((c : ℕ) (m : TrainMessage) → run.silence line (read_off line w) c m ≡ None → step.silence line c (w.at c) m ≡ None)
-    → StandsFor line w (read_off line w) → StandsFor line new (read_off line new) → Goes line (read_off line w) event answer (read_off line new) → KeepsPromises line w event answer new
+    → ((c : ℕ) (m : TrainMessage) → run.silence line (read_off line w) c m ≡ None
+    → step.silence line c (w.at c) m ≡ None)
+    → StandsFor line w (read_off line w) → StandsFor line new (read_off line new)
+    → Goes line (read_off line w) event answer (read_off line new) → KeepsPromises line w event answer new
 keeps_promises line w new event answer keep same stands ends goes = record {
-  freed = λ t s given gone. elim (all.leaves.given t s (given_in t s given)) [ inl stays ↦ absurd (let wrong : true ≡ false = sym (given_new t s stays) ∙ gone in cc) | inr may ↦ may ];
-  told = λ o s c is home says. let fits = All-contains (Fits line event (read_off line new)) o.words (Told s) (all.fits o is) says in
+  freed = λ t s given gone. elim (all.leaves.given t s (given_in t s given)) [
+    | inl stays ↦
+        absurd (let wrong : true ≡ false = sym (given_new t s stays) ∙ gone in cc)
+    | inr may ↦ may
+  ];
+  told = λ o s c is home says. let fits =
+      All-contains (Fits line event (read_off line new)) o.words (Told s) (all.fits o is) says in
       (shut_at line new (read_off line new) ends s c home fits.0, sym (ends.wish s c home) ∙ fits.1);
-  done = λ o s c is unset says. let fits = All-contains (Fits line event (read_off line new)) o.words (Done s) (all.fits o is) says c unset in
+  done = λ o s c is unset says. let fits = All-contains (Fits line event (read_off line new)) o.words (Done s)
+      (all.fits o is) says c unset in
       shut_at line new (read_off line new) ends s c fits.1 fits.0.0;
 }
   where
@@ -306,4 +243,5 @@ keeps_promises line w new event answer keep same stands ends goes = record {
     given_in t s given = given_is t ((read_off line w).mark s) (given_mark line w (read_off line w) stands t s given)
 
     given_new : (t s : ℕ) → (read_off line new).mark s ≡ Given t → is_given line new t s ≡ true
-    given_new t s is = let home = given_home line new t s is in given_held line new (read_off line new) ends t s home.0 home.1 is
+    given_new t s is = let home = given_home line new t s is in
+        given_held line new (read_off line new) ends t s home.0 home.1 is

@@ -1,16 +1,18 @@
 -- A start that waits keeps its sections, and no quiet step frees a given section.
-use Rattle.std.proofs.Common.{◌≡◌, ℕ, ◌==◌, ◌&&◌, not, Bool, true, false, Option, Some, None, refl, sym, ap, ◌∙◌, inl, inr, List, [], ◌∷◌, if◌then◌else◌, eqb-true, subst, length, ltb-true, arith}
-use Rattle.std.specs.Option.{option_map_or}
+use Rattle.std.proofs.Common.{[], ◌&&◌, ◌==◌, ◌∙◌, ◌∷◌, ◌≡◌, ap, arith, Bool, eqb-true, false, if◌then◌else◌, inl, inr}
+use Rattle.std.proofs.Common.{length, List, ltb-true, None, not, Option, refl, Some, subst, sym, true, ℕ}
 use Rattle.std.proofs.lemmas.Bool.Decides.{eqb_tells}
+use Rattle.std.specs.Option.{option_map_or}
+use Rattle.law_base.proofs.Lists.{any-range, one_home}
+use Rattle.rbc_spec.specs.Line.{is_centre, is_home, Line}
+use Rattle.rbc_spec.specs.LineCentre.{free, Given, is_waiting, is_waiting_at, Kept, LineState, Mark, Open, Said, says}
+use Rattle.rbc_spec.specs.LineCentre.{Shut}
 use Rattle.rbc_spec.specs.Maps.{put, put_pair}
-use Rattle.rbc_spec.specs.SectionRuns.{within}
-use Rattle.rbc_spec.specs.Line.{Line, is_centre, is_home}
-use Rattle.rbc_spec.specs.Place.{Place, covered}
-use Rattle.rbc_spec.specs.LineCentre.{LineState, Mark, Shut, Open, Kept, Given, is_waiting_at, is_waiting, free, says, Said}
 use Rattle.rbc_spec.specs.OwnSteps.{begins}
-use Rattle.rbc_spec.specs.Quiet.{Quiet, Keep, Unkeep, Admit, Dismiss, LayDown, TakeUp, Propose, Order, EndOrder, TakesQuiet, TakesAll}
-use Rattle.law_base.proofs.Lines.{one_home}
-use Rattle.law_base.proofs.Lists.{any-range}
+use Rattle.rbc_spec.specs.Place.{covered, Place}
+use Rattle.rbc_spec.specs.Quiet.{Admit, Dismiss, EndOrder, Keep, LayDown, Order, Propose, Quiet, TakesAll, TakesQuiet}
+use Rattle.rbc_spec.specs.Quiet.{TakeUp, Unkeep}
+use Rattle.rbc_spec.specs.SectionRuns.{within}
 
 -- a section that a start of the train waits for at the centre
 pub record IsWaited (line : Line) (v : LineState) (t c s : ℕ) : Type 0 where
@@ -20,7 +22,8 @@ pub record IsWaited (line : Line) (v : LineState) (t c s : ℕ) : Type 0 where
   pub waits : is_waiting_at line v t c s ≡ true
 
 pub record WaitsKeep (line : Line) (v : LineState) : Type 0 where
-  pub each : (t c : ℕ) (place : Place) (s : ℕ) → v.wait t c ≡ Some place → within (covered line place) s ≡ true → IsWaited line v t c s
+  pub each : (t c : ℕ) (place : Place) (s : ℕ) → v.wait t c ≡ Some place → within (covered line place) s ≡ true
+      → IsWaited line v t c s
 
 pub if_not : {X : Type 0} (b : Bool) (x y : X) → (b ≡ true → ⊥) → (if b then x else y) ≡ y
 if_not true x y never = absurd (never refl)
@@ -29,17 +32,21 @@ if_not false x y never = refl
 pub kept_is : (t u : ℕ) → ◌≡◌ {A = Mark} (Kept t) (Kept u) → t ≡ u
 kept_is t u h = cc
 
-pub waiting_is : (line : Line) (v : LineState) (t c s : ℕ) → is_waiting_at line v t c s ≡ true → (place : Place) × (v.wait t c ≡ Some place) × (within (covered line place) s ≡ true)
+pub waiting_is : (line : Line) (v : LineState) (t c s : ℕ) → is_waiting_at line v t c s ≡ true → (place : Place)
+    × (v.wait t c ≡ Some place) × (within (covered line place) s ≡ true)
 waiting_is line v t c s = by_place (v.wait t c)
   where
-    by_place : (o : Option Place) → option_map_or (λ place. within (covered line place) s) o false ≡ true → (place : Place) × (o ≡ Some place) × (within (covered line place) s ≡ true)
+    by_place : (o : Option Place) → option_map_or (λ place. within (covered line place) s) o false ≡ true
+        → (place : Place) × (o ≡ Some place) × (within (covered line place) s ≡ true)
     by_place None h = cc
     by_place (Some place) h = (place, refl, h)
 
-pub waiting_at : (line : Line) (v : LineState) (t c s : ℕ) (place : Place) → v.wait t c ≡ Some place → within (covered line place) s ≡ true → is_waiting_at line v t c s ≡ true
-waiting_at line v t c s place waits in_place = ap (λ (o : Option Place). option_map_or (λ p. within (covered line p) s) o false) waits ∙ in_place
+pub waiting_at : (line : Line) (v : LineState) (t c s : ℕ) (place : Place) → v.wait t c ≡ Some place
+    → within (covered line place) s ≡ true → is_waiting_at line v t c s ≡ true
+waiting_at line v t c s place waits in_place =
+    ap (λ (o : Option Place). option_map_or (λ p. within (covered line p) s) o false) waits ∙ in_place
 
--- what is put at a pair, and what stands elsewhere
+-- the value put at a pair, and the values elsewhere
 pub data PutAt {X : Type 0} (f : ℕ → ℕ → X) (j k : ℕ) (value : X) (a b : ℕ) : Type 0 where
   there : a ≡ j → b ≡ k → put_pair f j k value a b ≡ value → PutAt f j k value a b
   elsewhere : (a ≡ j → b ≡ k → ⊥) → put_pair f j k value a b ≡ f a b → PutAt f j k value a b
@@ -55,22 +62,37 @@ put_at f j k value a b = elim (eqb_tells a j) [
 
 module _ (line : Line) (v : LineState) (keep : WaitsKeep line v) where
   -- starts wait on, and their sections stay as they are
-  pub wait_on : (new : LineState) → new.wait ≡ v.wait → ((t c s : ℕ) → IsWaited line v t c s → new.mark s ≡ v.mark s) → WaitsKeep line new
+  pub wait_on : (new : LineState) → new.wait ≡ v.wait → ((t c s : ℕ) → IsWaited line v t c s → new.mark s ≡ v.mark s)
+      → WaitsKeep line new
   wait_on new same stay = record {
     each = λ t c place s waits in_place.
         let was = keep.each t c place s (sym (ap (λ (f : ℕ → ℕ → Option Place). f t c) same) ∙ waits) in_place in
-        record { kept = stay t c s was ∙ was.kept; home = was.home; centre = was.centre; waits = waiting_at line new t c s place waits in_place };
+        record {
+          kept = stay t c s was ∙ was.kept;
+          home = was.home;
+          centre = was.centre;
+          waits = waiting_at line new t c s place waits in_place;
+        };
   }
 
   -- a start waits no longer, and only its sections change
-  pub wait_ends : (new : LineState) (t c : ℕ) → new.wait ≡ put_pair v.wait t c None → ((s : ℕ) → (IsWaited line v t c s → ⊥) → new.mark s ≡ v.mark s) → WaitsKeep line new
-  wait_ends new t c same stay = record { each = λ u d place s waits in_place. by_pair u d place s (put_at v.wait t c None u d) (sym (ap (λ (f : ℕ → ℕ → Option Place). f u d) same) ∙ waits) in_place (waiting_at line new u d s place waits in_place) }
+  pub wait_ends : (new : LineState) (t c : ℕ) → new.wait ≡ put_pair v.wait t c None
+      → ((s : ℕ) → (IsWaited line v t c s → ⊥) → new.mark s ≡ v.mark s) → WaitsKeep line new
+  wait_ends new t c same stay =
+      record {
+        each = λ u d place s waits in_place. by_pair u d place s (put_at v.wait t c None u d)
+            (sym (ap (λ (f : ℕ → ℕ → Option Place). f u d) same) ∙ waits) in_place
+            (waiting_at line new u d s place waits in_place);
+      }
     where
-      by_pair : (u d : ℕ) (place : Place) (s : ℕ) → PutAt v.wait t c None u d → put_pair v.wait t c None u d ≡ Some place → within (covered line place) s ≡ true → is_waiting_at line new u d s ≡ true → IsWaited line new u d s
+      by_pair : (u d : ℕ) (place : Place) (s : ℕ) → PutAt v.wait t c None u d
+          → put_pair v.wait t c None u d ≡ Some place → within (covered line place) s ≡ true
+          → is_waiting_at line new u d s ≡ true → IsWaited line new u d s
       by_pair u d place s (there a b is) waits in_place now = let wrong : None ≡ Some place = sym is ∙ waits in cc
       by_pair u d place s (elsewhere apart is) waits in_place now =
           let was = keep.each u d place s (sym is ∙ waits) in_place in
-          let other : IsWaited line v t c s → ⊥ = λ w. apart (kept_is u t (sym was.kept ∙ w.kept)) (one_home line d c s was.home w.home) in
+          let other : IsWaited line v t c s
+          → ⊥ = λ w. apart (kept_is u t (sym was.kept ∙ w.kept)) (one_home line d c s was.home w.home) in
           record { kept = stay s other ∙ was.kept; home = was.home; centre = was.centre; waits = now }
 
   pub is_waited : (t c s : ℕ) → is_waiting_at line v t c s ≡ true → IsWaited line v t c s
@@ -98,8 +120,9 @@ pub record Leaves (line : Line) (v new : LineState) : Type 0 where
   pub waits : WaitsKeep line new
 
 module _ (line : Line) (v : LineState) (keep : WaitsKeep line v) where
-  -- where only open and kept sections change
-  pub loose_leaves : (new : LineState) (test : ℕ → Bool) → ((s : ℕ) → (test s ≡ true → ⊥) → new.mark s ≡ v.mark s) → ((s : ℕ) → test s ≡ true → IsLoose (v.mark s))
+  -- if only open and kept sections change
+  pub loose_leaves : (new : LineState) (test : ℕ → Bool) → ((s : ℕ) → (test s ≡ true → ⊥) → new.mark s ≡ v.mark s)
+      → ((s : ℕ) → test s ≡ true → IsLoose (v.mark s))
       → ((s : ℕ) → v.wish s ≡ false → new.wish s ≡ false) → WaitsKeep line new → Leaves line v new
   loose_leaves new test stay loose unwished waits = record {
     given = λ u s is. stay s (λ so. loose_not_given (v.mark s) u (loose s so) is) ∙ is;
@@ -119,46 +142,62 @@ module _ (line : Line) (v : LineState) (keep : WaitsKeep line v) where
   freed_unwished false wish is = refl
 
   -- a section that is not the start's own for which it waits
-  pub not_waiting_kept : (t s : ℕ) → v.mark s ≡ Kept t → is_waiting line v t s ≡ false → (u d e : ℕ) → IsWaited line v u d e → e ≡ s → ⊥
+  pub not_waiting_kept : (t s : ℕ) → v.mark s ≡ Kept t → is_waiting line v t s ≡ false → (u d e : ℕ)
+      → IsWaited line v u d e → e ≡ s → ⊥
   not_waiting_kept t s kept none u d e waited same =
       let train : u ≡ t = kept_is u t (sym waited.kept ∙ ap v.mark same ∙ kept) in
-      let is : is_waiting_at line v t d s ≡ true = sym (ap (λ (x : ℕ). is_waiting_at line v x d e) train ∙ ap (is_waiting_at line v t d) same) ∙ waited.waits in
+      let is : is_waiting_at line v t d s ≡ true =
+      sym (ap (λ (x : ℕ). is_waiting_at line v x d e) train ∙ ap (is_waiting_at line v t d) same) ∙ waited.waits in
       let low = ltb-true d (length line.centres) waited.centre in
-      let wrong : true ≡ false = sym (any-range (λ x. is_waiting_at line v t x s) 0 (length line.centres) d (omega arith) (omega (arith, low)) is) ∙ none in
+      let wrong : true ≡ false =
+      sym (any-range (λ x. is_waiting_at line v t x s) 0 (length line.centres) d (omega arith)
+      (omega (arith, low)) is) ∙ none in
       cc
 
   keep_leaves : (t s : ℕ) → v.mark s ≡ Open → Leaves line v (record v { mark = put v.mark s (Kept t) })
   keep_leaves t s is = loose_leaves (record v { mark = put v.mark s (Kept t) }) (λ e. e == s)
-      (λ e other. if_not (e == s) (Kept t) (v.mark e) other) (λ e so. opened (ap v.mark (eqb-true e s so) ∙ is)) (λ e unwished. unwished)
+      (λ e other. if_not (e == s) (Kept t) (v.mark e) other) (λ e so. opened (ap v.mark (eqb-true e s so) ∙ is))
+      (λ e unwished. unwished)
       (wait_on line v keep (record v { mark = put v.mark s (Kept t) }) refl
-      (λ u d e waited. if_not (e == s) (Kept t) (v.mark e) (λ so. let wrong : Kept u ≡ Open = sym waited.kept ∙ ap v.mark (eqb-true e s so) ∙ is in cc)))
+      (λ u d e waited. if_not (e == s) (Kept t) (v.mark e) (λ so. let wrong : Kept u ≡ Open = sym waited.kept
+      ∙ ap v.mark (eqb-true e s so) ∙ is in cc)))
 
   unkeep_leaves : (t s : ℕ) → v.mark s ≡ Kept t → is_waiting line v t s ≡ false → Leaves line v (free (λ e. e == s) v)
   unkeep_leaves t s is none = loose_leaves (free (λ e. e == s) v) (λ e. e == s)
-      (λ e other. if_not (e == s) (if v.wish e then Shut else Open) (v.mark e) other) (λ e so. kept_for t (ap v.mark (eqb-true e s so) ∙ is)) (λ e unwished. freed_unwished (not (e == s)) (v.wish e) unwished)
+      (λ e other. if_not (e == s) (if v.wish e then Shut else Open) (v.mark e) other)
+      (λ e so. kept_for t (ap v.mark (eqb-true e s so) ∙ is))
+      (λ e unwished. freed_unwished (not (e == s)) (v.wish e) unwished)
       (wait_on line v keep (free (λ e. e == s) v) refl
-      (λ u d e waited. if_not (e == s) (if v.wish e then Shut else Open) (v.mark e) (λ so. not_waiting_kept t s is none u d e waited (eqb-true e s so))))
+      (λ u d e waited. if_not (e == s) (if v.wish e then Shut else Open) (v.mark e)
+      (λ so. not_waiting_kept t s is none u d e waited (eqb-true e s so))))
 
-  admit_leaves : (t c : ℕ) (place : Place) → v.wait t c ≡ Some place → Leaves line v (says t c (record (begins line t c place v) { wait = put_pair v.wait t c None }))
+  admit_leaves : (t c : ℕ) (place : Place) → v.wait t c ≡ Some place
+      → Leaves line v (says t c (record (begins line t c place v) { wait = put_pair v.wait t c None }))
   admit_leaves t c place waits =
       let new : LineState = says t c (record (begins line t c place v) { wait = put_pair v.wait t c None }) in
       loose_leaves new (within (covered line place))
-      (λ e other. if_not (within (covered line place) e) (Given t) (v.mark e) other) (λ e so. kept_for t (keep.each t c place e waits so).kept) (λ e unwished. unwished)
-      (wait_ends line v keep new t c refl (λ e other. if_not (within (covered line place) e) (Given t) (v.mark e) (λ so. other (keep.each t c place e waits so))))
+      (λ e other. if_not (within (covered line place) e) (Given t) (v.mark e) other)
+      (λ e so. kept_for t (keep.each t c place e waits so).kept) (λ e unwished. unwished)
+      (wait_ends line v keep new t c refl (λ e other. if_not (within (covered line place) e) (Given t) (v.mark e)
+      (λ so. other (keep.each t c place e waits so))))
 
-  -- a start ends, and what it waited for is freed
-  pub end_leaves : (t c : ℕ) (new : LineState) → new.mark ≡ (free (is_waiting_at line v t c) v).mark → new.wish ≡ (free (is_waiting_at line v t c) v).wish → new.wait ≡ put_pair v.wait t c None → Leaves line v new
+  -- a start ends, and the sections for which it waited are freed
+  pub end_leaves : (t c : ℕ) (new : LineState) → new.mark ≡ (free (is_waiting_at line v t c) v).mark
+      → new.wish ≡ (free (is_waiting_at line v t c) v).wish → new.wait ≡ put_pair v.wait t c None → Leaves line v new
   end_leaves t c new marks wishes waits =
       loose_leaves new (is_waiting_at line v t c) stay (λ e so. kept_for t (is_waited line v keep t c e so).kept)
-      (λ e unwished. ap (λ (f : ℕ → Bool). f e) wishes ∙ freed_unwished (not (is_waiting_at line v t c e)) (v.wish e) unwished)
+      (λ e unwished. ap (λ (f : ℕ → Bool). f e) wishes
+      ∙ freed_unwished (not (is_waiting_at line v t c e)) (v.wish e) unwished)
       (wait_ends line v keep new t c waits (λ e other. stay e (λ so. other (is_waited line v keep t c e so))))
     where
       stay : (e : ℕ) → (is_waiting_at line v t c e ≡ true → ⊥) → new.mark e ≡ v.mark e
-      stay e other = ap (λ (f : ℕ → Mark). f e) marks ∙ if_not (is_waiting_at line v t c e) (if v.wish e then Shut else Open) (v.mark e) other
+      stay e other = ap (λ (f : ℕ → Mark). f e) marks
+          ∙ if_not (is_waiting_at line v t c e) (if v.wish e then Shut else Open) (v.mark e) other
 
   pub quiet_leaves : (q : Quiet) (said : Said) (new : LineState) → TakesQuiet line v q said new → Leaves line v new
   quiet_leaves (Keep t s) said new h = subst (Leaves line v) (sym h.leaves.new_is) (keep_leaves t s h.is_open)
-  quiet_leaves (Unkeep t s) said new h = subst (Leaves line v) (sym h.tells.new_is) (unkeep_leaves t s h.is_kept h.not_waiting)
+  quiet_leaves (Unkeep t s) said new h =
+      subst (Leaves line v) (sym h.tells.new_is) (unkeep_leaves t s h.is_kept h.not_waiting)
   quiet_leaves (Admit t c) said new h = subst (Leaves line v) (sym h.says.new_is) (admit_leaves t c h.place h.waits)
   quiet_leaves (Dismiss t c) said new h = subst (Leaves line v) (sym h.says.new_is) (end_leaves t c _ refl refl refl)
   quiet_leaves (LayDown t c) said new h = subst (Leaves line v) (sym h.leaves.new_is) (plain_leaves _ refl refl refl)
@@ -167,8 +206,10 @@ module _ (line : Line) (v : LineState) (keep : WaitsKeep line v) where
   quiet_leaves (Order t c) said new h = subst (Leaves line v) (sym h.says.new_is) (plain_leaves _ refl refl refl)
   quiet_leaves (EndOrder t c) said new h = subst (Leaves line v) (sym h.says.new_is) (plain_leaves _ refl refl refl)
 
-pub quiets_leave : (line : Line) (v : LineState) → WaitsKeep line v → (qs : List Quiet) (said : Said) (new : LineState) → TakesAll line v qs said new → Leaves line v new
-quiets_leave line v keep [] said new h = plain_leaves line v keep new (ap (λ (x : LineState). x.mark) h.1) (ap (λ (x : LineState). x.wish) h.1) (ap (λ (x : LineState). x.wait) h.1)
+pub quiets_leave : (line : Line) (v : LineState) → WaitsKeep line v → (qs : List Quiet) (said : Said) (new : LineState)
+    → TakesAll line v qs said new → Leaves line v new
+quiets_leave line v keep [] said new h = plain_leaves line v keep new (ap (λ (x : LineState). x.mark) h.1)
+    (ap (λ (x : LineState). x.wish) h.1) (ap (λ (x : LineState). x.wait) h.1)
 quiets_leave line v keep (q ∷ qs) said new (first, others, mid, step, rest, same) =
     let one = quiet_leaves line v keep q first mid step in
     let two = quiets_leave line mid one.waits qs others new rest in

@@ -1,26 +1,31 @@
--- The one line centre has a centre's reasons of silence, in each world that a state of it stands for.
-use Rattle.std.proofs.Common.{◌≡◌, ◌⊎◌, inl, inr, ℕ, ◌+◌, ◌-◌, ◌*◌, ◌<◌, ◌==◌, ◌&&◌, not, if◌then◌else◌, Bool, true, false, nat_le, Option, Some, None, is_none, is_some, refl, sym, ap, ◌∙◌, subst, arith, ⊎_elim, eq-eqb}
-use Rattle.std.specs.Option.{option_map_or}
+-- The one line centre has a centre's reasons of silence, in each world that its state represents.
+use Rattle.std.proofs.Common.{⊎_elim, ◌&&◌, ◌*◌, ◌+◌, ◌-◌, ◌<◌, ◌==◌, ◌∙◌, ◌≡◌, ◌⊎◌, ap, arith, Bool, eq-eqb, false}
+use Rattle.std.proofs.Common.{if◌then◌else◌, inl, inr, is_none, is_some, nat_le, None, not, Option, refl, Some, subst}
+use Rattle.std.proofs.Common.{sym, true, ℕ}
+use Rattle.std.proofs.lemmas.Bool.{and_left, and_parts, cases_Bool}
 use Rattle.std.specs.List.{find}
-use Rattle.std.proofs.lemmas.Bool.{cases_Bool, and_left, and_parts}
-use Rattle.rbc_spec.specs.SectionRuns.{within, next_after}
-use Rattle.rbc_spec.specs.Line.{Line, end}
-use Rattle.rbc_spec.specs.Sections.{section_count}
-use Rattle.rbc_spec.specs.Place.{Position, group_start, place_on}
-use Rattle.rbc_spec.specs.Message.{TrainMessage, TrainBody, TrainData, Request, Report, ShorteningGranted, ShorteningRejected, EndOfMission, InitiationOfSession, TerminationOfSession, StartOfMission, SessionEstablished, is_stale}
-use Rattle.rbc_spec.specs.Outcome.{Reason, StaleStamp, NoSession, ForeignEngine, NoPlace, NotSupervised, NoTrainData, ProposalPending, Unasked, MissionEnded, WrongPhase, reasons_of}
+use Rattle.std.specs.Option.{option_map_or}
+use Rattle.law_base.proofs.Lists.{find-range}
+use Rattle.law_base.proofs.Runs.{within_after, within_from, within_true}
+use Rattle.law_base.specs.Rules.Silences.{EndsOnLine, HasEndIfAsked}
+use Rattle.rbc_spec.proofs.Held.{held_as, held_first, is_seen, is_the_centres, is_there}
 use Rattle.rbc_spec.specs.Centre as centre
-use Rattle.rbc_spec.specs.Centre.{is_up, is_expected, is_closed}
+use Rattle.rbc_spec.specs.Centre.{is_closed, is_expected, is_up}
+use Rattle.rbc_spec.specs.Line.{end, Line}
 use Rattle.rbc_spec.specs.LineCentre as line_centre
-use Rattle.rbc_spec.specs.LineCentre.{LineState, is_at, is_given_to}
+use Rattle.rbc_spec.specs.LineCentre.{is_at, is_given_to, LineState}
+use Rattle.rbc_spec.specs.Message.{EndOfMission, InitiationOfSession, is_stale, Report, Request, SessionEstablished}
+use Rattle.rbc_spec.specs.Message.{ShorteningGranted, ShorteningRejected, StartOfMission, TerminationOfSession}
+use Rattle.rbc_spec.specs.Message.{TrainBody, TrainData, TrainMessage}
+use Rattle.rbc_spec.specs.Outcome.{ForeignEngine, MissionEnded, NoPlace, NoSession, NoTrainData, NotSupervised}
+use Rattle.rbc_spec.specs.Outcome.{ProposalPending, Reason, reasons_of, StaleStamp, Unasked, WrongPhase}
+use Rattle.rbc_spec.specs.Place.{group_start, place_on, Position}
+use Rattle.rbc_spec.specs.ReadOff.{seen, StandsFor}
+use Rattle.rbc_spec.specs.Run as run
+use Rattle.rbc_spec.specs.SectionRuns.{next_after, within}
+use Rattle.rbc_spec.specs.Sections.{section_count}
 use Rattle.rbc_spec.specs.Step as step
 use Rattle.rbc_spec.specs.World.{World}
-use Rattle.rbc_spec.specs.Run as run
-use Rattle.rbc_spec.specs.ReadOff.{StandsFor, seen}
-use Rattle.rbc_spec.proofs.Held.{held_as, is_seen, is_there, is_the_centres, held_first}
-use Rattle.law_base.proofs.Lists.{find-range}
-use Rattle.law_base.specs.Rules.Silences.{EndsOnLine, HasEndIfAsked}
-use Rattle.law_base.proofs.Runs.{within_true, within_from, within_after}
 
 true_and : (a b : Bool) → a ≡ true → (a && b) ≡ b
 true_and true b is = refl
@@ -33,23 +38,29 @@ module _ (line : Line) (w : World) (v : LineState) (stands : StandsFor line w v)
   abbrev mission : Option centre.Mission
   mission = k.mission t
 
-  here_at : (test : line_centre.LineMission → Bool) (n : centre.Mission) → mission ≡ Some n → run.has_here v c t test ≡ test (seen c n)
+  here_at : (test : line_centre.LineMission → Bool) (n : centre.Mission) → mission ≡ Some n
+      → run.has_here v c t test ≡ test (seen c n)
   here_at test n has =
-      ap (λ (o : Option line_centre.LineMission). option_map_or (λ m. is_at c m.supervisor && test m) o false) (is_seen line w v stands t c n has) ∙ true_and (c == c) (test (seen c n)) (eq-eqb c c refl)
+      ap (λ (o : Option line_centre.LineMission). option_map_or (λ m. is_at c m.supervisor && test m) o false)
+      (is_seen line w v stands t c n has) ∙ true_and (c == c) (test (seen c n)) (eq-eqb c c refl)
 
   not_here : (test : line_centre.LineMission → Bool) → mission ≡ None → run.has_here v c t test ≡ false
   not_here test none = by_mission (v.mission t) refl
     where
-      away : (m : line_centre.LineMission) → v.mission t ≡ Some m → (b : Bool) → is_at c m.supervisor ≡ b → is_at c m.supervisor ≡ false
+      away : (m : line_centre.LineMission) → v.mission t ≡ Some m → (b : Bool) → is_at c m.supervisor ≡ b
+          → is_at c m.supervisor ≡ false
       away m is false at = at
-      away m is true at = absurd (let theirs = is_the_centres line w v stands t c m is at in let wrong : None ≡ Some theirs.0 = sym none ∙ theirs.1 in cc)
+      away m is true at = absurd (let theirs = is_the_centres line w v stands t c m is at in
+          let wrong : None ≡ Some theirs.0 = sym none ∙ theirs.1 in cc)
 
-      by_mission : (o : Option line_centre.LineMission) → v.mission t ≡ o → option_map_or (λ m. is_at c m.supervisor && test m) o false ≡ false
+      by_mission : (o : Option line_centre.LineMission) → v.mission t ≡ o
+          → option_map_or (λ m. is_at c m.supervisor && test m) o false ≡ false
       by_mission (Some m) is = and_left (is_at c m.supervisor) (test m) (away m is (is_at c m.supervisor) refl)
       by_mission None is = refl
 
-  -- the centre's mission passes one test exactly where the line's passes the other
-  pub here_is : (test : line_centre.LineMission → Bool) (other : centre.Mission → Bool) → ((n : centre.Mission) → mission ≡ Some n → test (seen c n) ≡ other n)
+  -- the centre's mission passes one test if and only if the line's mission passes the other
+  pub here_is : (test : line_centre.LineMission → Bool) (other : centre.Mission → Bool)
+      → ((n : centre.Mission) → mission ≡ Some n → test (seen c n) ≡ other n)
       → run.has_here v c t test ≡ step.mission_has other mission
   here_is test other same = by_mission mission refl
     where
@@ -58,29 +69,36 @@ module _ (line : Line) (w : World) (v : LineState) (stands : StandsFor line w v)
       by_mission None is = not_here test is
 
   -- the last section of the train's hand
-  last_is : (n : centre.Mission) → mission ≡ Some n → EndsOnLine line n.hand → run.last_of_hand line v t ≡ Some (next_after n.hand - 1)
+  last_is : (n : centre.Mission) → mission ≡ Some n → EndsOnLine line n.hand
+      → run.last_of_hand line v t ≡ Some (next_after n.hand - 1)
   last_is n has ok =
       let last : ℕ = next_after n.hand - 1 in
-      find-range (λ s. is_given_to t (v.mark s) && not (is_given_to t (v.mark (s + 1)))) 0 (section_count line) last (omega arith) (omega (arith, ok.some, ok.last))
-      (ap (λ b. b && not (is_given_to t (v.mark (last + 1)))) (given last ∙ within_from n.hand last (omega (arith, ok.some)) (omega (arith, ok.some)))
+      find-range (λ s. is_given_to t (v.mark s) && not (is_given_to t (v.mark (s + 1)))) 0 (section_count line) last
+      (omega arith) (omega (arith, ok.some, ok.last))
+      (ap (λ b. b && not (is_given_to t (v.mark (last + 1)))) (given last
+      ∙ within_from n.hand last (omega (arith, ok.some)) (omega (arith, ok.some)))
       ∙ ap not (given (last + 1) ∙ within_after n.hand (last + 1) (omega (arith, ok.some))))
       (λ e low high. before e high)
     where
       given : (s : ℕ) → is_given_to t (v.mark s) ≡ within n.hand s
-      given = (stands.hands t (held_as (seen c n) n.hand) (held_first line w v stands t (held_as (seen c n) n.hand) (is_there line w v stands t c n has))).each
+      given = (stands.hands t (held_as (seen c n) n.hand)
+          (held_first line w v stands t (held_as (seen c n) n.hand) (is_there line w v stands t c n has))).each
 
-      before : (e : ℕ) → e < next_after n.hand - 1 → (is_given_to t (v.mark e) && not (is_given_to t (v.mark (e + 1)))) ≡ false
+      before : (e : ℕ) → e < next_after n.hand - 1
+          → (is_given_to t (v.mark e) && not (is_given_to t (v.mark (e + 1)))) ≡ false
       before e high = ⊎_elim
           (λ (is : within n.hand e ≡ true). let ends = within_true n.hand e is in
           let next : within n.hand (e + 1) ≡ true = within_from n.hand (e + 1) (omega arith) (omega arith) in
           rw (given e ∙ is, given (e + 1) ∙ next) refl)
-          (λ (out : within n.hand e ≡ false). and_left (is_given_to t (v.mark e)) (not (is_given_to t (v.mark (e + 1)))) (given e ∙ out))
+          (λ (out : within n.hand e ≡ false). and_left (is_given_to t (v.mark e))
+          (not (is_given_to t (v.mark (e + 1)))) (given e ∙ out))
           (cases_Bool (within n.hand e))
 
   may_request_is : (position : Position) (n : centre.Mission) → mission ≡ Some n → EndsOnLine line n.hand
       → run.may_request_at line v t (seen c n) position ≡ step.may_request line n position
   may_request_is position n has ok = ap (λ (last : Option ℕ). option_map_or
-      (λ place. option_map_or (λ s. nat_le place.front (10 * end line s) && nat_le (end line s) (group_start line place + 32767)) last false)
+      (λ place. option_map_or (λ s. nat_le place.front (10 * end line s)
+      && nat_le (end line s) (group_start line place + 32767)) last false)
       (place_on line n.place.track position) false) (last_is n has ok)
 
   supervised_is : not (run.has_here v c t (λ n. true)) ≡ is_none mission
@@ -106,13 +124,16 @@ module _ (line : Line) (w : World) (v : LineState) (stands : StandsFor line w v)
     same_phase InitiationOfSession = rw (stands.phase t c) refl
     same_phase TerminationOfSession = rw (stands.phase t c) refl
 
-    same_place : (body : TrainBody) → HasEndIfAsked line k (m body) → run.holds line v c (m body) body NoPlace ≡ step.has_no_place line mission body
+    same_place : (body : TrainBody) → HasEndIfAsked line k (m body)
+        → run.holds line v c (m body) body NoPlace ≡ step.has_no_place line mission body
     same_place SessionEstablished ok = refl
     same_place (StartOfMission is_valid position) ok = refl
     same_place (TrainData position) ok = refl
     same_place (Request position) ok =
-        here_is (λ n. not (run.may_request_at line v t n position)) (λ n. not (step.may_request line n position)) (λ n has. ap not (may_request_is position n has (ok position n refl has)))
-    same_place (Report position) ok = here_is (λ n. is_none (place_on line n.place.track position)) (λ n. is_none (place_on line n.place.track position)) (λ n has. refl)
+        here_is (λ n. not (run.may_request_at line v t n position)) (λ n. not (step.may_request line n position))
+        (λ n has. ap not (may_request_is position n has (ok position n refl has)))
+    same_place (Report position) ok = here_is (λ n. is_none (place_on line n.place.track position))
+        (λ n. is_none (place_on line n.place.track position)) (λ n has. refl)
     same_place (ShorteningGranted s position) ok = refl
     same_place (ShorteningRejected s position) ok = refl
     same_place (EndOfMission position) ok = refl
@@ -125,8 +146,10 @@ module _ (line : Line) (w : World) (v : LineState) (stands : StandsFor line w v)
     same_ask (TrainData position) = refl
     same_ask (Request position) = refl
     same_ask (Report position) = refl
-    same_ask (ShorteningGranted s position) = ap not (here_is (run.answers_it s) (λ n. option_map_or (λ p. p.stamp == s) n.proposal false) (λ n has. refl))
-    same_ask (ShorteningRejected s position) = ap not (here_is (run.answers_it s) (λ n. option_map_or (λ p. p.stamp == s) n.proposal false) (λ n has. refl))
+    same_ask (ShorteningGranted s position) =
+        ap not (here_is (run.answers_it s) (λ n. option_map_or (λ p. p.stamp == s) n.proposal false) (λ n has. refl))
+    same_ask (ShorteningRejected s position) =
+        ap not (here_is (run.answers_it s) (λ n. option_map_or (λ p. p.stamp == s) n.proposal false) (λ n has. refl))
     same_ask (EndOfMission position) = refl
     same_ask InitiationOfSession = refl
     same_ask TerminationOfSession = refl
@@ -136,7 +159,8 @@ module _ (line : Line) (w : World) (v : LineState) (stands : StandsFor line w v)
     without_waiting body NotSupervised = is_none mission
     without_waiting body why = step.holds line c k (m body) why
 
-    same_reason : (body : TrainBody) → HasEndIfAsked line k (m body) → (why : Reason) → run.holds line v c (m body) body why ≡ without_waiting body why
+    same_reason : (body : TrainBody) → HasEndIfAsked line k (m body) → (why : Reason)
+        → run.holds line v c (m body) body why ≡ without_waiting body why
     same_reason body ok StaleStamp = ap (is_stale t_train) (stands.heard t c)
     same_reason body ok NoSession = ap is_closed (stands.phase t c)
     same_reason body ok ForeignEngine = refl
@@ -148,17 +172,20 @@ module _ (line : Line) (w : World) (v : LineState) (stands : StandsFor line w v)
     same_reason body ok MissionEnded = here_is (λ n. n.is_ended) (λ n. n.is_ended) (λ n has. refl)
     same_reason body ok WrongPhase = same_phase body
 
-    pub run_is : (body : TrainBody) → HasEndIfAsked line k (m body) → run.silence line v c (m body) ≡ find (without_waiting body) (reasons_of body)
+    pub run_is : (body : TrainBody) → HasEndIfAsked line k (m body)
+        → run.silence line v c (m body) ≡ find (without_waiting body) (reasons_of body)
     run_is body ok = ap (λ (test : Reason → Bool). find test (reasons_of body)) (λ i why. same_reason body ok why i)
 
     -- ## A report
 
     abbrev found : Bool → Bool → Bool → Bool → Bool → Bool → Option Reason
     found foreign stale closed early elsewhere off =
-        if foreign then Some ForeignEngine else (if stale then Some StaleStamp else (if closed then Some NoSession else (if early then Some WrongPhase
+        if foreign then Some ForeignEngine else
+        (if stale then Some StaleStamp else (if closed then Some NoSession else (if early then Some WrongPhase
         else (if elsewhere then Some NotSupervised else (if off then Some NoPlace else None)))))
 
-    report_silent : (f s n e u a p : Bool) (why : Reason) → (u ≡ true → p ≡ false) → found f s n e (u && not a) p ≡ Some why → found f s n e u p ≡ Some why
+    report_silent : (f s n e u a p : Bool) (why : Reason) → (u ≡ true → p ≡ false)
+        → found f s n e (u && not a) p ≡ Some why → found f s n e u p ≡ Some why
     report_silent true s n e u a p why none is = is
     report_silent false true n e u a p why none is = is
     report_silent false false true e u a p why none is = is
@@ -168,7 +195,8 @@ module _ (line : Line) (w : World) (v : LineState) (stands : StandsFor line w v)
     report_silent false false false false true false p why none is = is
     report_silent false false false false false a p why none is = is
 
-    report_heard : (position : Position) (f s n e u a p : Bool) → (a ≡ true → run.has_front_at line c position ≡ true) → found f s n e (u && not a) p ≡ None
+    report_heard : (position : Position) (f s n e u a p : Bool) → (a ≡ true → run.has_front_at line c position ≡ true)
+        → found f s n e (u && not a) p ≡ None
         → (found f s n e u p ≡ None) ⊎ (run.may_listen line c (Report position) (found f s n e u p) ≡ true)
     report_heard position true s n e u a p front is = cc
     report_heard position false true n e u a p front is = cc
@@ -178,7 +206,8 @@ module _ (line : Line) (w : World) (v : LineState) (stands : StandsFor line w v)
     report_heard position false false false false true false p front is = cc
     report_heard position false false false false false a p front is = inl is
 
-    no_place_of_none : (position : Position) → is_none mission ≡ true → step.has_no_place line mission (Report position) ≡ false
+    no_place_of_none : (position : Position) → is_none mission ≡ true
+        → step.has_no_place line mission (Report position) ≡ false
     no_place_of_none position = by_mission mission
       where
         by_mission : (o : Option centre.Mission) → is_none o ≡ true → step.has_no_place line o (Report position) ≡ false
@@ -187,14 +216,18 @@ module _ (line : Line) (w : World) (v : LineState) (stands : StandsFor line w v)
 
     -- ## Every message
 
-    same_if : (body : TrainBody) → HasEndIfAsked line k (m body) → step.silence line c k (m body) ≡ find (without_waiting body) (reasons_of body)
+    same_if : (body : TrainBody) → HasEndIfAsked line k (m body)
+        → step.silence line c k (m body) ≡ find (without_waiting body) (reasons_of body)
         → run.silence line v c (m body) ≡ step.silence line c k (m body)
     same_if body ok same = run_is body ok ∙ sym same
 
-    pub silent : (body : TrainBody) (why : Reason) → HasEndIfAsked line k (m body) → step.silence line c k (m body) ≡ Some why → run.silence line v c (m body) ≡ Some why
+    pub silent : (body : TrainBody) (why : Reason) → HasEndIfAsked line k (m body)
+        → step.silence line c k (m body) ≡ Some why → run.silence line v c (m body) ≡ Some why
     silent (Report position) why ok is = run_is (Report position) ok
-        ∙ report_silent (step.holds line c k (m (Report position)) ForeignEngine) (step.holds line c k (m (Report position)) StaleStamp) (step.holds line c k (m (Report position)) NoSession)
-        (step.holds line c k (m (Report position)) WrongPhase) (is_none mission) (step.is_awaited line c k t position) (step.has_no_place line mission (Report position)) why (no_place_of_none position) is
+        ∙ report_silent (step.holds line c k (m (Report position)) ForeignEngine)
+        (step.holds line c k (m (Report position)) StaleStamp) (step.holds line c k (m (Report position)) NoSession)
+        (step.holds line c k (m (Report position)) WrongPhase) (is_none mission) (step.is_awaited line c k t position)
+        (step.has_no_place line mission (Report position)) why (no_place_of_none position) is
     silent SessionEstablished why ok is = same_if SessionEstablished ok refl ∙ is
     silent (StartOfMission is_valid position) why ok is = same_if (StartOfMission is_valid position) ok refl ∙ is
     silent (TrainData position) why ok is = same_if (TrainData position) ok refl ∙ is
@@ -207,9 +240,12 @@ module _ (line : Line) (w : World) (v : LineState) (stands : StandsFor line w v)
 
     pub heard : (body : TrainBody) → HasEndIfAsked line k (m body) → step.silence line c k (m body) ≡ None
         → (run.silence line v c (m body) ≡ None) ⊎ (run.may_listen line c body (run.silence line v c (m body)) ≡ true)
-    heard (Report position) ok is = subst (λ o. (o ≡ None) ⊎ (run.may_listen line c (Report position) o ≡ true)) (sym (run_is (Report position) ok))
-        (report_heard position (step.holds line c k (m (Report position)) ForeignEngine) (step.holds line c k (m (Report position)) StaleStamp) (step.holds line c k (m (Report position)) NoSession)
-        (step.holds line c k (m (Report position)) WrongPhase) (is_none mission) (step.is_awaited line c k t position) (step.has_no_place line mission (Report position))
+    heard (Report position) ok is = subst (λ o. (o ≡ None) ⊎ (run.may_listen line c (Report position) o ≡ true))
+        (sym (run_is (Report position) ok))
+        (report_heard position (step.holds line c k (m (Report position)) ForeignEngine)
+        (step.holds line c k (m (Report position)) StaleStamp) (step.holds line c k (m (Report position)) NoSession)
+        (step.holds line c k (m (Report position)) WrongPhase) (is_none mission) (step.is_awaited line c k t position)
+        (step.has_no_place line mission (Report position))
         (λ awaited. (and_parts (is_expected line k t) (run.has_front_at line c position) awaited).1) is)
     heard SessionEstablished ok is = inl (same_if SessionEstablished ok refl ∙ is)
     heard (StartOfMission is_valid position) ok is = inl (same_if (StartOfMission is_valid position) ok refl ∙ is)

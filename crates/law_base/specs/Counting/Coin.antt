@@ -1,4 +1,4 @@
--- An example: one coin that travels between centres, in letters that may come again, late or early.
+-- An example: one coin that travels between centres, in letters that may arrive again, late or early.
 use Rattle.std.specs.Prelude.{◌≡◌, ℕ, ◌+◌, ◌-◌, ◌<◌, ◌==◌, ◌⊎◌, ◌&&◌, Bool, true, false, if◌then◌else◌, nat_lt, List, [], ◌∷◌, Option, Some, None, slice_get}
 use Rattle.law_base.specs.Counting.Sums.{put, one_if}
 use Rattle.law_base.specs.Counting.Network.{Net, way, numbered, came, acted, to_one}
@@ -11,12 +11,12 @@ pub record Purse : Type 0 where
   pub wrote : ℕ → ℕ
   pub opened : ℕ → ℕ
 
--- a letter may have a coin inside, and says how many were written to the same centre before it
+-- a letter, perhaps with a coin inside, and the number of letters that were written to the same centre before it
 pub record Letter : Type 0 where
   pub full : Bool
   pub page : ℕ
 
--- centre c writes to d, or loses a coin, or a letter that was ever sent from a to b comes, by its number
+-- centre c writes to d, or loses a coin, or a letter that was ever sent from a to b arrives, by its number
 pub data Event : Type 0 where
   Writes : (c d : ℕ) → Event
   Loses : (c : ℕ) → Event
@@ -27,7 +27,7 @@ abbrev pub is_loss : Event → Bool
 is_loss (Loses c) = true
 is_loss _ = false
 
--- the letter to d, with a coin inside where there is one
+-- the letter to d, with a coin inside if there is one
 abbrev pub letter : ℕ → Purse → Letter
 letter d x = record { full = nat_lt 0 x.coins; page = x.wrote d }
 
@@ -48,16 +48,16 @@ after_opening a f x =
       opened = put x.opened a (x.opened a + 1);
     }
 
--- the purse after a letter comes: the next is opened, and an old or early one is not
+-- the purse after a letter arrives: the next is opened, and an old or early one is not
 abbrev pub after_coming : Net Purse Letter → ℕ → ℕ → ℕ → Letter → Purse
 after_coming w a b number f = if number == w.taken a b + 1 then after_opening a f (w.at b) else w.at b
 
--- only a letter that was sent comes
+-- only a letter that was sent arrives
 abbrev pub comes : Net Purse Letter → ℕ → ℕ → ℕ → Option Letter → Net Purse Letter
 comes w a b number None = w
 comes w a b number (Some f) = acted (came w a b number) b (after_coming w a b number f) (λ d. [])
 
--- among the centres below n
+-- the network after an event, if the centres of the event are below n
 abbrev pub happens : ℕ → Net Purse Letter → Event → Net Purse Letter
 happens n w (Writes c d) =
     if nat_lt c n && nat_lt d n then acted w c (after_writing d (w.at c)) (to_one d (letter d (w.at c) ∷ [])) else w
@@ -83,21 +83,21 @@ start =
 abbrev pub coin : Resource Purse Letter
 coin = record { held = λ c x. x.coins; inside = λ a b f. one_if f.full; cap = λ c x. one_if (c == 0) }
 
--- the coin is in one place: some centre alone has it, or it is on the way on one link
+-- the coin is in one place: only one centre has it, or it is on the way on one link
 abbrev pub IsInOnePlace : ℕ → Net Purse Letter → Type 0
 IsInOnePlace n w =
     ((c : ℕ) × (c < n) × OnlyHeld coin n w c) ⊎ ((a : ℕ) × (b : ℕ) × (a < n) × (b < n) × OnlyOnTheWay coin n w a b)
 
--- the coin is in one place at most: where a centre or a letter on the way has it, nobody else does
+-- the coin is in at most one place: if a centre or a letter on the way has it, nobody else does
 pub record IsInOnePlaceAtMost (n : ℕ) (w : Net Purse Letter) : Type 0 where
   pub centres : (c : ℕ) → c < n → 0 < (w.at c).coins → OnlyHeld coin n w c
   pub letters : (a b k : ℕ) (f : Letter) → a < n → b < n → slice_get (way w a b) k ≡ Some f → f.full ≡ true
       → OnlyOnTheWay coin n w a b
 
--- a letter is opened where as many were opened before it as it says
+-- a letter is opened if as many letters were opened before it as it names
 abbrev pub turn : Letter → ℕ → Option ℕ
 turn f opened = if f.page == opened then Some (opened + 1) else None
 
--- on each link what the one opened becomes, by the letters on the way, what the other wrote
+-- on each link, the letters on the way lead from the count of opened letters to the count of written ones
 pub record IsInTurn (w : Net Purse Letter) : Type 0 where
   pub chain : (a b : ℕ) → Chain turn (way w a b) ((w.at b).opened a) ((w.at a).wrote b)

@@ -1,5 +1,5 @@
--- Centres and the links between them. A link keeps every frame that was ever sent over it and counts those that
--- were taken, so a frame may be delivered again, late or early, and is taken only if it is the next.
+-- Centres and the links between them. A link keeps every frame that was ever sent over it, and counts those that were
+-- taken. So a frame may be delivered again, late or early, and is taken only if it is the next.
 use Rattle.std.specs.Prelude.{◌≡◌, ℕ, zero, suc, ◌+◌, ◌≤◌, ◌==◌, if◌then◌else◌, List, [], ◌∷◌, ◌++◌, length, drop, Option, None, slice_get, All}
 use Rattle.law_base.specs.Counting.Sums.{put, put_link}
 
@@ -17,7 +17,7 @@ way w a b = drop (w.taken a b) (w.sent a b)
 pub record IsCounted {X F : Type 0} (w : Net X F) : Type 0 where
   pub counts : (a b : ℕ) → w.taken a b ≤ length (w.sent a b)
 
--- each frame on the way from one centre to another is as P says
+-- each frame on the way between two centres has the property P
 pub record EachOnTheWay {X F : Type 0} (P : ℕ → ℕ → F → Type 0) (w : Net X F) : Type 0 where
   pub each : (a b : ℕ) → All (P a b) (way w a b)
 
@@ -30,11 +30,11 @@ numbered frames (suc k) = slice_get frames k
 abbrev pub took : {X F : Type 0} → Net X F → ℕ → ℕ → Net X F
 took w a b = record { at = w.at; sent = w.sent; taken = put_link w.taken a b (w.taken a b + 1) }
 
--- frame f is the head of what is on the way from a to b, and comes off it
+-- frame f is the head of the frames on the way from a to b, and leaves them
 pub record TakesHead {X F : Type 0} (w : Net X F) (a b : ℕ) (f : F) : Type 0 where
   pub head : way w a b ≡ f ∷ way (took w a b) a b
 
--- a frame with this number comes from a to b: the next is taken, an old or early one changes nothing
+-- a frame with this number arrives from a at b: the next is taken, an old or early one changes nothing
 abbrev pub came : {X F : Type 0} → Net X F → ℕ → ℕ → ℕ → Net X F
 came w a b number = if number == w.taken a b + 1 then took w a b else w
 

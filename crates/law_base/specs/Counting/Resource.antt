@@ -3,30 +3,31 @@ use Rattle.std.specs.Prelude.{◌≡◌, ◌≢◌, ℕ, ◌+◌, ◌<◌, ◌�
 use Rattle.law_base.specs.Counting.Sums.{sum_below, sum_links}
 use Rattle.law_base.specs.Counting.Network.{Net, way}
 
--- what a centre holds, what a frame from one centre to another has inside, and what a centre lets be out
+-- a resource: the amount that a centre holds, the amount inside a frame, and the amount that a centre allows to exist
 pub record Resource (X F : Type 0) : Type 0 where
   pub held : ℕ → X → ℕ
   pub inside : ℕ → ℕ → F → ℕ
   pub cap : ℕ → X → ℕ
 
--- what these frames from a to b have inside
+-- the amount inside these frames from a to b
 unfoldable pub carried : {X F : Type 0} → Resource X F → ℕ → ℕ → List F → ℕ
 carried r a b [] = 0
 carried r a b (f ∷ fs) = r.inside a b f + carried r a b fs
 
--- what the frames of an act of c have inside, over all n destinations
+-- the amount inside the frames of an act of c, over all n destinations
 unfoldable pub sent_by : {X F : Type 0} → Resource X F → ℕ → ℕ → (ℕ → List F) → ℕ
 sent_by r n c frames = sum_below n (λ d. carried r c d (frames d))
 
--- all that the n centres hold and that is on the way between them
+-- the amount that the n centres hold, and that is on the way between them
 unfoldable pub placed : {X F : Type 0} → Resource X F → ℕ → Net X F → ℕ
 placed r n w = sum_below n (λ c. r.held c (w.at c)) + sum_links n (λ a b. carried r a b (way w a b))
 
--- all that the n centres let be out
+-- the amount that the n centres together allow to be out
 unfoldable pub allowed : {X F : Type 0} → Resource X F → ℕ → Net X F → ℕ
 allowed r n w = sum_below n (λ c. r.cap c (w.at c))
 
--- an act of c makes nothing: what it keeps and sends, it had, or it came, or its cap grew by it
+-- An act of c is fair: it makes nothing. All that it keeps and sends it had before, or it arrived, or its cap grew by
+-- it.
 pub record IsFair {X F : Type 0} (r : Resource X F) (n c : ℕ) (old : X) (came : ℕ) (new : X)
     (frames : ℕ → List F) : Type 0 where
   pub law : r.held c new + sent_by r n c frames + r.cap c old ≤ r.held c old + came + r.cap c new
@@ -36,11 +37,11 @@ pub record IsExact {X F : Type 0} (r : Resource X F) (n c : ℕ) (old : X) (came
     (frames : ℕ → List F) : Type 0 where
   pub law : r.held c new + sent_by r n c frames + r.cap c old ≡ r.held c old + came + r.cap c new
 
--- no more is anywhere than may be out
+-- the amount in all places together is at most the amount that may be out
 pub record IsWithinCap {X F : Type 0} (r : Resource X F) (n : ℕ) (w : Net X F) : Type 0 where
   pub law : placed r n w ≤ allowed r n w
 
--- as much is somewhere as may be out
+-- the amount in all places together is the amount that may be out
 pub record IsAtCap {X F : Type 0} (r : Resource X F) (n : ℕ) (w : Net X F) : Type 0 where
   pub law : placed r n w ≡ allowed r n w
 

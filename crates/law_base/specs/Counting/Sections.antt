@@ -12,7 +12,7 @@ abbrev pub is_among : List ℕ → ℕ → Bool
 is_among [] s = false
 is_among (k ∷ ks) s = s == k || is_among ks s
 
--- none of these stands there twice
+-- no number is in the list twice
 abbrev pub AreApart : List ℕ → Type 0
 AreApart [] = ⊤
 AreApart (k ∷ ks) = (is_among ks k ≡ false) × AreApart ks

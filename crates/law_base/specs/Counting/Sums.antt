@@ -9,7 +9,7 @@ put f k v j = if j == k then v else f j
 abbrev pub put_link : {A : Type 0} → (ℕ → ℕ → A) → ℕ → ℕ → A → ℕ → ℕ → A
 put_link f a b v = put f a (put (f a) b v)
 
--- 1 where the test holds, so that a sum counts
+-- 1 if the test holds, so that a sum counts
 abbrev pub one_if : Bool → ℕ
 one_if b = if b then 1 else 0
 

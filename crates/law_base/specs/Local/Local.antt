@@ -1,4 +1,4 @@
--- A local centre, in whose missions no other centre has a part, and what stays true of it.
+-- A local centre: no other centre has a part in its missions. This file has the invariants of such a centre.
 use Rattle.std.specs.Prelude.{◌≡◌, ℕ, ◌≤◌, Bool, true, false, ◌&&◌, [], Option, Some, None, is_none}
 use Rattle.std.specs.Option.{option_map_or}
 use Rattle.rbc_spec.specs.SectionRuns.{no_run, within}
@@ -9,8 +9,8 @@ use Rattle.rbc_spec.specs.Centre.{Centre, Mission, is_unused, is_taken_for, is_o
 use Rattle.rbc_spec.specs.Centre as centre
 use Rattle.rbc_spec.specs.World.{World}
 
--- what the order of a line's sections gives: those that a place covers are a run, and so are those of one home on a
--- track; on one track the ends rise
+-- Facts that follow from the order of a line's sections. The sections that a place covers are a run, and so are those
+-- of one home on a track. On one track the ends rise.
 pub record IsOrdered (line : Line) : Type 0 where
   pub covers_run : (place : Place) (s : ℕ) → within (covered line place) s ≡ covers line place s
   pub homes_run : (d track s : ℕ) → within (home_run line d track) s ≡ (is_home line d s && is_on line track s)
@@ -29,9 +29,9 @@ pub record IsLocalMission (line : Line) (m : Mission) : Type 0 where
   pub few : m.hand.count ≤ 32
   pub on_track : (s : ℕ) → within m.hand s ≡ true → is_on line m.place.track s ≡ true
 
--- centre c of the line: its sections are taken exactly as its missions' hands have them, no section of it is out, only
--- used ones are wished back, a mission is of a train whose registrar it is, and then the right is in the mission;
--- nothing stands with another centre
+-- Centre c of the line is local. Its sections are taken if and only if the hands of its missions have them, and none is
+-- out. Only sections in use are wished back. Each mission is of a train of which c is the registrar, and has the
+-- train's right. Nothing is pending with another centre.
 pub record IsLocalAt (line : Line) (c : ℕ) (k : Centre) : Type 0 where
   pub taken : (s t : ℕ) → is_taken_for t (k.book s) ≡ hand_has (k.mission t) s
   pub not_out : (s t : ℕ) → is_out_for t (k.book s) ≡ false

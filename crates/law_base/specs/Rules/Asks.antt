@@ -1,11 +1,11 @@
--- What is true while a centre's question for sections stands.
+-- An invariant of a centre while a question for sections is pending.
 use Rattle.std.specs.Prelude.{◌≡◌, ℕ, ◌==◌, ◌&&◌, not, Bool, true, Some}
 use Rattle.rbc_spec.specs.SectionRuns.{SectionRun, next_after, is_empty}
 use Rattle.rbc_spec.specs.Line.{Line}
 use Rattle.rbc_spec.specs.Sections.{is_on}
 use Rattle.rbc_spec.specs.Centre.{Centre, Mission}
 
--- where a question of the train stands, the pool of its mission is empty
+-- while a question of the train is pending, the pool of its mission is empty
 abbrev pub AsksForEmptyPools : Centre → Type 0
 AsksForEmptyPools k =
     (t first : ℕ) (m : Mission) → k.route_ask t ≡ Some first → k.mission t ≡ Some m → is_empty m.pool ≡ true

@@ -1,4 +1,4 @@
--- What the distances that a centre tells a train are taken from.
+-- The positions from which a centre counts the distances in its messages to a train.
 use Rattle.std.specs.Prelude.{◌≡◌, ℕ, ◌*◌, ◌≤◌, Some, None}
 use Rattle.rbc_spec.specs.Line.{Line}
 use Rattle.rbc_spec.specs.Place.{Place, Position, group_start, place_on}
@@ -11,7 +11,7 @@ use Rattle.rbc_spec.specs.Step.{silence}
 abbrev pub IsAhead : Line → Place → Type 0
 IsAhead line place = 10 * group_start line place ≤ place.front
 
--- a request that centre c hears: the train's mission there, and the place of its report
+-- a request that centre c answers: the train's mission there, and the place of its report
 pub record IsRequestHeard (line : Line) (c : ℕ) (k : Centre) (m : TrainMessage) (n : Mission)
     (place : Place) : Type 0 where
   pub position : Position

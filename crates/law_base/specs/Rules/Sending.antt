@@ -1,4 +1,4 @@
--- What a step of a centre may send on a link, say to trains and tell the interlocking.
+-- The frames that a step of a centre may send on a link, its messages to trains, and its replies to the interlocking.
 use Rattle.std.specs.Prelude.{◌≡◌, ◌⊎◌, ℕ, ◌+◌, ◌<◌, ◌≤◌, List, [], ◌∷◌, ⊤, Some}
 use Rattle.rbc_spec.specs.SectionRuns.{next_after}
 use Rattle.rbc_spec.specs.Line.{Line}
@@ -17,7 +17,7 @@ rank (Announce number t track) = 4
 rank (RouteAsk t first most) = 5
 rank body = 6
 
--- of two runs that go home the lower goes first, and a section lies between them: they are no parts of one longer run
+-- of two returned runs the lower is first, and a section is between them: they are not parts of one longer run
 abbrev pub IsLowerReturn : Body → Body → Type 0
 IsLowerReturn (RouteReturn t r) (RouteReturn u q) = next_after r < q.first
 IsLowerReturn a b = ⊥
@@ -25,23 +25,23 @@ IsLowerReturn a b = ⊥
 abbrev pub GoesBefore : Body → Body → Type 0
 GoesBefore a b = (rank a < rank b) ⊎ IsLowerReturn a b
 
--- it goes before each of these
+-- the body goes before each body of the list
 abbrev pub GoesBeforeAll : Body → List Body → Type 0
 GoesBeforeAll a [] = ⊤
 GoesBeforeAll a (b ∷ bs) = GoesBefore a b × GoesBeforeAll a bs
 
--- each goes before all that follow
+-- each body goes before all bodies after it
 abbrev pub GoInOrder : List Body → Type 0
 GoInOrder [] = ⊤
 GoInOrder (a ∷ xs) = GoesBeforeAll a xs × GoInOrder xs
 
--- what a centre holds for a train is no more than 64 sections, and its pool follows its hand
+-- a centre holds at most 64 sections for a train, and its pool follows its hand
 pub record HoldsFew (line : Line) (k : Centre) : Type 0 where
   pub missions : (t : ℕ) (m : Mission) → k.mission t ≡ Some m → m.hand.count + m.pool.count ≤ 64
   pub pools : (t : ℕ) (m : Mission) → k.mission t ≡ Some m → (m.pool.count ≡ 0) ⊎ (next_after m.hand ≤ m.pool.first)
   pub waits : (t : ℕ) (place : Place) → k.wait t ≡ Some place → (covered line place).count ≤ 64
 
--- no more than 64 sections come home by one frame
+-- one frame returns at most 64 sections
 abbrev pub BringsFew : Body → Type 0
 BringsFew (RouteReturn t r) = r.count ≤ 64
 BringsFew body = ⊤

@@ -1,4 +1,4 @@
--- Where the one line centre has the same reasons of silence as a centre.
+-- The condition under which the one line centre has the same reasons of silence as a centre.
 use Rattle.std.specs.Prelude.{◌≡◌, ◌≤◌, Some}
 use Rattle.rbc_spec.specs.SectionRuns.{SectionRun, next_after}
 use Rattle.rbc_spec.specs.Line.{Line}

@@ -10,8 +10,8 @@ ghost use Rattle.rbc_spec.specs.Theorems.{IsOneCentreLine};
 ghost use Rattle.law_base.specs.Local.Local.{IsOrdered, IsLocalAt, IsLocal};
 ghost use Rattle.law_base.specs.Local.Stays.{StaysLocal};
 
-/// Each line is in order: the sections that a place covers are a run, those of one home on a track are one too, and on
-/// one track the sections' ends rise.
+/// Each line is in order. The sections that a place covers are a run, and so are those of one home on a track. On one
+/// track the ends of sections rise.
 pub fn every_line_is_ordered()
     ensures { (line : Line) → IsLine line → IsOrdered line }
 {}
@@ -21,8 +21,8 @@ pub fn a_centre_begins_local()
     ensures { (line : Line) (c : ℕ) → IsLocalAt line c (beginning line c) }
 {}
 
-/// Whatever the interlocking wishes, a centre that is local stays so, and sends no frame; and whatever a train says, on
-/// a one-centre line.
+/// A local centre stays local and sends no frame after each set and unset. On a one-centre line the same holds after
+/// each message of a train.
 pub fn a_centre_stays_local()
     ensures train { (line : Line) (c d : ℕ) (k : Centre) (m : TrainMessage) → IsOrdered line → IsOneCentreLine line d
         → IsLocalAt line c k → StaysLocal line c k (Train m) }

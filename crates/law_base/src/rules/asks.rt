@@ -8,13 +8,13 @@ ghost use Rattle.rbc_spec.specs.Links.{is_wanted};
 ghost use Rattle.rbc_spec.specs.Step.{Event, taken};
 ghost use Rattle.law_base.specs.Rules.Asks.{AsksForEmptyPools, follows_hand};
 
-/// While a question of a train stands, the pool of its mission is empty: at the beginning, and after each step.
+/// While a question of a train is pending, the pool of its mission is empty: in the initial state, and after each step.
 pub fn a_question_stands_for_an_empty_pool()
     ensures beginning { (line : Line) (c : ℕ) → AsksForEmptyPools (beginning line c) }
     ensures step { (line : Line) (c : ℕ) (k : Centre) (event : Event) → AsksForEmptyPools k
         → AsksForEmptyPools (taken line c event k).1 }
-    // So what comes to a standing question is wanted wherever it follows the hand: that the pool is empty asks for no
-    // more.
+    // So the mission can use the sections of a pending question whenever they follow the hand: the condition that the
+    // pool is empty always holds.
     ensures wanted { (line : Line) (k : Centre) (t first : ℕ) (m : Mission) (r : SectionRun) → AsksForEmptyPools k
         → k.route_ask t ≡ Some first
         → k.mission t ≡ Some m → is_wanted line r m ≡ follows_hand line r m }

@@ -15,14 +15,14 @@ pub fn a_place_is_ahead_of_its_group()
     ensures { (line : Line) (p : Position) (place : Place) → extent line p ≡ Some place → IsAhead line place }
 {}
 
-/// The distances that a centre tells a train are counted from the group of its place, and what they reach to is not in
-/// rear of that group.
+/// The distances in a centre's messages to a train are counted from the group of its place. The positions that they
+/// name are not in rear of that group.
 pub fn no_distance_is_cut()
-    // An authority for a request that is heard, where the hand's last section is of the track.
+    // An authority for an answered request, if the hand's last section is of the track.
     ensures authority { (line : Line) (c : ℕ) (k : Centre) (m : TrainMessage) (n : Mission) (place : Place)
         → IsRequestHeard line c k m n place → is_on line place.track (next_after n.hand - 1) ≡ true
         → group_start line place ≤ end line (next_after (extended line c k place n).hand - 1) }
-    // A request to shorten, where the front is not before the group.
+    // A request to shorten, if the front is not before the group.
     ensures shortening { (line : Line) (t s : ℕ) (m : Mission) (k : Centre) → IsAhead line m.place
         → may_propose line t s m k ≡ true
         → group_start line m.place ≤ start line s }

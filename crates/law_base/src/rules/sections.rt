@@ -1,19 +1,19 @@
-//! Laws of runs of sections: what is in them, what two share, a run that is cut in two, and the longest run under a
+//! Laws of runs of sections: their members, the sections that two share, a run cut in two, and the longest run under a
 //! test.
 
 ghost use Rattle.std.specs.Prelude.{◌≡◌, ℕ, ◌+◌, ◌≤◌, ◌&&◌, ◌||◌, Bool, true, false, nat_lt, nat_le};
 ghost use Rattle.rbc_spec.specs.SectionRuns.{SectionRun, within, next_after, is_empty, part_before, part_from, shared, joined, longest, passing};
 ghost use Rattle.law_base.specs.Runs.{IsLongest};
 
-/// A number cuts a run in two: of its sections the part before the number has the lower ones, the part from it on the
-/// others.
+/// A number cuts a run in two. The part before the number has the lower sections of the run, the part from it on has
+/// the others.
 pub fn a_run_is_cut_in_two()
     ensures before { (r : SectionRun) (cut s : ℕ) → within (part_before cut r) s ≡ (within r s && nat_lt s cut) }
     ensures from { (r : SectionRun) (cut s : ℕ) → within (part_from cut r) s ≡ (within r s && nat_le cut s) }
     ensures count { (r : SectionRun) (cut : ℕ) → (part_before cut r).count + (part_from cut r).count ≡ r.count }
 {}
 
-/// What two runs share is a run: of the sections that both have.
+/// The sections that two runs share are a run.
 pub fn what_runs_share()
     ensures { (a b : SectionRun) (s : ℕ) → within (shared a b) s ≡ (within a s && within b s) }
 {}
@@ -37,8 +37,8 @@ pub fn runs_of_the_same_sections()
     ensures { (r q : SectionRun) → is_empty r ≡ false → ((s : ℕ) → within r s ≡ within q s) → r ≡ q }
 {}
 
-/// The longest run under a test, of at most so many sections: each passes, and the next does not or there is room for
-/// no more. No other run is that.
+/// The longest run under a test, up to a limit. Each of its sections passes, and the next one does not, or the limit is
+/// reached. No other run has this property.
 pub fn the_longest_run()
     ensures is { (test : ℕ → Bool) (first most : ℕ) → IsLongest test first most (longest test first most) }
     ensures only { (test : ℕ → Bool) (first most count : ℕ) → IsLongest test first most count

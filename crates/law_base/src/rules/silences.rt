@@ -13,13 +13,13 @@ ghost use Rattle.rbc_spec.specs.Run as run;
 ghost use Rattle.rbc_spec.specs.ReadOff.{StandsFor};
 ghost use Rattle.law_base.specs.Rules.Silences.{HasEndIfAsked};
 
-/// The outcome of a message has the reason for which it is left without an answer, or none, in every state of a centre.
+/// In every state of a centre, the outcome of a message has its reason of silence, or none if it is answered.
 pub fn a_step_shows_its_reason_of_silence()
     ensures { (line : Line) (c : ℕ) (k : Centre) (m : TrainMessage)
         → (taken line c (Train m) k).0.silence ≡ step.silence line c k m }
 {}
 
-/// A message that is left without an answer says and sends nothing, and moves the clock alone.
+/// A silent message has no messages, replies or frames as its answer, and changes only the clock.
 pub fn a_silent_message_changes_nothing()
     ensures state { (line : Line) (c : ℕ) (k : Centre) (m : TrainMessage) (why : Reason)
         → step.silence line c k m ≡ Some why
@@ -35,8 +35,8 @@ pub fn a_silent_message_changes_nothing()
         → (taken line c (Train m) k).0.words ≡ [] }
 {}
 
-/// In every world that a state of the one line centre stands for, that has a centre's reason of silence. Where the
-/// centre answers, it has none, or may listen to the train.
+/// In every world that a state of the one line centre represents, that state has a centre's reason of silence. If the
+/// centre answers, the state has no reason, or may listen to the train.
 pub fn the_line_centre_is_silent_for_the_same_reasons()
     ensures silent { (line : Line) (w : World) (v : LineState) (c : ℕ) (m : TrainMessage) (why : Reason)
         → StandsFor line w v → HasEndIfAsked line (w.at c) m

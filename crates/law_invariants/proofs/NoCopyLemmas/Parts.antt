@@ -1,12 +1,16 @@
--- What parts of a hand count, and sections that leave a mission.
-use Rattle.std.proofs.Common.{◌≡◌, ◌≢◌, ◌⊎◌, inl, inr, ℕ, ◌+◌, ◌-◌, ◌<◌, ◌≤◌, ◌==◌, ◌&&◌, ◌||◌, Bool, true, false, if◌then◌else◌, max, nat_lt, nat_le, refl, sym, ap, ◌∙◌, subst, arith, ⊎_elim, ltb-true, leb-true, eqb-true, eq-eqb}
-use Rattle.std.proofs.lemmas.Bool.{cases_eq, cases_lt, and_parts, and_from, ne_eqb, eqb-false, lt-ltb, le-leb}
-use Rattle.rbc_spec.specs.SectionRuns.{SectionRun, no_run, within, next_after, is_empty, part_before, part_from, joined}
-use Rattle.rbc_spec.specs.Line.{Line, is_home}
-use Rattle.rbc_spec.specs.Centre.{Centre, Entry, Shut, Open, Taken, Out, Mission, is_open, is_unused, is_taken_for, is_used_for, is_out_for}
+-- The amounts of the parts of a hand, and of sections that leave a mission.
+use Rattle.std.proofs.Common.{⊎_elim, ◌&&◌, ◌+◌, ◌-◌, ◌<◌, ◌==◌, ◌||◌, ◌∙◌, ◌≡◌, ◌≢◌, ◌≤◌, ◌⊎◌, ap, arith, Bool, eq-eqb}
+use Rattle.std.proofs.Common.{eqb-true, false, if◌then◌else◌, inl, inr, leb-true, ltb-true, max, nat_le, nat_lt, refl}
+use Rattle.std.proofs.Common.{subst, sym, true, ℕ}
+use Rattle.std.proofs.lemmas.Bool.{and_from, and_parts, cases_eq, cases_lt, eqb-false, le-leb, lt-ltb, ne_eqb}
+use Rattle.law_base.proofs.Runs.{joined_empty, within_joined, within_none, within_part_before, within_part_from}
+use Rattle.law_base.proofs.Runs.{within_true}
+use Rattle.law_invariants.proofs.NoCopyLemmas.Tally.{gone, IsTally, part, part_away, Tally}
 use Rattle.rbc_spec.specs.Acts.{freed}
-use Rattle.law_base.proofs.Runs.{within_true, within_part_before, within_part_from, within_none, within_joined, joined_empty}
-use Rattle.law_invariants.proofs.NoCopyLemmas.Tally.{Tally, IsTally, part, part_away, gone}
+use Rattle.rbc_spec.specs.Centre.{Centre, Entry, is_open, is_out_for, is_taken_for, is_unused, is_used_for, Mission}
+use Rattle.rbc_spec.specs.Centre.{Open, Out, Shut, Taken}
+use Rattle.rbc_spec.specs.Line.{is_home, Line}
+use Rattle.rbc_spec.specs.SectionRuns.{is_empty, joined, next_after, no_run, part_before, part_from, SectionRun, within}
 
 -- the pool follows the hand at once, if there is one
 abbrev pub Follows : Mission → Type 0
@@ -27,11 +31,13 @@ open_here u (Out t) h = cc
 
 module _ (y : Tally) where
   -- two parts of the run that share nothing
-  pub two_parts : (a b r : SectionRun) → (within a y.section ≡ true → within r y.section ≡ true) → (within b y.section ≡ true → (within r y.section ≡ true) × (within a y.section ≡ false))
+  pub two_parts : (a b r : SectionRun) → (within a y.section ≡ true → within r y.section ≡ true)
+      → (within b y.section ≡ true → (within r y.section ≡ true) × (within a y.section ≡ false))
       → part y a + part y b ≤ part y r
   two_parts a b r in_a in_b = by_parts (within a y.section) (within b y.section) (within r y.section) in_a in_b
     where
-      by_parts : (p q w : Bool) → (p ≡ true → w ≡ true) → (q ≡ true → (w ≡ true) × (p ≡ false)) → (if p then y.weight else 0) + (if q then y.weight else 0) ≤ (if w then y.weight else 0)
+      by_parts : (p q w : Bool) → (p ≡ true → w ≡ true) → (q ≡ true → (w ≡ true) × (p ≡ false))
+          → (if p then y.weight else 0) + (if q then y.weight else 0) ≤ (if w then y.weight else 0)
       by_parts true true w one two = absurd (let wrong : true ≡ false = (two refl).1 in cc)
       by_parts true false true one two = omega arith
       by_parts true false false one two = absurd (let wrong : false ≡ true = one refl in cc)
@@ -58,37 +64,54 @@ module _ (y : Tally) where
   pub cut_parts : (cut : ℕ) (r : SectionRun) → part y (part_before cut r) + part y (part_from cut r) ≤ part y r
   cut_parts cut r = two_parts (part_before cut r) (part_from cut r) r
       (λ is. (and_parts (within r y.section) (nat_lt y.section cut) (sym (within_part_before r cut y.section) ∙ is)).0)
-      (λ is. let both = and_parts (within r y.section) (nat_le cut y.section) (sym (within_part_from r cut y.section) ∙ is) in
+      (λ is. let both = and_parts (within r y.section) (nat_le cut y.section)
+      (sym (within_part_from r cut y.section) ∙ is) in
       (both.0, not_before (within (part_before cut r) y.section) refl (leb-true cut y.section both.1)))
     where
       not_before : (b : Bool) → within (part_before cut r) y.section ≡ b → cut ≤ y.section → b ≡ false
       not_before false is le = refl
-      not_before true is le = absurd (let low = ltb-true y.section cut (and_parts (within r y.section) (nat_lt y.section cut) (sym (within_part_before r cut y.section) ∙ is)).1 in omega (arith, low, le))
+      not_before true is le =
+          absurd (let low = ltb-true y.section cut
+          (and_parts (within r y.section) (nat_lt y.section cut) (sym (within_part_before r cut y.section) ∙ is)).1 in
+          omega (arith, low, le))
 
   pub from_part : (cut : ℕ) (r : SectionRun) → part y (part_from cut r) ≤ part y r
-  from_part cut r = less_part (part_from cut r) r (λ is. (and_parts (within r y.section) (nat_le cut y.section) (sym (within_part_from r cut y.section) ∙ is)).0)
+  from_part cut r =
+      less_part (part_from cut r) r
+      (λ is. (and_parts (within r y.section) (nat_le cut y.section) (sym (within_part_from r cut y.section) ∙ is)).0)
 
   -- a run and one that follows it
-  pub joined_part : (a b : SectionRun) → (is_empty a ≡ false → is_empty b ≡ false → b.first ≡ next_after a) → part y (joined a b) ≤ part y a + part y b
+  pub joined_part : (a b : SectionRun) → (is_empty a ≡ false → is_empty b ≡ false → b.first ≡ next_after a)
+      → part y (joined a b) ≤ part y a + part y b
   joined_part a b follows = by_empty (is_empty b) refl (is_empty a) refl
     where
-      of_two : (p q : Bool) → (if p || q then y.weight else 0) ≤ (if p then y.weight else 0) + (if q then y.weight else 0)
+      of_two : (p q : Bool) → (if p || q then y.weight else 0) ≤ (if p then y.weight else 0)
+          + (if q then y.weight else 0)
       of_two true q = omega arith
       of_two false q = omega arith
 
       by_empty : (e : Bool) → is_empty b ≡ e → (f : Bool) → is_empty a ≡ f → part y (joined a b) ≤ part y a + part y b
       by_empty true none f is = omega (arith, ap (λ z. if z then y.weight else 0) (joined_empty a b y.section none))
-      by_empty false some true is = omega (arith, ap (λ z. part y (if z then b else record { first = a.first; count = a.count + b.count })) is)
-      by_empty false some false is = omega (arith, ap (λ z. if z then y.weight else 0) (within_joined a b y.section (follows is some)), of_two (within a y.section) (within b y.section))
+      by_empty false some true is =
+          omega (arith, ap (λ z. part y (if z then b else record { first = a.first; count = a.count + b.count })) is)
+      by_empty false some false is =
+          omega (
+            arith,
+            ap (λ z. if z then y.weight else 0) (within_joined a b y.section (follows is some)),
+            of_two (within a y.section) (within b y.section),
+          )
 
   pub empty_part : (r : SectionRun) → is_empty r ≡ true → part y r ≡ 0
   empty_part r none = ap (λ z. if z then y.weight else 0) (within_none r y.section (eqb-true r.count 0 none))
 
-  -- no less: what covers the run counts as much
-  pub covered_parts : (a b r : SectionRun) → (within r y.section ≡ true → (within a y.section ≡ true) ⊎ (within b y.section ≡ true)) → part y r ≤ part y a + part y b
+  -- nor less: the parts that cover the run have at least its amount
+  pub covered_parts : (a b r : SectionRun)
+      → (within r y.section ≡ true → (within a y.section ≡ true) ⊎ (within b y.section ≡ true))
+      → part y r ≤ part y a + part y b
   covered_parts a b r in_r = by_parts (within a y.section) (within b y.section) (within r y.section) in_r
     where
-      by_parts : (p q w : Bool) → (w ≡ true → (p ≡ true) ⊎ (q ≡ true)) → (if w then y.weight else 0) ≤ (if p then y.weight else 0) + (if q then y.weight else 0)
+      by_parts : (p q w : Bool) → (w ≡ true → (p ≡ true) ⊎ (q ≡ true))
+          → (if w then y.weight else 0) ≤ (if p then y.weight else 0) + (if q then y.weight else 0)
       by_parts p q false one = omega arith
       by_parts true q true one = omega arith
       by_parts false true true one = omega arith
@@ -97,51 +120,70 @@ module _ (y : Tally) where
   pub cut_back : (cut : ℕ) (r : SectionRun) → part y r ≤ part y (part_before cut r) + part y (part_from cut r)
   cut_back cut r = covered_parts (part_before cut r) (part_from cut r) r
       (λ in_r. ⊎_elim
-      (λ (low : y.section < cut). inl (within_part_before r cut y.section ∙ and_from (within r y.section) (nat_lt y.section cut) in_r (lt-ltb y.section cut low)))
-      (λ (high : cut ≤ y.section). inr (within_part_from r cut y.section ∙ and_from (within r y.section) (nat_le cut y.section) in_r (le-leb cut y.section high)))
+      (λ (low : y.section < cut). inl (within_part_before r cut y.section
+      ∙ and_from (within r y.section) (nat_lt y.section cut) in_r (lt-ltb y.section cut low)))
+      (λ (high : cut ≤ y.section). inr (within_part_from r cut y.section
+      ∙ and_from (within r y.section) (nat_le cut y.section) in_r (le-leb cut y.section high)))
       (cases_lt y.section cut))
 
-  pub joined_back : (a b : SectionRun) → (is_empty a ≡ false → is_empty b ≡ false → b.first ≡ next_after a) → part y a + part y b ≤ part y (joined a b)
+  pub joined_back : (a b : SectionRun) → (is_empty a ≡ false → is_empty b ≡ false → b.first ≡ next_after a)
+      → part y a + part y b ≤ part y (joined a b)
   joined_back a b follows = by_empty (is_empty b) refl (is_empty a) refl
     where
-      of_two : (p q : Bool) → (p ≡ true → q ≡ true → ⊥) → (if p then y.weight else 0) + (if q then y.weight else 0) ≤ (if p || q then y.weight else 0)
+      of_two : (p q : Bool) → (p ≡ true → q ≡ true → ⊥) → (if p then y.weight else 0) + (if q then y.weight else 0)
+          ≤ (if p || q then y.weight else 0)
       of_two true true apart = absurd (apart refl refl)
       of_two true false apart = omega arith
       of_two false q apart = omega arith
 
       by_empty : (e : Bool) → is_empty b ≡ e → (f : Bool) → is_empty a ≡ f → part y a + part y b ≤ part y (joined a b)
-      by_empty true none f is = omega (arith, ap (λ z. if z then y.weight else 0) (joined_empty a b y.section none), empty_part b none)
-      by_empty false some true is = omega (arith, ap (λ z. part y (if z then b else record { first = a.first; count = a.count + b.count })) is, empty_part a is)
+      by_empty true none f is =
+          omega (arith, ap (λ z. if z then y.weight else 0) (joined_empty a b y.section none), empty_part b none)
+      by_empty false some true is =
+          omega (
+            arith,
+            ap (λ z. part y (if z then b else record { first = a.first; count = a.count + b.count })) is,
+            empty_part a is,
+          )
       by_empty false some false is = omega (
         arith,
         ap (λ z. if z then y.weight else 0) (within_joined a b y.section (follows is some)),
-        of_two (within a y.section) (within b y.section) (λ in_a in_b. let low = within_true a y.section in_a in let high = within_true b y.section in_b in omega (arith, low.1, high.0, follows is some)),
+        of_two (within a y.section) (within b y.section) (λ in_a in_b. let low = within_true a y.section in_a in
+            let high = within_true b y.section in_b in omega (arith, low.1, high.0, follows is some)),
       )
 
-  -- what is in neither of two is not in both joined
-  pub out_of_joined : (a b : SectionRun) → (is_empty a ≡ false → is_empty b ≡ false → b.first ≡ next_after a) → within a y.section ≡ false → within b y.section ≡ false → within (joined a b) y.section ≡ false
+  -- a section in neither of two runs is not in both joined
+  pub out_of_joined : (a b : SectionRun) → (is_empty a ≡ false → is_empty b ≡ false → b.first ≡ next_after a)
+      → within a y.section ≡ false → within b y.section ≡ false → within (joined a b) y.section ≡ false
   out_of_joined a b follows out_a out_b = by_empty (is_empty b) refl (is_empty a) refl
     where
       by_empty : (e : Bool) → is_empty b ≡ e → (f : Bool) → is_empty a ≡ f → within (joined a b) y.section ≡ false
       by_empty true none f is = joined_empty a b y.section none ∙ out_a
-      by_empty false some true is = ap (λ z. within (if z then b else record { first = a.first; count = a.count + b.count }) y.section) is ∙ out_b
-      by_empty false some false is = within_joined a b y.section (follows is some) ∙ ap (λ z. z || within b y.section) out_a ∙ out_b
+      by_empty false some true is =
+          ap (λ z. within (if z then b else record { first = a.first; count = a.count + b.count }) y.section) is ∙ out_b
+      by_empty false some false is = within_joined a b y.section (follows is some)
+          ∙ ap (λ z. z || within b y.section) out_a ∙ out_b
 
-  -- what is in both joined is in one
-  pub in_joined : (a b : SectionRun) → (is_empty a ≡ false → is_empty b ≡ false → b.first ≡ next_after a) → within (joined a b) y.section ≡ true → (within a y.section ≡ true) ⊎ (within b y.section ≡ true)
+  -- a section in both joined is in one of them
+  pub in_joined : (a b : SectionRun) → (is_empty a ≡ false → is_empty b ≡ false → b.first ≡ next_after a)
+      → within (joined a b) y.section ≡ true → (within a y.section ≡ true) ⊎ (within b y.section ≡ true)
   in_joined a b follows is = by_parts (within a y.section) refl (within b y.section) refl
     where
       by_parts : (p : Bool) → within a y.section ≡ p → (q : Bool) → within b y.section ≡ q → (p ≡ true) ⊎ (q ≡ true)
       by_parts true in_a q in_b = inl refl
       by_parts false in_a true in_b = inr refl
-      by_parts false in_a false in_b = absurd (let wrong : true ≡ false = sym is ∙ out_of_joined a b follows in_a in_b in cc)
+      by_parts false in_a false in_b = absurd (let wrong : true ≡ false = sym is
+          ∙ out_of_joined a b follows in_a in_b in cc)
 
   -- the tail of a hand, with its pool
-  pub tail_follows : (cut : ℕ) (m : Mission) → Follows m → is_empty (part_from cut m.hand) ≡ false → is_empty m.pool ≡ false → m.pool.first ≡ next_after (part_from cut m.hand)
-  tail_follows cut m follows some pool = let more = eqb-false (part_from cut m.hand).count 0 some in follows pool ∙ ends (max m.hand.first cut) more
+  pub tail_follows : (cut : ℕ) (m : Mission) → Follows m → is_empty (part_from cut m.hand) ≡ false
+      → is_empty m.pool ≡ false → m.pool.first ≡ next_after (part_from cut m.hand)
+  tail_follows cut m follows some pool = let more = eqb-false (part_from cut m.hand).count 0 some in
+      follows pool ∙ ends (max m.hand.first cut) more
     where
       ends : (x : ℕ) → next_after m.hand - x ≢ 0 → next_after m.hand ≡ x + (next_after m.hand - x)
-      ends x more = ⊎_elim (λ (none : next_after m.hand - x ≡ 0). absurd (more none)) (λ (some : next_after m.hand - x ≢ 0). over x (next_after m.hand) some) (cases_eq (next_after m.hand - x) 0)
+      ends x more = ⊎_elim (λ (none : next_after m.hand - x ≡ 0). absurd (more none))
+          (λ (some : next_after m.hand - x ≢ 0). over x (next_after m.hand) some) (cases_eq (next_after m.hand - x) 0)
         where
           over : (p q : ℕ) → q - p ≢ 0 → q ≡ p + (q - p)
           over p q some = omega (arith, some)
@@ -185,28 +227,44 @@ module _ (line : Line) (c : ℕ) (y : Tally) (is : IsTally line c y) where
   given_here false u = refl
 
   -- sections that are given back were here
-  pub freed_back : y.exact ≡ true → (t : ℕ) (r : SectionRun) (k : Centre) → y.entry ((freed line c (is_taken_for t) r k).state.book y.section) ≤ y.entry (k.book y.section)
-  freed_back so t r k = by_tests (within r y.section && is_home line c y.section) (is_taken_for t (k.book y.section)) refl
+  pub freed_back : y.exact ≡ true → (t : ℕ) (r : SectionRun) (k : Centre)
+      → y.entry ((freed line c (is_taken_for t) r k).state.book y.section) ≤ y.entry (k.book y.section)
+  freed_back so t r k = by_tests (within r y.section && is_home line c y.section)
+      (is_taken_for t (k.book y.section)) refl
     where
-      by_tests : (w x : Bool) → is_taken_for t (k.book y.section) ≡ x → y.entry (if w && x then (if k.wish y.section then Shut else Open) else k.book y.section) ≤ y.entry (k.book y.section)
+      by_tests : (w x : Bool) → is_taken_for t (k.book y.section) ≡ x
+          → y.entry (if w && x then (if k.wish y.section then Shut else Open) else k.book y.section)
+          ≤ y.entry (k.book y.section)
       by_tests false x taken = omega arith
       by_tests true false taken = omega arith
-      by_tests true true taken = (is.back so).here (if k.wish y.section then Shut else Open) (k.book y.section) (given_here (k.wish y.section) y.train) (taken_here t y.train (k.book y.section) taken)
+      by_tests true true taken = (is.back so).here (if k.wish y.section then Shut else Open) (k.book y.section)
+          (given_here (k.wish y.section) y.train) (taken_here t y.train (k.book y.section) taken)
 
-  -- the own sections of a run that leaves are given back, the others go home
+  -- the own sections of a run that leaves are given back, the others are returned
   pub freed_here : (t : ℕ) (r : SectionRun) (k : Centre) → t ≡ y.train
-      → gone y t r + y.entry (k.book y.section) ≤ y.entry ((freed line c (is_taken_for t) r k).state.book y.section) + part y r
-  freed_here t r k here = omega (arith, gone_here t r, by_tests (within r y.section) (is_home line c y.section) refl (is_taken_for t (k.book y.section)) refl)
+      → gone y t r + y.entry (k.book y.section) ≤ y.entry ((freed line c (is_taken_for t) r k).state.book y.section)
+      + part y r
+  freed_here t r k here =
+      omega (
+        arith,
+        gone_here t r,
+        by_tests (within r y.section) (is_home line c y.section) refl
+            (is_taken_for t (k.book y.section)) refl,
+      )
     where
       e : Entry
       e = k.book y.section
 
       by_tests : (w h : Bool) → is_home line c y.section ≡ h → (x : Bool) → is_taken_for t (k.book y.section) ≡ x
-          → (if w then y.away else 0) + y.entry (k.book y.section) ≤ y.entry (if (w && h) && x then (if k.wish y.section then Shut else Open) else k.book y.section) + (if w then y.weight else 0)
+          → (if w then y.away else 0) + y.entry (k.book y.section)
+          ≤ y.entry (if (w && h) && x then (if k.wish y.section then Shut else Open) else k.book y.section)
+          + (if w then y.weight else 0)
       by_tests false h home x taken = omega arith
       by_tests true false home x taken = omega (arith, is.light)
       by_tests true true home false taken = omega (arith, is.light)
-      by_tests true true home true taken = (is.frees (k.book y.section) (if k.wish y.section then Shut else Open) home (subst (λ u. is_taken_for u (k.book y.section) ≡ true) here taken)).0
+      by_tests true true home true taken =
+          (is.frees (k.book y.section) (if k.wish y.section then Shut else Open) home
+          (subst (λ u. is_taken_for u (k.book y.section) ≡ true) here taken)).0
 
   pub used_taken : (t : ℕ) (e : Entry) → is_taken_for t e ≡ true → is_used_for t e ≡ true
   used_taken t Shut h = cc
@@ -216,9 +274,18 @@ module _ (line : Line) (c : ℕ) (y : Tally) (is : IsTally line c y) where
 
   pub freed_other : (t : ℕ) (r : SectionRun) (k : Centre) → t ≢ y.train
       → gone y t r + y.entry (k.book y.section) ≤ y.entry ((freed line c (is_taken_for t) r k).state.book y.section)
-  freed_other t r k other = omega (arith, gone_other t r other, by_tests (within r y.section && is_home line c y.section) (is_taken_for t (k.book y.section)) refl)
+  freed_other t r k other =
+      omega (
+        arith,
+        gone_other t r other,
+        by_tests (within r y.section && is_home line c y.section)
+            (is_taken_for t (k.book y.section)) refl,
+      )
     where
-      by_tests : (w x : Bool) → is_taken_for t (k.book y.section) ≡ x → y.entry (k.book y.section) ≤ y.entry (if w && x then (if k.wish y.section then Shut else Open) else k.book y.section)
+      by_tests : (w x : Bool) → is_taken_for t (k.book y.section) ≡ x
+          → y.entry (k.book y.section)
+          ≤ y.entry (if w && x then (if k.wish y.section then Shut else Open) else k.book y.section)
       by_tests false x taken = omega arith
       by_tests true false taken = omega arith
-      by_tests true true taken = is.other t (k.book y.section) (if k.wish y.section then Shut else Open) other (used_taken t (k.book y.section) taken)
+      by_tests true true taken = is.other t (k.book y.section) (if k.wish y.section then Shut else Open) other
+          (used_taken t (k.book y.section) taken)

@@ -1,88 +1,30 @@
--- A centre in the middle of an act: what it holds for one train, where all else is as it was before the act.
-use Rattle.std.proofs.Common.{◌≡◌, ◌≢◌, ℕ, ◌+◌, ◌≤◌, ◌&&◌, ◌||◌, not, if◌then◌else◌, Bool, true, false, Option, Some, is_some, refl, sym, ap, ◌∙◌, subst, arith, ⊎_elim, inl, inr}
-use Rattle.std.proofs.lemmas.Bool.{cases_eq, both_ways, and_parts, and_right, and_left}
+-- A centre in an act: its sections for one train.
+use Rattle.std.proofs.Common.{⊎_elim, ◌&&◌, ◌*◌, ◌+◌, ◌||◌, ◌∙◌, ◌≡◌, ◌≢◌, ◌≤◌, ap, arith, Bool, false, inl, inr}
+use Rattle.std.proofs.Common.{is_some, not, Option, refl, Some, subst, sym, true, ℕ}
+use Rattle.std.proofs.lemmas.Bool.{and_parts, both_ways, cases_eq}
+use Rattle.law_base.proofs.Lists.{one_track, put_here, put_other}
+use Rattle.law_base.proofs.LocalLemmas.Entries.{given, hand_given, others_given, taken_elsewhere, taken_for_one}
+use Rattle.law_base.proofs.LocalLemmas.Entries.{taken_given, taken_here, unused_booked}
+use Rattle.law_base.proofs.LocalLemmas.Homes.{begun_local, fit_parts}
+use Rattle.law_base.proofs.RulesLemmas.Places.{extent_ahead, has_group}
+use Rattle.law_base.proofs.Runs.{each_within, within_from}
 use Rattle.law_base.specs.Counting.Sums.{one_if}
-use Rattle.rbc_spec.specs.Maps.{put}
-use Rattle.rbc_spec.specs.SectionRuns.{SectionRun, within}
-use Rattle.rbc_spec.specs.Line.{Line, is_home, train_number, next_centre}
-use Rattle.rbc_spec.specs.Place.{Place, covered}
-use Rattle.rbc_spec.specs.Centre.{Centre, Entry, Shut, Taken, Out, Mission, is_open, is_unused, is_taken_for}
-use Rattle.rbc_spec.specs.Acts.{booked, freed, set_mission}
-use Rattle.law_base.specs.Local.Local.{hand_has}
-use Rattle.law_base.proofs.Puts.{put_here, put_other}
-use Rattle.law_base.proofs.LocalLemmas.Entries.{given, taken_given, taken_for_one, hand_given, others_given, taken_here, taken_elsewhere, unused_booked}
+use Rattle.law_base.specs.Local.Local.{hand_has, IsOrdered}
+use Rattle.law_invariants.proofs.SoundLemmas.Sends.{away, both_or, given_unused, Held, lent_others, lent_taken}
+use Rattle.law_invariants.proofs.SoundLemmas.Sends.{lent_unused, Owes, shut_unbooked}
 use Rattle.law_invariants.specs.Flow.Counts.{wait_has}
-use Rattle.law_invariants.specs.Flow.Sound.{IsHandAt, IsMissionAt, IsCentreSound, HasComeTo, IsOfNext}
+use Rattle.law_invariants.specs.Flow.Sound.{HasComeTo, IsCentreSound, IsHandAt, IsMissionAt, IsOfNext}
+use Rattle.rbc_spec.specs.Acts.{booked, freed, set_mission}
+use Rattle.rbc_spec.specs.Centre.{Centre, Entry, is_open, is_taken_for, is_unused, Mission, Out, Taken}
+use Rattle.rbc_spec.specs.Line.{is_home, Line, next_centre, section_of_group, train_number}
+use Rattle.rbc_spec.specs.Maps.{has, put}
+use Rattle.rbc_spec.specs.Place.{covered, extent, group_start, is_fit, Place, Position}
+use Rattle.rbc_spec.specs.SectionRuns.{all_of, SectionRun, within}
+use Rattle.rbc_spec.specs.Sections.{is_on}
 
-pub given_unused : (back wish : Bool) (e : Entry) → (is_unused e ≡ true → wish ≡ false) → is_unused (given back wish e) ≡ true → (not back && wish) ≡ false
-given_unused true wish e was unused = refl
-given_unused false wish e was unused = was unused
-
-pub away : (b home mine : Bool) → home ≡ false → ((b && home) && mine) ≡ false
-away b home mine e = and_left (b && home) mine (and_right b home e)
-
-both_or : (a b h : Bool) → (a ≡ true → b ≡ true) → (h || (a && b)) ≡ (h || a)
-both_or true b h to = ap (λ x. h || x) (to refl)
-both_or false b h to = refl
-
-pub shut_unbooked : (b : Bool) (x e : Entry) → e ≡ Shut → (test : Entry → Bool) → test Shut ≡ false → (if b && test e then x else e) ≡ Shut
-shut_unbooked b x e is test none = ap (λ z. if b && z then x else e) (ap test is ∙ none) ∙ ap (λ z. if z then x else e) (and_right b false refl) ∙ is
-
--- out for t, where it was taken for t
-abbrev pub lent_for : ℕ → Bool → Entry → Entry
-lent_for t there e = if there then Out t else e
-
-pub lent_unused : (t : ℕ) (there wish : Bool) (e : Entry) → (is_unused e ≡ true → wish ≡ false) → is_unused (lent_for t there e) ≡ true → wish ≡ false
-lent_unused t true wish e was unused = cc
-lent_unused t false wish e was unused = was unused
-
-lent_taken : (t : ℕ) (b mine : Bool) (e : Entry) → is_taken_for t e ≡ mine → is_taken_for t (lent_for t (b && is_taken_for t e) e) ≡ (mine && not b)
-lent_taken t b mine e is = by_mine b mine (is_taken_for t e) refl is
-  where
-    and_one : (z : Bool) → z ≡ (z && true)
-    and_one true = refl
-    and_one false = refl
-
-    by_mine : (b mine x : Bool) → is_taken_for t e ≡ x → x ≡ mine → is_taken_for t (lent_for t (b && x) e) ≡ (mine && not b)
-    by_mine true mine true at same = ap (λ z. z && false) same
-    by_mine true mine false at same = at ∙ ap (λ z. z && false) same
-    by_mine false mine x at same = at ∙ same ∙ and_one mine
-
-lent_others : (t u : ℕ) (b : Bool) (e : Entry) → u ≢ t → is_taken_for u (lent_for t (b && is_taken_for t e) e) ≡ is_taken_for u e
-lent_others t u b e apart = by_mine b (is_taken_for t e) refl
-  where
-    by_mine : (b x : Bool) → is_taken_for t e ≡ x → is_taken_for u (lent_for t (b && x) e) ≡ is_taken_for u e
-    by_mine true true at = sym (taken_for_one t u e apart at)
-    by_mine true false at = refl
-    by_mine false x at = refl
-
--- ## What a centre holds for a train
-
--- of centre c, which was k, with train t: its home sections that are taken for the train are `mine`
-pub record Held (line : Line) (c : ℕ) (k : Centre) (t : ℕ) (is_mine : ℕ → Bool) (waiting : Option Place) (present : Option Mission) (y : Centre) : Type 0 where
-  pub foreign : (s : ℕ) → is_home line c s ≡ false → y.book s ≡ Shut
-  pub asks : (u first : ℕ) → y.route_ask u ≡ Some first → IsOfNext line c first
-  pub unwished : (s : ℕ) → is_unused (y.book s) ≡ true → y.wish s ≡ false
-  pub mine : (s : ℕ) → is_home line c s ≡ true → is_taken_for t (y.book s) ≡ is_mine s
-  pub others : (s u : ℕ) → u ≢ t → is_taken_for u (y.book s) ≡ is_taken_for u (k.book s)
-  pub wait : y.wait t ≡ waiting
-  pub waits : (u : ℕ) → u ≢ t → y.wait u ≡ k.wait u
-  pub mission : y.mission t ≡ present
-  pub missions : (u : ℕ) → u ≢ t → y.mission u ≡ k.mission u
-  pub heard : (u : ℕ) → is_some (k.heard u) ≡ true → is_some (y.heard u) ≡ true
-  pub announced : k.announced ≤ y.announced
-
--- what it has to be for the train, so that the centre is sound
-pub record Owes (line : Line) (c : ℕ) (t : ℕ) (is_mine : ℕ → Bool) (waiting : Option Place) (present : Option Mission) (y : Centre) : Type 0 where
-  pub claims : (s : ℕ) → is_home line c s ≡ true → one_if (is_mine s) ≡ one_if (wait_has line waiting s) + one_if (hand_has present s)
-  pub wait_home : (s : ℕ) → wait_has line waiting s ≡ true → is_home line c s ≡ true
-  pub wait_fits : (place : Place) → waiting ≡ Some place → IsHandAt line place (covered line place)
-  pub wait_known : (place : Place) → waiting ≡ Some place → (is_some (train_number line t) ≡ true) × (is_some (y.heard t) ≡ true)
-  pub mission : (m : Mission) → present ≡ Some m → IsMissionAt line c y m
-  pub mission_known : (m : Mission) → present ≡ Some m → (is_some (train_number line t) ≡ true) × (is_some (y.heard t) ≡ true)
-
--- a mission stays as sound, where more handovers were announced
-pub still : (line : Line) (c : ℕ) (k y : Centre) (m : Mission) → k.announced ≤ y.announced → IsMissionAt line c k m → IsMissionAt line c y m
+-- a mission stays sound if more handovers were announced
+pub still : (line : Line) (c : ℕ) (k y : Centre) (m : Mission) → k.announced ≤ y.announced → IsMissionAt line c k m
+    → IsMissionAt line c y m
 still line c k y m more is = record {
   hand = is.hand;
   pool_follows = is.pool_follows;
@@ -94,19 +36,24 @@ still line c k y m more is = record {
   hand_ends = is.hand_ends;
 }
 
--- so does where its hand ends, where the hand becomes a part of itself and no handover is new
-pub ends_less : (line : Line) (c : ℕ) (k : Centre) (m n : Mission) → IsMissionAt line c k m → n.place.track ≡ m.place.track → (is_some n.handing ≡ true → is_some m.handing ≡ true)
-    → ((s : ℕ) → within n.hand s ≡ true → within m.hand s ≡ true) → (s d x : ℕ) → next_centre line c n.place.track ≡ Some d → next_centre line d n.place.track ≡ Some x
+-- so does the end of its hand, if the hand becomes a part of itself and no handover is new
+pub ends_less : (line : Line) (c : ℕ) (k : Centre) (m n : Mission) → IsMissionAt line c k m
+    → n.place.track ≡ m.place.track → (is_some n.handing ≡ true → is_some m.handing ≡ true)
+    → ((s : ℕ) → within n.hand s ≡ true → within m.hand s ≡ true) → (s d x : ℕ)
+    → next_centre line c n.place.track ≡ Some d → next_centre line d n.place.track ≡ Some x
     → HasComeTo line d n → within n.hand s ≡ true → is_home line x s ≡ false
 ends_less line c k m n is track handing part s d x next beyond come has =
     is.hand_ends s d x (ap (next_centre line c) (sym track) ∙ next) (ap (next_centre line d) (sym track) ∙ beyond)
-    (⊎_elim (λ (stands : is_some n.handing ≡ true). inl (handing stands)) (λ (some : (e : ℕ) × (within n.hand e ≡ true) × (is_home line d e ≡ true)). inr (some.0, part some.0 some.1, some.2)) come)
+    (⊎_elim (λ (stands : is_some n.handing ≡ true). inl (handing stands))
+    (λ (some : (e : ℕ) × (within n.hand e ≡ true) × (is_home line d e ≡ true)).
+    inr (some.0, part some.0 some.1, some.2)) come)
     (part s has)
 
 module _ (line : Line) (c : ℕ) (k : Centre) (t : ℕ) where
   -- ## From a sound centre, and to one
 
-  pub held : (wait : Option Place) (mission : Option Mission) → IsCentreSound line c k → k.wait t ≡ wait → k.mission t ≡ mission
+  pub held : (wait : Option Place) (mission : Option Mission) → IsCentreSound line c k
+      → k.wait t ≡ wait → k.mission t ≡ mission
       → Held line c k t (λ s. is_taken_for t (k.book s)) wait mission k
   held wait mission sound waits at = record {
     foreign = sound.foreign;
@@ -122,12 +69,27 @@ module _ (line : Line) (c : ℕ) (k : Centre) (t : ℕ) where
     announced = omega arith;
   }
 
-  pub sound_again : (mine : ℕ → Bool) (wait : Option Place) (mission : Option Mission) (y : Centre) → IsCentreSound line c k
+  pub sound_again : (mine : ℕ → Bool) (wait : Option Place) (mission : Option Mission) (y : Centre)
+      → IsCentreSound line c k
       → Held line c k t mine wait mission y → Owes line c t mine wait mission y → IsCentreSound line c y
   sound_again mine wait mission y old h owes = record {
-    claims = λ s u home. by_train (λ x. one_if (is_taken_for x (y.book s)) ≡ one_if (wait_has line (y.wait x) s) + one_if (hand_has (y.mission x) s)) u
-        (omega (arith, owes.claims s home, ap one_if (h.mine s home), ap (λ o. one_if (wait_has line o s)) h.wait, ap (λ o. one_if (hand_has o s)) h.mission))
-        (λ other. omega (arith, old.claims s u home, ap one_if (h.others s u other), ap (λ o. one_if (wait_has line o s)) (h.waits u other), ap (λ o. one_if (hand_has o s)) (h.missions u other)));
+    claims = λ s u home. by_train (λ x. one_if (is_taken_for x (y.book s)) ≡ one_if (wait_has line (y.wait x) s)
+        + one_if (hand_has (y.mission x) s)) u
+        (omega (
+          arith,
+          owes.claims s home,
+          ap one_if (h.mine s home),
+          ap (λ o. one_if (wait_has line o s)) h.wait,
+          ap (λ o. one_if (hand_has o s)) h.mission,
+        ))
+        (λ other.
+        omega (
+          arith,
+          old.claims s u home,
+          ap one_if (h.others s u other),
+          ap (λ o. one_if (wait_has line o s)) (h.waits u other),
+          ap (λ o. one_if (hand_has o s)) (h.missions u other),
+        ));
     foreign = h.foreign;
     asks = h.asks;
     unwished = h.unwished;
@@ -137,13 +99,15 @@ module _ (line : Line) (c : ℕ) (k : Centre) (t : ℕ) where
     wait_fits = λ u place. by_train (λ x. y.wait x ≡ Some place → IsHandAt line place (covered line place)) u
         (λ is. owes.wait_fits place (sym h.wait ∙ is))
         (λ other is. old.wait_fits u place (sym (h.waits u other) ∙ is));
-    wait_known = λ u place. by_train (λ x. y.wait x ≡ Some place → (is_some (train_number line x) ≡ true) × (is_some (y.heard x) ≡ true)) u
+    wait_known = λ u place. by_train (λ x. y.wait x ≡ Some place → (is_some (train_number line x) ≡ true)
+        × (is_some (y.heard x) ≡ true)) u
         (λ is. owes.wait_known place (sym h.wait ∙ is))
         (λ other is. let known = old.wait_known u place (sym (h.waits u other) ∙ is) in (known.0, h.heard u known.1));
     mission = λ u m. by_train (λ x. y.mission x ≡ Some m → IsMissionAt line c y m) u
         (λ is. owes.mission m (sym h.mission ∙ is))
         (λ other is. still line c k y m h.announced (old.mission u m (sym (h.missions u other) ∙ is)));
-    mission_known = λ u m. by_train (λ x. y.mission x ≡ Some m → (is_some (train_number line x) ≡ true) × (is_some (y.heard x) ≡ true)) u
+    mission_known = λ u m. by_train (λ x. y.mission x ≡ Some m → (is_some (train_number line x) ≡ true)
+        × (is_some (y.heard x) ≡ true)) u
         (λ is. owes.mission_known m (sym h.mission ∙ is))
         (λ other is. let known = old.mission_known u m (sym (h.missions u other) ∙ is) in (known.0, h.heard u known.1));
   }
@@ -153,18 +117,23 @@ module _ (line : Line) (c : ℕ) (k : Centre) (t : ℕ) where
 
   -- ## Step by step
 
-  module _ (mine : ℕ → Bool) (wait : Option Place) (mission : Option Mission) (y : Centre) (h : Held line c k t mine wait mission y) where
-    pub held_freed : (r : SectionRun) → Held line c k t (λ s. mine s && not (within r s)) wait mission (freed line c (is_taken_for t) r y).state
+  module _ (mine : ℕ → Bool) (wait : Option Place) (mission : Option Mission) (y : Centre)
+      (h : Held line c k t mine wait mission y) where
+    pub held_freed : (r : SectionRun)
+        → Held line c k t (λ s. mine s && not (within r s)) wait mission (freed line c (is_taken_for t) r y).state
     held_freed r =
         let back : ℕ → Bool = λ s. (within r s && is_home line c s) && is_taken_for t (y.book s) in
         record {
-          foreign = λ s out. ap (λ b. given b (y.wish s) (y.book s)) (away (within r s) (is_home line c s) (is_taken_for t (y.book s)) out) ∙ h.foreign s out;
+          foreign = λ s out. ap (λ b. given b (y.wish s) (y.book s))
+              (away (within r s) (is_home line c s) (is_taken_for t (y.book s)) out) ∙ h.foreign s out;
           asks = h.asks;
           unwished = λ s unused. given_unused (back s) (y.wish s) (y.book s) (h.unwished s) unused;
           mine = λ s home. taken_given t (back s) (y.wish s) (y.book s)
-              ∙ hand_given (within r s) (is_home line c s) (is_taken_for t (y.book s)) (mine s) (h.mine s home) (λ out. absurd (both_ways (is_home line c s) out home));
+              ∙ hand_given (within r s) (is_home line c s) (is_taken_for t (y.book s)) (mine s) (h.mine s home)
+              (λ out. absurd (both_ways (is_home line c s) out home));
           others = λ s u apart. taken_given u (back s) (y.wish s) (y.book s)
-              ∙ others_given (within r s && is_home line c s) (is_taken_for t (y.book s)) (is_taken_for u (y.book s)) (taken_for_one t u (y.book s) apart) ∙ h.others s u apart;
+              ∙ others_given (within r s && is_home line c s) (is_taken_for t (y.book s)) (is_taken_for u (y.book s))
+              (taken_for_one t u (y.book s) apart) ∙ h.others s u apart;
           wait = h.wait;
           waits = h.waits;
           mission = h.mission;
@@ -174,16 +143,19 @@ module _ (line : Line) (c : ℕ) (k : Centre) (t : ℕ) where
         }
 
     -- sections that are open become the train's
-    pub held_booked : (r : SectionRun) → ((s : ℕ) → is_home line c s ≡ true → within r s ≡ true → is_open (y.book s) ≡ true)
+    pub held_booked : (r : SectionRun) → ((s : ℕ) → is_home line c s ≡ true → within r s ≡ true
+        → is_open (y.book s) ≡ true)
         → Held line c k t (λ s. mine s || within r s) wait mission (booked is_open (Taken t) r y).state
     held_booked r opened =
         let there : ℕ → Bool = λ s. within r s && is_open (y.book s) in
-        let is_there : (s : ℕ) → there s ≡ true → is_open (y.book s) ≡ true = λ s is. (and_parts (within r s) (is_open (y.book s)) is).1 in
+        let is_there : (s : ℕ) → there s ≡ true → is_open (y.book s) ≡ true =
+        λ s is. (and_parts (within r s) (is_open (y.book s)) is).1 in
         record {
           foreign = λ s out. shut_unbooked (within r s) (Taken t) (y.book s) (h.foreign s out) is_open refl;
           asks = h.asks;
           unwished = λ s unused. unused_booked t (there s) (y.wish s) (y.book s) (h.unwished s) unused;
-          mine = λ s home. taken_here t (there s) (mine s) (y.book s) (h.mine s home) (is_there s) ∙ both_or (within r s) (is_open (y.book s)) (mine s) (opened s home);
+          mine = λ s home. taken_here t (there s) (mine s) (y.book s) (h.mine s home) (is_there s)
+              ∙ both_or (within r s) (is_open (y.book s)) (mine s) (opened s home);
           others = λ s u apart. taken_elsewhere t u (there s) (y.book s) apart (is_there s) ∙ h.others s u apart;
           wait = h.wait;
           waits = h.waits;
@@ -194,11 +166,13 @@ module _ (line : Line) (c : ℕ) (k : Centre) (t : ℕ) where
         }
 
     -- the train's sections are lent
-    pub held_lent : (r : SectionRun) → Held line c k t (λ s. mine s && not (within r s)) wait mission (booked (is_taken_for t) (Out t) r y).state
+    pub held_lent : (r : SectionRun)
+        → Held line c k t (λ s. mine s && not (within r s)) wait mission (booked (is_taken_for t) (Out t) r y).state
     held_lent r = record {
       foreign = λ s out. shut_unbooked (within r s) (Out t) (y.book s) (h.foreign s out) (is_taken_for t) refl;
       asks = h.asks;
-      unwished = λ s unused. lent_unused t (within r s && is_taken_for t (y.book s)) (y.wish s) (y.book s) (h.unwished s) unused;
+      unwished = λ s unused. lent_unused t (within r s && is_taken_for t (y.book s)) (y.wish s)
+          (y.book s) (h.unwished s) unused;
       mine = λ s home. lent_taken t (within r s) (mine s) (y.book s) (h.mine s home);
       others = λ s u apart. lent_others t u (within r s) (y.book s) apart ∙ h.others s u apart;
       wait = h.wait;
@@ -239,13 +213,15 @@ module _ (line : Line) (c : ℕ) (k : Centre) (t : ℕ) where
       announced = h.announced;
     }
 
-    -- what is not held for a train is free
+    -- the state outside these holdings may change
     pub held_aside : (z : Centre) → z.book ≡ y.book → z.wish ≡ y.wish → z.wait ≡ y.wait → z.mission ≡ y.mission
-        → ((u : ℕ) → is_some (y.heard u) ≡ true → is_some (z.heard u) ≡ true) → y.announced ≤ z.announced → ((u first : ℕ) → z.route_ask u ≡ Some first → IsOfNext line c first) → Held line c k t mine wait mission z
+        → ((u : ℕ) → is_some (y.heard u) ≡ true → is_some (z.heard u) ≡ true) → y.announced ≤ z.announced
+        → ((u first : ℕ) → z.route_ask u ≡ Some first → IsOfNext line c first) → Held line c k t mine wait mission z
     held_aside z book wish waits missions heard announced asks = record {
       foreign = λ s out. ap (λ (f : ℕ → Entry). f s) book ∙ h.foreign s out;
       asks = asks;
-      unwished = λ s unused. ap (λ (f : ℕ → Bool). f s) wish ∙ h.unwished s (sym (ap (λ (f : ℕ → Entry). is_unused (f s)) book) ∙ unused);
+      unwished = λ s unused. ap (λ (f : ℕ → Bool). f s) wish
+          ∙ h.unwished s (sym (ap (λ (f : ℕ → Entry). is_unused (f s)) book) ∙ unused);
       mine = λ s home. ap (λ (f : ℕ → Entry). is_taken_for t (f s)) book ∙ h.mine s home;
       others = λ s u apart. ap (λ (f : ℕ → Entry). is_taken_for u (f s)) book ∙ h.others s u apart;
       wait = ap (λ (f : ℕ → Option Place). f t) waits ∙ h.wait;
@@ -255,3 +231,41 @@ module _ (line : Line) (c : ℕ) (k : Centre) (t : ℕ) where
       heard = λ u is. heard u (h.heard u is);
       announced = omega (arith, h.announced, announced);
     }
+
+-- # Hands at the places of reports.
+
+-- the group is on the place's track, and not in advance of its front
+pub record IsReported (line : Line) (place : Place) : Type 0 where
+  pub group : has (is_on line place.track) (section_of_group line place.group) ≡ true
+  pub front : 10 * group_start line place ≤ place.front
+
+pub reported : (line : Line) (p : Position) (place : Place) → extent line p ≡ Some place → IsReported line place
+reported line p place is = record { group = has_group line p place is; front = extent_ahead line p place is }
+
+-- a hand at another place on its track
+pub moved : (line : Line) (old place : Place) (hand : SectionRun) → IsHandAt line old hand → place.track ≡ old.track
+    → IsReported line place → IsHandAt line place hand
+moved line old place hand is same at = record {
+  some = is.some;
+  few = is.few;
+  on_track = λ s has. subst (λ track. is_on line track s ≡ true) (sym same) (is.on_track s has);
+  group = at.group;
+  front = at.front;
+}
+
+-- the sections that it covers are a hand there
+pub fit_hand : (line : Line) → IsOrdered line → (place : Place) → is_fit line place ≡ true → IsReported line place
+    → IsHandAt line place (covered line place)
+fit_hand line ordered place fit at =
+    let local = begun_local line ordered place (fit_parts line place fit) in
+    record { some = local.some; few = local.few; on_track = local.on_track; group = at.group; front = at.front }
+
+-- if a hand has all sections of a place, the place is on its track
+pub same_track : (line : Line) (old place : Place) (hand : SectionRun) → IsHandAt line old hand
+    → IsHandAt line place (covered line place) → all_of (within hand) (covered line place) ≡ true
+    → place.track ≡ old.track
+same_track line old place hand is at all =
+    let s : ℕ = (covered line place).first in
+    let there = within_from (covered line place) s (omega arith) (omega (arith, at.some)) in
+    one_track line s place.track old.track (at.on_track s there)
+    (is.on_track s (each_within (within hand) (covered line place) all s there))

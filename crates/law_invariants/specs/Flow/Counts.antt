@@ -1,4 +1,5 @@
--- What of a line's trains and sections there is at most one, counted over all centres and all that is on the way.
+-- Counts of things of which at most one may exist for a train or a section. They are taken over all centres and all
+-- frames on the way.
 use Rattle.std.specs.Prelude.{ℕ, ◌+◌, ◌==◌, Bool, ◌&&◌, Option, is_some}
 use Rattle.law_base.specs.Counting.Sums.{one_if}
 use Rattle.law_base.specs.Counting.Resource.{Resource}
@@ -51,7 +52,7 @@ tokens line t s = record {
   cap = λ c k. one_if (is_home line c s && is_used_for t (k.book s));
 }
 
--- ## The hands that have a section, and Yields on the way: what makes it given
+-- ## The hands that have a section, at a centre or in a Yield on the way: by these it is given
 
 abbrev pub hand_inside : ℕ → ℕ → Body → ℕ
 hand_inside t s (Yield number u heard has_data is_ended place hand) = one_if ((u == t) && within hand s)

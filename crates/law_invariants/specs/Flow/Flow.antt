@@ -1,5 +1,4 @@
--- The centres of a line as a network: their states, what is on the way between them, and how an act of one changes
--- that.
+-- The centres of a line as a network: their states, and the frames on the way. An act of one centre changes both.
 use Rattle.std.specs.Prelude.{ℕ, List, length, map}
 use Rattle.law_base.specs.Counting.Network.{Net}
 use Rattle.rbc_spec.specs.Maps.{put}
@@ -15,11 +14,11 @@ Flow = Net Centre Body
 abbrev pub centre_count : Line → ℕ
 centre_count line = length line.centres
 
--- what the centres of a world have sent is the bodies of their frames, in order
+-- the flow of a world: the frames sent are the bodies of its frames, in order
 abbrev pub flow_of : World → Flow
 flow_of w = record { at = w.at; sent = λ a b. map (λ f. f.body) ((w.at a).sent b); taken = λ a b. (w.at b).taken a }
 
--- the world with centre c so
+-- the world with this state of centre c, and these named trains
 abbrev pub in_world : World → ℕ → Centre → List ℕ → World
 in_world w c new trains = record { at = put w.at c new; trains = trains }
 

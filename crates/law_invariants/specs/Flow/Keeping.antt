@@ -1,4 +1,4 @@
--- What an act of a centre has to be, so that all that is true of a sound flow stays true.
+-- Conditions on an act of a centre that keep a sound flow sound.
 use Rattle.std.specs.Prelude.{◌≡◌, ℕ, true, false, List, [], All, Option, Some, is_some}
 use Rattle.law_base.specs.Counting.Resource.{Resource, IsFair}
 use Rattle.rbc_spec.specs.Line.{Line, is_centre}
@@ -9,22 +9,22 @@ use Rattle.law_invariants.specs.Flow.Counts.{rights, tokens}
 use Rattle.law_invariants.specs.Flow.Pairs.{follows, handing_to, announces, takes_over, yields}
 use Rattle.law_invariants.specs.Flow.Sound.{IsCentreSound, IsBodySound}
 
--- what came to an act of a centre by itself
+-- nothing arrived with the act
 abbrev pub nothing_came : Resource Centre Body → ℕ
 nothing_came r = 0
 
--- what came with a frame from a to c
+-- the amount that arrived with a frame from a to c
 abbrev pub came_with : ℕ → ℕ → Body → Resource Centre Body → ℕ
 came_with a c f r = r.inside a c f
 
--- an act of centre c, which was k, leaves it as y and sends these frames: it makes no right and no token beyond what
--- came
+-- An act of centre c from state k to state y, which sends these frames. It makes no right and no token beyond those
+-- that arrived.
 pub record IsFairAct (line : Line) (c : ℕ) (k : Centre) (came : Resource Centre Body → ℕ) (y : Centre)
     (frames : ℕ → List Body) : Type 0 where
   pub rights : (t : ℕ) → IsFair (rights line t) (centre_count line) c k (came (rights line t)) y frames
   pub tokens : (t s : ℕ) → IsFair (tokens line t s) (centre_count line) c k (came (tokens line t s)) y frames
 
--- it leaves its centre sound, and sends sound bodies to centres of the line alone
+-- the act leaves its centre sound, and sends only sound bodies, only to centres of the line
 pub record LeavesSound (line : Line) (c : ℕ) (y : Centre) (frames : ℕ → List Body) : Type 0 where
   pub centre : IsCentreSound line c y
   pub inside : (d : ℕ) → is_centre line d ≡ false → frames d ≡ []
@@ -47,8 +47,8 @@ pub record IsApart (k y : Centre) : Type 0 where
 
 -- ## Aside
 
--- a centre that changes nothing that is counted: phases, what it has said and heard, its clock, and asks that end, at
--- most
+-- The act changes nothing that is counted. It may change phases, the counts of messages sent, the stamps received, the
+-- clock, and end questions.
 pub record IsAside (k y : Centre) : Type 0 where
   pub book : y.book ≡ k.book
   pub wish : y.wish ≡ k.wish

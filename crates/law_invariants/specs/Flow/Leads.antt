@@ -1,4 +1,4 @@
--- What an act of a centre comes to for the one line centre: quiet steps that say the same.
+-- The effect of an act of a centre on the one line centre: quiet steps with the same messages and replies.
 use Rattle.std.specs.Prelude.{◌≡◌, ℕ, true, List, [], ◌∷◌, Option, Some, None}
 use Rattle.std.specs.Bool.{MatchBool}
 use Rattle.std.specs.List.{list_all}
@@ -16,7 +16,7 @@ use Rattle.law_invariants.specs.Flow.Flow.{Flow}
 use Rattle.law_invariants.specs.Flow.Sound.{IsFlowSound}
 use Rattle.law_invariants.specs.Flow.Shows.{Shows}
 
--- centre c says one message, and these words come out
+-- centre c sends one message, with these replies
 abbrev pub one_message : ℕ → ℕ → ℕ → TrackBody → List Word → LineState → Said
 one_message t c group body words v = record { sayings = saying_of t c group body v ∷ []; words = words }
 
@@ -27,7 +27,8 @@ said_by r = record { sayings = r.sayings; words = r.words }
 abbrev pub replied : Flow → ℕ → Reply → Flow
 replied w c r = acted w c r.state r.frames
 
--- the one line centre, which showed v, may go on by quiet steps of that centre to what it shows then
+-- The one line centre, whose state v shows the flow, may take quiet steps of centre c. They have the messages and
+-- replies of the act, and lead to a state that shows the flow after it.
 pub record Leads (line : Line) (w : Flow) (c : ℕ) (r : Reply) (v : LineState) : Type 0 where
   pub quiets : List Quiet
   pub new : LineState
@@ -36,22 +37,22 @@ pub record Leads (line : Line) (w : Flow) (c : ℕ) (r : Reply) (v : LineState) 
   pub shows : Shows line (replied w c r) new
   pub sound : IsFlowSound line (replied w c r)
 
--- one act leads on from where another led
+-- if quiet steps follow the first act, and then the second, they follow both
 abbrev pub LeadsOn : Line → Flow → ℕ → Centre → LineState → Act → Act → Type 0
 LeadsOn line w c k v first second =
     (one : Leads line w c (first k) v) → Leads line (replied w c (first k)) c (second (first k).state) one.new
     → Leads line w c ((first >> second) k) v
 
--- ## Of a message that is heard
+-- ## A message with an answer
 
--- what a report says of a place on its mission's track, if it has one
+-- the effect of a report, if it has a place on its mission's track
 abbrev pub Reports : Line → ℕ → ℕ → Option Place → LineState → Said → LineState → Type 0
 Reports line t c None v said new = SaysNothing v said new
 Reports line t c (Some place) v said new =
     Tells (release_words line c (is_cleared_of line v t place) v) (reported line t c place v) said new
 
--- the own step of a message; and of a report to a centre that does not supervise the train, or of no place, nothing is
--- said
+-- The own step of a message. A report to a centre that does not supervise the train, or without a place, has no
+-- messages and replies.
 abbrev pub HeardAs : Line → LineState → ℕ → TrainMessage → TrainBody → Said → LineState → Type 0
 HeardAs line v c m (Report position) said new =
     MatchBool (supervises v c m.nid_engine)
@@ -66,7 +67,7 @@ pub record LeadsOwn (line : Line) (w : Flow) (c : ℕ) (m : TrainMessage) (r : R
   pub shows : Shows line (replied w c r) mid
   pub sound : IsFlowSound line (replied w c r)
 
--- the whole answer: the own step, and then quiet steps of the centre, which say the same together
+-- the whole answer: the own step, then quiet steps of the centre, together with the messages and replies of the answer
 pub record LeadsHeard (line : Line) (w : Flow) (c : ℕ) (m : TrainMessage) (r : Reply) (v : LineState) : Type 0 where
   pub said : Said
   pub mid : LineState

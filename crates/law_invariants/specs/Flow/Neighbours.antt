@@ -1,11 +1,11 @@
--- What the order of homes on a track gives of neighbouring centres.
+-- Facts about neighbouring centres that follow from the order of homes on a track.
 use Rattle.std.specs.Prelude.{◌≡◌, ◌<◌, ℕ, true, false, ◌==◌, Some}
 use Rattle.rbc_spec.specs.Maps.{has}
 use Rattle.rbc_spec.specs.Line.{Line, is_home, is_linked, next_centre}
 use Rattle.rbc_spec.specs.Sections.{is_on}
 
--- the next centre of a track is linked with the one before it, and does not have it as its own next; and its sections
--- come later
+-- The next centre of a track is linked with the centre before it, and does not have that one as its own next. Its
+-- sections have greater numbers.
 pub record AreNeighbours (line : Line) : Type 0 where
   pub linked : (a b track : ℕ) → next_centre line a track ≡ Some b → is_linked line b a ≡ true
   pub onward : (a b track : ℕ) → next_centre line a track ≡ Some b

@@ -14,8 +14,8 @@ pub record HasNumbers (k : Centre) : Type 0 where
 pub record IsNumbered (w : World) : Type 0 where
   pub centres : (c : ℕ) → HasNumbers (w.at c)
 
--- how many frames the centre has taken of each, after a frame from d that its link answers so: the next is counted,
--- and no other
+-- how many frames the centre has taken from each, after a frame from d with this answer of the link: only the next
+-- frame counts
 abbrev pub taken_after : ℕ → Frame → Taken → Centre → ℕ → ℕ
 taken_after d f Next k = put k.taken d f.number
 taken_after d f answer k = k.taken

@@ -1,4 +1,4 @@
--- What two centres know of the handover of a train from one to the other, with the frames on the way.
+-- The handover of a train between two centres, as each of them and the frames on the way record it.
 use Rattle.std.specs.Prelude.{◌≡◌, ◌⊎◌, ℕ, ◌+◌, ◌==◌, ◌<◌, ◌≤◌, Bool, false, ◌&&◌, not, if◌then◌else◌, List, [], ◌∷◌, Option, Some, None, option_map, is_none}
 use Rattle.std.specs.Option.{option_map_or}
 use Rattle.law_base.specs.Counting.Sums.{one_if}
@@ -12,8 +12,8 @@ use Rattle.law_invariants.specs.Flow.Flow.{Flow}
 abbrev pub is_number : ℕ → Option ℕ → Bool
 is_number h number = has (λ n. n == h) number
 
--- the number under which the receiver expects the train becomes this by the next frame; None where the frame must not
--- come
+-- The number under which the receiver expects the train, after the next frame. The outer `None` is a frame that must
+-- not arrive in that state.
 abbrev pub follows : ℕ → Body → Option ℕ → Option (Option ℕ)
 follows t (Announce h u track) number = if u == t then (if is_none number then Some (Some h) else None) else Some number
 follows t (Cancel h u) number = if u == t then (if is_number h number then Some None else None) else Some number
@@ -43,12 +43,12 @@ abbrev pub yields : ℕ → ℕ → Body → Bool
 yields t h (Yield number u heard has_data is_ended place hand) = (u == t) && (number == h)
 yields t h body = false
 
--- before the receiver has said that it takes over: the announcement is on the way, or it waits
+-- before the receiver replies that it takes over: the announcement is on the way, or its handover is expected
 abbrev pub before : Flow → ℕ → ℕ → ℕ → ℕ → ℕ
 before w a b t h =
     count_if (announces t h) (way w a b) + one_if (has (λ e. (e.number == h) && not e.is_taking) ((w.at b).expects a t))
 
--- and after: that is on the way, or the sender has yielded
+-- after the receiver has replied that it takes over: the reply is on the way, or the sender has yielded
 abbrev pub after : Flow → ℕ → ℕ → ℕ → ℕ → ℕ
 after w a b t h = count_if (takes_over t h) (way w b a) + count_if (yields t h) (way w a b)
 

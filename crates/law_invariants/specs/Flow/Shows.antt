@@ -1,4 +1,4 @@
--- What the one line centre shows of the centres of a line: its state, as their states and what is on the way make it.
+-- The state of the one line centre that a flow shows, by the states of the centres and the frames on the way.
 use Rattle.std.specs.Prelude.{◌≡◌, ℕ, Bool, true, false, if◌then◌else◌, Some, None, nat_lt, Contains}
 use Rattle.law_base.specs.Counting.Network.{way}
 use Rattle.law_base.specs.Counting.Resource.{placed}
@@ -16,7 +16,7 @@ use Rattle.law_invariants.specs.Flow.Counts.{hands, missions}
 abbrev pub is_in_hand : Line → Flow → ℕ → ℕ → Bool
 is_in_hand line w s t = nat_lt 0 (placed (hands t s) (centre_count line) w)
 
--- a section in use is given where it is in a hand, else kept
+-- a section in use is given if it is in a hand, and else kept
 abbrev pub shown : centre.Entry → (ℕ → Bool) → Mark
 shown centre.Shut given = Shut
 shown centre.Open given = Open

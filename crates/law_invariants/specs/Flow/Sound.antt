@@ -1,4 +1,4 @@
--- What stays true of the centres of a line and of what is on the way between them, whatever happens.
+-- Invariants of the centres of a line and of the frames on the way, which hold after all events.
 use Rattle.std.specs.Prelude.{length, nat_lt, ◌≡◌, ◌⊎◌, ℕ, ◌+◌, ◌*◌, ◌≤◌, true, false, [], Some, None, is_some}
 use Rattle.law_base.specs.Counting.Sums.{one_if}
 use Rattle.law_base.specs.Counting.Network.{IsCounted, EachOnTheWay}
@@ -29,12 +29,12 @@ pub record IsHandAt (line : Line) (place : Place) (hand : SectionRun) : Type 0 w
 pub record IsOfNext (line : Line) (c s : ℕ) : Type 0 where
   pub home : (track d : ℕ) → is_on line track s ≡ true → next_centre line c track ≡ Some d → is_home line d s ≡ true
 
--- the mission has come to centre d: a handover stands, or the hand has a section of d
+-- the mission has reached centre d: a handover is pending, or the hand has a section of d
 abbrev pub HasComeTo : Line → ℕ → Mission → Type 0
 HasComeTo line d m = (is_some m.handing ≡ true) ⊎ ((e : ℕ) × (within m.hand e ≡ true) × (is_home line d e ≡ true))
 
--- a mission at centre c: its pool follows the hand at once, on its track, and is of the next centre; a handover that it
--- announced is to the next centre, and where one may stand no section of the hand is of the centre beyond that
+-- A mission at centre c. Its pool follows the hand at once, on its track, and is of the next centre. A handover that it
+-- announced is to the next centre. If it has reached that, no section of the hand is of the centre beyond.
 pub record IsMissionAt (line : Line) (c : ℕ) (k : Centre) (m : Mission) : Type 0 where
   pub hand : IsHandAt line m.place m.hand
   pub pool_follows : is_empty m.pool ≡ false → m.pool.first ≡ next_after m.hand
@@ -49,11 +49,11 @@ pub record IsMissionAt (line : Line) (c : ℕ) (k : Centre) (m : Mission) : Type
       → within m.hand s ≡ true → is_home line n s ≡ false
 
 pub record IsCentreSound (line : Line) (c : ℕ) (k : Centre) : Type 0 where
-  -- a home section is taken exactly where a start that waits or a hand has it
+  -- a home section is taken if and only if a waiting start or a hand has it
   pub claims : (s t : ℕ) → is_home line c s ≡ true
       → one_if (is_taken_for t (k.book s)) ≡ one_if (wait_has line (k.wait t) s) + one_if (hand_has (k.mission t) s)
   pub foreign : (s : ℕ) → is_home line c s ≡ false → k.book s ≡ Shut
-  -- sections are asked of the next centre alone
+  -- sections are requested only from the next centre
   pub asks : (t first : ℕ) → k.route_ask t ≡ Some first → IsOfNext line c first
   pub unwished : (s : ℕ) → is_unused (k.book s) ≡ true → k.wish s ≡ false
   -- a start that waits could begin here
@@ -65,10 +65,10 @@ pub record IsCentreSound (line : Line) (c : ℕ) (k : Centre) : Type 0 where
   pub mission_known : (t : ℕ) (m : Mission) → k.mission t ≡ Some m
       → (is_some (train_number line t) ≡ true) × (is_some (k.heard t) ≡ true)
 
--- ## Of what is on the way
+-- ## Frames on the way
 
--- a Yield from a to b carries a place of the line with its hand, to the next centre, and no section of the hand is of
--- the one beyond that
+-- A Yield from a to b carries a place of the line with its hand. It goes to the next centre, and no section of the hand
+-- is of the centre beyond.
 pub record IsYieldSound (line : Line) (a b t : ℕ) (carried : YieldedPlace) (hand : SectionRun) : Type 0 where
   pub place : Place
   pub is_carried : carried ≡ yielded_place place
@@ -77,7 +77,7 @@ pub record IsYieldSound (line : Line) (a b t : ℕ) (carried : YieldedPlace) (ha
   pub known : is_some (train_number line t) ≡ true
   pub hand_ends : (s n : ℕ) → next_centre line b place.track ≡ Some n → within hand s ≡ true → is_home line n s ≡ false
 
--- and an announcement and its cancellation are not passed over for what they name
+-- a Yield is sound as above; an announcement names a train and a track of the line, and a cancellation a train
 abbrev pub IsBodySound : Line → ℕ → ℕ → Body → Type 0
 IsBodySound line a b (Yield number t heard has_data is_ended place hand) = IsYieldSound line a b t place hand
 IsBodySound line a b (Announce number t track) =

@@ -1,4 +1,5 @@
--- Steps of a centre, of which one that takes the next frame of a link is at its head, and any other is by itself.
+-- Steps of a centre. A step that takes the next frame of a link is "at the head" of the link. Any other step is "by
+-- itself".
 use Rattle.std.specs.Prelude.{◌≢◌, ℕ, List}
 use Rattle.rbc_spec.specs.Line.{Line}
 use Rattle.rbc_spec.specs.Frame.{Body}
@@ -12,7 +13,7 @@ abbrev pub IsByItself : Line → ℕ → Centre → Event → Type 0
 IsByItself line c k (Deliver d f) = link_answer line c k d f ≢ Next
 IsByItself line c k event = Unit {0}
 
--- what the step of an event leaves of centre c, which was k, and what it sends
+-- the state after the step of an event at centre c, from state k
 abbrev pub left_by : Line → ℕ → Centre → Event → Centre
 left_by line c k event = state_after (stamp_of k event) k (done line c k event)
 

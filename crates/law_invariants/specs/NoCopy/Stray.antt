@@ -1,5 +1,5 @@
--- Frames that are looked for: what they have inside is not dropped. Any other frame with a right or a section inside is
--- stray.
+-- Frames that a centre looks for, and so does not drop the right or the section inside. Any other frame with a right or
+-- a section inside is stray.
 use Rattle.std.specs.Prelude.{ℕ, ◌==◌, Bool, true, false, ◌&&◌, ◌||◌, not, is_none}
 use Rattle.rbc_spec.specs.Maps.{has}
 use Rattle.rbc_spec.specs.SectionRuns.{all_of}
@@ -20,9 +20,9 @@ is_plain (Cancel number t) = true
 is_plain (TakingOver number t) = true
 is_plain body = false
 
--- centre c, which is k, has a place for what comes from centre d: a right was asked for, and is not here; it comes back
--- to the registrar, where neither right nor mission is; sections that centre d lends are those that were asked for;
--- sections that come home are out at centre d for the train; a mission is taken
+-- Centre c, in state k, can take the frame from centre d. A given right was asked for, and is not here. A returned
+-- right is at its registrar, and neither the right nor a mission is there already. Sections lent by centre d are those
+-- that were asked for. Returned sections are out for the train. A Yield can be taken over.
 abbrev pub has_place_for : Line → ℕ → ℕ → Centre → Body → Bool
 has_place_for line c d k (GiveRight t) = k.has_asked t && not (k.has_right t)
 has_place_for line c d k (ReturnRight t) = is_registrar_of line c t && (not (k.has_right t) && is_none (k.mission t))

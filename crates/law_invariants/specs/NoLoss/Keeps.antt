@@ -1,4 +1,4 @@
--- What a centre has, and what has to come to it, so that it loses nothing.
+-- The things that a centre has, and the frames that have to arrive at it, so that it loses nothing.
 use Rattle.std.specs.Prelude.{◌≡◌, ℕ, true, false, List, Some}
 use Rattle.law_base.specs.Counting.Resource.{Resource, IsExact}
 use Rattle.rbc_spec.specs.Line.{Line}
@@ -19,8 +19,8 @@ abbrev pub BringsNoStray : Line → ℕ → Centre → Event → Type 0
 BringsNoStray line c k (Deliver d f) = link_answer line c k d f ≡ Next → is_looked_for line c d k f.body ≡ true
 BringsNoStray line c k event = Unit {0}
 
--- an act of centre c, which was k, leaves it as y and sends these frames: it makes no right and no token beyond what
--- came, and loses none
+-- An act of centre c from state k to state y, which sends these frames. It makes no right and no token beyond those
+-- that arrived, and loses none.
 pub record IsExactAct (line : Line) (c : ℕ) (k : Centre) (came : Resource Centre Body → ℕ) (y : Centre)
     (frames : ℕ → List Body) : Type 0 where
   pub rights : (t : ℕ) → IsExact (rights line t) (centre_count line) c k (came (rights line t)) y frames

@@ -1,5 +1,5 @@
--- What a frame finds where it is the next of its link, so that it is not stray: what it answers was asked, what comes
--- back is out, what is handed over is expected.
+-- The state that a frame finds if it is the next of its link, so that it is not stray. An answer finds its question, a
+-- returned thing is out, and a handover is expected.
 use Rattle.std.specs.Prelude.{◌≡◌, ℕ, ◌==◌, ◌&&◌, true, false, length, Some, None, nat_lt}
 use Rattle.rbc_spec.specs.Maps.{has}
 use Rattle.rbc_spec.specs.SectionRuns.{SectionRun, is_empty, all_of}
@@ -11,8 +11,8 @@ use Rattle.rbc_spec.specs.Links.{is_of_line, is_train, is_under, may_take}
 use Rattle.rbc_spec.specs.World.{World}
 use Rattle.law_base.specs.Walk.Trains.{train_of}
 
--- what the body finds that comes from centre a to centre b, which is k. A TakingOver may meet a handover that was
--- cancelled meanwhile, and has no effect then
+-- The state k of centre b that a body from centre a finds. A TakingOver may find that its handover was cancelled
+-- meanwhile; then it has no effect.
 abbrev pub IsDue : Line → ℕ → ℕ → Centre → Body → Type 0
 IsDue line a b k (AskRight t) = is_registrar_of line b t ≡ true  -- the registrar is asked
 -- a right that was asked for, and is not here
@@ -36,8 +36,8 @@ IsDue line a b k (TakingOver number t) = Unit {0}
 IsDue line a b k (Yield number t heard has_data is_ended place hand) =
     (at : Place) × (place ≡ yielded_place at) × (may_take line b k a number t at hand ≡ true)
 
--- a mission that came from centre a, which centre k takes over and goes on as new: it was expected under its number and
--- answered, and is here now, with its place and its hand; nothing is expected any more
+-- A mission from centre a is taken over in state k, which leaves state `new`. It was expected under its number, and
+-- this centre had replied. It is here now, with its place and its hand, and the train is not expected any more.
 pub record IsTakenOver (a number t : ℕ) (at : Place) (hand : SectionRun) (k new : Centre) : Type 0 where
   pub expected : has (λ e. (e.number == number) && e.is_taking) (k.expects a t) ≡ true
   pub mission : Mission

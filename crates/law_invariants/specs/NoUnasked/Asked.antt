@@ -1,4 +1,4 @@
--- What the centres of a line have asked each other for: rights and routes, with the questions and answers on the way.
+-- The requests of the centres of a line for rights and sections, with the questions and answers on the way.
 use Rattle.std.specs.Prelude.{◌≡◌, ℕ, ◌+◌, ◌==◌, Bool, true, false, ◌&&◌}
 use Rattle.law_base.specs.Counting.Sums.{one_if}
 use Rattle.law_base.specs.Counting.Network.{EachOnTheWay}
@@ -38,7 +38,7 @@ abbrev pub stands : Question → Centre → Bool
 stands (OfRight t) k = k.has_asked t
 stands (OfRoute t first) k = has (λ n. n == first) (k.route_ask t)
 
--- a question of centre d on the way, or its answer, where it stands at centre d
+-- questions of centre d and their answers on the way, under the count of those that are pending at d
 abbrev pub questions : Question → ℕ → Resource Centre Body
 questions x d = record {
   held = λ c k. 0;
@@ -46,11 +46,11 @@ questions x d = record {
   cap = λ c k. one_if ((c == d) && stands x k);
 }
 
--- ## What is on the way
+-- ## Frames on the way
 
--- a body on the way from centre a to centre b: a right goes back to its registrar; sections are asked of the home of
--- the first, and its home lends what is its own, all of one track of the line; sections of a train of the line come
--- home to their home.
+-- A body on the way from centre a to centre b. A right returns to its registrar. Sections are requested from the home
+-- of the first. A home lends only its own sections, all of one track of the line. Sections of a train of the line are
+-- returned to their home.
 abbrev pub IsBodyAsked : Line → ℕ → ℕ → Body → Type 0
 IsBodyAsked line a b (ReturnRight t) = is_registrar_of line b t ≡ true
 IsBodyAsked line a b (RouteAsk t first most) = is_home line b first ≡ true
@@ -63,7 +63,7 @@ IsBodyAsked line a b body = Unit {0}
 
 -- ## Of all
 
--- no more answers are on the way than questions stand, and all else that is asked for is as it has to be
+-- at most as many answers are on the way as questions are pending, and each body keeps the rule above
 pub record IsAsked (line : Line) (w : Flow) : Type 0 where
   pub questions : (x : Question) (d : ℕ) → IsWithinCap (questions x d) (centre_count line) w
   pub bodies : EachOnTheWay (IsBodyAsked line) w

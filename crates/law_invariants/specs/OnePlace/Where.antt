@@ -1,5 +1,5 @@
--- Where a section in use is: one that its home has taken, there; one that is out, at another centre or on the way
--- between two.
+-- The place of a section in use. One that its home has taken is there. One that is out is at another centre, or on the
+-- way between two.
 use Rattle.std.specs.Prelude.{◌≡◌, ◌⊎◌, ℕ, ◌==◌, List, [], ◌∷◌, true, false}
 use Rattle.std.specs.List.{Contains, flat_map, count_by}
 use Rattle.rbc_spec.specs.Line.{Line, is_centre}
@@ -12,16 +12,16 @@ use Rattle.rbc_spec.specs.Promises.{held_for, carried_for}
 abbrev pub times_carried : ℕ → ℕ → List Frame → ℕ
 times_carried s t fs = count_by (λ u. u == t) (flat_map (λ f. carried_for s f.body) fs)
 
--- how a frame from a to b carries sections of home c: lent ones come from the home, returned ones go to it; a hand is
--- handed over between any two
+-- The frame from a to b may carry sections of home c. Lent sections are from a, returned ones are of b. A hand is
+-- handed over between any two centres.
 abbrev pub GoesBetween : ℕ → ℕ → ℕ → Body → Type 0
 GoesBetween c a b (RouteInfo t run) = a ≡ c
 GoesBetween c a b (RouteReturn t run) = b ≡ c
 GoesBetween c a b body = Unit {0}
 
--- a section that is taken is in the hand of its train at home, or in a start that waits there; one that is out is in
--- the hand or the pool of its train at one other centre of the line, or in one frame between two, which comes from the
--- home, goes to it, or hands the train over
+-- A taken section is in the hand of its train at home, or in a start that waits there. A section that is out is in the
+-- hand or the pool of its train at one other centre of the line. Or it is in one frame between two centres, which
+-- leaves the home, returns to it, or hands the train over.
 abbrev pub IsFoundAs : Line → World → ℕ → ℕ → Entry → Type 0
 IsFoundAs line w c s Shut = Unit {0}
 IsFoundAs line w c s Open = Unit {0}

@@ -1,11 +1,11 @@
--- Answers in which a centre says, tells and sends little.
+-- Answers with few messages, replies and frames.
 use Rattle.std.specs.Prelude.{ℕ, ◌≤◌, length, map}
 use Rattle.rbc_spec.specs.Frame.{Frame}
 use Rattle.rbc_spec.specs.Outcome.{Outcome}
 use Rattle.rbc_spec.specs.World.{Answer, Answered}
 use Rattle.law_base.specs.Rules.Sending.{GoInOrder}
 
--- at most two messages to trains and 64 words to the interlocking, and on each link at most three frames, in their
+-- at most two messages to trains and 64 replies to the interlocking, and on each link at most three frames, in their
 -- order
 pub record SaysFew (o : Outcome) : Type 0 where
   pub sayings : length o.sayings ≤ 2

@@ -1,4 +1,4 @@
--- The ranges of what a centre keeps and hears, as far as the frames that it sends are made of it.
+-- The ranges of the values that a centre keeps and receives, as far as its frames are made of them.
 use Rattle.std.specs.Prelude.{◌≡◌, ◌⊎◌, ℕ, ◌≤◌, ◌<◌, true, List, All, Option, Some}
 use Rattle.rbc_spec.specs.SectionRuns.{SectionRun, most_in_hand, next_after}
 use Rattle.rbc_spec.specs.Line.{Line, is_centre, is_linked}
@@ -8,10 +8,10 @@ use Rattle.rbc_spec.specs.Frame.{Body, yielded_place, IsEngine, IsHandoverNumber
 use Rattle.rbc_spec.specs.Centre.{Centre, Entry, Out, Mission, Handing, Expectation}
 use Rattle.rbc_spec.specs.Step.{Event, Train, Set, Unset, Deliver}
 
--- ## What comes
+-- ## Values that arrive
 
--- Q_SCALE is at most 10 m, and L_TRAININT has 15 bits (7.5). Nothing is wanted of other fields: a place has a group of
--- the line and distances that are known
+-- Q_SCALE is at most 10 m, and L_TRAININT has 15 bits (7.5). Other fields need no range here: a place has a group of
+-- the line, and its distances are known.
 pub record HasPositionRanges (p : Position) : Type 0 where
   pub scale : p.scale ≤ 100
   pub length : (l : ℕ) → p.l_trainint ≡ Some l → l ≤ 32767
@@ -26,26 +26,27 @@ IsReportInRange (EndOfMission position) = HasPositionRanges position
 IsReportInRange (StartOfMission is_valid position) = HasPositionRanges position
 IsReportInRange body = Unit {0}
 
--- T_TRAIN of a header is a time that is known, and its report lies in range
+-- T_TRAIN of a header is a time that is known, and its report is in range
 pub record HasMessageRanges (m : TrainMessage) : Type 0 where
   pub t_train : m.t_train < unknown_time
   pub report : IsReportInRange m.body
 
--- what comes to a centre: a train's message to one of the line, a frame's body; nothing is wanted of the interlocking
+-- an event that arrives at a centre: a train's message at a centre of the line, or a frame's body; the interlocking
+-- needs no range
 abbrev pub HasEventRanges : Line → ℕ → Event → Type 0
 HasEventRanges line c (Train m) = (is_centre line c ≡ true) × HasMessageRanges m
 HasEventRanges line c (Set s) = Unit {0}
 HasEventRanges line c (Unset s) = Unit {0}
 HasEventRanges line c (Deliver d f) = HasBodyRange f.body
 
--- ## What is kept
+-- ## The state of a centre
 
 -- a place whose sections may be a hand
 pub record HasStartRanges (line : Line) (p : Place) : Type 0 where
   pub place : HasPlaceRange (yielded_place p)
   pub hand : HasRunRange 1 most_in_hand (covered line p)
 
--- what a mission at c has: a hand, at most 31 sections in advance of it, and a handover to a linked centre
+-- the parts of a mission at c: a hand, at most 31 sections in its pool, and a handover to a linked centre
 pub record HasMissionParts (line : Line) (c : ℕ) (p : Place) (held lent : SectionRun)
     (handover : Option Handing) : Type 0 where
   pub place : HasPlaceRange (yielded_place p)
@@ -57,8 +58,8 @@ pub record HasMissionParts (line : Line) (c : ℕ) (p : Place) (held lent : Sect
 abbrev pub HasMissionRanges : Line → ℕ → Mission → Type 0
 HasMissionRanges line c m = HasMissionParts line c m.place m.hand m.pool m.handing
 
--- what centre c keeps: no more handovers were announced than steps were made, each time that was heard is known, and
--- each centre that announced a train has a link with it
+-- The state of centre c. It has announced at most as many handovers as it made steps. Each stamp of a train is a known
+-- time. Each centre that announced a train has a link with it.
 pub record HasStateParts (line : Line) (c stamp count : ℕ) (book : ℕ → Entry) (times : ℕ → Option ℕ)
     (missions : ℕ → Option Mission) (waits : ℕ → Option Place)
     (expected : ℕ → ℕ → Option Expectation) : Type 0 where
@@ -74,7 +75,7 @@ pub record HasStateParts (line : Line) (c stamp count : ℕ) (book : ℕ → Ent
 abbrev pub HasStateRanges : Line → ℕ → Centre → Type 0
 HasStateRanges line c k = HasStateParts line c k.clock k.announced k.book k.heard k.mission k.wait k.expects
 
--- ## What is sent
+-- ## Frames that are sent
 
 -- a body with each field in its range, to a centre that c has a link with
 pub record IsSentInRange (line : Line) (c d : ℕ) (f : Body) : Type 0 where

@@ -8,12 +8,12 @@ use Rattle.rbc_spec.specs.Step.{taken, effect, ticked, stamp_of, state_after}
 use Rattle.rbc_spec.specs.World.{World, Event, Bytes}
 use Rattle.law_invariants.specs.Ranges.Ranges.{HasStateRanges, LeavesInRange, HasMessageRanges}
 
--- a frame from a to b has a link to go on, and each field in its range
+-- centres a and b have a link, and each field of the frame is in its range
 pub record IsFrameInRange (line : Line) (a b : ℕ) (f : Frame) : Type 0 where
   pub linked : is_linked line a b ≡ true
   pub ranges : HasFrameRanges f
 
--- a step of centre c, which was k, leaves it in its ranges, and sends bodies in theirs on links alone
+-- a step of centre c, from state k, leaves it in its ranges, and sends bodies in their ranges, only on links
 abbrev pub StaysInRange : Line → ℕ → Centre → step.Event → Type 0
 StaysInRange line c k event =
     let stamp = stamp_of k event in
@@ -24,7 +24,7 @@ StaysInRange line c k event =
 abbrev pub SendsInRange : Line → ℕ → Centre → step.Event → Type 0
 SendsInRange line c k event = (d : ℕ) → All (IsFrameInRange line c d) ((taken line c event k).0.frames d)
 
--- a message that comes in bytes has its ranges; nothing is wanted of another event
+-- a message in bytes has its ranges; another event needs none
 abbrev pub IsReadInRange : Event → Type 0
 IsReadInRange (Bytes c (Ok m)) = HasMessageRanges m
 IsReadInRange event = Unit {0}

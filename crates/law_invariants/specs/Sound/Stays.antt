@@ -12,13 +12,13 @@ abbrev pub HasHandRange : Body → Type 0
 HasHandRange (Yield number t heard has_data is_ended place hand) = (1 ≤ hand.count) × (hand.count ≤ most_in_hand)
 HasHandRange body = Unit {0}
 
--- a frame that is delivered has such a body; nothing is wanted of another event
+-- a delivered frame has such a body; another event needs no range
 abbrev pub IsInRange : Event → Type 0
 IsInRange (Deliver d f) = HasHandRange f.body
 IsInRange event = Unit {0}
 
--- the step of an event at centre c, which was k, leaves the centre sound, and sends sound bodies to centres of the line
--- alone
+-- The step of an event at centre c, from state k, leaves the centre sound. It sends only sound bodies, and only to
+-- centres of the line.
 abbrev pub StaysSound : Line → ℕ → Centre → Event → Type 0
 StaysSound line c k event =
     let stamp = stamp_of k event in

@@ -1,4 +1,4 @@
--- A world whose centres are sound, each by itself.
+-- A world in which each single centre is sound.
 use Rattle.std.specs.Prelude.{ℕ, All}
 use Rattle.rbc_spec.specs.Line.{Line}
 use Rattle.rbc_spec.specs.World.{World}

@@ -39,20 +39,20 @@ pub fn a_line_begins_sound()
     ensures shown { (line : Line) → Shows line (flow_of (new_world line)) line_beginning }
 {}
 
-/// What shows the flow of a sound world stands for the world.
+/// A state that shows the flow of a sound world represents the world.
 pub fn what_shows_stands()
     ensures { (line : Line) (w : World) (v : LineState) → IsFlowSound line (flow_of w) → Shows line (flow_of w) v
         → StandsFor line w v }
 {}
 
-/// Where nothing is lost either, each section in use, each right and each mission is in one place.
+/// If nothing is lost either, each section in use, each right and each mission is in one place.
 pub fn a_flow_that_loses_nothing_has_one_place()
     ensures { (line : Line) (w : World) → IsLine line → IsFlowSound line (flow_of w) → LosesNothing line (flow_of w)
         → HasOnePlace line w }
 {}
 
-/// Each frame is numbered by its place on its link, whatever happens. So the frame that a link says is the next is the
-/// head of what is on the way.
+/// Each frame is numbered by its position on its link. So the frame that a link calls the next is the head of the
+/// frames on the way.
 pub fn each_frame_keeps_its_number()
     ensures kept { (line : Line) (w : World) (event : Event) (answer : Answer) (new : World) → IsNumbered w
         → world_step line w event ≡ Ok (answer, new) → IsNumbered new }
@@ -67,7 +67,7 @@ pub fn the_next_centre_is_a_neighbour()
     ensures { (line : Line) → IsLine line → AreNeighbours line }
 {}
 
-/// An act that does nothing leads nowhere else, and an act after another leads on from where that one led.
+/// An act that does nothing leads to the same state. If quiet steps follow each of two acts, they follow both in order.
 pub fn one_act_after_another()
     ensures none { (line : Line) (w : Flow) (c : ℕ) (k : Centre) (v : LineState)
         → IsFlowSound line (replied w c (rest k)) → Shows line (replied w c (rest k)) v → Leads line w c (rest k) v }
@@ -75,7 +75,7 @@ pub fn one_act_after_another()
         → LeadsOn line w c k v first second }
 {}
 
-/// Whoever a Yield comes to, as the next frame of its link, takes it, in the place that it carries.
+/// A centre accepts each Yield that is the next frame of its link, with the place that it carries.
 pub fn each_yield_is_taken()
     ensures { (line : Line) (w : Flow) (a c number t heard : ℕ) (has_data is_ended : Bool) (carried : YieldedPlace)
         (hand : SectionRun)
@@ -85,8 +85,8 @@ pub fn each_yield_is_taken()
         × (may_take line c (w.at c) a number t place hand ≡ true) }
 {}
 
-/// A right that comes, as the next frame of its link, to a centre where a start of mission waits and asked for it: the
-/// one line centre admits the start, and all stays sound.
+/// The right for a waiting start of mission arrives, as the next frame of its link, at the centre that asked for it.
+/// The one line centre admits the start, and all stays sound.
 pub fn a_right_is_admitted()
     ensures { (line : Line) (w : Flow) (v : LineState) (a c t number : ℕ) (place : Place) → IsFlowSound line w
         → Shows line w v
@@ -95,8 +95,8 @@ pub fn a_right_is_admitted()
         → Leads line (took w a c) c (received line c a (GiveRight t) (took_frame a number (w.at c))) v }
 {}
 
-/// An act of a centre that is fair and leaves what is sound keeps all sound, by itself or at the head of a link, where
-/// it keeps what pairs of centres know of handovers. It does where it has no part in one.
+/// A fair act of a centre that leaves sound parts keeps all sound, by itself or at the head of a link. It must keep the
+/// agreement of pairs of centres on handovers, as it does if it has no part in one.
 pub fn a_fair_act_keeps_all_sound()
     ensures by_itself { (line : Line) (w : Flow) (c : ℕ) (y : Centre) (frames : ℕ → List Body) → IsFlowSound line w
         → is_centre line c ≡ true
@@ -119,7 +119,7 @@ pub fn a_fair_act_keeps_all_sound()
         → IsFlowSound line (acted w c y (λ d. [])) }
 {}
 
-/// No step changes how many frames a centre has taken of each other, but that of a frame that is the next of its link.
+/// How many frames a centre has taken from each other changes only by the step of a frame that is the next of its link.
 pub fn a_step_takes_the_next_frame_alone()
     ensures train { (line : Line) (c : ℕ) (k : Centre) (m : TrainMessage)
         → (taken line c (Train m) k).1.taken ≡ k.taken }
@@ -143,7 +143,7 @@ pub fn a_step_is_an_act()
         ≡ acted (took (flow_of w) a c) c (state_after stamp k e) e.reply.frames }
 {}
 
-/// The frames by which sections go home name each section of the run once at most, and no other.
+/// The frames that return sections name each section of the run at most once, and no other.
 pub fn what_goes_home_goes_once()
     ensures { (line : Line) (c t track u s : ℕ) (r : SectionRun) (k : Centre) → IsOrdered line
         → sent_by (tokens line u s) (centre_count line) c (returned line c t track r k).frames

@@ -16,8 +16,8 @@ ghost use Rattle.law_invariants.specs.Handover.Orderly.{Allowance, IsOrderlyWith
 ghost use Rattle.law_invariants.specs.Handover.Steps.{IsByItself, left_by, sent_by};
 ghost use Rattle.law_invariants.specs.Handover.Worlds.{IsWorldSound};
 
-/// An orderly act of a centre keeps what any two centres know of the handover of a train, where it yields none but what
-/// was announced and is taken over; and so does a frame that is the next of its link and is taken as it says.
+/// An orderly act of a centre keeps the agreement of any two centres on the handover of a train. It must yield only
+/// announced handovers that are taken over. A frame that is the next of its link, and is taken in order, keeps it too.
 pub fn an_orderly_act_keeps_all_paired()
     ensures acts { (w : Flow) (c i j t : ℕ) (y : Centre) (frames : ℕ → List Body) → IsCounted w
         → IsOrderly (w.at c) y frames
@@ -30,8 +30,7 @@ pub fn an_orderly_act_keeps_all_paired()
         → IsPaired w i j t → IsPaired (acted (took w a c) c y (λ d. [])) i j t }
 {}
 
-/// Each step of a centre is orderly: by itself whatever the centre is in, and after the next frame of a link, which in
-/// a sound flow is taken as it says.
+/// Each step of a centre is orderly: by itself in every state, and after the next frame of a link in a sound flow.
 pub fn each_step_is_orderly()
     ensures by_itself { (line : Line) (c : ℕ) (k : Centre) (event : Event) → IsByItself line c k event
         → IsOrderly k (left_by line c k event) (sent_by line c k event) }
@@ -42,7 +41,7 @@ pub fn each_step_is_orderly()
         (sent_by line c (w.at c) (Deliver a f)) }
 {}
 
-/// So each step of a centre keeps what any two centres of the line know of the handover of each train.
+/// So each step of a centre keeps the agreement of any two centres of the line on the handover of each train.
 pub fn each_step_keeps_all_paired()
     ensures by_itself { (line : Line) (w : Flow) (c : ℕ) (event : Event) → IsCounted w
         → IsByItself line c (w.at c) event

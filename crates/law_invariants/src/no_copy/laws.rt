@@ -9,15 +9,15 @@ ghost use Rattle.law_invariants.specs.Flow.Sound.{IsCentreSound};
 ghost use Rattle.law_invariants.specs.Flow.Keeping.{IsFairAct};
 ghost use Rattle.law_invariants.specs.NoCopy.Steps.{came_to, done, IsFairStep};
 
-/// Whatever event comes to a centre: its step makes no right to supervise a train. What the centre then has of it,
-/// alone or in a mission, and what its frames carry, it had, or it came.
+/// No step of a centre makes a right to supervise a train. A right that the centre holds or sends after the step was
+/// held before, or arrived with the event.
 pub fn no_step_makes_a_right()
     ensures { (line : Line) (c t : ℕ) (k : Centre) (event : Event) → IsCentreSound line c k
         → IsFairStep (rights line t) line c k event }
 {}
 
-/// Nor does it make a token of a section: a start that waits, a hand, a pool and the frames then have the section no
-/// more often than they had it, than it came, and than its home has put it into use.
+/// No step makes a token of a section. After it, waiting starts, hands, pools and frames have the section at most as
+/// often as before. A token may arrive, and its home may put the section into use.
 pub fn no_step_makes_a_token()
     ensures { (line : Line) (c t s : ℕ) (k : Centre) (event : Event) → IsLine line → IsCentreSound line c k
         → IsFairStep (tokens line t s) line c k event }

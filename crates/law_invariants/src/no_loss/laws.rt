@@ -19,16 +19,16 @@ ghost use Rattle.law_invariants.specs.Handover.Worlds.{IsWorldSound};
 ghost use Rattle.law_invariants.specs.NoUnasked.Asked.{IsAsked};
 ghost use Rattle.law_invariants.specs.NoLoss.Keeps.{HasRightOnce, BringsNoStray, IsExactAct};
 
-/// Whatever event comes to a sound centre that has no right beside its mission, but a stray frame: its step loses no
-/// right to supervise a train, and makes none. What the centre had of it and what came, it then has or sends.
+/// Let a sound centre have no right beside a mission of the same train, and let the event bring no stray frame. Then
+/// its step neither loses nor makes a right. The centre then holds or sends all that it had and that arrived.
 pub fn no_step_loses_a_right()
     ensures { (line : Line) (c t : ℕ) (k : Centre) (event : Event) → IsLine line → IsCentreSound line c k
         → HasRightOnce k
         → BringsNoStray line c k event → IsExactStep (rights line t) line c k event }
 {}
 
-/// Nor does it lose a token of a section, or make one: a start that waits, a hand, a pool and the frames then have the
-/// section as often as they had it and as it came, but for what its home has put into use, or out of it.
+/// Nor does the step lose or make a token of a section. Waiting starts, hands, pools and frames have the section as
+/// often as before and as it arrived. Only its home may put it into use, or out of it.
 pub fn no_step_loses_a_token()
     ensures { (line : Line) (c t s : ℕ) (k : Centre) (event : Event) → IsLine line → IsInRange event
         → IsCentreSound line c k → HasRightOnce k
@@ -44,8 +44,7 @@ pub fn each_step_is_exact()
         (done line c k event).reply.frames }
 {}
 
-/// Where nothing is lost, an exact act of a centre loses nothing, by itself or at the head of a link, whose frame it
-/// takes.
+/// If nothing was lost before, an exact act of a centre loses nothing: by itself, or at the head of a link.
 pub fn an_exact_act_loses_nothing()
     ensures by_itself { (line : Line) (w : Flow) (c : ℕ) (y : Centre) (frames : ℕ → List Body) → IsCounted w
         → is_centre line c ≡ true
@@ -62,9 +61,9 @@ pub fn a_sound_flow_has_each_right_once()
     ensures { (line : Line) (w : Flow) (c : ℕ) → IsFlowSound line w → is_centre line c ≡ true → HasRightOnce (w.at c) }
 {}
 
-/// In a sound flow, where all that is asked for is as it has to be, whatever comes at the head of a link is looked for:
-/// a right was asked for or comes back to its registrar, sections that are lent were asked for, sections come home
-/// where they are out, and each Yield may be taken.
+/// In a sound flow with only proper requests, the head of each link is a frame that its receiver looks for. A right was
+/// asked for, or returns to its registrar. Lent sections were asked for, and returned sections are out there. Each
+/// Yield may be accepted.
 pub fn what_a_sound_flow_brings()
     ensures { (line : Line) (w : Flow) (a c : ℕ) (f : Body) → IsLine line → IsFlowSound line w → IsAsked line w
         → is_centre line a ≡ true → is_centre line c ≡ true → TakesHead w a c f

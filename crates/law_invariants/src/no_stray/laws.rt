@@ -1,4 +1,4 @@
-//! Laws of what comes in each world that events led to, and of the questions that stand there.
+//! Laws of frames and pending questions in each world after a list of events.
 
 ghost use Rattle.std.specs.Prelude.{◌≡◌, ◌⊎◌, ℕ, Bool, true, false, List, [], Some, None, Ok};
 ghost use Rattle.rbc_spec.specs.SectionRuns.{SectionRun, within};
@@ -14,8 +14,8 @@ ghost use Rattle.law_invariants.specs.NoUnasked.Asked.{Question, stands};
 ghost use Rattle.law_invariants.specs.NoStray.Due.{IsFrameDue, IsTakenOver};
 ghost use Rattle.law_invariants.specs.NoStray.Questions.{IsAnswered, frames_from, frames_to};
 
-/// After any list of events, whatever frame is the next of its link names a train of the line and is due: what it
-/// answers was asked, what it brings back is out, and the handover that it is of is known.
+/// After any list of events, each frame that is the next of its link names a train of the line and is due. An answer
+/// finds its question, a returned thing is out there, and the handover of the frame is known.
 pub fn no_frame_is_stray()
     ensures { (line : Line) (events : List Event) (answers : List Answer) (w : World) (a b number : ℕ) (f : Frame)
         → IsLine line
@@ -24,7 +24,7 @@ pub fn no_frame_is_stray()
         → IsFrameDue line w a b f }
 {}
 
-/// So a right is given or refused only where it was asked for and has no answer yet.
+/// So a right is given or refused only if it was asked for and has no answer yet.
 pub fn no_right_comes_unasked()
     ensures { (line : Line) (events : List Event) (answers : List Answer) (w : World) (a b number t : ℕ) (f : Frame)
         → IsLine line
@@ -33,7 +33,7 @@ pub fn no_right_comes_unasked()
         → (f.body ≡ GiveRight t) ⊎ (f.body ≡ RefuseRight t) → (w.at b).has_asked t ≡ true }
 {}
 
-/// Sections are lent only where they were asked for from their first on and have no answer yet, and all by their home.
+/// Sections are lent only to answer a pending request for the first of them, and only by their home.
 pub fn no_route_comes_unasked()
     ensures { (line : Line) (events : List Event) (answers : List Answer) (w : World) (a b number t : ℕ)
         (r : SectionRun) (f : Frame) → IsLine line
@@ -44,7 +44,7 @@ pub fn no_route_comes_unasked()
         × ((s : ℕ) → within r s ≡ true → is_home line a s ≡ true) }
 {}
 
-/// Each section that comes home is out there for its train.
+/// Each returned section is out for its train at the centre to which it returns.
 pub fn only_what_is_out_comes_home()
     ensures { (line : Line) (events : List Event) (answers : List Answer) (w : World) (a b number t s : ℕ)
         (r : SectionRun) (f : Frame) → IsLine line
@@ -54,8 +54,8 @@ pub fn only_what_is_out_comes_home()
         → (is_home line b s ≡ true) × (is_out_for t ((w.at b).book s) ≡ true) }
 {}
 
-/// Each Yield that is the next of its link is expected under its number, and its delivery leaves the mission at the
-/// centre that it comes to.
+/// Each Yield that is the next of its link is expected under its number. After its delivery the mission is at the
+/// receiving centre.
 pub fn each_yield_is_taken()
     ensures { (line : Line) (events : List Event) (answers : List Answer) (w new : World) (answer : Answer)
         (a b at number t heard : ℕ)
@@ -67,9 +67,8 @@ pub fn each_yield_is_taken()
         → (place : Place) × (carried ≡ yielded_place place) × IsTakenOver a number t place hand (w.at b) (new.at b) }
 {}
 
-/// Each question of a centre that stands is on its way, or its answer is, once, and of each start that waits the right
-/// was asked for. So where nothing is on the way from a centre or to it, it has all its answers, and no start waits
-/// there.
+/// Each pending question of a centre is on its way, or its answer is, once. For each waiting start the right was asked
+/// for. So if nothing is on the way from a centre or to it, it has all its answers, and no start waits there.
 pub fn each_question_is_answered()
     ensures on_the_way { (line : Line) (events : List Event) (answers : List Answer) (w : World) → IsLine line
         → world_run line (new_world line) events ≡ Ok (answers, w) → IsAnswered line w }

@@ -1,4 +1,4 @@
-//! Laws of what is asked for, for a line's beginning and each step of a world.
+//! Laws of requests, for the initial state of a line and for each step of a world.
 
 ghost use Rattle.std.specs.Prelude.{◌≡◌, Ok};
 ghost use Rattle.rbc_spec.specs.Line.{Line, IsLine};
@@ -12,8 +12,8 @@ pub fn a_line_begins_asked()
     ensures { (line : Line) → IsAsked line (flow_of (new_world line)) }
 {}
 
-/// Each event of a sound world keeps what was asked for as it has to be: an answer is on the way only where its
-/// question stands, a right goes back to its registrar alone, and sections come home to their home alone.
+/// Each event of a sound world keeps requests proper. An answer is on the way only if its question is pending. A right
+/// returns only to its registrar, and a section only to its home.
 pub fn each_step_keeps_all_asked()
     ensures { (line : Line) (w : World) (event : Event) (answer : Answer) (new : World) → IsLine line
         → IsWorldSound line w

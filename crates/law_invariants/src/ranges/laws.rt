@@ -1,4 +1,4 @@
-//! Laws of the ranges of what a centre keeps and sends.
+//! Laws of the ranges of a centre's state and of its frames.
 
 ghost use Rattle.std.specs.Prelude.{◌≡◌, ℕ, List, All, Ok, None};
 ghost use Rattle.rbc_spec.specs.Line.{Line, IsLine};
@@ -15,8 +15,8 @@ pub fn a_centre_begins_in_range()
     ensures { (line : Line) (c : ℕ) → HasStateRanges line c (beginning line c) }
 {}
 
-/// Whatever a train says, the interlocking wishes or another centre sends in range: a step that is not refused leaves
-/// the centre in its ranges, and sends bodies in theirs, on links alone.
+/// For every event in its ranges: a step that is not refused leaves the centre in its ranges. It sends bodies in their
+/// ranges, and only on links.
 pub fn a_centre_stays_in_range()
     ensures { (line : Line) (c : ℕ) (k : Centre) (event : Event) → IsLine line → HasEventRanges line c event
         → HasStateRanges line c k → refusal line c k event ≡ None → StaysInRange line c k event }
@@ -28,15 +28,15 @@ pub fn each_frame_has_its_ranges()
         → HasStateRanges line c k → refusal line c k event ≡ None → SendsInRange line c k event }
 {}
 
-/// After any list of events in which each message of a train is in range: each frame that a centre has sent has each
-/// field in its range. So every frame of a world has a spelling.
+/// After any list of events with each train message in range, each frame that a centre has sent has each field in its
+/// range. So every frame of a world has a spelling.
 pub fn each_frame_of_a_world_has_its_ranges()
     ensures { (line : Line) (events : List world.Event) (answers : List Answer) (w : World) → IsLine line
         → All IsReadInRange events → world_run line (new_world line) events ≡ Ok (answers, w) → IsWorldInRange line w }
 {}
 
-/// After any list of events in which each message of a train is in range: each answer says two messages to trains at
-/// most and tells the interlocking 64 words, and sends three frames on a link at most, in their order.
+/// After any list of events with each train message in range, each answer is small. It has at most two messages to
+/// trains, 64 replies to the interlocking, and three frames on a link, in their order.
 pub fn each_answer_says_few()
     ensures { (line : Line) (events : List world.Event) (answers : List Answer) (w : World) → IsLine line
         → All IsReadInRange events → world_run line (new_world line) events ≡ Ok (answers, w)

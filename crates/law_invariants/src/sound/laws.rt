@@ -16,15 +16,14 @@ pub fn a_centre_begins_sound()
     ensures { (line : Line) (c : ℕ) → IsCentreSound line c (beginning line c) }
 {}
 
-/// Whatever a train says, the interlocking wishes or another centre sends: a sound centre stays sound, and what it
-/// sends is sound.
+/// A sound centre stays sound after every event, and its frames are sound.
 pub fn a_centre_stays_sound()
     ensures { (line : Line) (c : ℕ) (k : Centre) (event : Event) → IsLine line → IsInRange event
         → IsCentreSound line c k
         → StaysSound line c k event }
 {}
 
-/// A frame whose fields lie in their ranges may be delivered, and so may one that a sound centre sent.
+/// A frame whose fields are in their ranges may be delivered, and so may one that a sound centre sent.
 pub fn a_frame_in_range_has_a_hand()
     ensures ranges { (body : Body) → HasBodyRange body → HasHandRange body }
     ensures sound { (line : Line) (a b : ℕ) (body : Body) → IsBodySound line a b body → HasHandRange body }

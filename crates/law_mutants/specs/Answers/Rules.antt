@@ -29,7 +29,7 @@ asking_again line t place =
     >> (option_map_or (λ r. send r (AskRight t)) (registrar line t) rest
     >> become (λ k. record k { has_asked = put k.has_asked t true }))
 
--- as `route_returned`, but the sections that come home stay in use
+-- as `route_returned`, but the returned sections stay in use
 abbrev pub swallowing_return : Line → ℕ → ℕ → ℕ → SectionRun → Act
 swallowing_return line c d t r =
     where_so (λ k. not (uses_some line c k t)

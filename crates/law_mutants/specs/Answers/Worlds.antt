@@ -1,4 +1,4 @@
--- Events on the small line that lead to questions and answers, and what a wrong answer comes to.
+-- Events on the small line that lead to questions and answers, and the effect of a wrong answer.
 use Rattle.std.specs.Prelude.{◌<◌, true, List, [], ◌∷◌, ◌++◌}
 use Rattle.law_base.specs.Counting.Resource.{Resource, placed, allowed, IsAtCap}
 use Rattle.rbc_spec.specs.Line.{Line}
@@ -23,7 +23,7 @@ asking_in_vain =
     Set 0 0 ∷ says 0 1 InitiationOfSession ∷ says 0 2 SessionEstablished ∷ says 0 3 (StartOfMission true (at 0 600))
     ∷ asking
 
--- all was somewhere, and then some is nowhere
+-- the amount in all places together was the allowed amount, and is less now
 pub record FallsShort (r : Resource Centre Body) (line : Line) (w v : Flow) : Type 0 where
   pub before : IsAtCap r (centre_count line) w
   pub after : placed r (centre_count line) v < allowed r (centre_count line) v

@@ -20,8 +20,8 @@ ghost use Rattle.law_mutants.specs.Past.{GoesPast};
 ghost use Rattle.law_mutants.specs.Answers.Rules.{keeping_right, staying_silent, asking_again, swallowing_return};
 ghost use Rattle.law_mutants.specs.Answers.Worlds.{asking, giving_up, asking_in_vain, FallsShort};
 
-/// Whatever right is asked for at the head of a link, each train then has its right once at most. Where the right that
-/// is given stays too, the train has it at the registrar and in the answer.
+/// After each question for a right at the head of a link, a train has its right at most once. If the given right stays
+/// too, the train has it at the registrar and in the answer.
 pub fn no_right_is_given_and_kept()
     ensures the_rule_keeps { (line : Line) (w : Flow) (a c u t : ℕ) → IsLine line → IsCounted w
         → is_centre line a ≡ true → is_centre line c ≡ true
@@ -32,9 +32,8 @@ pub fn no_right_is_given_and_kept()
         (replied (took (flow asking) 1 0) 0 (keeping_right small 0 1 1 ((flow asking).at 0))) }
 {}
 
-/// Where the registrar is asked for the right of a train of the line, each question then is on its way, or its answer
-/// is, as before. Where a right that is not there is not refused, the question stands and nothing on the way will
-/// answer it.
+/// The registrar is asked for the right of a train of the line. Then each question is on its way, or its answer is, as
+/// before. If a missing right is not refused, the question is pending and nothing on the way will answer it.
 pub fn no_question_is_met_by_silence()
     ensures the_rule_keeps { (line : Line) (w : Flow) (a c t d : ℕ) (x : Question) → IsLine line → IsCounted w
         → is_centre line a ≡ true → is_centre line c ≡ true
@@ -46,8 +45,8 @@ pub fn no_question_is_met_by_silence()
         (replied (took (flow asking_in_vain) 1 0) 0 (staying_silent small 0 1 1 ((flow asking_in_vain).at 0))) }
 {}
 
-/// Whatever start waits, no more questions and answers are on the way than questions stand. Where the right is asked
-/// for again while the first question is on its way, there are two for one.
+/// For each waiting start, at most as many questions and answers are on the way as questions are pending. If the right
+/// is asked for again while the first question is on its way, there are two for one.
 pub fn no_right_is_asked_for_twice()
     ensures the_rule_keeps { (line : Line) (w : Flow) (c t d : ℕ) (place : Place) (x : Question) → IsLine line
         → IsCounted w → is_centre line c ≡ true
@@ -57,8 +56,8 @@ pub fn no_right_is_asked_for_twice()
         (replied (flow giving_up) 1 (asking_again small 1 in_section_1 ((flow giving_up).at 1))) }
 {}
 
-/// Whatever is delivered after any list of events, each token of a section in use is then in one place. Where sections
-/// that come home stay in use, they are in use and nowhere.
+/// After each delivery, each token of a section in use is in one place. If returned sections stay in use, they are in
+/// use and nowhere.
 pub fn no_return_is_swallowed()
     ensures the_rule_keeps { (line : Line) (events : List Event) (answers : List Answer) (w new : World)
         (answer : Answer) (a b number t s : ℕ) → IsLine line

@@ -1,4 +1,4 @@
--- Schedules without end: what leads where, which are fair, and when one has come to rest.
+-- Endless schedules: the world after n events, which schedules are fair, and when one has reached rest.
 use Rattle.std.specs.Prelude.{◌≡◌, ◌≢◌, ℕ, zero, suc, ◌+◌, ◌≤◌, List, [], Some, Result, Ok, Err, slice_get}
 use Rattle.rbc_spec.specs.Line.{Line}
 use Rattle.rbc_spec.specs.Centre.{Centre}
@@ -13,7 +13,7 @@ abbrev pub after : World → Result (Answer × World) Refusal → World
 after w (Ok (answer, new)) = new
 after w (Err why) = w
 
--- the world after so many events of the schedule, from the line's beginning
+-- the world after the first n events of the schedule, from the line's initial state
 unfoldable pub world_after : Line → (ℕ → Event) → ℕ → World
 world_after line schedule zero = new_world line
 world_after line schedule (suc n) =
@@ -23,12 +23,12 @@ world_after line schedule (suc n) =
 abbrev pub next_number : World → ℕ → ℕ → ℕ
 next_number w a b = (w.at b).taken a + 1
 
--- where a frame from a to b is on the way, the next of that link is delivered, then or some time later
+-- if a frame from a to b is on the way, the next frame of that link is delivered at that position or later
 pub record IsFair (line : Line) (schedule : ℕ → Event) : Type 0 where
   pub delivers : (n a b : ℕ) → way (world_after line schedule n) a b ≢ []
       → (m : ℕ) × (n ≤ m) × (schedule m ≡ Delivery a b (next_number (world_after line schedule m) a b))
 
--- from some position on each event is a delivery, of whatever frame
+-- from some position on each event is a delivery, of any frame
 pub record EndsInDeliveries (schedule : ℕ → Event) : Type 0 where
   pub from : ℕ
   pub are_deliveries : (n : ℕ) → from ≤ n → IsDelivery (schedule n)
@@ -48,7 +48,7 @@ pub record IsSameButClocks (w v : World) : Type 0 where
   pub trains : v.trains ≡ w.trains
   pub centres : (c : ℕ) → clockless (v.at c) ≡ clockless (w.at c)
 
--- a step that tells nobody anything: no train, no centre, and not the interlocking
+-- a step without any message to a train, frame to a centre, or reply to the interlocking
 abbrev pub IsSilent : Result (Answer × World) Refusal → Type 0
 IsSilent (Ok (Answered o, new)) = (o.sayings ≡ []) × ((d : ℕ) → o.frames d ≡ []) × (o.words ≡ [])
 IsSilent (Ok (answer, new)) = Unit {0}
@@ -60,8 +60,8 @@ pub record RestsFrom (line : Line) (schedule : ℕ → Event) (n : ℕ) : Type 0
   pub silent : (m : ℕ) → n ≤ m → IsSilent (world_step line (world_after line schedule m) (schedule m))
   pub same : (m : ℕ) → n ≤ m → IsSameButClocks (world_after line schedule n) (world_after line schedule m)
 
--- at position n a frame from a to b is on the way, and each delivery of the next of that link is refused then and ever
--- after: a step clock is at its end, or a link is full
+-- At position n a frame from a to b is on the way. From there on, each delivery of the next frame of that link is
+-- refused. A step clock is at its end, or a link is full.
 pub record StopsFrom (line : Line) (schedule : ℕ → Event) (n : ℕ) : Type 0 where
   pub a : ℕ
   pub b : ℕ

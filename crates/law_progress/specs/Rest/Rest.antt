@@ -1,4 +1,4 @@
--- Frames on the way are few, and lead to few more: so a line comes to rest.
+-- Frames on the way are finitely many and lead to few further ones, so a line reaches rest.
 use Rattle.std.specs.Prelude.{◌≡◌, ◌⊎◌, ℕ, ◌+◌, ◌≤◌, List, [], length, true, false, All, None, Ok, Err}
 use Rattle.std.specs.List.{sum_by}
 use Rattle.rbc_spec.specs.Line.{Line, is_centre}
@@ -8,9 +8,9 @@ use Rattle.rbc_spec.specs.World.{World, Event, Delivery, Answer, world_step, wor
 use Rattle.rbc_spec.specs.ReadOff.{frames_on_way}
 use Rattle.law_invariants.specs.NoUnasked.Asked.{Question, stands}
 
--- how many deliveries a frame may come to at most among n centres, its own and those of the frames that it leads to: a
--- question leads to an answer, a right or sections that nobody waits for go back, and a pool goes home in a frame for
--- each home
+-- The greatest number of deliveries that a frame may cause among n centres: its own, and those of the frames that
+-- follow from it. A question causes an answer. A right or sections that no start or hand can use are returned. A pool
+-- is returned in one frame for each home.
 abbrev pub work_of : ℕ → Body → ℕ
 work_of n (AskRight t) = 3
 work_of n (GiveRight t) = 2
@@ -41,7 +41,7 @@ pub record IsStopped (line : Line) (w : World) : Type 0 where
   pub why : Refusal
   pub refused : world_step line w event ≡ Err why
 
--- so many deliveries at most, one after another, lead from w to rest, or to a world that is stopped
+-- at most this many deliveries lead from w to rest, or to a world in which a delivery is refused
 pub record ComesToRest (line : Line) (w : World) : Type 0 where
   pub events : List Event
   pub are_deliveries : All IsDelivery events

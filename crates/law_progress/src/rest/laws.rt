@@ -1,4 +1,4 @@
-//! Laws of what is on the way.
+//! Laws of the frames on the way.
 
 ghost use Rattle.std.specs.Prelude.{◌≡◌, ℕ, ◌+◌, ◌≤◌, List, All, Some, Ok};
 ghost use Rattle.rbc_spec.specs.Line.{Line, IsLine};
@@ -18,9 +18,9 @@ pub fn a_delivery_is_work_done()
         → world_step line w (Delivery a b number) ≡ Ok (answer, new) → work line new + 1 ≤ work line w }
 {}
 
-/// So from each world that events led to, each message of a train in its ranges, no more deliveries than the work on
-/// the way lead to rest: nothing is on the way then, each question has its answer, and no start waits. Or a delivery is
-/// refused, at the end of a step clock or for a full link.
+/// Take any world after a list of events, with each train message in its ranges. At most as many deliveries as the work
+/// on the way lead to rest. Nothing is on the way then, each question has its answer, and no start waits. Or a delivery
+/// is refused, at the end of a step clock or for a full link.
 pub fn each_line_comes_to_rest()
     ensures { (line : Line) (events : List Event) (answers : List Answer) (w : World) → IsLine line
         → All IsReadInRange events

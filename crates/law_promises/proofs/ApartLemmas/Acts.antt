@@ -1,97 +1,25 @@
--- Acts that are of one train alone.
-use Rattle.std.proofs.Common.{◌≡◌, ℕ, ◌+◌, ◌==◌, ◌&&◌, ◌||◌, not, Bool, true, false, List, [], ◌∷◌, ◌++◌, Option, Some, None, option_map, if◌then◌else◌, refl, sym, ap, ◌∙◌, subst, eqb-true}
-use Rattle.std.specs.Option.{option_map_or}
-use Rattle.std.specs.List.{All, range_with_len}
+use Rattle.std.proofs.Common.{[], ◌&&◌, ◌+◌, ◌==◌, ◌||◌, ◌∙◌, ◌∷◌, ◌≡◌, ap, Bool, eqb-true, false, if◌then◌else◌, List}
+use Rattle.std.proofs.Common.{None, not, Option, option_map, refl, Some, sym, true, ℕ}
 use Rattle.std.proofs.lemmas.Bool.{and_parts, ne_eqb}
-use Rattle.std.proofs.lemmas.List.Elements.{All-nil, All-cons, All-append, All-map, All-weaker, filter_passes}
-use Rattle.rbc_spec.specs.Maps.{has, put}
-use Rattle.rbc_spec.specs.SectionRuns.{SectionRun, within, is_empty, shared}
-use Rattle.rbc_spec.specs.Line.{Line, is_home, is_centre}
-use Rattle.rbc_spec.specs.Sections.{home_run}
-use Rattle.rbc_spec.specs.Place.{Place}
-use Rattle.rbc_spec.specs.Message.{TrackBody}
-use Rattle.rbc_spec.specs.Frame.{Body, RouteReturn, TakingOver}
-use Rattle.rbc_spec.specs.Outcome.{Saying, Word, Done, Asked, NotHome, Told}
-use Rattle.rbc_spec.specs.Centre.{Centre, Entry, Shut, Open, Taken, Out, Phase, Mission, Expectation, is_open, is_taken_for, is_used_for}
-use Rattle.rbc_spec.specs.Acts.{Act, Reply, become, rest, ◌>>◌, where_so, with_some, send, say, booked, freed, returned}
-use Rattle.rbc_spec.specs.Rules.{choose, take_over, taking}
-use Rattle.law_base.proofs.Puts.{put_other}
+use Rattle.std.proofs.lemmas.List.Elements.{All-append, All-cons, All-map, All-nil, All-weaker, filter_passes}
+use Rattle.std.specs.List.{All, range_with_len}
+use Rattle.std.specs.Option.{option_map_or}
+use Rattle.law_base.proofs.Lists.{put_other}
 use Rattle.law_base.specs.Walk.Trains.{train_of}
+use Rattle.law_promises.proofs.ApartLemmas.Speaks.{IsOf, quiet, same_itself, same_then, speaks_then}
 use Rattle.law_promises.specs.Apart.Apart.{IsSameOf, IsToldOf}
-
-pub same_itself : (u : ℕ) (k : Centre) → IsSameOf u k k
-same_itself u k = record {
-  phase = refl;
-  heard = refl;
-  said = refl;
-  mission = refl;
-  wait = refl;
-  has_asked = refl;
-  has_right = refl;
-  route_ask = refl;
-  expects = λ d. refl;
-  used = λ s. refl;
-  entries = λ s is. refl;
-}
-
-same_then : (u : ℕ) (a b c : Centre) → IsSameOf u a b → IsSameOf u b c → IsSameOf u a c
-same_then u a b c one two = record {
-  phase = two.phase ∙ one.phase;
-  heard = two.heard ∙ one.heard;
-  said = two.said ∙ one.said;
-  mission = two.mission ∙ one.mission;
-  wait = two.wait ∙ one.wait;
-  has_asked = two.has_asked ∙ one.has_asked;
-  has_right = two.has_right ∙ one.has_right;
-  route_ask = two.route_ask ∙ one.route_ask;
-  expects = λ d. two.expects d ∙ one.expects d;
-  used = λ s. two.used s ∙ one.used s;
-  entries = λ s is. two.entries s (one.used s ∙ is) ∙ one.entries s is;
-}
-
--- no section gets into use for the train, and each word is of one that was
-pub record Frees (t : ℕ) (k : Centre) (r : Reply) : Type 0 where
-  pub used : (s : ℕ) → is_used_for t (r.state.book s) ≡ true → is_used_for t (k.book s) ≡ true
-  pub words : All (IsToldOf t k) r.words
-
--- an act takes sections for the train, and then says no word; or it takes none
-abbrev pub Speaks : Bool → ℕ → Centre → Reply → Type 0
-Speaks true t k r = r.words ≡ []
-Speaks false t k r = Frees t k r
-
--- of an act for train t: of another train nothing changes, and all is said of t
-pub record IsOf (takes : Bool) (t : ℕ) (k : Centre) (r : Reply) : Type 0 where
-  pub others : (u : ℕ) → (u ≡ t → ⊥) → IsSameOf u k r.state
-  pub sayings : All (λ (p : Saying). p.nid_engine ≡ t) r.sayings
-  pub frames : (d : ℕ) → All (λ (b : Body). train_of b ≡ t) (r.frames d)
-  pub speaks : Speaks takes t k r
-
-pub words_of : (takes : Bool) (t : ℕ) (k : Centre) (r : Reply) → Speaks takes t k r → All (IsToldOf t k) r.words
-words_of true t k r none = subst (All (IsToldOf t k)) (sym none) (All-nil (IsToldOf t k))
-words_of false t k r frees = frees.words
-
-told_before : (t : ℕ) (k j : Centre) → ((s : ℕ) → is_used_for t (j.book s) ≡ true → is_used_for t (k.book s) ≡ true) → (word : Word) → IsToldOf t j word → IsToldOf t k word
-told_before t k j used (Told s) is = used s is
-told_before t k j used (Done s) is = is
-told_before t k j used (Asked s) is = is
-told_before t k j used (NotHome s) is = is
-
--- an act that says no word, and leaves the book as it is
-quiet : (takes : Bool) (t : ℕ) (k : Centre) (r : Reply) → r.words ≡ [] → ((s : ℕ) → r.state.book s ≡ k.book s) → Speaks takes t k r
-quiet true t k r none same = none
-quiet false t k r none same = record {
-  used = λ s is. sym (ap (is_used_for t) (same s)) ∙ is;
-  words = subst (All (IsToldOf t k)) (sym none) (All-nil (IsToldOf t k));
-}
-
-speaks_then : (takes : Bool) (t : ℕ) (k : Centre) (a b : Act) → Speaks takes t k (a k) → Speaks takes t (a k).state (b (a k).state) → Speaks takes t k ((a >> b) k)
-unfolding ◌>>◌
-speaks_then true t k a b one two = ap (λ (ws : List Word). ws ++ (b (a k).state).words) one ∙ two
-speaks_then false t k a b one two = record {
-  used = λ s is. one.used s (two.used s is);
-  words = All-append (IsToldOf t k) (a k).words (b (a k).state).words one.words
-      (All-weaker (IsToldOf t (a k).state) (IsToldOf t k) (told_before t k (a k).state one.used) (b (a k).state).words two.words);
-}
+use Rattle.rbc_spec.specs.Acts.{◌>>◌, Act, become, booked, freed, Reply, rest, returned, say, send, where_so, with_some}
+use Rattle.rbc_spec.specs.Centre.{Centre, Entry, Expectation, is_open, is_taken_for, is_used_for, Mission, Open, Out}
+use Rattle.rbc_spec.specs.Centre.{Phase, Shut, Taken}
+use Rattle.rbc_spec.specs.Frame.{Body, RouteReturn, TakingOver}
+use Rattle.rbc_spec.specs.Line.{is_centre, is_home, Line}
+use Rattle.rbc_spec.specs.Maps.{has, put}
+use Rattle.rbc_spec.specs.Message.{TrackBody}
+use Rattle.rbc_spec.specs.Outcome.{Saying, Told}
+use Rattle.rbc_spec.specs.Place.{Place}
+use Rattle.rbc_spec.specs.Rules.{choose, take_over, taking}
+use Rattle.rbc_spec.specs.SectionRuns.{is_empty, SectionRun, shared, within}
+use Rattle.rbc_spec.specs.Sections.{home_run}
 
 module _ (takes : Bool) (t : ℕ) where
   abbrev pub Its : Act → Type 0
@@ -103,12 +31,20 @@ module _ (takes : Bool) (t : ℕ) where
   no_frames : All (λ (b : Body). train_of b ≡ t) []
   no_frames = All-nil (λ (b : Body). train_of b ≡ t)
 
-  frames_if : (b : Bool) (xs ys : List Body) → All (λ (b : Body). train_of b ≡ t) xs → All (λ (b : Body). train_of b ≡ t) ys → All (λ (b : Body). train_of b ≡ t) (if b then xs else ys)
+  frames_if : (b : Bool) (xs ys : List Body) → All (λ (b : Body). train_of b ≡ t) xs
+      → All (λ (b : Body). train_of b ≡ t) ys → All (λ (b : Body). train_of b ≡ t) (if b then xs else ys)
   frames_if true xs ys one two = one
   frames_if false xs ys one two = two
 
-  pub its_become : (change : Centre → Centre) → ((k : Centre) (s : ℕ) → (change k).book s ≡ k.book s) → ((k : Centre) (u : ℕ) → (u ≡ t → ⊥) → IsSameOf u k (change k)) → Its (become change)
-  its_become change book same k = record { others = same k; sayings = no_sayings; frames = λ d. no_frames; speaks = quiet takes t k (become change k) refl (book k) }
+  pub its_become : (change : Centre → Centre) → ((k : Centre) (s : ℕ) → (change k).book s ≡ k.book s)
+      → ((k : Centre) (u : ℕ) → (u ≡ t → ⊥) → IsSameOf u k (change k)) → Its (become change)
+  its_become change book same k =
+      record {
+        others = same k;
+        sayings = no_sayings;
+        frames = λ d. no_frames;
+        speaks = quiet takes t k (become change k) refl (book k);
+      }
 
   pub its_rest : Its rest
   its_rest = its_become (λ k. k) (λ k s. refl) (λ k u apart. same_itself u k)
@@ -119,13 +55,17 @@ module _ (takes : Bool) (t : ℕ) where
       let first = one k in
       let second = two (a k).state in
       record {
-        others = λ u apart. same_then u k (a k).state (b (a k).state).state (first.others u apart) (second.others u apart);
-        sayings = All-append (λ (p : Saying). p.nid_engine ≡ t) (a k).sayings (b (a k).state).sayings first.sayings second.sayings;
-        frames = λ d. All-append (λ (b : Body). train_of b ≡ t) ((a k).frames d) ((b (a k).state).frames d) (first.frames d) (second.frames d);
+        others = λ u apart. same_then u k (a k).state (b (a k).state).state
+            (first.others u apart) (second.others u apart);
+        sayings = All-append (λ (p : Saying). p.nid_engine ≡ t) (a k).sayings (b (a k).state).sayings
+            first.sayings second.sayings;
+        frames = λ d. All-append (λ (b : Body). train_of b ≡ t) ((a k).frames d) ((b (a k).state).frames d)
+            (first.frames d) (second.frames d);
         speaks = speaks_then takes t k a b first.speaks second.speaks;
       }
 
-  pub of_if : (b : Bool) (k : Centre) (x y : Reply) → IsOf takes t k x → IsOf takes t k y → IsOf takes t k (if b then x else y)
+  pub of_if : (b : Bool) (k : Centre) (x y : Reply) → IsOf takes t k x → IsOf takes t k y
+      → IsOf takes t k (if b then x else y)
   of_if true k x y one two = one
   of_if false k x y one two = two
 
@@ -133,11 +73,13 @@ module _ (takes : Bool) (t : ℕ) where
   its_if true x y one two = one
   its_if false x y one two = two
 
-  pub of_option : {X : Type 0} (o : Option X) (k : Centre) (f : X → Reply) (none : Reply) → ((x : X) → IsOf takes t k (f x)) → IsOf takes t k none → IsOf takes t k (option_map_or f o none)
+  pub of_option : {X : Type 0} (o : Option X) (k : Centre) (f : X → Reply) (none : Reply)
+      → ((x : X) → IsOf takes t k (f x)) → IsOf takes t k none → IsOf takes t k (option_map_or f o none)
   of_option None k f none some other = other
   of_option (Some x) k f none some other = some x
 
-  pub its_option : {X : Type 0} (o : Option X) (f : X → Act) (none : Act) → ((x : X) → Its (f x)) → Its none → Its (option_map_or f o none)
+  pub its_option : {X : Type 0} (o : Option X) (f : X → Act) (none : Act) → ((x : X) → Its (f x)) → Its none
+      → Its (option_map_or f o none)
   its_option None f none some other = other
   its_option (Some x) f none some other = some x
 
@@ -147,12 +89,14 @@ module _ (takes : Bool) (t : ℕ) where
   pub its_choose : (test : Centre → Bool) (x y : Act) → Its x → Its y → Its (choose test x y)
   its_choose test x y one two k = of_if (test k) k (x k) (y k) (one k) (two k)
 
-  pub its_with : {X : Type 0} (value : Centre → Option X) (act : X → Act) → ((x : X) → Its (act x)) → Its (with_some value act)
+  pub its_with : {X : Type 0} (value : Centre → Option X) (act : X → Act) → ((x : X) → Its (act x))
+      → Its (with_some value act)
   its_with value act one k = of_option (value k) k (λ x. act x k) (rest k) (λ x. one x k) (its_rest k)
 
-  -- ## What is kept of the train
+  -- ## The state that is kept of the train
 
-  pub same_phase : (k : Centre) (value : Phase) (u : ℕ) → (u ≡ t → ⊥) → IsSameOf u k (record k { phase = put k.phase t value })
+  pub same_phase : (k : Centre) (value : Phase) (u : ℕ) → (u ≡ t → ⊥)
+      → IsSameOf u k (record k { phase = put k.phase t value })
   same_phase k value u apart = record {
     phase = put_other k.phase t u value apart;
     heard = refl;
@@ -167,7 +111,8 @@ module _ (takes : Bool) (t : ℕ) where
     entries = λ s is. refl;
   }
 
-  pub same_heard : (k : Centre) (value : Option ℕ) (u : ℕ) → (u ≡ t → ⊥) → IsSameOf u k (record k { heard = put k.heard t value })
+  pub same_heard : (k : Centre) (value : Option ℕ) (u : ℕ) → (u ≡ t → ⊥)
+      → IsSameOf u k (record k { heard = put k.heard t value })
   same_heard k value u apart = record {
     phase = refl;
     heard = put_other k.heard t u value apart;
@@ -197,7 +142,8 @@ module _ (takes : Bool) (t : ℕ) where
     entries = λ s is. refl;
   }
 
-  pub same_mission : (k : Centre) (value : Option Mission) (u : ℕ) → (u ≡ t → ⊥) → IsSameOf u k (record k { mission = put k.mission t value })
+  pub same_mission : (k : Centre) (value : Option Mission) (u : ℕ) → (u ≡ t → ⊥)
+      → IsSameOf u k (record k { mission = put k.mission t value })
   same_mission k value u apart = record {
     phase = refl;
     heard = refl;
@@ -212,7 +158,8 @@ module _ (takes : Bool) (t : ℕ) where
     entries = λ s is. refl;
   }
 
-  pub same_wait : (k : Centre) (value : Option Place) (u : ℕ) → (u ≡ t → ⊥) → IsSameOf u k (record k { wait = put k.wait t value })
+  pub same_wait : (k : Centre) (value : Option Place) (u : ℕ) → (u ≡ t → ⊥)
+      → IsSameOf u k (record k { wait = put k.wait t value })
   same_wait k value u apart = record {
     phase = refl;
     heard = refl;
@@ -227,7 +174,8 @@ module _ (takes : Bool) (t : ℕ) where
     entries = λ s is. refl;
   }
 
-  pub same_has_asked : (k : Centre) (value : Bool) (u : ℕ) → (u ≡ t → ⊥) → IsSameOf u k (record k { has_asked = put k.has_asked t value })
+  pub same_has_asked : (k : Centre) (value : Bool) (u : ℕ) → (u ≡ t → ⊥)
+      → IsSameOf u k (record k { has_asked = put k.has_asked t value })
   same_has_asked k value u apart = record {
     phase = refl;
     heard = refl;
@@ -242,7 +190,8 @@ module _ (takes : Bool) (t : ℕ) where
     entries = λ s is. refl;
   }
 
-  pub same_has_right : (k : Centre) (value : Bool) (u : ℕ) → (u ≡ t → ⊥) → IsSameOf u k (record k { has_right = put k.has_right t value })
+  pub same_has_right : (k : Centre) (value : Bool) (u : ℕ) → (u ≡ t → ⊥)
+      → IsSameOf u k (record k { has_right = put k.has_right t value })
   same_has_right k value u apart = record {
     phase = refl;
     heard = refl;
@@ -257,7 +206,8 @@ module _ (takes : Bool) (t : ℕ) where
     entries = λ s is. refl;
   }
 
-  pub same_route_ask : (k : Centre) (value : Option ℕ) (u : ℕ) → (u ≡ t → ⊥) → IsSameOf u k (record k { route_ask = put k.route_ask t value })
+  pub same_route_ask : (k : Centre) (value : Option ℕ) (u : ℕ) → (u ≡ t → ⊥)
+      → IsSameOf u k (record k { route_ask = put k.route_ask t value })
   same_route_ask k value u apart = record {
     phase = refl;
     heard = refl;
@@ -284,7 +234,8 @@ module _ (takes : Bool) (t : ℕ) where
   its_send d body is k = record {
     others = λ u apart. same_itself u k;
     sayings = no_sayings;
-    frames = λ e. frames_if (e == d) (body ∷ []) [] (All-cons (λ (b : Body). train_of b ≡ t) body [] is no_frames) no_frames;
+    frames = λ e. frames_if (e == d) (body ∷ []) [] (All-cons (λ (b : Body). train_of b ≡ t) body [] is no_frames)
+        no_frames;
     speaks = quiet takes t k (send d body k) refl (λ s. refl);
   }
 
@@ -307,27 +258,35 @@ module _ (takes : Bool) (t : ℕ) where
   wrong false one two = cc
 
   -- sections that are in no use for another train get an entry that is none
-  same_book : (k new : Centre) (test : ℕ → Bool) (entry : ℕ → Entry) (u : ℕ) → new.phase u ≡ k.phase u → new.heard u ≡ k.heard u → new.said u ≡ k.said u → new.mission u ≡ k.mission u → new.wait u ≡ k.wait u → new.has_asked u ≡ k.has_asked u → new.has_right u ≡ k.has_right u → new.route_ask u ≡ k.route_ask u → ((d : ℕ) → new.expects d u ≡ k.expects d u)
-      → ((s : ℕ) → new.book s ≡ (if test s then entry s else k.book s)) → ((s : ℕ) → test s ≡ true → is_used_for u (k.book s) ≡ false) → ((s : ℕ) → is_used_for u (entry s) ≡ false) → IsSameOf u k new
-  same_book k new test entry u phase heard said mission wait has_asked has_right route_ask expects is unused none = record {
-    phase = phase;
-    heard = heard;
-    said = said;
-    mission = mission;
-    wait = wait;
-    has_asked = has_asked;
-    has_right = has_right;
-    route_ask = route_ask;
-    expects = expects;
-    used = λ s. ap (is_used_for u) (is s) ∙ by_used s (test s) refl;
-    entries = λ s used. is s ∙ by_entry s (test s) refl used;
-  }
+  same_book : (k new : Centre) (test : ℕ → Bool) (entry : ℕ → Entry) (u : ℕ) → new.phase u ≡ k.phase u
+      → new.heard u ≡ k.heard u → new.said u ≡ k.said u → new.mission u ≡ k.mission u → new.wait u ≡ k.wait u
+      → new.has_asked u ≡ k.has_asked u → new.has_right u ≡ k.has_right u → new.route_ask u ≡ k.route_ask u
+      → ((d : ℕ) → new.expects d u ≡ k.expects d u)
+      → ((s : ℕ) → new.book s ≡ (if test s then entry s else k.book s))
+      → ((s : ℕ) → test s ≡ true → is_used_for u (k.book s) ≡ false)
+      → ((s : ℕ) → is_used_for u (entry s) ≡ false) → IsSameOf u k new
+  same_book k new test entry u phase heard said mission wait has_asked has_right route_ask expects is unused none =
+      record {
+        phase = phase;
+        heard = heard;
+        said = said;
+        mission = mission;
+        wait = wait;
+        has_asked = has_asked;
+        has_right = has_right;
+        route_ask = route_ask;
+        expects = expects;
+        used = λ s. ap (is_used_for u) (is s) ∙ by_used s (test s) refl;
+        entries = λ s used. is s ∙ by_entry s (test s) refl used;
+      }
     where
-      by_used : (s : ℕ) (b : Bool) → test s ≡ b → is_used_for u (if b then entry s else k.book s) ≡ is_used_for u (k.book s)
+      by_used : (s : ℕ) (b : Bool) → test s ≡ b → is_used_for u (if b then entry s else k.book s)
+          ≡ is_used_for u (k.book s)
       by_used s true so = none s ∙ sym (unused s so)
       by_used s false so = refl
 
-      by_entry : (s : ℕ) (b : Bool) → test s ≡ b → is_used_for u (k.book s) ≡ true → (if b then entry s else k.book s) ≡ k.book s
+      by_entry : (s : ℕ) (b : Bool) → test s ≡ b → is_used_for u (k.book s) ≡ true
+          → (if b then entry s else k.book s) ≡ k.book s
       by_entry s true so used = wrong (is_used_for u (k.book s)) (unused s so) used
       by_entry s false so used = refl
 
@@ -339,7 +298,8 @@ module _ (takes : Bool) (t : ℕ) where
   its_returned line c track r k = record {
     others = λ u apart. same_itself u k;
     sayings = no_sayings;
-    frames = λ d. frames_if ((d == c) || is_empty (shared r (home_run line d track))) [] (RouteReturn t (shared r (home_run line d track)) ∷ []) no_frames
+    frames = λ d. frames_if ((d == c) || is_empty (shared r (home_run line d track))) []
+        (RouteReturn t (shared r (home_run line d track)) ∷ []) no_frames
         (All-cons (λ (b : Body). train_of b ≡ t) (RouteReturn t (shared r (home_run line d track))) [] refl no_frames);
     speaks = quiet takes t k (returned line c t track r k) refl (λ s. refl);
   }
@@ -366,21 +326,26 @@ module _ (takes : Bool) (t : ℕ) where
     speaks = quiet takes t k (take_over line t k) refl (λ s. refl);
   }
     where
-      by_new : (d u : ℕ) → (u ≡ t → ⊥) → (b : Bool) → (if b then put (k.expects d) t (option_map taking (k.expects d t)) else k.expects d) u ≡ k.expects d u
+      by_new : (d u : ℕ) → (u ≡ t → ⊥) → (b : Bool)
+          → (if b then put (k.expects d) t (option_map taking (k.expects d t)) else k.expects d) u ≡ k.expects d u
       by_new d u apart true = put_other (k.expects d) t u (option_map taking (k.expects d t)) apart
       by_new d u apart false = refl
 
-      by_expected : (b : Bool) (o : Option Expectation) → All (λ (b : Body). train_of b ≡ t) (option_map_or (λ e. if b then TakingOver e.number t ∷ [] else []) o [])
+      by_expected : (b : Bool) (o : Option Expectation)
+          → All (λ (b : Body). train_of b ≡ t) (option_map_or (λ e. if b then TakingOver e.number t ∷ [] else []) o [])
       by_expected b None = no_frames
-      by_expected b (Some e) = frames_if b (TakingOver e.number t ∷ []) [] (All-cons (λ (b : Body). train_of b ≡ t) (TakingOver e.number t) [] refl no_frames) no_frames
+      by_expected b (Some e) = frames_if b (TakingOver e.number t ∷ []) []
+          (All-cons (λ (b : Body). train_of b ≡ t) (TakingOver e.number t) [] refl no_frames) no_frames
 
--- ## Sections come and go
+-- ## Sections are taken and returned
 
 module _ (t : ℕ) where
   pub its_booked : (r : SectionRun) → Its true t (booked is_open (Taken t) r)
   its_booked r k = record {
-    others = λ u apart. same_book true t k (booked is_open (Taken t) r k).state (λ s. within r s && is_open (k.book s)) (λ s. Taken t) u refl refl refl refl refl refl refl refl (λ d. refl) (λ s. refl)
-        (λ s so. open_unused true t (k.book s) u (and_parts (within r s) (is_open (k.book s)) so).1) (λ s. ne_eqb t u (λ same. apart (sym same)));
+    others = λ u apart. same_book true t k (booked is_open (Taken t) r k).state (λ s. within r s && is_open (k.book s))
+        (λ s. Taken t) u refl refl refl refl refl refl refl refl (λ d. refl) (λ s. refl)
+        (λ s so. open_unused true t (k.book s) u (and_parts (within r s) (is_open (k.book s)) so).1)
+        (λ s. ne_eqb t u (λ same. apart (sym same)));
     sayings = no_sayings true t;
     frames = λ d. no_frames true t;
     speaks = refl;
@@ -388,18 +353,29 @@ module _ (t : ℕ) where
 
   pub its_freed : (line : Line) (c : ℕ) (r : SectionRun) → Its false t (freed line c (is_taken_for t) r)
   its_freed line c r k = record {
-    others = λ u apart. same_book false t k (freed line c (is_taken_for t) r k).state (λ s. (within r s && is_home line c s) && is_taken_for t (k.book s)) (λ s. if k.wish s then Shut else Open) u refl refl refl refl refl refl refl refl (λ d. refl) (λ s. refl)
-        (λ s so. other_entry false t (k.book s) u apart (and_parts (within r s && is_home line c s) (is_taken_for t (k.book s)) so).1) (λ s. shut_or_open false t (k.wish s) u);
+    others = λ u apart. same_book false t k (freed line c (is_taken_for t) r k).state
+        (λ s. (within r s && is_home line c s) && is_taken_for t (k.book s)) (λ s. if k.wish s then Shut else Open) u
+        refl refl refl refl refl refl refl refl (λ d. refl) (λ s. refl)
+        (λ s so. other_entry false t (k.book s) u apart
+        (and_parts (within r s && is_home line c s) (is_taken_for t (k.book s)) so).1)
+        (λ s. shut_or_open false t (k.wish s) u);
     sayings = no_sayings false t;
     frames = λ d. no_frames false t;
-    speaks = record { used = λ s. by_used s (is_freed s); words = All-map (IsToldOf t k) (λ s. Told s) _ (All-weaker (λ s. (is_freed s && k.wish s) ≡ true) (λ s. IsToldOf t k (Told s)) of_it _ (filter_passes (λ s. is_freed s && k.wish s) (range_with_len r.first r.count))) };
+    speaks = record {
+      used = λ s. by_used s (is_freed s);
+      words = All-map (IsToldOf t k) (λ s. Told s) _
+          (All-weaker (λ s. (is_freed s && k.wish s) ≡ true) (λ s. IsToldOf t k (Told s)) of_it _
+          (filter_passes (λ s. is_freed s && k.wish s) (range_with_len r.first r.count)));
+    };
   }
     where
       is_freed : ℕ → Bool
       is_freed s = (within r s && is_home line c s) && is_taken_for t (k.book s)
 
-      by_used : (s : ℕ) (b : Bool) → is_used_for t (if b then (if k.wish s then Shut else Open) else k.book s) ≡ true → is_used_for t (k.book s) ≡ true
-      by_used s true is = wrong false t (is_used_for t (if k.wish s then Shut else Open)) (shut_or_open false t (k.wish s) t) is
+      by_used : (s : ℕ) (b : Bool) → is_used_for t (if b then (if k.wish s then Shut else Open) else k.book s) ≡ true
+          → is_used_for t (k.book s) ≡ true
+      by_used s true is = wrong false t (is_used_for t (if k.wish s then Shut else Open))
+          (shut_or_open false t (k.wish s) t) is
       by_used s false is = is
 
       taken_used : (e : Entry) → is_taken_for t e ≡ true → is_used_for t e ≡ true
@@ -409,4 +385,6 @@ module _ (t : ℕ) where
       taken_used (Out u) is = cc
 
       of_it : (s : ℕ) → (is_freed s && k.wish s) ≡ true → is_used_for t (k.book s) ≡ true
-      of_it s is = taken_used (k.book s) (and_parts (within r s && is_home line c s) (is_taken_for t (k.book s)) (and_parts (is_freed s) (k.wish s) is).0).1
+      of_it s is =
+          taken_used (k.book s) (and_parts (within r s && is_home line c s) (is_taken_for t (k.book s))
+          (and_parts (is_freed s) (k.wish s) is).0).1

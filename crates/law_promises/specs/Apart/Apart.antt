@@ -1,4 +1,4 @@
--- What a train's message does not touch: all that the centres keep of every other train.
+-- A train's message does not touch the state that the centres keep of every other train.
 use Rattle.std.specs.Prelude.{◌≡◌, ℕ, true, Ok}
 use Rattle.std.specs.List.{All}
 use Rattle.rbc_spec.specs.Line.{Line}
@@ -8,8 +8,8 @@ use Rattle.rbc_spec.specs.Centre.{Centre, is_used_for}
 use Rattle.rbc_spec.specs.World.{World, Bytes, Answered, world_step}
 use Rattle.law_base.specs.Walk.Trains.{train_of}
 
--- what a centre keeps of train u is the same: its session, its mission, the start that waits, its right and what was
--- asked for it, the handovers that were announced of it, and the sections that are in use for it, no more and no fewer
+-- The state that a centre keeps of train u is the same. It is the session, the mission, the waiting start, the right
+-- with its pending questions, the announced handovers, and the sections in use for u.
 pub record IsSameOf (u : ℕ) (k new : Centre) : Type 0 where
   pub phase : new.phase u ≡ k.phase u
   pub heard : new.heard u ≡ k.heard u
@@ -23,20 +23,21 @@ pub record IsSameOf (u : ℕ) (k new : Centre) : Type 0 where
   pub used : (s : ℕ) → is_used_for u (new.book s) ≡ is_used_for u (k.book s)
   pub entries : (s : ℕ) → is_used_for u (k.book s) ≡ true → new.book s ≡ k.book s
 
--- the word reports to the interlocking that a section is shut, and the section was in use for train t
+-- the reply reports to the interlocking that a section is shut, and the section was in use for train t
 abbrev pub IsToldOf : ℕ → Centre → Word → Type 0
 IsToldOf t k (Told s) = is_used_for t (k.book s) ≡ true
 IsToldOf t k word = ⊥
 
--- centre c takes a message of train t. Of no other train anything changes at any centre; all messages to trains and all
--- frames to other centres are of t; and all words to the interlocking are of sections that were in use for t at c
+-- Centre c takes a message of train t. At each centre, the state of every other train is unchanged. All messages to
+-- trains and all frames to other centres are of t. All replies to the interlocking are of sections that were in use for
+-- t at c.
 pub record IsOfTrain (c t : ℕ) (w : World) (outcome : Outcome) (new : World) : Type 0 where
   pub others : (u : ℕ) → (u ≡ t → ⊥) → (d : ℕ) → IsSameOf u (w.at d) (new.at d)
   pub sayings : All (λ p. p.nid_engine ≡ t) outcome.sayings
   pub frames : (d : ℕ) → All (λ f. train_of f.body ≡ t) (outcome.frames d)
   pub words : All (IsToldOf t (w.at c)) outcome.words
 
--- no train takes anything from another, whatever it says, in whatever state the centres are
+-- a message of one train takes nothing from another, in any state of the centres
 abbrev pub IsolationTheorem : Type 0
 IsolationTheorem = (line : Line) (w new : World) (c : ℕ) (m : TrainMessage) (outcome : Outcome)
     → world_step line w (Bytes c (Ok m)) ≡ Ok (Answered outcome, new) → IsOfTrain c m.nid_engine w outcome new

@@ -1,5 +1,5 @@
--- What trains go by where part of what they are told does not come: each goes by what came, in its order, and by what
--- it said itself.
+-- The view by which trains run if only a part of the messages to them arrives. Each runs by the messages that arrived,
+-- in their order, and by its own messages.
 use Rattle.std.specs.Prelude.{◌≡◌, ℕ, Bool, true, false, List, [], ◌∷◌, Option, Some, None, Ok}
 use Rattle.rbc_spec.specs.Line.{Line}
 use Rattle.rbc_spec.specs.Place.{Position}
@@ -18,14 +18,14 @@ pub data Comes : List Saying → List Saying → Type 0 where
   comes : (p : Saying) (told some : List Saying) → Comes told some → Comes (p ∷ told) (p ∷ some)
   is_lost : (p : Saying) (told some : List Saying) → is_acceptance p.message.body ≡ false → Comes told some → Comes (p ∷ told) some
 
--- of what is spoken after an event, what comes
+-- the part of a step's messages and replies that arrives
 pub data PartOf : Option Spoken → Option Spoken → Type 0 where
   none_spoken : PartOf None None
   some_spoken : (is_heard : Bool) (told some : List Saying) (words : List Word) → Comes told some
       → PartOf (Some (record { is_heard = is_heard; sayings = told; words = words })) (Some (record { is_heard = is_heard; sayings = some; words = words }))
 
--- where a train grants the request that it was told last, that has come to it: v is what is seen of all that was told,
--- w of what came
+-- If a train grants the request that was last sent to it, that request has arrived. View v is of all messages that were
+-- sent, w of those that arrived.
 abbrev pub GrantsWhatCame : Event → View → View → Type 0
 GrantsWhatCame (Bytes c (Ok m)) v w =
     (position : Position) (x y : Stretch) (a : Shortening) → m.body ≡ ShorteningGranted a.stamp position → a.centre ≡ c
@@ -38,12 +38,12 @@ Arrive line (event ∷ events) (spoken ∷ all) (part ∷ came) v w =
     PartOf spoken part × GrantsWhatCame event v w × Arrive line events all came (sees line event spoken v) (sees line event part w)
 Arrive line events all came v w = ⊥
 
--- by what came to them no two trains may run over one section, and none over one that is not released
+-- by the messages that arrived, no two trains may run over one section, and none over one that is not released
 pub record IsSafeByWhatCame (line : Line) (w : View) : Type 0 where
   pub one_train : (t u s : ℕ) → may_run_over line w t s ≡ true → may_run_over line w u s ≡ true → t ≡ u
   pub released : (t s : ℕ) → may_run_over line w t s ≡ true → w.released s ≡ true
 
--- whatever part of what they were told comes to the trains: where they are safe by all of it, they are safe by that
+-- for every part of the messages that arrives: if the trains are safe by all messages, they are safe by that part
 abbrev pub ArrivalTheorem : Type 0
 ArrivalTheorem = (line : Line) (events : List Event) (spoken came : List (Option Spoken))
     → IsSafeOutside line (sees_all line events spoken nothing_seen)

@@ -1,4 +1,4 @@
--- Where trains truly are. If each train is within the stretch that it goes by, no two trains are on one section.
+-- The true positions of trains. If each train is within the stretch by which it runs, no two trains are on one section.
 use Rattle.std.specs.Prelude.{◌≡◌, ℕ, ◌*◌, ◌≤◌, Bool, true, ◌&&◌, List, map, Option, Some, nat_lt, ℤ, pos, int_lt, int_le, Ok}
 use Rattle.rbc_spec.specs.Line.{Line, IsLine, start, end}
 use Rattle.rbc_spec.specs.Sections.{is_on}
@@ -23,8 +23,8 @@ pub record IsWithin (x : Stretch) (e : Extent) : Type 0 where
   pub rear : int_le x.rear e.rear ≡ true
   pub front : e.front ≤ 10 * x.end
 
--- each train that is on the line is within the stretch that it goes by: it keeps to its authority, and its reports are
--- true
+-- Each train that is on the line is within the stretch by which it runs: it keeps to its authority, and its reports are
+-- true.
 abbrev pub IsTruthful : View → (ℕ → Option Extent) → Type 0
 IsTruthful w extents = (t : ℕ) (e : Extent) → extents t ≡ Some e → (x : Stretch) × (w.stretch t ≡ Some x) × IsWithin x e
 
@@ -34,12 +34,12 @@ pub record DoNotMeet (line : Line) (w : View) (extents : ℕ → Option Extent) 
       → is_over line s d ≡ true → is_over line s e ≡ true → t ≡ u
   pub released : (t s : ℕ) (e : Extent) → extents t ≡ Some e → is_over line s e ≡ true → w.released s ≡ true
 
--- of any view that is safe by what came
+-- for every view that is safe by the messages that arrived
 abbrev pub WithinTheorem : Type 0
 WithinTheorem = (line : Line) (w : View) (extents : ℕ → Option Extent)
     → IsSafeByWhatCame line w → IsTruthful w extents → DoNotMeet line w extents
 
--- whatever came to the centres of a line, and whatever part of their messages reached the trains
+-- for all events of the centres of a line, and every part of their messages that arrives at the trains
 abbrev pub MeetingTheorem : Type 0
 MeetingTheorem = (line : Line) (events : List Event) (answers : List Answer) (w : World) (came : List (Option Spoken))
     (extents : ℕ → Option Extent)

@@ -1,8 +1,8 @@
--- What trains go by if any message to them may be lost, also an acceptance (41). A message that is still under way
--- counts as lost, and one that has come counts from the event that it follows. Two things are required of trains, and
--- none of the centres. A train grants only a request that has come to it. And no authority comes to a train whose last
--- acceptance was lost: within a session over GSM-R nothing is lost, and in a later session a train requests no
--- authority before it is accepted.
+-- The view by which trains run if any message to them may be lost, an acceptance (41) too. A message that is still
+-- under way counts as lost. One that has arrived counts from the event that it follows. Two things are required of
+-- trains, and none of the centres. A train grants only a request that has arrived at it. No authority arrives at a
+-- train whose last acceptance was lost. For within a session over GSM-R nothing is lost, and in a later session a train
+-- requests no authority before it is accepted.
 use Rattle.std.specs.Prelude.{◌≡◌, ℕ, ◌==◌, Bool, true, false, ◌&&◌, ◌||◌, not, List, [], ◌∷◌, map, Option, Some, None, Ok}
 use Rattle.rbc_spec.specs.Maps.{put}
 use Rattle.rbc_spec.specs.Line.{Line, IsLine}
@@ -12,8 +12,8 @@ use Rattle.rbc_spec.specs.World.{World, Event, Bytes, centre_of, Answer, new_wor
 use Rattle.law_outside.specs.Outside.{Spoken, nothing_seen, sees_all, spoken_of}
 use Rattle.law_promises.specs.Arrival.Arrival.{IsSafeByWhatCame}
 
--- of each train whether its last acceptance (41) was lost; and of each train, centre and T_TRAIN whether a request to
--- shorten (9) with that T_TRAIN has come from that centre to the train
+-- For each train, whether its last acceptance (41) was lost. For each train, centre and T_TRAIN, whether a request to
+-- shorten (9) with that T_TRAIN has arrived from that centre at the train.
 pub record Known : Type 0 where
   pub misses : ℕ → Bool
   pub requested : ℕ → ℕ → ℕ → Bool
@@ -21,12 +21,12 @@ pub record Known : Type 0 where
 abbrev pub nothing_known : Known
 nothing_known = record { misses = λ t. false; requested = λ t c stamp. false }
 
--- an authority comes only to a train whose last acceptance has come
+-- an authority arrives only at a train whose last acceptance has arrived
 abbrev pub may_come : Known → Saying → TrackBody → Bool
 may_come k p (Authority l) = not (k.misses p.nid_engine)
 may_come k p body = true
 
--- a message of centre c comes to its train
+-- a message of centre c arrives at its train
 abbrev pub after_coming : ℕ → Saying → TrackBody → Known → Known
 after_coming c p TrainAccepted k = record k { misses = put k.misses p.nid_engine false }
 after_coming c p (ShorteningRequest l) k =
@@ -49,14 +49,14 @@ pub data Reaches (c : ℕ) (new : Known) : Known → List Saying → List Saying
   lost : (k : Known) (p : Saying) (told some : List Saying)
       → Reaches c new (after_loss p p.message.body k) told some → Reaches c new k (p ∷ told) some
 
--- of what is spoken after an event at centre c, what comes; the words to the interlocking always do
+-- the part of a step's messages that arrives, after an event at centre c; replies to the interlocking always arrive
 pub data PartReaches (c : ℕ) (new : Known) : Known → Option Spoken → Option Spoken → Type 0 where
   nothing_spoken : PartReaches c new new None None
   part_reaches : (k : Known) (is_heard : Bool) (told some : List Saying) (words : List Word) → Reaches c new k told some
       → PartReaches c new k (Some (record { is_heard = is_heard; sayings = told; words = words }))
       (Some (record { is_heard = is_heard; sayings = some; words = words }))
 
--- train t grants to centre c only a request that has come to it from there
+-- train t grants centre c only a request of c that has arrived at the train
 abbrev pub may_say : Known → (c t : ℕ) → TrainBody → Bool
 may_say k c t (ShorteningGranted stamp position) = k.requested t c stamp
 may_say k c t body = true
@@ -65,14 +65,14 @@ abbrev pub may_happen : Known → Event → Bool
 may_happen k (Bytes c (Ok m)) = may_say k c m.nid_engine m.body
 may_happen k event = true
 
--- after each event some part of what is spoken comes
+-- after each event some part of its messages arrives
 abbrev pub AreReceived : Known → List Event → List (Option Spoken) → List (Option Spoken) → Type 0
 AreReceived k [] [] [] = Unit {0}
 AreReceived k (event ∷ events) (spoken ∷ others) (part ∷ parts) =
     (may_happen k event ≡ true) × ((new : Known) × PartReaches (centre_of event) new k spoken part × AreReceived new events others parts)
 AreReceived k events spoken parts = ⊥
 
--- whatever comes to the centres of a line, and whatever part of their messages reaches the trains
+-- for all events of the centres of a line, and every part of their messages that arrives at the trains
 abbrev pub ReceivedTheorem : Type 0
 ReceivedTheorem = (line : Line) (events : List Event) (answers : List Answer) (w : World) (came : List (Option Spoken))
     → IsLine line → world_run line (new_world line) events ≡ Ok (answers, w)

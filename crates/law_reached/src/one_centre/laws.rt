@@ -9,9 +9,9 @@ ghost use Rattle.rbc_spec.specs.Theorems.{IsOneCentreLine, GoesForced, ForcedRun
 ghost use Rattle.law_base.specs.Local.Local.{IsLocal};
 ghost use Rattle.law_refinement.specs.Meets.{Meets};
 
-/// Whatever happens to the centres of such a line, where no other centre has a part in what they have and the state
-/// that is read off them shows them: the one line centre meets it with the same answer and without free choice, and
-/// goes on from what is read off them afterwards.
+/// On such a line, let no other centre have a part in the world, and let the state that is read off show it. Then the
+/// one line centre meets each event with the same answer and without a choice. It ends in the state that is read off
+/// the new world.
 pub fn each_event_leaves_no_choice()
     ensures { (line : Line) (c : ℕ) (w new : World) (event : Event) (answer : Answer) → IsLine line
         → IsOneCentreLine line c → Meets line w (read_off line w) → IsLocal line w
@@ -19,16 +19,15 @@ pub fn each_event_leaves_no_choice()
         → GoesForced line (read_off line w) event answer (read_off line new) }
 {}
 
-/// What the centres of such a line answer, from the line's beginning on, leads the one line centre without free choice
-/// to the state that is read off them.
+/// The answers of the centres of such a line, from its initial state, lead the one line centre to the state that is
+/// read off. They leave it no choice.
 pub fn each_run_leaves_no_choice()
     ensures { (line : Line) (c : ℕ) (events : List Event) (answers : List Answer) (w : World) → IsLine line
         → IsOneCentreLine line c → world_run line (new_world line) events ≡ Ok (answers, w)
         → ForcedRun line line_beginning events answers (read_off line w) }
 {}
 
-/// What the centres of such a line answer and hold, from the line's beginning on, is a run of the one line centre
-/// without free choice.
+/// The answers and states of the centres of such a line are a run of the one line centre without a choice.
 pub fn the_one_centre_theorem()
     ensures { OneCentreTheorem }
 {}

@@ -1,48 +1,48 @@
--- A handover that is claimed is yielded: the supervision is laid down by a quiet step, and the train may be told to end
--- its session.
-use Rattle.std.proofs.Common.{◌≡◌, ◌≢◌, ℕ, ◌<◌, ◌==◌, ◌&&◌, Bool, true, false, if◌then◌else◌, List, [], ◌∷◌, ◌++◌, Option, Some, None, option_map, refl, sym, ap, ◌∙◌, subst, arith, ltb-true, eq-eqb, ⊎_elim}
+-- A handover that is taken over is yielded. The supervision is laid down by a quiet step, and the train may be ordered
+-- to end its session.
+use Rattle.std.proofs.Common.{[], ⊎_elim, ◌&&◌, ◌++◌, ◌<◌, ◌==◌, ◌∙◌, ◌∷◌, ◌≡◌, ◌≢◌, ap, arith, Bool, eq-eqb, false}
+use Rattle.std.proofs.Common.{if◌then◌else◌, List, ltb-true, None, Option, option_map, refl, Some, subst, sym, true, ℕ}
+use Rattle.std.proofs.lemmas.Bool.{and_parts, cases_eq, ne_eqb}
 use Rattle.std.specs.Option.{option_map_or}
-use Rattle.std.proofs.lemmas.Bool.{cases_eq, and_parts, ne_eqb}
-use Rattle.law_base.specs.Counting.Sums.{one_if}
+use Rattle.law_base.proofs.CountingLemmas.Resource.{sent_append, sent_single}
+use Rattle.law_base.proofs.CountingLemmas.Sums.{one_if_true}
+use Rattle.law_base.proofs.Lists.{itself, put_here, put_other, put_there}
 use Rattle.law_base.specs.Counting.Network.{acted, to_one}
 use Rattle.law_base.specs.Counting.Resource.{sent_by}
-use Rattle.law_base.proofs.CountingLemmas.Sums.{one_if_true}
-use Rattle.law_base.proofs.CountingLemmas.Resource.{sent_append, sent_single}
-use Rattle.law_base.proofs.Puts.{itself, put_here, put_there, put_other}
-use Rattle.rbc_spec.specs.Maps.{put}
-use Rattle.rbc_spec.specs.SectionRuns.{within}
-use Rattle.rbc_spec.specs.Line.{Line, is_centre, is_home}
-use Rattle.rbc_spec.specs.Place.{Place}
-use Rattle.rbc_spec.specs.Frame.{Body, Yield, yielded_place}
-use Rattle.rbc_spec.specs.Centre.{Centre, Phase, Entry, Out, Mission, is_taken_for, is_used_for}
-use Rattle.rbc_spec.specs.Acts.{returned}
-use Rattle.rbc_spec.specs.LineCentre as line_centre
-use Rattle.rbc_spec.specs.LineCentre.{LineState, LineMission}
-use Rattle.rbc_spec.specs.ReadOff.{seen}
+use Rattle.law_base.specs.Counting.Sums.{one_if}
 use Rattle.law_base.specs.Local.Local.{hand_has}
-use Rattle.law_invariants.specs.Flow.Flow.{Flow, centre_count}
 use Rattle.law_invariants.specs.Flow.Counts.{hands, missions}
+use Rattle.law_invariants.specs.Flow.Flow.{centre_count, Flow}
 use Rattle.law_invariants.specs.Flow.Keeping.{nothing_came}
+use Rattle.law_invariants.specs.Flow.Shows.{parted, Shows}
 use Rattle.law_invariants.specs.Flow.Sound.{IsFlowSound}
-use Rattle.law_invariants.specs.Flow.Shows.{Shows, parted}
-use Rattle.law_refinement.specs.Abstraction.Acts.{IsAct, SendsNone, hand_before, hand_after}
-use Rattle.law_refinement.specs.Abstraction.After.{PartAfter, MarkAfter, MissionAfter}
+use Rattle.law_refinement.proofs.AbstractionLemmas.Hands.{given, mark_stays, sends_both, sends_home, sends_none}
+use Rattle.law_refinement.proofs.AbstractionLemmas.Hands.{sends_single, was, yield_hands_over}
+use Rattle.law_refinement.proofs.AbstractionLemmas.Marks.{given_mark_of}
+use Rattle.law_refinement.proofs.AbstractionLemmas.Shows.{by_itself, entry_here, part_stays, shows_after}
+use Rattle.law_refinement.specs.Abstraction.Acts.{hand_after, hand_before, IsAct, SendsNone}
+use Rattle.law_refinement.specs.Abstraction.After.{MarkAfter, MissionAfter, PartAfter}
 use Rattle.law_refinement.specs.Abstraction.After.MarkAfter.{is_given}
 use Rattle.law_refinement.specs.Abstraction.After.MissionAfter.{stays}
-use Rattle.law_refinement.proofs.AbstractionLemmas.Acts.{by_itself}
-use Rattle.law_refinement.proofs.AbstractionLemmas.Frames.{sends_both, sends_single, sends_home, sends_none, yield_hands_over}
-use Rattle.law_refinement.proofs.AbstractionLemmas.Hands.{was, given, mark_stays}
-use Rattle.law_refinement.proofs.AbstractionLemmas.Entering.{entry_here}
-use Rattle.law_refinement.proofs.AbstractionLemmas.Marks.{given_mark_of}
-use Rattle.law_refinement.proofs.AbstractionLemmas.Shows.{part_stays, shows_after}
+use Rattle.rbc_spec.specs.Acts.{returned}
+use Rattle.rbc_spec.specs.Centre.{Centre, Entry, is_taken_for, is_used_for, Mission, Out, Phase}
+use Rattle.rbc_spec.specs.Frame.{Body, Yield, yielded_place}
+use Rattle.rbc_spec.specs.Line.{is_centre, is_home, Line}
+use Rattle.rbc_spec.specs.LineCentre as line_centre
+use Rattle.rbc_spec.specs.LineCentre.{LineMission, LineState}
+use Rattle.rbc_spec.specs.Maps.{put}
+use Rattle.rbc_spec.specs.Place.{Place}
+use Rattle.rbc_spec.specs.ReadOff.{seen}
+use Rattle.rbc_spec.specs.SectionRuns.{within}
 
--- ## What is shown of it
+-- ## The shown state
 
--- centre c, which had mission m of the train, sends it to centre d in a Yield with this number, beside the sections of
--- its pool that go home
-module _ (line : Line) (w : Flow) (sound : IsFlowSound line w) (v : LineState) (sees : Shows line w v) (c : ℕ) (to : is_centre line c ≡ true) (t d number : ℕ) (there : is_centre line d ≡ true)
+-- Centre c, which had mission m of the train, sends it to centre d in a Yield with this number. The sections of its
+-- pool are returned.
+module _ (line : Line) (w : Flow) (sound : IsFlowSound line w) (v : LineState) (sees : Shows line w v) (c : ℕ)
+    (to : is_centre line c ≡ true) (t d number : ℕ) (there : is_centre line d ≡ true)
     (m : Mission) (at : (w.at c).mission t ≡ Some m) where
-  -- the last stamp heard
+  -- the last stamp that was received
   abbrev pub stamp : ℕ
   stamp = option_map_or (λ n. n) ((w.at c).heard t) 0
 
@@ -70,8 +70,10 @@ module _ (line : Line) (w : Flow) (sound : IsFlowSound line w) (v : LineState) (
     sent_single (hands u s) (centre_count line) c d gives (ltb-true d (centre_count line) there),
   )
 
-  module _ (y : Centre) (phase : y.phase ≡ (w.at c).phase) (heard : y.heard ≡ (w.at c).heard) (wait : y.wait ≡ (w.at c).wait) (wish : y.wish ≡ (w.at c).wish)
-      (book : y.book ≡ (λ s. if within m.hand s && is_taken_for t ((w.at c).book s) then Out t else (w.at c).book s)) (mission : y.mission ≡ put (w.at c).mission t None)
+  module _ (y : Centre) (phase : y.phase ≡ (w.at c).phase) (heard : y.heard ≡ (w.at c).heard)
+      (wait : y.wait ≡ (w.at c).wait) (wish : y.wish ≡ (w.at c).wish)
+      (book : y.book ≡ (λ s. if within m.hand s && is_taken_for t ((w.at c).book s) then Out t else (w.at c).book s))
+      (mission : y.mission ≡ put (w.at c).mission t None)
       (count : ℕ → ℕ → ℕ) (said : PartAfter c v.said y.said count) where
     abbrev new : Flow
     new = acted w c y frames
@@ -109,43 +111,54 @@ module _ (line : Line) (w : Flow) (sound : IsFlowSound line w) (v : LineState) (
     had : (s : ℕ) → within m.hand s ≡ true → 0 < hand_before t s (w.at c) nothing_came
     had s has = omega (arith, ap (λ (o : Option Mission). one_if (hand_has o s)) at, one_if_true (within m.hand s) has)
 
-    -- what is taken for the train is of this home
-    home_of : (s : ℕ) (b : Bool) → is_home line c s ≡ b → is_taken_for t ((w.at c).book s) ≡ true → is_home line c s ≡ true
+    -- a section taken for the train is of this home
+    home_of : (s : ℕ) (b : Bool) → is_home line c s ≡ b → is_taken_for t ((w.at c).book s) ≡ true
+        → is_home line c s ≡ true
     home_of s true is taken = is
-    home_of s false is taken = let wrong : false ≡ true = sym (ap (is_taken_for t) ((sound.centres c to).foreign s is)) ∙ taken in cc
+    home_of s false is taken = let wrong : false ≡ true = sym (ap (is_taken_for t) ((sound.centres c to).foreign s is))
+        ∙ taken in cc
 
     -- own sections of the hand become lent, and stay given
-    marks : (s e : ℕ) → is_home line e s ≡ true → (b : Bool) → (within m.hand s && is_taken_for t ((w.at c).book s)) ≡ b → MarkAfter line w new s e (v.mark s) (v.mark s)
+    marks : (s e : ℕ) → is_home line e s ≡ true → (b : Bool) → (within m.hand s && is_taken_for t ((w.at c).book s)) ≡ b
+        → MarkAfter line w new s e (v.mark s) (v.mark s)
     marks s e is_of false is = mark_stays line w c nothing_came y frames new s e (v.mark s) act
-        (ap (λ (g : ℕ → Entry). g s) book ∙ ap (λ (b : Bool). if b then Out t else (w.at c).book s) is) (λ u used. hands_same u s)
+        (ap (λ (g : ℕ → Entry). g s) book ∙ ap (λ (b : Bool). if b then Out t else (w.at c).book s) is)
+        (λ u used. hands_same u s)
     marks s e is_of true is =
         let both = and_parts (within m.hand s) (is_taken_for t ((w.at c).book s)) is in
         let own = home_of s (is_home line c s) refl both.1 in
         let has = had s both.0 in
         is_given t (given_mark_of line w v t sound sees s (was line w c nothing_came y frames new t s act has))
-        (ap (is_used_for t) (entry_here line w c nothing_came y frames new s e act is_of own ∙ ap (λ (g : ℕ → Entry). g s) book ∙ ap (λ (b : Bool). if b then Out t else (w.at c).book s) is) ∙ itself t)
+        (ap (is_used_for t) (entry_here line w c nothing_came y frames new s e act is_of own
+        ∙ ap (λ (g : ℕ → Entry). g s) book ∙ ap (λ (b : Bool). if b then Out t else (w.at c).book s) is) ∙ itself t)
         (given line w c nothing_came y frames new t s act (omega (arith, has, hands_same t s)))
 
     none_other : (u : ℕ) → u ≢ t → SendsNone (missions u) c frames
-    none_other u other = sends_both (missions u) c home (to_one d (gives ∷ [])) (sends_home line c t u 0 m.place.track m.pool (w.at c)).1
+    none_other u other = sends_both (missions u) c home (to_one d (gives ∷ []))
+        (sends_home line c t u 0 m.place.track m.pool (w.at c)).1
         (sends_single (missions u) c d gives (ap one_if (ne_eqb t u (λ e. other (sym e)))))
 
     missions_after : (u : ℕ) → MissionAfter line w c nothing_came y frames u (v.mission u) (after.mission u)
     missions_after u = ⊎_elim
-        (λ (here : u ≡ t). subst (λ x. MissionAfter line w c nothing_came y frames x (v.mission x) (after.mission x)) (sym here)
+        (λ (here : u ≡ t). subst (λ x. MissionAfter line w c nothing_came y frames x (v.mission x) (after.mission x))
+        (sym here)
         (subst (MissionAfter line w c nothing_came y frames t (v.mission t)) (sym (put_there v.mission t (Some laid)))
-        (yield_hands_over line w c nothing_came y home d number t stamp m.has_data m.is_ended m.place m.hand m (v.mission t) there at none_now
+        (yield_hands_over line w c nothing_came y home d number t stamp m.has_data m.is_ended m.place m.hand m
+        (v.mission t) there at none_now
         (sends_home line c t t 0 m.place.track m.pool (w.at c)).1)))
         (λ (other : u ≢ t). stays (put_other v.mission t u (Some laid) other)
-        (ap (λ (g : ℕ → Option Mission). option_map (seen c) (g u)) mission ∙ ap (option_map (seen c)) (put_other (w.at c).mission t u None other)) refl (none_other u other))
+        (ap (λ (g : ℕ → Option Mission). option_map (seen c) (g u)) mission
+        ∙ ap (option_map (seen c)) (put_other (w.at c).mission t u None other)) refl (none_other u other))
         (cases_eq u t)
 
     pub yield_shown : Shows line (acted w c y frames) (record laid_down { said = count })
     yield_shown = shows_after line w c nothing_came y frames new v after sound sees to act (record {
       phase = part_stays Phase c v.phase y.phase (λ u. sees.phase u c ∙ ap (λ (g : ℕ → Phase). g u) (sym phase));
-      heard = part_stays (Option ℕ) c v.heard y.heard (λ u. sees.heard u c ∙ ap (λ (g : ℕ → Option ℕ). g u) (sym heard));
+      heard = part_stays (Option ℕ) c v.heard y.heard (λ u. sees.heard u c
+          ∙ ap (λ (g : ℕ → Option ℕ). g u) (sym heard));
       said = said;
-      wait = part_stays (Option Place) c v.wait y.wait (λ u. sees.wait u c ∙ ap (λ (g : ℕ → Option Place). g u) (sym wait));
+      wait = part_stays (Option Place) c v.wait y.wait (λ u. sees.wait u c
+          ∙ ap (λ (g : ℕ → Option Place). g u) (sym wait));
       wish = λ s own. sees.wish s c own ∙ ap (λ (g : ℕ → Bool). g s) (sym wish);
       other_wish = λ s away. refl;
       mark = λ s e is_of. marks s e is_of (within m.hand s && is_taken_for t ((w.at c).book s)) refl;

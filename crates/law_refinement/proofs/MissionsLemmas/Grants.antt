@@ -1,54 +1,54 @@
--- A request that is granted: the hand is extended as far as it may go, by open sections of this centre and by those of
--- the pool.
-use Rattle.std.proofs.Common.{◌≡◌, ◌≢◌, ◌⊎◌, ℕ, zero, suc, ◌+◌, ◌-◌, ◌<◌, ◌≤◌, ◌==◌, ◌&&◌, ◌||◌, not, if◌then◌else◌, Bool, true, false, [], ◌∷◌, Option, Some, refl, sym, ap, ◌∙◌, subst, inl, inr, arith, ⊎_elim, leb-true, ltb-true, length}
+-- A granted request: the hand is extended as far as it may go, by open sections of this centre and by those of the
+-- pool.
+use Rattle.std.proofs.Common.{[], ⊎_elim, ◌&&◌, ◌+◌, ◌-◌, ◌<◌, ◌==◌, ◌||◌, ◌∙◌, ◌∷◌, ◌≡◌, ◌≢◌, ◌≤◌, ◌⊎◌, ap, arith}
+use Rattle.std.proofs.Common.{Bool, false, if◌then◌else◌, inl, inr, leb-true, length, ltb-true, not, Option, refl, Some}
+use Rattle.std.proofs.Common.{subst, suc, sym, true, zero, ℕ}
+use Rattle.std.proofs.lemmas.Bool.{and_from, cases_eq, cases_lt, or_cases}
 use Rattle.std.specs.Option.{option_map_or}
-use Rattle.std.proofs.lemmas.Bool.{and_from, or_cases, cases_eq, cases_lt}
+use Rattle.law_base.proofs.CountingLemmas.Places.{held_le_placed, two_held_le_placed}
+use Rattle.law_base.proofs.CountingLemmas.Sums.{one_if_true}
+use Rattle.law_base.proofs.Lists.{any-range_none, itself}
+use Rattle.law_base.proofs.RulesLemmas.Places.{placed_on}
+use Rattle.law_base.proofs.Runs.{all_within, joined_is, within_from}
 use Rattle.law_base.specs.Counting.Network.{acted}
 use Rattle.law_base.specs.Counting.Resource.{placed}
 use Rattle.law_base.specs.Counting.Sums.{one_if}
-use Rattle.law_base.proofs.CountingLemmas.Places.{held_le_placed, two_held_le_placed}
-use Rattle.law_base.proofs.CountingLemmas.Sums.{one_if_true}
-use Rattle.law_base.proofs.Lists.{any-range_none}
 use Rattle.law_base.specs.Runs.{IsLongest}
-use Rattle.law_base.proofs.Puts.{itself}
-use Rattle.law_base.proofs.Runs.{within_from, joined_is, all_within}
-use Rattle.rbc_spec.specs.Maps.{has}
-use Rattle.rbc_spec.specs.SectionRuns.{SectionRun, most_in_hand, within, next_after}
-use Rattle.rbc_spec.specs.Line.{Line, Section, IsLine, is_centre, is_home, end}
-use Rattle.rbc_spec.specs.Sections.{is_on}
-use Rattle.rbc_spec.specs.Place.{Place, Position, group_start, farthest, has_room, place_on}
-use Rattle.rbc_spec.specs.Message.{TrainMessage, Request, Authority}
-use Rattle.rbc_spec.specs.Centre as centre
-use Rattle.rbc_spec.specs.Centre.{Centre, Entry, Mission, is_open, is_free}
-use Rattle.rbc_spec.specs.Acts.{rest, ◌>>◌}
-use Rattle.rbc_spec.specs.Rules.{may_follow, extension, extended_by, authority}
-use Rattle.rbc_spec.specs.LineCentre as line_centre
-use Rattle.rbc_spec.specs.LineCentre.{LineState, is_kept_for, is_mark_open, is_waiting, is_waiting_at, saying_of}
-use Rattle.rbc_spec.specs.OwnSteps.{Ends, off_track, not_free, full, too_far, may_be_given, Extends}
-use Rattle.rbc_spec.proofs.Places.{section_on}
-use Rattle.law_base.proofs.RulesLemmas.Places.{placed_on}
-use Rattle.law_invariants.specs.Flow.Flow.{Flow, centre_count}
-use Rattle.law_invariants.specs.Flow.Counts.{wait_has, pool_has, tokens}
+use Rattle.law_invariants.proofs.HandoverLemmas.Moves.{goes_extend}
+use Rattle.law_invariants.proofs.NoCopyLemmas.Borders.{fair_extend}
+use Rattle.law_invariants.proofs.NoCopyLemmas.Tally.{mission_of}
+use Rattle.law_invariants.proofs.SoundLemmas.Held.{reported}
+use Rattle.law_invariants.proofs.SoundLemmas.Requests.{extend_sound}
+use Rattle.law_invariants.specs.Flow.Counts.{pool_has, tokens, wait_has}
+use Rattle.law_invariants.specs.Flow.Flow.{centre_count, Flow}
 use Rattle.law_invariants.specs.Flow.Keeping.{nothing_came}
+use Rattle.law_invariants.specs.Flow.Leads.{replied, said_by}
+use Rattle.law_invariants.specs.Flow.Shows.{is_in_hand, shown, Shows}
 use Rattle.law_invariants.specs.Flow.Sound.{IsFlowSound, IsMissionAt}
-use Rattle.law_invariants.specs.Flow.Shows.{Shows, shown, is_in_hand}
-use Rattle.law_invariants.specs.Flow.Leads.{said_by, replied}
-use Rattle.law_refinement.specs.Abstraction.Acts.{IsAct}
-use Rattle.law_refinement.proofs.AbstractionLemmas.Acts.{by_itself}
-use Rattle.law_refinement.proofs.AbstractionLemmas.Entering.{token_used}
 use Rattle.law_refinement.proofs.AbstractionLemmas.Hands.{one_token}
 use Rattle.law_refinement.proofs.AbstractionLemmas.Marks.{hand_at_centre, in_no_hand, kept_mark_of}
-use Rattle.law_invariants.proofs.SoundLemmas.Places.{reported}
-use Rattle.law_invariants.proofs.SoundLemmas.Requests.{extend_sound}
-use Rattle.law_invariants.proofs.NoCopyLemmas.Tally.{mission_of}
-use Rattle.law_invariants.proofs.NoCopyLemmas.Borders.{fair_extend}
-use Rattle.law_invariants.proofs.HandoverLemmas.Moves.{goes_extend}
-use Rattle.law_refinement.specs.Missions.Parts.{Answers, extend, own_request}
-use Rattle.law_refinement.proofs.MissionsLemmas.Keeps.{act_sound}
-use Rattle.law_refinement.proofs.MissionsLemmas.Reports.{track_is}
+use Rattle.law_refinement.proofs.AbstractionLemmas.Shows.{by_itself, token_used}
 use Rattle.law_refinement.proofs.MissionsLemmas.Extending as extending
+use Rattle.law_refinement.proofs.MissionsLemmas.Heard.{act_sound}
+use Rattle.law_refinement.proofs.MissionsLemmas.Reports.{track_is}
+use Rattle.law_refinement.specs.Abstraction.Acts.{IsAct}
+use Rattle.law_refinement.specs.Missions.Parts.{Answers, extend, own_request}
+use Rattle.rbc_spec.proofs.Places.{section_on}
+use Rattle.rbc_spec.specs.Acts.{◌>>◌, rest}
+use Rattle.rbc_spec.specs.Centre as centre
+use Rattle.rbc_spec.specs.Centre.{Centre, Entry, is_free, is_open, Mission}
+use Rattle.rbc_spec.specs.Line.{end, is_centre, is_home, IsLine, Line, Section}
+use Rattle.rbc_spec.specs.LineCentre as line_centre
+use Rattle.rbc_spec.specs.LineCentre.{is_kept_for, is_mark_open, is_waiting, is_waiting_at, LineState, saying_of}
+use Rattle.rbc_spec.specs.Maps.{has}
+use Rattle.rbc_spec.specs.Message.{Authority, Request, TrainMessage}
+use Rattle.rbc_spec.specs.OwnSteps.{Ends, Extends, full, may_be_given, not_free, off_track, too_far}
+use Rattle.rbc_spec.specs.Place.{farthest, group_start, has_room, Place, place_on, Position}
+use Rattle.rbc_spec.specs.Rules.{authority, extended_by, extension, may_follow}
+use Rattle.rbc_spec.specs.SectionRuns.{most_in_hand, next_after, SectionRun, within}
+use Rattle.rbc_spec.specs.Sections.{is_on}
 
--- a section is shown open where its home has it open
+-- a section is shown as open if its home has it open
 shown_open : (e : Entry) (given : ℕ → Bool) → is_mark_open (shown e given) ≡ is_open e
 shown_open centre.Shut given = refl
 shown_open centre.Open given = refl
@@ -63,8 +63,11 @@ shown_open (centre.Out u) given = by_given (given u)
     by_given true = refl
     by_given false = refl
 
-module _ (line : Line) (ok : IsLine line) (w : Flow) (sound : IsFlowSound line w) (v : LineState) (sees : Shows line w v) (c : ℕ) (to : is_centre line c ≡ true) (t_train t : ℕ) (position : Position)
-    (m : Mission) (at : (w.at c).mission t ≡ Some m) (place : Place) (on : place_on line m.place.track position ≡ Some place) (near : has_room line place (end line (next_after m.hand - 1)) ≡ true) where
+module _ (line : Line) (ok : IsLine line) (w : Flow) (sound : IsFlowSound line w) (v : LineState)
+    (sees : Shows line w v) (c : ℕ) (to : is_centre line c ≡ true) (t_train t : ℕ) (position : Position)
+    (m : Mission) (at : (w.at c).mission t ≡ Some m) (place : Place)
+    (on : place_on line m.place.track position ≡ Some place)
+    (near : has_room line place (end line (next_after m.hand - 1)) ≡ true) where
   abbrev message : TrainMessage
   message = record { t_train = t_train; nid_engine = t; body = Request position }
 
@@ -100,7 +103,7 @@ module _ (line : Line) (ok : IsLine line) (w : Flow) (sound : IsFlowSound line w
 
   -- ## How far the hand is extended
 
-  -- an act that changes nothing, so that what this centre has is counted
+  -- an act that changes nothing, so that the centre's amounts are counted
   act : IsAct line w c nothing_came k (λ d. []) (acted w c k (λ d. []))
   act = by_itself line w c k (λ d. []) sound.counted to
 
@@ -108,7 +111,7 @@ module _ (line : Line) (ok : IsLine line) (w : Flow) (sound : IsFlowSound line w
   or_right true b is_so = refl
   or_right false b is_so = is_so
 
-  -- what may be given: an open section of this centre, or one that is kept for the train and for which no start waits
+  -- a section that may be given: it is open at this centre, or kept for the train without a start that waits for it
   open_so : (s : ℕ) → (is_home line c s && is_mark_open (v.mark s)) ≡ is_free line c k s
   open_so s = by_home (is_home line c s) refl
     where
@@ -119,18 +122,22 @@ module _ (line : Line) (ok : IsLine line) (w : Flow) (sound : IsFlowSound line w
   kept_so : (s : ℕ) → is_on line place.track s ≡ true → within m.pool s ≡ true → v.mark s ≡ line_centre.Kept t
   kept_so s on_track lent =
       let p = section_on line place.track s on_track in
-      let home : is_home line (p.0).home s ≡ true = ap (has (λ (x : Section). x.home == (p.0).home)) p.1.at ∙ itself (p.0).home in
+      let home : is_home line (p.0).home s ≡ true = ap (has (λ (x : Section). x.home == (p.0).home)) p.1.at
+      ∙ itself (p.0).home in
       kept_mark_of line w v t sound sees s (p.0).home home
-      (token_used line w c nothing_came k (λ e. []) (acted w c k (λ e. [])) s (p.0).home act home t sound (omega (arith, token_here s lent)))
-      (in_no_hand line w c nothing_came k (λ e. []) (acted w c k (λ e. [])) t s sound act (omega (arith, token_here s lent)))
+      (token_used line w c nothing_came k (λ e. []) (acted w c k (λ e. [])) s (p.0).home act home t sound
+      (omega (arith, token_here s lent)))
+      (in_no_hand line w c nothing_came k (λ e. []) (acted w c k (λ e. [])) t s sound act
+      (omega (arith, token_here s lent)))
 
   not_waiting : (s : ℕ) → within m.pool s ≡ true → is_waiting line v t s ≡ false
-  not_waiting s lent = any-range_none (λ d. is_waiting_at line v t d s) 0 (length line.centres) (λ d low high. by_wait d high (is_waiting_at line v t d s) refl)
+  not_waiting s lent = any-range_none (λ d. is_waiting_at line v t d s) 0 (length line.centres)
+      (λ d low high. by_wait d high (is_waiting_at line v t d s) refl)
     where
       few : placed (tokens line t s) (centre_count line) w ≤ 1
       few = omega (arith, (sound.tokens t s).law, one_token line t s (centre_count line) w)
 
-      -- a centre where one waits has a token of it
+      -- a centre with a start that waits for it has a token of it
       token_there : (d : ℕ) → is_waiting_at line v t d s ≡ true → one_if (wait_has line ((w.at d).wait t) s) ≡ 1
       token_there d waits = one_if_true _ (ap (λ (o : Option Place). wait_has line o s) (sym (sees.wait t d)) ∙ waits)
 
@@ -138,7 +145,14 @@ module _ (line : Line) (ok : IsLine line) (w : Flow) (sound : IsFlowSound line w
       by_wait d high false none = refl
       by_wait d high true waits = absurd (⊎_elim
           (λ (same : c ≡ d). let no : ⊥ = omega (arith, few, two_at_one same) in no)
-          (λ (apart : c ≢ d). let no : ⊥ = omega (arith, few, two_held_le_placed (tokens line t s) (centre_count line) w c d (ltb-true c (centre_count line) to) (omega (arith, high)) apart, token_here s lent, token_there d waits) in no)
+          (λ (apart : c ≢ d). let no : ⊥ = omega (
+            arith,
+            few,
+            two_held_le_placed (tokens line t s) (centre_count line) w c d
+                (ltb-true c (centre_count line) to) (omega (arith, high)) apart,
+            token_here s lent,
+            token_there d waits,
+          ) in no)
           (cases_eq c d))
         where
           two_at_one : c ≡ d → 2 ≤ placed (tokens line t s) (centre_count line) w
@@ -152,65 +166,104 @@ module _ (line : Line) (ok : IsLine line) (w : Flow) (sound : IsFlowSound line w
 
   may_be : (s : ℕ) → Follows s → may_be_given line v c t s ≡ true
   may_be s f = ⊎_elim
-      (λ (free : is_free line c k s ≡ true). ap (λ b. b || (is_kept_for t (v.mark s) && not (is_waiting line v t s))) (open_so s ∙ free))
-      (λ (lent : within m.pool s ≡ true). or_right (is_home line c s && is_mark_open (v.mark s)) (is_kept_for t (v.mark s) && not (is_waiting line v t s))
-      (and_from (is_kept_for t (v.mark s)) (not (is_waiting line v t s)) (ap (is_kept_for t) (kept_so s f.on_track lent) ∙ itself t) (ap not (not_waiting s lent))))
+      (λ (free : is_free line c k s ≡ true). ap (λ b. b || (is_kept_for t (v.mark s) && not (is_waiting line v t s)))
+      (open_so s ∙ free))
+      (λ (lent : within m.pool s ≡ true). or_right (is_home line c s && is_mark_open (v.mark s))
+      (is_kept_for t (v.mark s) && not (is_waiting line v t s))
+      (and_from (is_kept_for t (v.mark s)) (not (is_waiting line v t s)) (ap (is_kept_for t) (kept_so s f.on_track lent)
+      ∙ itself t) (ap not (not_waiting s lent))))
       (or_cases (is_free line c k s) (within m.pool s) f.free)
 
   abbrev grown : SectionRun
   grown = record { first = m.hand.first; count = m.hand.count + more.count }
 
   ends_at : (s : ℕ) → next_after grown ≡ s → may_follow line c k here s ≡ false → Ends line v c place grown
-  ends_at s same fails = by_parts (is_on line place.track s) (is_free line c k s) (has_room line place (end line s)) refl refl refl
+  ends_at s same fails = by_parts (is_on line place.track s) (is_free line c k s)
+      (has_room line place (end line s)) refl refl refl
     where
       all_pass : (a b d e : Bool) → a ≡ true → b ≡ true → e ≡ true → ((a && (b || d)) && e) ≡ true
       all_pass a b d e f g h = rw f (rw g (rw h refl))
 
-      by_parts : (on_track free in_reach : Bool) → is_on line place.track s ≡ on_track → is_free line c k s ≡ free → has_room line place (end line s) ≡ in_reach → Ends line v c place grown
+      by_parts : (on_track free in_reach : Bool) → is_on line place.track s ≡ on_track → is_free line c k s ≡ free
+          → has_room line place (end line s) ≡ in_reach → Ends line v c place grown
       by_parts false b d f g h = off_track (ap (is_on line place.track) same ∙ f)
       by_parts true false d f g h = not_free (open_so (next_after grown) ∙ ap (is_free line c k) same ∙ g)
       by_parts true true false f g h = too_far (ap (λ e. has_room line place (end line e)) same ∙ h)
-      by_parts true true true f g h = absurd (let wrong : true ≡ false = sym (all_pass (is_on line place.track s) (is_free line c k s) (within m.pool s) (has_room line place (end line s)) f g h) ∙ fails in cc)
+      by_parts true true true f g h =
+          absurd (let wrong : true
+          ≡ false =
+          sym (all_pass (is_on line place.track s) (is_free line c k s) (within m.pool s)
+          (has_room line place (end line s)) f g h) ∙ fails in cc)
 
   ends : Ends line v c place grown
   ends = by_room (cases_lt more.count (most_in_hand - m.hand.count))
     where
-      by_room : (more.count < most_in_hand - m.hand.count) ⊎ (most_in_hand - m.hand.count ≤ more.count) → Ends line v c place grown
-      by_room (inl less) = ends_at (next_after m.hand + more.count) (let e : m.hand.first + (m.hand.count + more.count) ≡ m.hand.first + m.hand.count + more.count = omega arith in e) (most.ends less)
+      by_room : (more.count < most_in_hand - m.hand.count) ⊎ (most_in_hand - m.hand.count ≤ more.count)
+          → Ends line v c place grown
+      by_room (inl less) = ends_at (next_after m.hand + more.count) (let e : m.hand.first + (m.hand.count + more.count)
+          ≡ m.hand.first + m.hand.count + more.count = omega arith in e) (most.ends less)
       by_room (inr all) = full (omega (arith, all, most.fits, is.hand.few))
 
   in_reach : has_room line place (end line (next_after m.hand + more.count - 1)) ≡ true
   in_reach = by_count more.count refl
     where
       by_count : (n : ℕ) → more.count ≡ n → has_room line place (end line (next_after m.hand + more.count - 1)) ≡ true
-      by_count zero none = ap (λ e. has_room line place (end line e)) (let e : next_after m.hand + more.count - 1 ≡ next_after m.hand - 1 = omega (arith, none) in e) ∙ near
-      by_count (suc n) some = (follows (next_after m.hand + more.count - 1) (within_from more (next_after m.hand + more.count - 1) (omega (arith, some)) (omega (arith, some)))).in_reach
+      by_count zero none = ap (λ e. has_room line place (end line e))
+          (let e : next_after m.hand + more.count - 1 ≡ next_after m.hand - 1 = omega (arith, none) in e) ∙ near
+      by_count (suc n) some =
+          (follows (next_after m.hand + more.count - 1)
+          (within_from more (next_after m.hand + more.count - 1) (omega (arith, some)) (omega (arith, some)))).in_reach
 
   authority_is : authority line longer ≡ end line (next_after m.hand + more.count - 1) - group_start line place
-  authority_is = ap (λ (r : SectionRun). end line (next_after r - 1) - group_start line place) (joined_is m.hand more.count is.hand.some)
-      ∙ ap (λ e. end line (e - 1) - group_start line place) (let e : m.hand.first + (m.hand.count + more.count) ≡ m.hand.first + m.hand.count + more.count = omega arith in e)
+  authority_is = ap (λ (r : SectionRun). end line (next_after r - 1) - group_start line place)
+      (joined_is m.hand more.count is.hand.some)
+      ∙ ap (λ e. end line (e - 1) - group_start line place) (let e : m.hand.first + (m.hand.count + more.count)
+      ≡ m.hand.first + m.hand.count + more.count = omega arith in e)
 
-  extends : Extends line v t c place (record { sayings = saying_of t c place.group (Authority (end line (next_after m.hand + more.count - 1) - group_start line place)) v ∷ []; words = [] }) after
+  extends : Extends line v t c place
+      (record {
+        sayings = saying_of t c place.group
+            (Authority (end line (next_after m.hand + more.count - 1) - group_start line place)) v ∷ [];
+        words = [];
+      }) after
   extends = record {
     hand = m.hand;
     count = more.count;
     is_hand = hand_at_centre line w v t sound sees c m at;
-    each = all_within (λ s. may_be_given line v c t s && is_on line place.track s) more (λ s inside. let f = follows s inside in
+    each = all_within (λ s. may_be_given line v c t s && is_on line place.track s) more
+        (λ s inside. let f = follows s inside in
         and_from (may_be_given line v c t s) (is_on line place.track s) (may_be s f) f.on_track);
     ends = ends;
     room = omega (arith, most.fits, is.hand.few);
-    within_reach = leb-true (end line (next_after m.hand + more.count - 1)) (group_start line place + farthest) in_reach;
+    within_reach = leb-true (end line (next_after m.hand + more.count - 1))
+        (group_start line place + farthest) in_reach;
     says_it = record { said_is = refl; new_is = refl };
   }
 
-  said_so : said_by (extend line c t here k) ≡ record { sayings = saying_of t c place.group (Authority (end line (next_after m.hand + more.count - 1) - group_start line place)) v ∷ []; words = [] }
+  said_so : said_by (extend line c t here k)
+      ≡ record {
+        sayings = saying_of t c place.group
+            (Authority (end line (next_after m.hand + more.count - 1) - group_start line place)) v ∷ [];
+        words = [];
+      }
   unfolding ◌>>◌
-  said_so = (λ i. record { sayings = record { nid_engine = t; message = record { t_train = sym (sees.said t c) i + 1; nid_lrbg = place.group; body = Authority (authority_is i) } } ∷ []; words = [] })
+  said_so =
+      (λ i. record {
+        sayings = record {
+          nid_engine = t;
+          message =
+              record { t_train = sym (sees.said t c) i + 1; nid_lrbg = place.group; body = Authority (authority_is i) };
+        } ∷ [];
+        words = [];
+      })
 
   granted_keeps : IsFlowSound line (replied w c (extend line c t here k))
   granted_keeps = let there = placed_on line m.place.track position place on in
-      act_sound line ok c w sound to (extend line c t here k) (extend_sound line ok c k (sound.centres c to) t m place at there.track_is (reported line position place there.extent_is))
-      (λ x counts ready. fair_extend line c x counts t here k (ap (mission_of x) at) is.pool_follows) (goes_extend line c t here m k at refl)
+      act_sound line ok c w sound to (extend line c t here k)
+      (extend_sound line ok c k (sound.centres c to) t m place at there.track_is
+      (reported line position place there.extent_is))
+      (λ x counts ready. fair_extend line c x counts t here k (ap (mission_of x) at) is.pool_follows)
+      (goes_extend line c t here m k at refl)
 
   replied_so : Shows line (replied w c (extend line c t here k)) after
   unfolding ◌>>◌
@@ -219,12 +272,20 @@ module _ (line : Line) (ok : IsLine line) (w : Flow) (sound : IsFlowSound line w
   granted_so : Answers line w c message (extend line c t here k) v
   granted_so = record {
     mid = after;
-    own = (place, track_is line ok w sound v sees c t to m at position ∙ on, subst (λ said. Extends line v t c place said after) (sym said_so) extends);
+    own = (
+      place,
+      track_is line ok w sound v sees c t to m at position
+          ∙ on,
+      subst (λ said. Extends line v t c place said after) (sym said_so) extends,
+    );
     shows = replied_so;
     sound = granted_keeps;
   }
 
   pub request_answers : Answers line w c message (own_request line c t position (w.at c)) v
   request_answers = subst (λ r. Answers line w c message r v)
-      (sym (ap (λ (o : Option Mission). option_map_or (λ n. option_map_or (λ x. extend line c t (record n { place = x })) (place_on line n.place.track position) rest k) o (rest k)) at
-      ∙ ap (λ (o : Option Place). option_map_or (λ x. extend line c t (record m { place = x })) o rest k) on)) granted_so
+      (sym (ap (λ (o : Option Mission). option_map_or
+      (λ n. option_map_or (λ x. extend line c t (record n { place = x }))
+      (place_on line n.place.track position) rest k) o (rest k)) at
+      ∙ ap (λ (o : Option Place). option_map_or (λ x. extend line c t (record m { place = x })) o rest k)
+      on)) granted_so

@@ -1,23 +1,24 @@
--- Acts that change a train's mission and nothing else that is shown, and say nothing.
-use Rattle.std.proofs.Common.{◌≡◌, ◌≢◌, ℕ, ◌==◌, Bool, true, false, if◌then◌else◌, [], ◌∷◌, ◌++◌, Option, Some, None, option_map, refl, sym, ap, ◌∙◌, subst, inl, inr, ◌⊎◌, ⊎_elim}
-use Rattle.std.specs.Option.{option_map_or}
+-- Acts that change a train's mission and no other shown value, without messages and replies.
+use Rattle.std.proofs.Common.{[], ⊎_elim, ◌++◌, ◌==◌, ◌∙◌, ◌∷◌, ◌≡◌, ◌≢◌, ◌⊎◌, ap, arith, Bool, false, if◌then◌else◌}
+use Rattle.std.proofs.Common.{inl, inr, None, Option, option_map, refl, Some, subst, sym, true, ℕ}
 use Rattle.std.proofs.lemmas.Bool.{cases_eq}
-use Rattle.law_base.proofs.CountingLemmas.Resource.{carried_none, carried_more}
-use Rattle.law_base.specs.Counting.Resource.{Resource, carried}
-use Rattle.std.proofs.Common.{arith}
-use Rattle.law_base.proofs.Puts.{put_here, put_other, put_there, put_same}
+use Rattle.std.specs.Option.{option_map_or}
+use Rattle.law_base.proofs.CountingLemmas.Resource.{carried_more, carried_none}
+use Rattle.law_base.proofs.Lists.{put_here, put_other, put_same, put_there}
+use Rattle.law_base.specs.Counting.Resource.{carried, Resource}
+use Rattle.law_invariants.specs.Flow.Counts.{hands, missions}
+use Rattle.law_refinement.proofs.AbstractionLemmas.Hands.{sends_both, sends_home}
+use Rattle.law_refinement.specs.Abstraction.Acts.{SendsNone}
+use Rattle.rbc_spec.specs.Acts.{◌>>◌, Act, become, cancel, change_mission, close, Reply, rest, return_right, returned}
+use Rattle.rbc_spec.specs.Acts.{send, set_mission}
+use Rattle.rbc_spec.specs.Centre.{Centre, Handing, is_registrar_of, Mission}
+use Rattle.rbc_spec.specs.Frame.{Body, Cancel, ReturnRight}
+use Rattle.rbc_spec.specs.Line.{Line, registrar}
 use Rattle.rbc_spec.specs.Maps.{put}
 use Rattle.rbc_spec.specs.SectionRuns.{SectionRun}
-use Rattle.rbc_spec.specs.Line.{Line, registrar}
-use Rattle.rbc_spec.specs.Frame.{Body, Cancel, ReturnRight}
-use Rattle.rbc_spec.specs.Centre.{Centre, Mission, Handing, is_registrar_of}
-use Rattle.rbc_spec.specs.Acts.{Act, Reply, rest, become, ◌>>◌, send, returned, set_mission, change_mission, cancel, return_right, close}
-use Rattle.law_invariants.specs.Flow.Counts.{hands, missions}
-use Rattle.law_refinement.specs.Abstraction.Acts.{SendsNone}
-use Rattle.law_refinement.proofs.AbstractionLemmas.Frames.{sends_both, sends_home}
 
--- from j the reply leaves the train with this mission; all else that is shown is as it was, nothing is said, and no
--- frame carries a hand or a mission
+-- From state j the reply sets this mission of the train. All other shown values stay, and no message or reply is sent.
+-- No frame carries a hand or a mission.
 pub record Sets (c t : ℕ) (o : Option Mission) (j : Centre) (q : Reply) : Type 0 where
   pub phase : q.state.phase ≡ j.phase
   pub heard : q.state.heard ≡ j.heard
@@ -65,10 +66,12 @@ module _ (c t : ℕ) where
     no_mission = λ u. silent (missions u);
   }
 
-  pub sets_change : (f : Mission → Mission) (j : Centre) → Sets c t (option_map f (j.mission t)) j (change_mission t f j)
+  pub sets_change : (f : Mission → Mission) (j : Centre)
+      → Sets c t (option_map f (j.mission t)) j (change_mission t f j)
   sets_change f j = sets_mission (option_map f (j.mission t)) j
 
-  one_sent : (r : Resource Centre Body) (d : ℕ) (body : Body) → ((e : ℕ) → r.inside c e body ≡ 0) → SendsNone r c (λ e. if e == d then body ∷ [] else [])
+  one_sent : (r : Resource Centre Body) (d : ℕ) (body : Body) → ((e : ℕ) → r.inside c e body ≡ 0)
+      → SendsNone r c (λ e. if e == d then body ∷ [] else [])
   one_sent r d body none e = by_one (e == d)
     where
       by_one : (b : Bool) → carried r c e (if b then body ∷ [] else []) ≡ 0
@@ -76,7 +79,8 @@ module _ (c t : ℕ) where
       by_one false = carried_none r c e
 
   -- a frame that carries neither
-  pub sets_send : (d : ℕ) (body : Body) (j : Centre) → ((e u s : ℕ) → (hands u s).inside c e body ≡ 0) → ((e u : ℕ) → (missions u).inside c e body ≡ 0) → Sets c t (j.mission t) j (send d body j)
+  pub sets_send : (d : ℕ) (body : Body) (j : Centre) → ((e u s : ℕ) → (hands u s).inside c e body ≡ 0)
+      → ((e u : ℕ) → (missions u).inside c e body ≡ 0) → Sets c t (j.mission t) j (send d body j)
   sets_send d body j no_hand no_mission = record {
     phase = refl;
     heard = refl;
@@ -91,7 +95,8 @@ module _ (c t : ℕ) where
     no_mission = λ u. one_sent (missions u) d body (λ e. no_mission e u);
   }
 
-  pub sets_returned : (line : Line) (u track : ℕ) (r : SectionRun) (j : Centre) → Sets c t (j.mission t) j (returned line c u track r j)
+  pub sets_returned : (line : Line) (u track : ℕ) (r : SectionRun) (j : Centre)
+      → Sets c t (j.mission t) j (returned line c u track r j)
   sets_returned line u track r j = record {
     phase = refl;
     heard = refl;
@@ -107,7 +112,8 @@ module _ (c t : ℕ) where
   }
 
   -- one and then another
-  pub sets_then : (first o : Option Mission) (a b : Act) (j : Centre) → Sets c t first j (a j) → Sets c t o (a j).state (b (a j).state) → Sets c t o j ((a >> b) j)
+  pub sets_then : (first o : Option Mission) (a b : Act) (j : Centre) → Sets c t first j (a j)
+      → Sets c t o (a j).state (b (a j).state) → Sets c t o j ((a >> b) j)
   unfolding ◌>>◌
   sets_then first o a b j one two = record {
     phase = two.phase ∙ one.phase;
@@ -118,24 +124,32 @@ module _ (c t : ℕ) where
     book = two.book ∙ one.book;
     mission = λ u. two.mission u ∙ ⊎_elim
         (λ (here : u ≡ t). put_here (a j).state.mission t u o here ∙ sym (put_here j.mission t u o here))
-        (λ (other : u ≢ t). put_other (a j).state.mission t u o other ∙ one.mission u ∙ put_other j.mission t u first other ∙ sym (put_other j.mission t u o other))
+        (λ (other : u ≢ t). put_other (a j).state.mission t u o other ∙ one.mission u
+        ∙ put_other j.mission t u first other ∙ sym (put_other j.mission t u o other))
         (cases_eq u t);
     sayings = (λ i. one.sayings i ++ two.sayings i);
     words = (λ i. one.words i ++ two.words i);
     no_hand = λ u s. sends_both (hands u s) c (a j).frames (b (a j).state).frames (one.no_hand u s) (two.no_hand u s);
-    no_mission = λ u. sends_both (missions u) c (a j).frames (b (a j).state).frames (one.no_mission u) (two.no_mission u);
+    no_mission = λ u. sends_both (missions u) c (a j).frames (b (a j).state).frames
+        (one.no_mission u) (two.no_mission u);
   }
 
   -- and another that keeps the mission that was set
-  pub sets_keeping : (o : Option Mission) (a b : Act) (j : Centre) → Sets c t o j (a j) → Sets c t ((a j).state.mission t) (a j).state (b (a j).state) → Sets c t o j ((a >> b) j)
-  sets_keeping o a b j one two = sets_then o o a b j one (subst (λ x. Sets c t x (a j).state (b (a j).state)) (one.mission t ∙ put_there j.mission t o) two)
+  pub sets_keeping : (o : Option Mission) (a b : Act) (j : Centre) → Sets c t o j (a j)
+      → Sets c t ((a j).state.mission t) (a j).state (b (a j).state) → Sets c t o j ((a >> b) j)
+  sets_keeping o a b j one two =
+      sets_then o o a b j one (subst (λ x. Sets c t x (a j).state (b (a j).state)) (one.mission t
+      ∙ put_there j.mission t o) two)
 
   -- ## Close
 
   pub sets_return_right : (line : Line) (j : Centre) → Sets c t (j.mission t) j (return_right line c t j)
   sets_return_right line j = by_test (is_registrar_of line c t) (registrar line t)
     where
-      by_test : (b : Bool) (o : Option ℕ) → Sets c t (j.mission t) j ((if b then become (λ k. record k { has_right = put k.has_right t true }) else option_map_or (λ r. send r (ReturnRight t)) o rest) j)
+      by_test : (b : Bool) (o : Option ℕ)
+          → Sets c t (j.mission t) j
+          ((if b then become (λ k. record k { has_right = put k.has_right t true }) else option_map_or
+          (λ r. send r (ReturnRight t)) o rest) j)
       by_test true o = record {
         phase = refl;
         heard = refl;
@@ -152,23 +166,34 @@ module _ (c t : ℕ) where
       by_test false (Some r) = sets_send r (ReturnRight t) j (λ e u s. refl) (λ e u. refl)
       by_test false None = sets_rest j
 
-  -- the handover ends, where the mission announced one
-  pub sets_cancel : (m : Mission) (j : Centre) → Sets c t (option_map (λ (n : Mission). record n { handing = None }) (j.mission t)) j (cancel t m j) ⊎ Sets c t (j.mission t) j (cancel t m j)
+  -- the handover ends, if the mission announced one
+  pub sets_cancel : (m : Mission) (j : Centre)
+      → Sets c t (option_map (λ (n : Mission). record n { handing = None }) (j.mission t)) j (cancel t m j)
+      ⊎ Sets c t (j.mission t) j (cancel t m j)
   sets_cancel m j = by_handing m.handing
     where
-      by_handing : (o : Option Handing) → let q = option_map_or (λ (h : Handing). send h.to (Cancel h.number t) >> change_mission t (λ n. record n { handing = None })) o rest j in
-          Sets c t (option_map (λ (n : Mission). record n { handing = None }) (j.mission t)) j q ⊎ Sets c t (j.mission t) j q
-      by_handing (Some h) = inl (sets_then (j.mission t) _ (send h.to (Cancel h.number t)) (change_mission t (λ n. record n { handing = None })) j
-          (sets_send h.to (Cancel h.number t) j (λ e u s. refl) (λ e u. refl)) (sets_change (λ n. record n { handing = None }) (send h.to (Cancel h.number t) j).state))
+      by_handing : (o : Option Handing) → let q =
+          option_map_or (λ (h : Handing). send h.to (Cancel h.number t)
+          >> change_mission t (λ n. record n { handing = None })) o rest j in
+          Sets c t (option_map (λ (n : Mission). record n { handing = None }) (j.mission t)) j q
+          ⊎ Sets c t (j.mission t) j q
+      by_handing (Some h) =
+          inl (sets_then (j.mission t) _ (send h.to (Cancel h.number t))
+          (change_mission t (λ n. record n { handing = None })) j
+          (sets_send h.to (Cancel h.number t) j (λ e u s. refl) (λ e u. refl))
+          (sets_change (λ n. record n { handing = None }) (send h.to (Cancel h.number t) j).state))
       by_handing None = inr (sets_rest j)
 
   pub sets_close : (line : Line) (m : Mission) (j : Centre) → Sets c t None j (close line c t m j)
   sets_close line m j = sets_keeping None (set_mission t None >> cancel t m) (return_right line c t) j
       (sets_then None None (set_mission t None) (cancel t m) j (sets_mission None j)
       (⊎_elim
-      (λ (one : Sets c t (option_map (λ (n : Mission). record n { handing = None }) (put j.mission t None t)) gone (cancel t m gone)).
-      subst (λ o. Sets c t o gone (cancel t m gone)) (ap (option_map (λ (n : Mission). record n { handing = None })) (put_there j.mission t None)) one)
-      (λ (two : Sets c t (put j.mission t None t) gone (cancel t m gone)). subst (λ o. Sets c t o gone (cancel t m gone)) (put_there j.mission t None) two)
+      (λ (one : Sets c t (option_map (λ (n : Mission). record n { handing = None }) (put j.mission t None t))
+      gone (cancel t m gone)).
+      subst (λ o. Sets c t o gone (cancel t m gone))
+      (ap (option_map (λ (n : Mission). record n { handing = None })) (put_there j.mission t None)) one)
+      (λ (two : Sets c t (put j.mission t None t) gone (cancel t m gone)).
+      subst (λ o. Sets c t o gone (cancel t m gone)) (put_there j.mission t None) two)
       (sets_cancel m gone)))
       (sets_return_right line ((set_mission t None >> cancel t m) j).state)
     where

@@ -12,8 +12,8 @@ use Rattle.law_base.specs.Local.Local.{hand_has}
 use Rattle.law_invariants.specs.Flow.Flow.{Flow, centre_count}
 use Rattle.law_invariants.specs.Flow.Counts.{wait_has, pool_has, hands, missions}
 
--- the flow becomes new by an act of centre c, which leaves it as y and sends these frames; and so much came with it of
--- each resource
+-- The flow becomes `new` by an act of centre c, which leaves state y and sends these frames. `came` is the amount of
+-- each resource that arrived with the act.
 pub record IsAct (line : Line) (w : Flow) (c : ℕ) (came : Resource Centre Body → ℕ) (y : Centre)
     (frames : ℕ → List Body) (new : Flow) : Type 0 where
   pub at : new.at ≡ put w.at c y
@@ -24,11 +24,11 @@ pub record IsAct (line : Line) (w : Flow) (c : ℕ) (came : Resource Centre Body
   pub on_way : (i j : ℕ) (f : Body) → Contains (way new i j) f
       → Contains (way w i j) f ⊎ ((i ≡ c) × Contains (frames j) f)
 
--- the frames of an act of c have nothing of it inside
+-- the frames of an act of c have none of the resource inside
 abbrev pub SendsNone : Resource Centre Body → ℕ → (ℕ → List Body) → Type 0
 SendsNone r c frames = (d : ℕ) → carried r c d (frames d) ≡ 0
 
--- ## What the centre has of it before, with what came, and after, with what it sends
+-- ## The amounts of the centre: before the act with the arrived part, and after it with the sent part
 
 abbrev pub hand_before : ℕ → ℕ → Centre → (Resource Centre Body → ℕ) → ℕ
 hand_before t s k came = one_if (hand_has (k.mission t) s) + came (hands t s)
@@ -41,7 +41,7 @@ abbrev pub IsMissionHere : Line → Flow → ℕ → (Resource Centre Body → �
 IsMissionHere line w c came t =
     placed (missions t) (centre_count line) w ≡ one_if (is_some ((w.at c).mission t)) + came (missions t)
 
--- the right of a train that is in no mission: at its registrar, or in a frame alone
+-- the right of a train outside a mission: at its registrar, or in a frame without a mission
 abbrev pub right_alone_inside : ℕ → Body → ℕ
 right_alone_inside t (GiveRight u) = one_if (u == t)
 right_alone_inside t (ReturnRight u) = one_if (u == t)
@@ -51,8 +51,8 @@ abbrev pub rights_alone : ℕ → Resource Centre Body
 rights_alone t =
     record { held = λ c k. one_if (k.has_right t); inside = λ a b body. right_alone_inside t body; cap = λ c k. 0 }
 
--- the token of a section for a train that is in no hand: in a start that waits, in a pool, or in a frame that lends it
--- or brings it home
+-- The token of a section for a train that has it in no hand. It is in a waiting start, in a pool, or in a frame that
+-- lends or returns the section.
 abbrev pub token_aside_inside : ℕ → ℕ → Body → ℕ
 token_aside_inside t s (RouteInfo u r) = one_if ((u == t) && within r s)
 token_aside_inside t s (RouteReturn u r) = one_if ((u == t) && within r s)

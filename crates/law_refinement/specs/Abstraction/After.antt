@@ -1,4 +1,4 @@
--- What the one line centre shows after an act of one centre: what changes of it, and that all else is as before.
+-- The state of the one line centre after an act of one centre: the changes of the act, and no others.
 use Rattle.std.specs.Prelude.{◌≡◌, ◌≢◌, ℕ, ◌<◌, Bool, true, false, List, Option, Some, None, option_map, Contains}
 use Rattle.law_base.specs.Counting.Network.{way}
 use Rattle.law_base.specs.Counting.Resource.{Resource, sent_by, placed}
@@ -17,24 +17,24 @@ use Rattle.law_invariants.specs.Flow.Counts.{hands, missions}
 use Rattle.law_invariants.specs.Flow.Shows.{is_in_hand, parted}
 use Rattle.law_refinement.specs.Abstraction.Acts.{SendsNone, IsMissionHere}
 
--- of each train at each centre: at centre c it is what the centre has of the train now, and elsewhere what it was
+-- a value of each train at each centre: at centre c it is that of the centre's new state, elsewhere it is unchanged
 pub record PartAfter {X : Type 0} (c : ℕ) (old : ℕ → ℕ → X) (now : ℕ → X) (part : ℕ → ℕ → X) : Type 0 where
   pub here : (t : ℕ) → part t c ≡ now t
   pub elsewhere : (t d : ℕ) → d ≢ c → part t d ≡ old t d
 
--- it stays where the centre's own part is as before
+-- the value is unchanged if the centre's own values are unchanged
 abbrev pub PartStays : Type 0 → Type 0
 PartStays X = (c : ℕ) (old : ℕ → ℕ → X) (now : ℕ → X) → ((t : ℕ) → old t c ≡ now t) → PartAfter c old now old
 
--- and changes at one pair where the centre changed its own part for one train
+-- the value changes at one pair if the centre changed its own value for one train
 abbrev pub PartChanges : Type 0 → Type 0
 PartChanges X =
     (c t : ℕ) (x : X) (old : ℕ → ℕ → X) (was now : ℕ → X) → ((u : ℕ) → old u c ≡ was u)
     → ((u : ℕ) → now u ≡ put was t x u)
     → PartAfter c old now (put_pair old t c x)
 
--- The mark of section s of home d. It stays where the home has it as before, and a hand of the train that it is in use
--- for has it as before; else it is given or kept, open or shut, as the home and the hands have it now
+-- The mark of section s of home d. It stays if the home has the same entry, and the section is in the hand of its train
+-- as before. Else it follows from the entry and the hands after the act.
 pub data MarkAfter (line : Line) (w new : Flow) (s d : ℕ) (old mark : Mark) : Type 0 where
   stays : mark ≡ old → (new.at d).book s ≡ (w.at d).book s
       → ((t : ℕ) → is_used_for t ((w.at d).book s) ≡ true → is_in_hand line new s t ≡ is_in_hand line w s t)
@@ -54,8 +54,9 @@ pub record ShowsMission (line : Line) (w : Flow) (t : ℕ) (mission : Option Lin
       → mission ≡ Some (parted heard has_data is_ended place)
   pub none : placed (missions t) (centre_count line) w ≡ 0 → mission ≡ None
 
--- The mission of train t after an act of c. It stays where the line sees the centre's as before; else it is the
--- centre's, set or changed or taken over; or it is on the way in a Yield that the centre sends; or it ended
+-- The mission of train t after an act of c. It stays if the centre's mission, as the line sees it, is unchanged. Else
+-- it is the centre's mission: set, changed or taken over. Or it is on the way in a Yield that the centre sends. Or it
+-- ended.
 pub data MissionAfter (line : Line) (w : Flow) (c : ℕ) (came : Resource Centre Body → ℕ) (y : Centre)
     (frames : ℕ → List Body) (t : ℕ) (old mission : Option LineMission) : Type 0 where
   stays : mission ≡ old → option_map (seen c) (y.mission t) ≡ option_map (seen c) ((w.at c).mission t)
@@ -74,7 +75,7 @@ pub data MissionAfter (line : Line) (w : Flow) (c : ℕ) (came : Resource Centre
       → SendsNone (missions t) c frames
       → MissionAfter line w c came y frames t old mission
 
--- what is shown becomes `after` where it was v: each field by its own law
+-- the shown state changes from v to `after`, each field by its own law
 pub record ShowsAfter (line : Line) (w : Flow) (c : ℕ) (came : Resource Centre Body → ℕ) (y : Centre)
     (frames : ℕ → List Body) (new : Flow) (v after : LineState) : Type 0 where
   pub phase : PartAfter c v.phase y.phase after.phase
@@ -87,8 +88,8 @@ pub record ShowsAfter (line : Line) (w : Flow) (c : ℕ) (came : Resource Centre
   pub no_section : (s : ℕ) → section line s ≡ None → after.mark s ≡ v.mark s
   pub mission : (t : ℕ) → MissionAfter line w c came y frames t (v.mission t) (after.mission t)
 
--- An act of c that changes nothing of what is shown but sessions and what is heard and said: the book, wishes, waiting
--- starts, what the line sees of missions and their hands stay, and no hand and no mission comes or is sent
+-- An act of c that changes only sessions, stamps received and counts of messages sent. The book, wishes, waiting
+-- starts, and missions with their hands stay. No hand and no mission arrives or is sent.
 pub record IsUnseen (c : ℕ) (k : Centre) (came : Resource Centre Body → ℕ) (y : Centre)
     (frames : ℕ → List Body) : Type 0 where
   pub book : (s : ℕ) → y.book s ≡ k.book s

@@ -1,4 +1,4 @@
--- What a centre that hands missions over has announced.
+-- The handovers that a centre has announced.
 use Rattle.std.specs.Prelude.{◌≡◌, ℕ, true, Some, None}
 use Rattle.rbc_spec.specs.SectionRuns.{is_empty}
 use Rattle.rbc_spec.specs.Line.{Line, next_centre}

@@ -1,4 +1,4 @@
--- What a reply of a centre comes to by itself, as a part of an own step.
+-- The effect of a reply of a centre, as a part of an own step of the one line centre.
 use Rattle.std.specs.Prelude.{◌≡◌, ℕ, true, None}
 use Rattle.rbc_spec.specs.Line.{Line}
 use Rattle.rbc_spec.specs.Centre.{Mission}
@@ -9,12 +9,12 @@ use Rattle.law_invariants.specs.Flow.Sound.{IsFlowSound}
 use Rattle.law_invariants.specs.Flow.Shows.{Shows}
 use Rattle.law_invariants.specs.Flow.Leads.{said_by, replied}
 
--- it says nothing, this is shown after it, and all stays sound
+-- the reply has no message and no word; the world after it shows this state, and is sound
 pub record IsShownSo (line : Line) (w : Flow) (c : ℕ) (r : Reply) (new : LineState) : Type 0 where
   pub silent : said_by r ≡ nothing
   pub shows : Shows line (replied w c r) new
   pub sound : IsFlowSound line (replied w c r)
 
--- what an end of mission does after what the train has cleared: the pool goes home, and the mission is ended
+-- the last part of an end of mission: the pool is returned, and the mission is ended
 abbrev pub ends : Line → ℕ → ℕ → Mission → Act
 ends line c t m = return_pool line c t m >> change_mission t (λ n. record n { is_ended = true; proposal = None })

@@ -1,5 +1,5 @@
--- What a message that changes a mission comes to at its centre: the part that is the own step of the one line centre,
--- and what follows it.
+-- The effect of a message that changes a mission at its centre: the own step of the one line centre, and the acts after
+-- it.
 use Rattle.std.specs.Prelude.{◌≡◌, ℕ, ◌*◌, true, if◌then◌else◌, Some, None, nat_le}
 use Rattle.std.specs.Option.{option_map_or}
 use Rattle.rbc_spec.specs.Line.{Line, is_centre, end, next_centre}
@@ -17,14 +17,13 @@ use Rattle.law_invariants.specs.Flow.Leads.{HeardAs, said_by, replied, Leads, Le
 
 -- ## Own parts
 
--- a report: what the train has cleared leaves its hand; or, of a train that is not supervised here, this centre takes
--- over
+-- A report: the cleared sections leave the hand. If the train is not supervised here, this centre takes over instead.
 abbrev pub own_report : Line → ℕ → ℕ → Position → Act
 own_report line c t position k =
     option_map_or (λ m. report_here line c t position m k) (k.mission t) (take_over line t k)
 
--- an end of mission: a report, then what lies ahead of a train at standstill is cut off its hand, and then the pool
--- goes home and the mission is ended
+-- An end of mission is first a report. At standstill the sections ahead of the train are cut off its hand. Then the
+-- pool is returned, and the mission is ended.
 abbrev pub ends : Line → ℕ → ℕ → Mission → Act
 ends line c t m = return_pool line c t m >> change_mission t (λ n. record n { is_ended = true; proposal = None })
 
@@ -33,8 +32,7 @@ own_end line c t position =
     (with_mission t (report_here line c t position) >> with_mission t (stand_still line c t position))
     >> with_mission t (ends line c t)
 
--- a shortening that is granted: the request no longer stands, and the hand is cut, if the train has not run past the
--- proposed end
+-- A granted shortening: the request ends, and the hand is cut if the train has not run past the proposed end.
 abbrev pub cut_in_time : Line → ℕ → ℕ → ℕ → Position → Mission → Act
 cut_in_time line c t last_kept position m = option_map_or
     (λ place. if nat_le place.front (10 * end line last_kept) then cut line c t last_kept m else rest)
@@ -44,7 +42,7 @@ abbrev pub own_granted : Line → ℕ → ℕ → Position → Act
 own_granted line c t position = with_mission t (λ m. with_some (λ k. m.proposal)
     (λ p. change_mission t (λ n. record n { proposal = None }) >> cut_in_time line c t p.last_kept position m))
 
--- a request: the hand is extended, and the authority for it is said
+-- a request: the hand is extended, and the authority for it is sent
 abbrev pub extend : Line → ℕ → ℕ → Mission → Act
 extend line c t m k =
     let r = extension line c k m in
@@ -56,7 +54,7 @@ own_request line c t position =
     with_mission t (λ m. option_map_or (λ place. extend line c t (record m { place = place }))
     (place_on line m.place.track position) rest)
 
--- and what follows it, where the request has a place: what the centre does at the border
+-- the acts after it at the border, if the request has a place
 abbrev pub border_of : Line → ℕ → ℕ → ℕ → Act
 border_of line c t track = option_map_or (at_border line c t) (next_centre line c track) rest
 
@@ -67,7 +65,7 @@ at_border_then line c t position =
 
 -- ## The own step of the one line centre
 
--- an act of centre c, where the one line centre has heard the message and showed v, is its own step
+-- an act of centre c is the own step of the one line centre, which has recorded the message and shows v
 pub record Answers (line : Line) (w : Flow) (c : ℕ) (m : TrainMessage) (r : Reply) (v : LineState) : Type 0 where
   pub mid : LineState
   pub own : HeardAs line v c m m.body (said_by r) mid
@@ -79,22 +77,22 @@ pub record Answers (line : Line) (w : Flow) (c : ℕ) (m : TrainMessage) (r : Re
 abbrev pub of_train : ℕ → ℕ → TrainBody → TrainMessage
 of_train t_train t body = record { t_train = t_train; nid_engine = t; body = body }
 
--- a message that is not silent at centre c is heard, and this act is then the own step, whatever the clock shows
+-- if a message is not silent at centre c, this act is its own step, for every state of the clock
 abbrev pub IsOwnStep : Line → ℕ → TrainMessage → Act → Type 0
 IsOwnStep line c m own =
     (w : Flow) (v : LineState) (stamp : ℕ) → IsFlowSound line w → Shows line w v → is_centre line c ≡ true
     → silence line c (ticked stamp (w.at c)) m ≡ None → LeadsOwn line w c m ((hear m >> own) (ticked stamp (w.at c))) v
 
--- what it comes to is this act
+-- the answer to the message is this act
 abbrev pub IsWhole : Line → ℕ → TrainMessage → Act → Type 0
 IsWhole line c m own = (k : Centre) → silence line c k m ≡ None → hear_and_answer line c m k ≡ (hear m >> own) k
 
--- or this act, and then another
+-- the answer to the message is this act, and then another
 abbrev pub IsInParts : Line → ℕ → TrainMessage → Act → Act → Type 0
 IsInParts line c m own later =
     (k : Centre) → silence line c k m ≡ None → hear_and_answer line c m k ≡ ((hear m >> own) >> later) k
 
--- an act of centre c, whatever it is in, leads to quiet steps
+-- in every state of centre c, its act leads to quiet steps
 abbrev pub LeadsOnward : Line → ℕ → Act → Type 0
 LeadsOnward line c later =
     (w : Flow) (v : LineState) (k : Centre) → IsFlowSound line w → Shows line w v → w.at c ≡ k

@@ -1,4 +1,4 @@
--- What a set or an unset of the interlocking leads to.
+-- The effect of a set or an unset of the interlocking.
 use Rattle.std.specs.Prelude.{◌≡◌, ℕ, true, if◌then◌else◌, List, [], ◌∷◌}
 use Rattle.std.specs.List.{list_all}
 use Rattle.rbc_spec.specs.Maps.{has}
@@ -12,7 +12,7 @@ use Rattle.law_invariants.specs.Flow.Flow.{Flow}
 use Rattle.law_invariants.specs.Flow.Shows.{Shows}
 use Rattle.law_invariants.specs.Flow.Leads.{said_by, replied}
 
--- an own step of the one line centre, and then quiet steps of the centre, which say the same together as its reply
+-- an own step of the one line centre, then quiet steps of the centre, together with the messages and replies of the act
 pub record LeadsFrom (line : Line) (w : Flow) (c : ℕ) (Own : Said → LineState → Type 0) (r : Reply) : Type 0 where
   pub said : Said
   pub mid : LineState
@@ -25,22 +25,22 @@ pub record LeadsFrom (line : Line) (w : Flow) (c : ℕ) (Own : Said → LineStat
   pub says : said_by r ≡ both said later
   pub shows : Shows line (replied w c r) new
 
--- the own step alone, which says all of the reply
+-- the own step without quiet steps, with all messages and replies of the act
 pub record LeadsAtOnce (line : Line) (w : Flow) (c : ℕ) (Own : Said → LineState → Type 0) (r : Reply) : Type 0 where
   pub mid : LineState
   pub own : Own (said_by r) mid
   pub shows : Shows line (replied w c r) mid
 
--- the own step is the set of section s, from what was shown
+-- the own step is the set of section s, from the shown state
 abbrev pub LeadsSet : Line → Flow → ℕ → ℕ → Reply → LineState → Type 0
 LeadsSet line w c s r v = LeadsAtOnce line w c (Sets line v c s) r
 
--- the request to shorten before section s that a centre makes of the train that the entry is taken for, where it may
+-- the request to shorten before section s that the centre sends to the train of the entry, if it may
 abbrev pub asked_for : Line → ℕ → ℕ → Centre → Entry → List Quiet
 asked_for line c s k (Taken t) = if has (λ m. may_propose line t s m k) (k.mission t) then Propose t c s ∷ [] else []
 asked_for line c s k entry = []
 
--- or its unset, and then that request alone
+-- the own step is the unset of section s, followed only by that request
 pub record LeadsUnset (line : Line) (w : Flow) (c s : ℕ) (r : Reply) (v : LineState) : Type 0 where
   pub leads : LeadsFrom line w c (Unsets line v c s) r
   pub asks : leads.quiets ≡ (if is_home line c s then asked_for line c s (w.at c) ((w.at c).book s) else [])

@@ -1,4 +1,4 @@
--- What is claimed of a message that is heard at a centre of a line.
+-- The claims about a message that a centre of a line answers.
 use Rattle.std.specs.Prelude.{◌≡◌, ℕ, true, None}
 use Rattle.rbc_spec.specs.Line.{Line, IsLine, is_centre}
 use Rattle.rbc_spec.specs.Message.{TrainMessage, TrainBody}
@@ -13,15 +13,15 @@ use Rattle.law_invariants.specs.Flow.Leads.{HeardAs, said_by, replied}
 abbrev pub message : ℕ → ℕ → TrainBody → TrainMessage
 message t_train t body = record { t_train = t_train; nid_engine = t; body = body }
 
--- the whole answer is the own step of the one line centre, which showed v: it says all that the centre says, and no
--- quiet step follows
+-- The whole answer is the own step of the one line centre, which showed v. It has all messages and replies of the
+-- centre, and no quiet step follows.
 pub record LeadsAlone (line : Line) (w : Flow) (c : ℕ) (m : TrainMessage) (r : Reply) (v : LineState) : Type 0 where
   pub mid : LineState
   pub own : HeardAs line (hears c m v) c m m.body (said_by r) mid
   pub shows : Shows line (replied w c r) mid
 
--- a message with this body that is not silent, from train t to centre c: the one line centre, which shows a sound flow,
--- takes its own step of it, which says all that c says, and shows what the answer leaves
+-- A message with this body, which is not silent, from train t to centre c. The one line centre, which shows a sound
+-- flow, takes its own step with the same messages and replies. It then shows the flow after the answer.
 abbrev pub IsHeardAs : TrainBody → Type 0
 IsHeardAs body =
     (line : Line) (w : Flow) (v : LineState) (c t_train t stamp : ℕ) → IsLine line → IsFlowSound line w → Shows line w v

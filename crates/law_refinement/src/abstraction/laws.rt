@@ -1,4 +1,4 @@
-//! Laws of what the one line centre shows.
+//! Laws of the state that the one line centre shows.
 
 ghost use Rattle.std.specs.Prelude.{◌≡◌, ◌≢◌, ◌≤◌, ◌<◌, ℕ, ◌+◌, Bool, true, false, List, [], ◌∷◌, ◌++◌, Option, Some, None, Contains};
 ghost use Rattle.law_base.specs.Counting.Network.{way, took, acted, to_one, TakesHead, IsCounted};
@@ -25,7 +25,7 @@ ghost use Rattle.law_invariants.specs.Flow.Shows.{Shows, shown, is_in_hand, part
 ghost use Rattle.law_refinement.specs.Abstraction.Acts.{IsAct, SendsNone, IsMissionHere, hand_before, hand_after, rights_alone, tokens_aside};
 ghost use Rattle.law_refinement.specs.Abstraction.After.{IsUnseen, PartAfter, PartStays, PartChanges, MarkAfter, ShowsMission, MissionAfter, ShowsAfter};
 
-/// What one centre does by itself, and what it does at the head of a link, is an act of one centre.
+/// An act of one centre by itself, and one at the head of a link, are acts of one centre (`IsAct`).
 pub fn an_act_of_one_centre()
     ensures by_itself { (line : Line) (w : Flow) (c : ℕ) (y : Centre) (frames : ℕ → List Body) → IsCounted w
         → is_centre line c ≡ true
@@ -35,7 +35,7 @@ pub fn an_act_of_one_centre()
         → IsAct line w c (came_with a c f) y frames (acted (took w a c) c y frames) }
 {}
 
-/// It changes the state of its centre alone.
+/// The act changes only the state of its centre.
 pub fn where_an_act_is()
     ensures here { (line : Line) (w : Flow) (c : ℕ) (came : Resource Centre Body → ℕ) (y : Centre)
         (frames : ℕ → List Body) (new : Flow)
@@ -57,8 +57,8 @@ pub fn where_an_act_is()
         → (new.at d).book s ≡ (w.at d).book s }
 {}
 
-/// What frames carry of a resource: where each carries nothing, nothing is sent; a frame among them is counted.
-/// Sections that go home carry no hand and no mission.
+/// The amount of a resource in frames. If each carries nothing, nothing is sent; each frame among them is counted.
+/// Returned sections carry no hand and no mission.
 pub fn what_frames_carry()
     ensures none { (r : Resource Centre Body) (n c : ℕ) (frames : ℕ → List Body) → SendsNone r c frames
         → sent_by r n c frames ≡ 0 }
@@ -74,9 +74,9 @@ pub fn what_frames_carry()
         × SendsNone (missions t) c (returned line c u track run k).frames }
 {}
 
-/// How often a section is in a hand of a train changes by an act as the centre's own hand does, with what came and what
-/// is sent. So it is in a hand as before where that is as much, it is where the centre has it afterwards or sends it,
-/// and it is in none where the centre had it and has it no more.
+/// An act changes the count of a section in the hands of a train as much as in the centre's own hand and its frames. So
+/// the section is in a hand as before if these amounts are equal. It is in one if the centre has it or sends it. It is
+/// in none if the centre had it and no longer has it.
 pub fn hands_after()
     ensures counted { (line : Line) (w : Flow) (c : ℕ) (came : Resource Centre Body → ℕ) (y : Centre)
         (frames : ℕ → List Body) (new : Flow) (t s : ℕ)
@@ -105,8 +105,8 @@ pub fn hands_after()
         → is_in_hand line new s t ≡ false }
 {}
 
-/// The mark of a section is what its home's book and the hands make of it, before and after an act. It stays where the
-/// acting centre changes neither its entry nor how often it is in the hand of the train that it is in use for.
+/// The mark of a section follows from its home's book and the hands, before and after an act. It stays if the acting
+/// centre keeps its entry, and keeps the count of it in the hand of its train.
 pub fn mark_after()
     ensures shown { (line : Line) (w new : Flow) (s d : ℕ) (old mark : Mark) → MarkAfter line w new s d old mark
         → old ≡ shown ((w.at d).book s) (is_in_hand line w s)
@@ -119,9 +119,9 @@ pub fn mark_after()
         → MarkAfter line w new s d old old }
 {}
 
-/// A section enters a hand of the acting centre: it is given, if it is in use for the train at its home, as each
-/// section is whose token the centre has. It leaves the hand: a section of the centre's own is as its book has it, and
-/// another is kept for the train.
+/// A section that enters a hand of the acting centre is given, if its home has it in use for the train. That holds of
+/// each section whose token the centre has. A section that leaves the hand has the mark of the book if it is the
+/// centre's own. Else it is kept for the train.
 pub fn a_section_enters_or_leaves_a_hand()
     ensures enters { (line : Line) (w : Flow) (c : ℕ) (came : Resource Centre Body → ℕ) (y : Centre)
         (frames : ℕ → List Body) (new : Flow) (s d t : ℕ) (old : Mark)
@@ -152,8 +152,8 @@ pub fn a_section_enters_or_leaves_a_hand()
         → MarkAfter line w new s d old (Kept t) }
 {}
 
-/// Nowhere else is the mission of a train that the acting centre supervises, or whose Yield came to it; and there is
-/// none where the train's right is at the centre or came, in no mission.
+/// The mission of a train is at no other place if the acting centre supervises it, or if its Yield arrived. The train
+/// has no mission if its right is at the centre or arrived without a mission.
 pub fn where_a_mission_is()
     ensures supervised { (line : Line) (w : Flow) (c : ℕ) (came : Resource Centre Body → ℕ) (y : Centre)
         (frames : ℕ → List Body) (new : Flow) (t : ℕ) (m : Mission)
@@ -170,8 +170,8 @@ pub fn where_a_mission_is()
         → IsMissionHere line w c came t × (placed (missions t) (centre_count line) w ≡ 0) }
 {}
 
-/// A train's mission is shown after an act as it was before, where it stays so; as the centre has it, as the centre's
-/// Yield carries it, or as none.
+/// After an act, the mission shown for a train is the one shown before, that of the centre, that of the centre's Yield,
+/// or none.
 pub fn mission_after()
     ensures { (line : Line) (w : Flow) (c : ℕ) (came : Resource Centre Body → ℕ) (y : Centre) (frames : ℕ → List Body)
         (new : Flow) (t : ℕ) (old mission : Option LineMission)
@@ -180,7 +180,7 @@ pub fn mission_after()
         → ShowsMission line w t old → ShowsMission line new t mission }
 {}
 
-/// The mission is on the way where the centre had it, and its Yield is the one frame that it sends of it.
+/// The mission is on the way if the centre had it, and its Yield is the only frame that the centre sends of it.
 pub fn a_yield_hands_over()
     ensures { (line : Line) (w : Flow) (c : ℕ) (came : Resource Centre Body → ℕ) (y : Centre) (others : ℕ → List Body)
         (d number t heard : ℕ) (has_data is_ended : Bool)
@@ -191,8 +191,8 @@ pub fn a_yield_hands_over()
         (Some (parted heard has_data is_ended place)) }
 {}
 
-/// What is shown of each train at each centre stays, where the centre's own part is as before; and it changes at one
-/// pair, where the centre changed it for one train.
+/// A value that is shown for each train and centre does not change if the centre's own value does not. It changes at
+/// one pair if the centre changed it for one train.
 pub fn one_part_after()
     ensures phase { PartStays Phase × PartChanges Phase }
     ensures heard { PartStays (Option ℕ) × PartChanges (Option ℕ) }
@@ -200,8 +200,8 @@ pub fn one_part_after()
     ensures wait { PartStays (Option Place) × PartChanges (Option Place) }
 {}
 
-/// What shows a sound flow, with each field changed as the act of one centre changes it, shows the flow after the act:
-/// by itself, and at the head of a link.
+/// Take a state that shows a sound flow, with each field changed by the act of one centre. It shows the flow after the
+/// act: by itself, and at the head of a link.
 pub fn what_an_act_shows()
     ensures act { (line : Line) (w : Flow) (c : ℕ) (came : Resource Centre Body → ℕ) (y : Centre)
         (frames : ℕ → List Body) (new : Flow) (v after : LineState)
@@ -218,8 +218,8 @@ pub fn what_an_act_shows()
         → Shows line (acted (took w a c) c y frames) after }
 {}
 
-/// What shows the flow of a world is the state that is read off it: no other state shows it. So that state stands for
-/// the world.
+/// The state that shows the flow of a world is the one that is read off it, and no other shows it. So that state
+/// represents the world.
 pub fn what_is_shown_is_read_off()
     ensures stands { (line : Line) (w : World) (v : LineState) → IsFlowSound line (flow_of w) → Shows line (flow_of w) v
         → StandsFor line w (read_off line w) }
@@ -227,9 +227,9 @@ pub fn what_is_shown_is_read_off()
         → v ≡ read_off line w }
 {}
 
-/// What a mark tells of the flow that it shows. A section is given to a train exactly where it is in a hand of the
-/// train, and then it is in use for it at its home; else it is kept for the train that it is in use for. And a section
-/// is in no hand where its token is in a start that waits, in a pool, or in a frame that lends it or brings it home.
+/// The meaning of a mark for the flow that it shows. A section is given to a train if and only if it is in a hand of
+/// the train. Then its home has it in use. Else it is kept for the train for which it is in use. A section is in no
+/// hand if its token is in a waiting start, in a pool, or in a RouteInfo or RouteReturn.
 pub fn what_a_mark_tells()
     ensures given { (line : Line) (w : Flow) (v : LineState) (t s : ℕ) → IsFlowSound line w → Shows line w v
         → is_given_to t (v.mark s) ≡ is_in_hand line w s t }
@@ -248,7 +248,7 @@ pub fn what_a_mark_tells()
         → is_in_hand line w s t ≡ false }
 {}
 
-/// The hand of a mission, at a centre or in a Yield on the way, is the hand that is shown: all that is given to its
+/// The hand of a mission, at a centre or in a Yield, is the shown hand: exactly the sections that are given to its
 /// train.
 pub fn a_hand_is_what_is_given()
     ensures at_centre { (line : Line) (w : Flow) (v : LineState) (t c : ℕ) (m : Mission) → IsFlowSound line w
@@ -260,8 +260,8 @@ pub fn a_hand_is_what_is_given()
         → IsHand v t hand }
 {}
 
-/// An act that changes nothing of what is shown but sessions and what is heard and said: the one line centre's state
-/// changes in these alone.
+/// An act changes only sessions, stamps received and counts of messages sent. Then the one line centre's state changes
+/// only in these.
 pub fn what_is_unseen_changes_nothing_else()
     ensures { (line : Line) (w : Flow) (c : ℕ) (came : Resource Centre Body → ℕ) (y : Centre) (frames : ℕ → List Body)
         (new : Flow) (v : LineState)

@@ -28,8 +28,8 @@ ghost use Rattle.law_refinement.specs.Followups.Announced.{AnnouncesAll};
 ghost use Rattle.law_refinement.specs.Followups.Borders.{IsNextOf, MayAnnounce};
 ghost use Rattle.law_refinement.specs.Followups.Shown.{IsShownSo, ends};
 
-/// An act of a centre that leaves what is sound, is fair and orderly keeps all sound: by itself, and after the next
-/// frame of a link.
+/// A fair and orderly act of a centre that leaves sound parts keeps all sound: by itself, and after the next frame of a
+/// link.
 pub fn an_act_keeps_all_sound()
     ensures by_itself { (line : Line) (w : Flow) (c : ℕ) (q : Reply) → IsLine line → IsFlowSound line w
         → is_centre line c ≡ true
@@ -41,15 +41,15 @@ pub fn an_act_keeps_all_sound()
         → IsTakenWith a f (w.at c) q.state q.frames → IsFlowSound line (replied (took w a c) c q) }
 {}
 
-/// A request to shorten is made, where it may be, by a quiet step.
+/// A request to shorten, if it may be sent, is a quiet step.
 pub fn a_request_to_shorten_is_quiet()
     ensures { (line : Line) (w : Flow) (c t s : ℕ) (k : Centre) (v : LineState) → IsLine line → IsFlowSound line w
         → Shows line w v
         → is_centre line c ≡ true → w.at c ≡ k → Leads line w c (propose_if_so line t s k) v }
 {}
 
-/// A train is told by a quiet step to end its session with a centre that has no mission of it and no section of whose
-/// home is given to it.
+/// The order to end a session is a quiet step, if the centre has no mission of the train. No section of its home may be
+/// given to the train.
 pub fn an_end_of_session_is_quiet()
     ensures { (line : Line) (w : Flow) (c t : ℕ) (k : Centre) (v : LineState) → IsLine line → IsFlowSound line w
         → Shows line w v
@@ -57,8 +57,8 @@ pub fn an_end_of_session_is_quiet()
         → ((s : ℕ) → (is_home line c s && is_given_to t (v.mark s)) ≡ false) → Leads line w c (end_order line c t k) v }
 {}
 
-/// What follows an extension of a hand at the border. More sections are asked for, which is not seen; a train is told
-/// by a quiet step where the border is, where that may be said; and both together.
+/// The acts at the border after an extension of a hand. A request for more sections is not seen. The distance to the
+/// border is sent by a quiet step, if it may be sent. Both together are quiet steps too.
 pub fn what_follows_at_a_border()
     ensures asks { (line : Line) (w : Flow) (c t d : ℕ) (k : Centre) (v : LineState) → IsLine line → IsFlowSound line w
         → Shows line w v
@@ -81,8 +81,8 @@ pub fn what_follows_at_a_border()
         → Leads line w c (option_map_or (at_border line c t) (next_centre line c track) rest k) v }
 {}
 
-/// A handover that is taken over is yielded, whatever homes the hand has: the supervision is laid down by a quiet step,
-/// and the train is told by another to end its session, where that is up and no own section is in the hand.
+/// A handover that is taken over is yielded, for all homes in the hand. The supervision is laid down by a quiet step.
+/// Another orders the train to end its session, if the session is up and no own section is in the hand.
 pub fn a_yield_lays_down()
     ensures { (line : Line) (w : Flow) (c a number t : ℕ) (k : Centre) (v : LineState) → IsLine line
         → IsFlowSound line w → Shows line w v
@@ -91,8 +91,8 @@ pub fn a_yield_lays_down()
         → Leads line w c (taking_over line c a number t k) v }
 {}
 
-/// After the extension that a request comes to the border may be told, if the hand had no section of the next centre
-/// where no handover was announced before.
+/// After the extension by a request the border may be sent. Premise: if no handover was announced before, the hand had
+/// no section of the next centre.
 pub fn a_request_may_announce()
     ensures unannounced { (line : Line) (c d : ℕ) (k j : Centre) (m : TrainMessage) (n : Mission) (place : Place)
         → IsLine line
@@ -108,8 +108,8 @@ pub fn a_request_may_announce()
         → MayAnnounce line c m.nid_engine d j }
 {}
 
-/// At an end of mission the pool goes home, and the mission is ended: after that the mission is shown as ended,
-/// without a request to shorten that stands, and all else as before.
+/// At an end of mission the pool is returned, and the mission is ended. After that it is shown as ended, without a
+/// pending request to shorten. All else is shown as before.
 pub fn an_ended_mission_is_shown()
     ensures { (line : Line) (w : Flow) (c t : ℕ) (m : Mission) (k : Centre) (v : LineState) → IsLine line
         → IsFlowSound line w → Shows line w v
@@ -117,8 +117,8 @@ pub fn an_ended_mission_is_shown()
         → IsShownSo line w c (ends line c t m k) (ended t v) }
 {}
 
-/// A mission that announced no handover has no section of the next centre in its hand: so it is at the
-/// beginning, and after each step of a sound centre.
+/// A mission without an announced handover has no section of the next centre in its hand. This holds in the initial
+/// state, and after each step of a sound centre.
 pub fn a_centre_announces_all()
     ensures begins { (line : Line) (c : ℕ) → IsLine line → AnnouncesAll line c (beginning line c) }
     ensures step { (line : Line) (c : ℕ) (k : Centre) (event : Event) → IsLine line → IsCentreSound line c k

@@ -1,4 +1,4 @@
-//! Laws of what the frames of a handover lead to.
+//! Laws of the effect of the frames of a handover.
 
 ghost use Rattle.std.specs.Prelude.{◌≡◌, ℕ, Bool, true};
 ghost use Rattle.law_base.specs.Counting.Network.{took, TakesHead};
@@ -23,7 +23,7 @@ pub fn an_announcement_leads_on()
         (received line c a (Announce h t track) (took_frame a number (ticked stamp (w.at c)))) v }
 {}
 
-/// And a handover is cancelled: the centre expects the train no more.
+/// A Cancel arrives: the centre no longer expects the train.
 pub fn a_cancellation_leads_on()
     ensures { (line : Line) (w : Flow) (v : LineState) (a c h t number stamp : ℕ) → IsLine line → IsFlowSound line w
         → Shows line w v → is_centre line a ≡ true → is_centre line c ≡ true → TakesHead w a c (Cancel h t)
@@ -38,8 +38,8 @@ pub fn a_taking_over_leads_on()
         (received line c a (TakingOver h t) (took_frame a number (ticked stamp (w.at c)))) v }
 {}
 
-/// A mission is yielded: the one line centre takes it up at the centre that it comes to, with the later of both stamps,
-/// and may then ask the train to shorten its authority.
+/// A mission is yielded. The one line centre takes it up at the receiving centre, with the later of both stamps. It may
+/// then send the train a request to shorten its authority.
 pub fn a_yield_leads_on()
     ensures { (line : Line) (w : Flow) (v : LineState) (a c h t heard number stamp : ℕ) (has_data is_ended : Bool)
         (carried : YieldedPlace) (hand : SectionRun)

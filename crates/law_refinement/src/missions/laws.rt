@@ -1,5 +1,5 @@
-//! Laws of the messages that change a mission: of each, that its own part is the own step of the one line centre
-//! (`specs/Parts.antt`: `IsOwnStep`), and that what it comes to is that part (`IsWhole`), or that and what follows it
+//! Laws of the messages that change a mission. For each, its own part is the own step of the one line centre
+//! (`specs/Parts.antt`: `IsOwnStep`). The answer is that part (`IsWhole`), or that part and the acts after it
 //! (`IsInParts`).
 
 ghost use Rattle.std.specs.Prelude.{◌≡◌, ℕ, true, None};
@@ -17,8 +17,8 @@ ghost use Rattle.law_invariants.specs.Flow.Shows.{Shows};
 ghost use Rattle.law_invariants.specs.Flow.Leads.{LeadsHeard};
 ghost use Rattle.law_refinement.specs.Missions.Parts.{own_report, own_end, own_granted, own_request, at_border_then, of_train, IsOwnStep, IsWhole, IsInParts, LeadsOnward};
 
-/// A position report: what the train has cleared leaves its hand, and a hand that became empty closes the mission. Of a
-/// train that is not supervised here nothing changes that the one line centre shows: it listens. Nothing follows.
+/// A position report: the cleared sections leave the hand, and a hand that became empty closes the mission. A report of
+/// a train that is not supervised here changes nothing that the one line centre shows: it listens. No act follows.
 pub fn a_report_is_an_own_step()
     ensures own { (line : Line) (c t_train t : ℕ) (position : Position) → IsLine line
         → IsOwnStep line c (of_train t_train t (Report position)) (own_report line c t position) }
@@ -32,7 +32,7 @@ pub fn a_report_is_an_own_step()
         (hears c (of_train t_train t (Report position)) v) None }
 {}
 
-/// An end of mission: a report, and then the pool goes home and the mission is ended.
+/// An end of mission: a report, then the pool is returned and the mission is ended.
 pub fn an_end_of_mission_is_an_own_step()
     ensures own { (line : Line) (c t_train t : ℕ) (position : Position) → IsLine line
         → IsOwnStep line c (of_train t_train t (EndOfMission position)) (own_end line c t position) }
@@ -40,8 +40,8 @@ pub fn an_end_of_mission_is_an_own_step()
         → IsWhole line c (of_train t_train t (EndOfMission position)) (own_end line c t position) }
 {}
 
-/// A shortening that is granted: the request no longer stands, and the hand is cut after the last section kept, with
-/// its pool, if the train has not run past the proposed end.
+/// A granted shortening: the request ends. The hand is cut after the last section kept, with its pool, if the train has
+/// not run past the proposed end.
 pub fn a_granted_shortening_is_an_own_step()
     ensures own { (line : Line) (c t_train t stamp : ℕ) (position : Position) → IsLine line
         → IsOwnStep line c (of_train t_train t (ShorteningGranted stamp position)) (own_granted line c t position) }
@@ -49,8 +49,8 @@ pub fn a_granted_shortening_is_an_own_step()
         → IsWhole line c (of_train t_train t (ShorteningGranted stamp position)) (own_granted line c t position) }
 {}
 
-/// A request: the hand is extended as far as it may go, by open sections of this centre and by those of the pool, and
-/// the authority for it is said. What follows is what the centre does at the border.
+/// A request: the hand is extended as far as it may go, by open sections of this centre and by those of the pool. The
+/// authority for it is sent. The acts at the border follow.
 pub fn a_request_is_an_own_step()
     ensures own { (line : Line) (c t_train t : ℕ) (position : Position) → IsLine line
         → IsOwnStep line c (of_train t_train t (Request position)) (own_request line c t position) }
@@ -59,7 +59,8 @@ pub fn a_request_is_an_own_step()
         (at_border_then line c t position) }
 {}
 
-/// Where what follows leads to quiet steps, whatever the centre is in, the whole answer is the own step and those.
+/// Suppose that the acts after it lead to quiet steps in every state of the centre. Then the whole answer is the own
+/// step and these quiet steps.
 pub fn an_own_step_and_what_follows()
     ensures { (line : Line) (c : ℕ) (m : TrainMessage) (own later : Act) → IsOwnStep line c m own
         → IsInParts line c m own later → LeadsOnward line c later

@@ -1,4 +1,4 @@
-//! Laws of what frames of rights and of sections that are lent lead to, and what the interlocking says.
+//! Laws of the effect of frames of rights and of lent sections, and of the interlocking.
 
 ghost use Rattle.std.specs.Prelude.{◌≡◌, ℕ, true};
 ghost use Rattle.rbc_spec.specs.SectionRuns.{SectionRun};
@@ -13,9 +13,8 @@ ghost use Rattle.law_invariants.specs.Flow.Shows.{Shows};
 ghost use Rattle.law_refinement.specs.Routes.Bodies.{LeadsByBody, LeadsByLinked};
 ghost use Rattle.law_refinement.specs.Routes.Interlocking.{LeadsSet, LeadsUnset};
 
-/// A frame of a right to supervise leads the one line centre on, whatever the centre that it comes to makes of it.
-/// Nothing of a right is shown: by one that is given a start that waits is admitted, by one that is refused it is
-/// dismissed, and all else stays as it is.
+/// A frame of a right to supervise leads the one line centre on, with any effect at the receiving centre. No right is
+/// shown. A given right admits a waiting start, a refused one dismisses it, and all else stays.
 pub fn what_a_frame_of_rights_leads_to()
     ensures asked { (line : Line) (t : ℕ) → LeadsByBody line (AskRight t) }
     ensures given { (line : Line) (t : ℕ) → LeadsByBody line (GiveRight t) }
@@ -34,10 +33,10 @@ pub fn what_the_interlocking_leads_to()
         → is_centre line c ≡ true → w.at c ≡ k → LeadsUnset line w c s (unset line c s k) v }
 {}
 
-/// A frame of sections that are lent leads the one line centre on. It keeps those that are asked for and lent, and
-/// frees those that come home, by which it may tell the train to end its session. For one that is wished back it may
-/// ask the train to shorten its authority. Of sections that a centre is told of nothing is shown; it has to be linked
-/// with the one that tells of them, since it has none of its own in a pool.
+/// A frame of lent sections leads the one line centre on. It keeps the sections that are requested and lent, and frees
+/// those that are returned. After that it may order the train to end its session. For a section that is wished back it
+/// may send a request to shorten. Lent sections that arrive are not shown. Their sender has to be linked with the
+/// receiver, and so another centre: no centre has sections of its own home in a pool.
 pub fn what_a_frame_of_routes_leads_to()
     ensures asked { (line : Line) (t first most : ℕ) → LeadsByBody line (RouteAsk t first most) }
     ensures told { (line : Line) (t : ℕ) (run : SectionRun) → LeadsByLinked line (RouteInfo t run) }

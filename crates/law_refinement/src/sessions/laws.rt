@@ -1,4 +1,4 @@
-//! Laws of messages that are heard.
+//! Laws of messages with an answer.
 
 ghost use Rattle.std.specs.Prelude.{ℕ, Bool};
 ghost use Rattle.rbc_spec.specs.Place.{Position};
@@ -15,21 +15,21 @@ pub fn train_data_are_heard()
     ensures { (position : Position) → IsHeardAs (TrainData position) }
 {}
 
-/// A rejected request to shorten stands no more, and nothing is freed.
+/// After its rejection a request to shorten is not pending, and nothing is freed.
 pub fn a_rejection_is_heard()
     ensures { (asked : ℕ) (position : Position) → IsHeardAs (ShorteningRejected asked position) }
 {}
 
-/// A session that begins or ends takes with it a standing request to shorten, where the centre supervises the train,
-/// and a start of mission that waits here. The sections of that start are freed, and those that are wished back are
-/// told. No given section changes.
+/// A session that begins or ends also ends a waiting start of mission here. It ends a pending request to shorten, if
+/// the centre supervises the train. The sections of that start are freed, and those that are wished back are reported.
+/// The mark of a given section does not change.
 pub fn a_session_begins_and_ends()
     ensures begins { IsHeardAs InitiationOfSession }
     ensures ends { IsHeardAs TerminationOfSession }
 {}
 
-/// A start of mission is rejected, goes on within the train's hand, begins at the train's registrar where its right is
-/// there, or waits for it elsewhere.
+/// A start of mission has one of four answers. It is rejected, or goes on within the train's hand. It begins at the
+/// registrar if the right is there, or waits for the right elsewhere.
 pub fn a_start_is_answered()
     ensures { (is_valid : Bool) (position : Position) → IsHeardAs (StartOfMission is_valid position) }
 {}

@@ -1,5 +1,5 @@
 use crate::state::{Server, Slot};
-use crate::status::{MentionOrder, show, write_life};
+use crate::status::{show, write_life};
 use rbc_node::Share;
 use serve_control::{Command, print_commit};
 use std::sync::Wait;
@@ -26,13 +26,12 @@ pub(crate) fn answer<R: Wait>(
     rt: &R,
     served: Served<'_, '_>,
     shares: &mut [Share],
-    mention_order: &mut MentionOrder,
     command: Command,
     text: &mut Vec<u8>,
 ) -> Result<(), Fault<'static>> {
     match command {
         Command::Nothing | Command::Stop => Ok(()),
-        Command::Show => show_written(rt, served.server, served.slot, mention_order, text),
+        Command::Show => show_written(rt, served.server, served.slot, text),
         Command::Set { centre, section } => {
             let event = WorldEvent::Set { centre, section };
             commit(
@@ -65,7 +64,6 @@ fn show_written<R: Wait>(
     rt: &R,
     server: &Server<'_>,
     slot: &Slot,
-    mention_order: &mut MentionOrder,
     text: &mut Vec<u8>,
 ) -> Result<(), Fault<'static>> {
     show(
@@ -73,7 +71,7 @@ fn show_written<R: Wait>(
         server.alloc,
         server.line,
         server.nodes,
-        mention_order,
+        server.mentions,
         text,
     )?;
     if server.options.shows_life {
@@ -114,5 +112,5 @@ fn commit<R: Wait>(
             return Ok(());
         }
     }
-    print_commit(server.alloc, text, server.line, centre, printed, &answer)
+    Ok(print_commit(server.alloc, text, server.line, centre, printed, &answer)?)
 }

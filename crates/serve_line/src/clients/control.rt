@@ -1,12 +1,11 @@
 use crate::clients::answer::{SCRIPT_FAULT, Served, answer};
-use crate::clients::limits::{CONTROL_REST_MS, RESERVE_RESTS, set_waits};
+use crate::clients::limits::{CONTROL_REST_MS, RESERVE_RESTS};
 use crate::clients::rows::{Came, RowReader};
 use crate::clients::sending::{Sent, send};
-use crate::state::{Server, Slot};
-use crate::status::{Kind, MentionOrder, Notes};
+use crate::state::{PeerStream, Server, Slot};
+use crate::status::{Kind, Notes};
 use rbc_node::Share;
 use serve_control::{Command, CommandFault, command_of};
-use std::net::TcpStream;
 use std::sync::Wait;
 use std::sync::atomic::Ordering;
 use std::time::{Clock, Duration};
@@ -28,7 +27,7 @@ pub(crate) fn serve_control<R: Wait + Clock, N: Notes>(
     server: &Server<'_>,
     notes: &N,
     slot: &Slot,
-    stream: &TcpStream,
+    stream: &PeerStream,
 ) {
     let number = slot.number;
     notes.often(
@@ -36,7 +35,7 @@ pub(crate) fn serve_control<R: Wait + Clock, N: Notes>(
         format_args!("control: connection {number} begins"),
     );
     let rest = Duration::from_millis(CONTROL_REST_MS);
-    set_waits(stream, rest, rest);
+    stream.set_waits(rest, rest);
     let mut shares = slot.shares.lock(rt);
     if answer_rows(rt, server, notes, slot, shares.as_mut_slice(), stream) == Next::Stop {
         notes.note(format_args!("control: connection {number} says stop"));
@@ -52,11 +51,8 @@ fn answer_rows<R: Wait + Clock, N: Notes>(
     notes: &N,
     slot: &Slot,
     shares: &mut [Share],
-    stream: &TcpStream,
+    stream: &PeerStream,
 ) -> Next {
-    let Ok(mut mention_order) = MentionOrder::new(server.alloc, server.line) else {
-        return Next::End;
-    };
     let mut rows = RowReader::new(server.alloc, stream);
     let served = Served { server, slot };
     let mut rests = 0u32;
@@ -65,7 +61,7 @@ fn answer_rows<R: Wait + Clock, N: Notes>(
             Came::Row(row) => {
                 rests = 0;
                 slot.heard.store(server.state.hear(), Ordering::SeqCst);
-                answer_row(rt, served, notes, shares, &mut mention_order, &row, stream)
+                answer_row(rt, served, notes, shares, &row, stream)
             }
             Came::Nothing if server.state.is_empty() => Next::End,
             Came::Nothing => {
@@ -96,9 +92,8 @@ fn answer_row<R: Wait + Clock, N: Notes>(
     served: Served<'_, '_>,
     notes: &N,
     shares: &mut [Share],
-    mention_order: &mut MentionOrder,
     row: &[u8],
-    stream: &TcpStream,
+    stream: &PeerStream,
 ) -> Next {
     if is_of_another_protocol(row) {
         notes.often(
@@ -121,7 +116,7 @@ fn answer_row<R: Wait + Clock, N: Notes>(
         Err(CommandFault::Memory) => return Next::End,
     };
     let mut text = Vec::new(server.alloc);
-    match answer(rt, served, shares, mention_order, command, &mut text) {
+    match answer(rt, served, shares, command, &mut text) {
         Ok(()) => answered(send(rt, stream, text.as_slice())),
         Err(_) => Next::End,
     }

@@ -1,8 +1,15 @@
 /// The bytes of the first fields of a message: NID_MESSAGE (8 bits), L_MESSAGE (10), T_TRAIN (32) and NID_ENGINE (24).
 const HEAD: usize = 10;
 
-/// Finds the last byte of each message of a stream, and the engine that the message names. In faulty bytes it may find
-/// no end: then the stream reports the fault.
+/// The kind of a message, and its engine.
+#[derive(Clone, Copy)]
+pub(crate) struct Head {
+    pub nid_message: u8,
+    pub nid_engine: u32,
+}
+
+/// Finds the last byte of each message of a stream, and the first fields of the message. In faulty bytes it may find no
+/// end: then the stream reports the fault.
 #[derive(Clone, Copy)]
 pub(crate) struct Cutter {
     // The bytes of the message so far, at most its first fields.
@@ -20,8 +27,8 @@ impl Cutter {
         }
     }
 
-    /// Takes the next byte. If the byte ends a message, the result is its NID_ENGINE.
-    pub fn take(&mut self, byte: u8) -> Option<u32> {
+    /// Takes the next byte. If the byte ends a message, the result is its first fields.
+    pub fn take(&mut self, byte: u8) -> Option<Head> {
         if let Some(place) = self.head.get_mut(self.count) {
             *place = byte;
         }
@@ -29,9 +36,12 @@ impl Cutter {
         if self.count < HEAD || self.count != self.l_message() {
             return None;
         }
-        let nid_engine = self.nid_engine();
+        let head = Head {
+            nid_message: self.head[0],
+            nid_engine: self.nid_engine(),
+        };
         *self = Cutter::new();
-        Some(nid_engine)
+        Some(head)
     }
 
     fn l_message(&self) -> usize {

@@ -2,12 +2,10 @@ use crate::clients::control::serve_control;
 use crate::clients::entrance::{Entrance, is_idle};
 use crate::clients::limits::{DEAF_REST_MS, GRACE_RESTS, LEAVING_RESTS, NEXT_RESTS};
 use crate::clients::sessions::serve_train;
-use crate::state::{ENDPOINT_REST_MS, Endpoint, Peer, Server, Slot, Watch};
+use crate::state::{ENDPOINT_REST_MS, Endpoint, Peer, PeerStream, Server, Slot, Watch};
 use crate::status::{Kind, Life, Notes};
-use std::alloc::Global;
-use std::net::TcpStream;
+use std::sync::Wait;
 use std::sync::atomic::Ordering;
-use std::sync::{Arc, Wait};
 use std::thread::Threads;
 use std::time::{Clock, Duration};
 use std::{io, thread};
@@ -115,33 +113,36 @@ fn attend_here<R: Threads + Wait + Sync + Clock, N: Notes + Sync>(
 fn reserve_for<'a, R: Wait>(
     rt: &R,
     endpoint: &'a Endpoint,
-    stream: Option<Arc<TcpStream, Global>>,
-) -> Option<(Arc<TcpStream, Global>, &'a Slot)> {
+    stream: Option<PeerStream>,
+) -> Option<(PeerStream, &'a Slot)> {
     let stream = stream?;
-    let shared = Arc::try_clone(&stream).ok()?;
+    let shared = stream.try_clone().ok()?;
     let slot = endpoint.reserve_slot(rt)?;
     *slot.stream.lock(rt) = Some(shared);
     Some((stream, slot))
 }
 
-// The next connection of an endpoint, with its slot. It rests if no connection waits. A connection is refused if no
-// slot is free.
+// The next connection of an endpoint, with its slot. `None` if none came for a while, or after `stop`. A connection is
+// refused if no slot is free.
 fn next_peer<'a, R: Wait, N: Notes>(
     rt: &R,
     server: &Server<'_>,
     notes: &N,
     endpoint: &'a Endpoint,
     entrance: &mut Entrance,
-) -> Option<(Arc<TcpStream, Global>, &'a Slot)> {
-    let stream = match entrance.accept() {
+) -> Option<(PeerStream, &'a Slot)> {
+    let stream = match entrance.accept(server.alloc) {
         Ok(stream) => stream,
         Err(error) => {
             rest_after(rt, server, notes, endpoint, &error);
             return None;
         }
     };
-    let stream = Arc::new(server.alloc, stream).ok()?;
-    let shared = Arc::try_clone(&stream).ok()?;
+    // It may have come while the endpoint waited, and after `stop`.
+    if server.state.is_stopped() {
+        return None;
+    }
+    let shared = stream.try_clone().ok()?;
     if let Peer::Trains(centre) = endpoint.peer {
         if server.is_stuck(rt, centre) {
             let name = server.name(endpoint.peer);
@@ -165,7 +166,7 @@ fn next_peer<'a, R: Wait, N: Notes>(
     Some((stream, slot))
 }
 
-// Rests if no connection arrived. It rests longer if the system can give none, as when too many files are open.
+// Rests if the system can give no connection, as when too many files are open.
 fn rest_after<R: Wait, N: Notes>(
     rt: &R,
     server: &Server<'_>,
@@ -174,7 +175,6 @@ fn rest_after<R: Wait, N: Notes>(
     error: &io::Error,
 ) {
     if is_idle(error.kind()) {
-        rest(rt, endpoint);
         return;
     }
     let name = server.name(endpoint.peer);
@@ -279,10 +279,14 @@ fn attend<R: Threads + Wait + Sync + Clock, N: Notes + Sync>(
     notes: &N,
     peer: Peer,
     slot: &Slot,
-    stream: Arc<TcpStream, Global>,
+    stream: PeerStream,
 ) {
     match peer {
-        Peer::Trains(centre) => serve_train(rt, server, notes, centre, slot, stream),
+        Peer::Trains(centre) => {
+            if let Some(stream) = stream.tcp() {
+                serve_train(rt, server, notes, centre, slot, stream);
+            }
+        }
         Peer::Interlocking => serve_control(rt, server, notes, slot, &stream),
     }
     slot.leave(rt);

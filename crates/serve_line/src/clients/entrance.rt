@@ -1,19 +1,20 @@
+use crate::state::{Listener, PeerStream};
+use std::alloc::Global;
 use std::io;
 use std::io::ErrorKind;
-use std::net::{TcpListener, TcpStream};
 
 /// The source of an endpoint's connections: its listener, and a file in reserve.
 #[derive(Drop)]
 pub(crate) struct Entrance {
-    listener: TcpListener,
+    listener: Listener,
     // An open file. It is closed to make room for a connection if the program may open no further file.
-    reserve: Option<TcpListener>,
+    reserve: Option<Listener>,
     has_reserve: bool,
 }
 
 impl Entrance {
     /// Accepts connections of this listener, with a file in reserve or without one.
-    pub fn new(listener: TcpListener, has_reserve: bool) -> Entrance {
+    pub fn new(listener: Listener, has_reserve: bool) -> Entrance {
         Entrance {
             listener,
             reserve: None,
@@ -21,10 +22,10 @@ impl Entrance {
         }
     }
 
-    /// The next connection that waits. An error for which `is_idle` holds means that none waits.
-    pub fn accept(&mut self) -> io::Result<TcpStream> {
-        match self.listener.accept() {
-            Ok((stream, _)) => Ok(stream),
+    /// The next connection. An error for which `is_idle` holds means that none came for a while.
+    pub fn accept(&mut self, alloc: Global) -> io::Result<PeerStream> {
+        match self.listener.accept(alloc) {
+            Ok(stream) => Ok(stream),
             Err(error) if is_idle(error.kind()) => {
                 self.refill();
                 Err(error)
@@ -32,8 +33,7 @@ impl Entrance {
             Err(error) if self.reserve.is_none() => Err(error),
             Err(_) => {
                 self.reserve = None;
-                let (stream, _) = self.listener.accept()?;
-                Ok(stream)
+                self.listener.accept(alloc)
             }
         }
     }
@@ -46,7 +46,7 @@ impl Entrance {
     }
 }
 
-/// Whether this error of `accept` only means that no connection waits.
+/// Whether this error of `accept` only means that no connection came.
 pub(crate) fn is_idle(kind: ErrorKind) -> bool {
     matches!(
         kind,

@@ -1,8 +1,5 @@
 //! The limits for one peer: sizes, and the time of each wait.
 
-use std::net::TcpStream;
-use std::time::Duration;
-
 /// The most replies that wait for one train. At one more, its connection is cut.
 pub(crate) const REPLIES: usize = 256;
 
@@ -38,10 +35,3 @@ pub(crate) const NEXT_RESTS: u32 = 10;
 
 /// The time of trains after `stop` until their connections are ended, in rests of an endpoint: about 30 seconds.
 pub(crate) const GRACE_RESTS: u32 = 1_500;
-
-/// Lets a connection send at once. Each read and each write waits for the client no longer than these times.
-pub(crate) fn set_waits(stream: &TcpStream, reading: Duration, writing: Duration) {
-    let _ = stream.set_nodelay(true);
-    let _ = stream.set_read_timeout(Some(reading));
-    let _ = stream.set_write_timeout(Some(writing));
-}

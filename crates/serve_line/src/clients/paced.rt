@@ -1,6 +1,7 @@
 ghost use Rattle.std.specs.Prelude.{◌≡◌};
 
-use crate::clients::cutter::Cutter;
+use crate::clients::binding::Binding;
+use crate::clients::cutter::{Cutter, Head};
 use crate::clients::rate_limit::RateLimit;
 use serve_workers::reading::{ReadFailed, Source};
 use std::io::{ErrorKind, Read};
@@ -24,6 +25,9 @@ pub(crate) struct Paced<'a, R> {
 struct Pieces<'a, R> {
     stream: &'a TcpStream,
     rate_limit: RateLimit<'a, R>,
+    binding: Binding<'a, R>,
+    // The engine of the message that was refused, since its train is served over another connection or none.
+    refused: Option<u32>,
     cutter: Cutter,
     // The last piece read, and the number of its bytes that were given.
     piece: [u8; PIECE],
@@ -33,18 +37,29 @@ struct Pieces<'a, R> {
 
 impl<'a, R: Wait + Clock> Paced<'a, R> {
     /// The bytes of a connection before its first byte.
-    pub fn new(stream: &'a TcpStream, rate_limit: RateLimit<'a, R>) -> Paced<'a, R>
+    pub fn new(
+        stream: &'a TcpStream,
+        rate_limit: RateLimit<'a, R>,
+        binding: Binding<'a, R>,
+    ) -> Paced<'a, R>
         ensures failures { result.failed ≡ 0 }
     {
         let pieces = Pieces {
             stream,
             rate_limit,
+            binding,
+            refused: None,
             cutter: Cutter::new(),
             piece: [0; PIECE],
             end: 0,
             given: 0,
         };
         Paced { pieces, failed: 0 }
+    }
+
+    /// The engine of the message at which the connection ended, if that message was refused.
+    pub fn refused(&self) -> Option<u32> {
+        self.pieces.refused
     }
 }
 
@@ -76,7 +91,7 @@ impl<R: Wait + Clock> Pieces<'_, R> {
     }
 
     // Gives bytes that were read, up to the last byte of a message. That byte is given first, after a wait. The result
-    // is the number of bytes; `None` if the connection has to leave its slot.
+    // is the number of bytes; `None` if the message is not taken.
     fn give(&mut self, buffer: &mut [u8]) -> Option<usize> {
         let mut count = 0usize;
         for place in buffer.iter_mut() {
@@ -84,11 +99,11 @@ impl<R: Wait + Clock> Pieces<'_, R> {
                 break;
             };
             let mut cutter = self.cutter;
-            if let Some(nid_engine) = cutter.take(byte) {
+            if let Some(head) = cutter.take(byte) {
                 if count > 0 {
                     break;
                 }
-                if !self.rate_limit.admits(nid_engine) {
+                if !self.admits(head) {
                     return None;
                 }
             }
@@ -98,6 +113,21 @@ impl<R: Wait + Clock> Pieces<'_, R> {
             count = count.saturating_add(1);
         }
         Some(count)
+    }
+
+    // Waits until a message may pass. The result is whether it is taken. If not, the connection has to leave its slot,
+    // or the message is refused. A message that is refused at once takes nothing from the rate of its train.
+    fn admits(&mut self, head: Head) -> bool {
+        if self.binding.admits(head) {
+            if !self.rate_limit.admits(head.nid_engine) {
+                return false;
+            }
+            if self.binding.admits(head) {
+                return true;
+            }
+        }
+        self.refused = Some(head.nid_engine);
+        false
     }
 }
 

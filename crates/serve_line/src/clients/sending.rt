@@ -1,6 +1,6 @@
 use crate::clients::limits::PATIENCE_S;
+use crate::state::PeerStream;
 use std::io::{ErrorKind, Write};
-use std::net::TcpStream;
 use std::time::{Clock, Duration, Instant};
 
 /// How much of an answer was sent.
@@ -12,7 +12,7 @@ pub(crate) enum Sent {
 }
 
 /// Sends an answer. Ten seconds after the start, no further part of it is written.
-pub(crate) fn send<R: Clock>(rt: &R, stream: &TcpStream, text: &[u8]) -> Sent {
+pub(crate) fn send<R: Clock>(rt: &R, stream: &PeerStream, text: &[u8]) -> Sent {
     let Ok(begun) = Instant::now(rt) else {
         return Sent::Short;
     };
@@ -33,7 +33,7 @@ pub(crate) fn send<R: Clock>(rt: &R, stream: &TcpStream, text: &[u8]) -> Sent {
 }
 
 // Writes as many bytes as the connection takes now. The result is the rest; `None` if the connection failed.
-fn write_some<'a>(stream: &TcpStream, text: &'a [u8]) -> Option<&'a [u8]> {
+fn write_some<'a>(stream: &PeerStream, text: &'a [u8]) -> Option<&'a [u8]> {
     let mut out = stream;
     match out.write(text) {
         Ok(0) => None,

@@ -1,8 +1,9 @@
-use crate::clients::limits::{PATIENCE_S, REPLIES, SILENCE_S, set_waits};
+use crate::clients::binding::Binding;
+use crate::clients::limits::{PATIENCE_S, REPLIES, SILENCE_S};
 use crate::clients::noted::LoggedSink;
 use crate::clients::paced::Paced;
 use crate::clients::rate_limit::RateLimit;
-use crate::state::{CentreSink, Server, Slot};
+use crate::state::{CentreSink, Server, Slot, set_waits};
 use crate::status::{Kind, Notes};
 use crossbeam_channel::{Receiver, bounded};
 use rbc_node::{Node, Open};
@@ -69,6 +70,8 @@ enum End {
     Session(SessionEnd),
     /// Its train was too slow to read its answers.
     Cut,
+    /// A message of this engine came over it, and it does not serve that train.
+    Foreign(u32),
 }
 
 // The parts of a connection that its two threads use.
@@ -159,12 +162,18 @@ fn read_messages<R: Wait + Clock, N: Notes>(
         paces: &noted.sink.paces,
         slot,
     };
-    let mut source = Paced::new(stream, rate_limit);
+    let binding = Binding {
+        rt,
+        connection: noted.connection_sink,
+        is_bound: server.options.is_bound,
+    };
+    let mut source = Paced::new(stream, rate_limit, binding);
     let end = run_session(rt, server.alloc, node, &Open, share, &mut source, noted);
-    if noted.connection_sink.connections.leave(rt, slot.number) {
-        End::Session(end)
-    } else {
-        End::Cut
+    let is_kept = noted.connection_sink.connections.leave(rt, slot.number);
+    match source.refused() {
+        Some(nid_engine) => End::Foreign(nid_engine),
+        None if is_kept => End::Session(end),
+        None => End::Cut,
     }
 }
 
@@ -194,13 +203,23 @@ fn tell_end<N: Notes>(notes: &N, name: &str, number: usize, end: End) {
     }
 }
 
-// The text of the note of an end, with the number of its fault.
-fn ending(end: End) -> (&'static str, Option<u8>) {
+// The text of the note of an end, with the number of its fault or of the engine.
+fn ending(end: End) -> (&'static str, Option<u32>) {
     match end {
         End::Session(SessionEnd::EndOfStream) => ("ends", None),
-        End::Session(SessionEnd::Fault(fault)) => ("is ended, stream fault", Some(fault.number())),
+        End::Session(SessionEnd::Fault(fault)) => (
+            "is ended, stream fault",
+            Some(u32::from(fault.number())),
+        ),
         End::Session(SessionEnd::Device) => ("is lost", None),
-        End::Session(SessionEnd::Refused(fault)) => ("is ended, refused", Some(fault.number())),
+        End::Session(SessionEnd::Refused(fault)) => (
+            "is ended, refused",
+            Some(u32::from(fault.number())),
+        ),
         End::Cut => ("is cut, its train is too slow", None),
+        End::Foreign(nid_engine) => (
+            "is ended, a message came over it of a train that it does not serve:",
+            Some(nid_engine),
+        ),
     }
 }

@@ -4,12 +4,13 @@ ghost use Rattle.text_journal.specs.Order.{taken_at};
 ghost use Rattle.serve_control.specs.Events.{IsCommitted};
 ghost use Rattle.serve_line.specs.Journaling.Resuming.{first_share, AreResumed, CommitsAgain, IsResumed};
 
+use rbc_log::CommitFault;
 use rbc_msgs::{MsgFault, decode_train};
 use rbc_node::{Node, Open, Share, ShareFault};
 use std::alloc::{AllocError, AllocFailed, Global};
 use std::sync::Wait;
 use text_journal::Entry;
-use text_script::{Event, WorldEvent};
+use text_script::{Event, StepFault, WorldEvent};
 
 /// The reason why centres can't resume from journals.
 #[derive(Clone, Copy, Debug, PartialEq, Eq)]
@@ -118,7 +119,7 @@ fn commit_again<R: Wait>(
 {
     match node.commit(rt, &Open, share, event) {
         Ok(outcome) if outcome.stamp == stamp => Ok(()),
-        Err(ShareFault::Memory) => Err(ResumeFault::Memory),
+        Err(ShareFault::Commit(CommitFault::Step(StepFault::Memory))) => Err(ResumeFault::Memory),
         _ => Err(ResumeFault::Unfit(node.share().centre(), 1)),
     }
 }

@@ -1,5 +1,5 @@
 use crate::journaling::Journal;
-use crate::state::endpoints::Listening;
+use crate::state::endpoints::{Listening, ListeningAt};
 use crate::state::limits::{CONTROLS, SPARE};
 use crate::state::options::ServeOptions;
 use crate::state::paces::Paces;
@@ -7,6 +7,7 @@ use crate::state::queue::Queue;
 use crate::state::server::{DirectedLink, Peer};
 use crate::state::sink::CentreSink;
 use crate::state::slots::{Endpoint, Slot};
+use crate::state::streams::{Address, Listener};
 use rbc_line::Line;
 use rbc_node::{Node, Share};
 use serve_workers::LinkEnds;
@@ -31,16 +32,27 @@ pub fn nodes_of(alloc: Global, line: &Line) -> Result<Vec<Node>, AllocError> {
     Ok(nodes)
 }
 
-/// The endpoints of the centres, and after them the control endpoint, each with its slots.
+/// The endpoints of the centres, and after them the control endpoint, each with its slots. The control endpoint is the
+/// last port, or the Unix socket.
 pub fn endpoints_of(
     alloc: Global,
     line: &Line,
     nodes: &[Node],
     listening: Vec<Listening>,
+    socket: Option<ListeningAt>,
 ) -> Result<Vec<Endpoint>, AllocError> {
     let mut endpoints = Vec::new(alloc);
     for (number, listening) in listening.into_iter().enumerate() {
         endpoints.push(endpoint_of(alloc, line, nodes, number, listening)?)?;
+    }
+    if let Some(ListeningAt { listener, path }) = socket {
+        endpoints.push(Endpoint {
+            listener: Mutex::new(Some(Listener::Unix(listener))),
+            address: Address::Path(path),
+            peer: Peer::Interlocking,
+            slots: control_slots(alloc, nodes)?,
+            waker: Parker::new(),
+        })?;
     }
     Ok(endpoints)
 }
@@ -62,8 +74,8 @@ fn endpoint_of(
         None => (Peer::Interlocking, control_slots(alloc, nodes)?),
     };
     Ok(Endpoint {
-        listener: Mutex::new(Some(listening.listener)),
-        address: listening.address,
+        listener: Mutex::new(Some(Listener::Tcp(listening.listener))),
+        address: Address::Port(listening.address),
         peer,
         slots,
         waker: Parker::new(),

@@ -1,3 +1,5 @@
+use crate::state::control_socket::listen_at_path;
+use crate::state::streams::bound_accept;
 use crate::status::Notes;
 use rbc_line::Line;
 use serve_control::ServeFault;
@@ -5,20 +7,36 @@ use std::alloc::Global;
 use std::io;
 use std::io::ErrorKind;
 use std::net::{IpAddr, Ipv4Addr, Net, SocketAddr, TcpListener, TcpStream};
+use std::os::fd::OwnedFd;
+use std::os::unix::net::UnixListener;
+use std::rt::Files;
 use text_script::print::name_of;
 
-/// The listening ports of the centres and of the interlocking, and the page's port, if there is one. All are ports of
-/// this host only.
+/// The listening ports of the centres, the port or the Unix socket of the interlocking, and the page's port, if there
+/// is one. All are ports of this host only.
 #[derive(Drop)]
-pub struct Endpoints(Vec<Listening>, Option<Listening>);
+pub struct Endpoints {
+    ports: Vec<Listening>,
+    socket: Option<ListeningAt>,
+    page: Option<Listening>,
+}
 
 /// A listening port.
 #[derive(Drop)]
 pub struct Listening {
-    /// The listener; `accept` on it does not wait.
+    /// The listener; `accept` on it waits for `ENDPOINT_REST_MS` at most.
     pub listener: TcpListener,
     /// Its address. If port 0 was asked for, the system picked the port.
     pub address: SocketAddr,
+}
+
+/// A Unix socket that listens.
+#[derive(Drop)]
+pub struct ListeningAt {
+    /// The listener; `accept` on it waits for `ENDPOINT_REST_MS` at most.
+    pub listener: UnixListener,
+    /// Its path.
+    pub path: String,
 }
 
 impl Endpoints {
@@ -31,19 +49,56 @@ impl Endpoints {
         first: u16,
         notes: &N,
     ) -> Result<Endpoints, ServeFault> {
-        let mut endpoints = Vec::new(alloc);
-        for number in 0..=line.centre_count() {
-            let port = port_of(first, number);
-            match listen_at(rt, port) {
-                Ok(listening) => endpoints.push(listening)?,
-                Err(error) => {
-                    let name = who_is_at(line, number);
-                    notes.note(format_args!("{name}: port {port} can't be listened on: {error}"));
-                    return Err(ServeFault::Socket);
-                }
+        let mut endpoints = Endpoints::open_centres(rt, alloc, line, first, notes)?;
+        let port = port_of(first, line.centre_count());
+        endpoints
+            .ports
+            .push(listen_noted(rt, "control", port, notes)?)?;
+        Ok(endpoints)
+    }
+
+    /// The same without a control endpoint.
+    pub fn open_centres<R: Net<Stream = TcpStream, Listener = TcpListener>, N: Notes>(
+        rt: &R,
+        alloc: Global,
+        line: &Line,
+        first: u16,
+        notes: &N,
+    ) -> Result<Endpoints, ServeFault> {
+        let mut ports = Vec::new(alloc);
+        for centre in 0..line.centre_count() {
+            let name = name_of(line, centre);
+            ports.push(listen_noted(rt, name, port_of(first, centre), notes)?)?;
+        }
+        Ok(Endpoints {
+            ports,
+            socket: None,
+            page: None,
+        })
+    }
+
+    /// Listens at this path for the interlocking. The path is to be freed at the end. If that fails, a note reports it.
+    pub fn and_socket<R: Net + Files, N: Notes>(
+        self,
+        rt: &R,
+        alloc: Global,
+        path: &str,
+        notes: &N,
+    ) -> Result<Endpoints, ServeFault> {
+        let name = String::from_str(alloc, path)?;
+        match listen_at_path(rt, path) {
+            Ok(listener) => Ok(Endpoints {
+                socket: Some(ListeningAt {
+                    listener,
+                    path: name,
+                }),
+                ..self
+            }),
+            Err(fault) => {
+                notes.note(format_args!("control: {path} can't be listened on: {fault}"));
+                Err(ServeFault::Socket)
             }
         }
-        Ok(Endpoints(endpoints, None))
     }
 
     /// Listens at this port of this host for browsers too, for the page of the line. If that fails, a note reports it.
@@ -53,18 +108,16 @@ impl Endpoints {
         port: u16,
         notes: &N,
     ) -> Result<Endpoints, ServeFault> {
-        match listen_at(rt, u32::from(port)) {
-            Ok(listening) => Ok(Endpoints(self.0, Some(listening))),
-            Err(error) => {
-                notes.note(format_args!("page: port {port} can't be listened on: {error}"));
-                Err(ServeFault::Socket)
-            }
-        }
+        let page = listen_noted(rt, "page", u32::from(port), notes)?;
+        Ok(Endpoints {
+            page: Some(page),
+            ..self
+        })
     }
 
-    /// The address of centre `number`; after the centres, that of the control endpoint.
+    /// The address of centre `number`; after the centres, that of the control endpoint, if it is a port.
     pub fn address(&self, number: usize) -> Option<SocketAddr> {
-        match self.0.get(number) {
+        match self.ports.get(number) {
             Some(endpoint) => Some(endpoint.address),
             None => None,
         }
@@ -72,16 +125,16 @@ impl Endpoints {
 
     /// The address of the page, if there is one.
     pub fn page_address(&self) -> Option<SocketAddr> {
-        match &self.1 {
+        match &self.page {
             Some(page) => Some(page.address),
             None => None,
         }
     }
 
-    /// The ports, in the order of the centres' numbers, then that of the control endpoint; and that of the page, if
-    /// there is one.
-    pub fn all(self) -> (Vec<Listening>, Option<Listening>) {
-        (self.0, self.1)
+    /// The ports of the centres, in the order of their numbers, and then that of the control endpoint, if it has one.
+    /// After those the socket of the control endpoint and the port of the page, if there are any.
+    pub fn all(self) -> (Vec<Listening>, Option<ListeningAt>, Option<Listening>) {
+        (self.ports, self.socket, self.page)
     }
 }
 
@@ -93,13 +146,17 @@ fn port_of(first: u16, number: u8) -> u32 {
     }
 }
 
-// The name of the endpoint of this number: that of its centre, or `control`.
-fn who_is_at(line: &Line, number: u8) -> &str {
-    if number < line.centre_count() {
-        name_of(line, number)
-    } else {
-        "control"
-    }
+// Listens at a port. If that fails, a note of this name reports it.
+fn listen_noted<R: Net<Stream = TcpStream, Listener = TcpListener>, N: Notes>(
+    rt: &R,
+    name: &str,
+    port: u32,
+    notes: &N,
+) -> Result<Listening, ServeFault> {
+    listen_at(rt, port).map_err(|error| {
+        notes.note(format_args!("{name}: port {port} can't be listened on: {error}"));
+        ServeFault::Socket
+    })
 }
 
 fn listen_at<R: Net<Stream = TcpStream, Listener = TcpListener>>(
@@ -112,6 +169,6 @@ fn listen_at<R: Net<Stream = TcpStream, Listener = TcpListener>>(
     let address = SocketAddr::new(IpAddr::V4(Ipv4Addr::LOCALHOST), port);
     let listener = TcpListener::bind(rt, address)?;
     let address = listener.local_addr()?;
-    listener.set_nonblocking(true)?;
+    bound_accept(OwnedFd::from(listener.try_clone()?))?;
     Ok(Listening { listener, address })
 }

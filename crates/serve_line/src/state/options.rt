@@ -10,10 +10,13 @@ pub struct ServeOptions {
     pub is_telling: bool,
     /// Whether `show` reports the usage of each log, clock and link.
     pub shows_life: bool,
+    /// Whether a train's messages are taken only over the connection that serves the train.
+    pub is_bound: bool,
 }
 
 impl Default for ServeOptions {
-    /// The defaults: 50 messages per second, 100 at once, no notifications and no usage.
+    /// The defaults: 50 messages per second, 100 at once, no notifications and no usage. A train's messages are taken
+    /// over any connection.
     fn default() -> ServeOptions {
         ServeOptions {
             rate: Rate {
@@ -22,6 +25,7 @@ impl Default for ServeOptions {
             },
             is_telling: false,
             shows_life: false,
+            is_bound: false,
         }
     }
 }

@@ -2,6 +2,7 @@ use crate::journaling::Journal;
 use crate::state::options::ServeOptions;
 use crate::state::sink::CentreSink;
 use crate::state::slots::Endpoint;
+use crate::status::MentionOrder;
 use rbc_line::Line;
 use rbc_node::{Node, Open, Share};
 use serve_workers::{Committer, LinkEnds};
@@ -131,6 +132,8 @@ pub struct Server<'a> {
     pub wakers: &'a [Vec<Parker>],
     /// The journals, indexed by the centres' numbers; empty if the centres keep none.
     pub journals: &'a [Journal],
+    /// The trains that the logs name, as `show` prints them.
+    pub mentions: &'a Mutex<MentionOrder>,
     /// Whether the centres still run.
     pub state: &'a State,
     /// The options of the server.

@@ -1,11 +1,11 @@
 use crate::state::limits::MOST_TOLD;
 use crate::state::server::Peer;
+use crate::state::streams::{Address, Listener, PeerStream};
 use rbc_node::Share;
 use std::alloc::Global;
 use std::io::Write;
-use std::net::{Shutdown, SocketAddr, TcpListener, TcpStream};
 use std::sync::atomic::{AtomicBool, AtomicU64, Ordering};
-use std::sync::{Arc, Mutex, Wait};
+use std::sync::{Mutex, Wait};
 use std::thread::Parker;
 
 /// A slot of an endpoint: it holds one connection at a time. Its shares hold the receipts of the connection's commits,
@@ -24,7 +24,7 @@ pub struct Slot {
     /// The time of the connection's last activity, its start or its last line, as `State::hear` counts.
     pub heard: AtomicU64,
     /// The connection, while one has the slot.
-    pub stream: Mutex<Option<Arc<TcpStream, Global>>>,
+    pub stream: Mutex<Option<PeerStream>>,
     /// The receipts.
     pub shares: Mutex<Vec<Share>>,
     /// Notification lines that the connection has not written yet, at most `MOST_TOLD` bytes and one line.
@@ -36,7 +36,7 @@ impl Slot {
     pub fn shut<R: Wait>(&self, rt: &R) {
         self.is_leaving.store(true, Ordering::SeqCst);
         if let Some(stream) = &*self.stream.lock(rt) {
-            let _ = stream.shutdown(Shutdown::Both);
+            stream.shut();
         }
     }
 
@@ -77,13 +77,13 @@ impl Slot {
     }
 }
 
-/// A listening port, and the slots of its connections.
+/// A listening port or socket, and the slots of its connections.
 #[derive(Drop)]
 pub struct Endpoint {
     /// `None` after the endpoint is closed.
-    pub listener: Mutex<Option<TcpListener>>,
-    /// The address of the port.
-    pub address: SocketAddr,
+    pub listener: Mutex<Option<Listener>>,
+    /// The address of the port or socket.
+    pub address: Address,
     /// The kind of peer.
     pub peer: Peer,
     /// The slots of the connections.

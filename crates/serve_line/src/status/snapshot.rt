@@ -5,7 +5,7 @@ use rbc_log::{CentreLog, MOST_ENTRIES};
 use rbc_node::Node;
 use std::alloc::{AllocError, Global};
 use std::io::Write;
-use std::sync::Wait;
+use std::sync::{Mutex, Wait};
 use text_script::print::{print_section, print_train};
 use text_script::status::Fault;
 use text_script::{Mark, SectionRun, SectionView};
@@ -25,18 +25,20 @@ struct Mission {
     hand: SectionRun,
 }
 
-/// Reads the centres one after another, and writes the line as a run shows it.
+/// Reads the centres one after another, and writes the line as a run shows it. Each entry of a log is read once, for
+/// all connections.
 pub fn show<R: Wait>(
     rt: &R,
     alloc: Global,
     line: &Line,
     nodes: &[Node],
-    mention_order: &mut MentionOrder,
+    mentions: &Mutex<MentionOrder>,
     text: &mut Vec<u8>,
 ) -> Result<(), Fault<'static>> {
     let mut snapshot = Snapshot::new(alloc, line)?;
+    let mut mention_order = mentions.lock(rt);
     for node in nodes {
-        catch_up(rt, line, node, mention_order);
+        catch_up(rt, line, node, &mut mention_order);
     }
     for node in nodes {
         let look = node.look(rt);
@@ -44,7 +46,7 @@ pub fn show<R: Wait>(
         mention_order.read_on(line, look.log());
     }
     writeln!(text, "> show")?;
-    snapshot.print(alloc, line, mention_order, text)
+    snapshot.print(alloc, line, &mention_order, text)
 }
 
 // Reads the new entries of a log, in pieces. Between two pieces its centre may take steps.
@@ -136,7 +138,7 @@ impl Snapshot {
             return Ok(());
         };
         let supervisor = self.mission(i).map(|mission| mission.supervisor);
-        print_train(text, line, train.nid_engine, supervisor)
+        Ok(print_train(text, line, train.nid_engine, supervisor)?)
     }
 
     // The usage of a section with this entry at its home.

@@ -61,15 +61,21 @@ impl<'a> TrainConnections<'a> {
     /// Removes the connection of this number. It returns false if the connection was cut, since its train was too slow,
     /// or is not registered.
     pub fn leave<R: Wait>(&self, rt: &R, number: usize) -> bool {
-        match self.board.lock(rt).leave(number) {
-            Some(connection) => !connection.is_cut(),
-            None => false,
-        }
+        let connection = self.board.lock(rt).leave(number);
+        connection.is_some_and(|connection| !connection.is_cut())
     }
 
     /// Whether the connection of this number serves a train.
     pub fn is_serving<R: Wait>(&self, rt: &R, number: usize) -> bool {
         self.board.lock(rt).is_serving(number)
+    }
+
+    /// Whether the connection of this number serves the train of this engine.
+    pub fn serves<R: Wait>(&self, rt: &R, number: usize, nid_engine: u32) -> bool {
+        match self.line.train_number(nid_engine) {
+            Some(train) => self.board.lock(rt).serves(number, train as usize),
+            None => false,
+        }
     }
 
     // The connection for a message of this route, with its number, if one serves its train. A connection that served

@@ -11,10 +11,10 @@ ghost use Rattle.text_script.specs.Print.Rows.{body_name, name_at, frame_row, re
 ghost use Rattle.text_script.specs.Print.Answers.{AreSayingRows, IsLinkRemark, IsOutcomePrint, IsRemark, IsSayingRow, SaysNothing, frame_rows};
 
 use crate::print::print::name_of;
-use crate::status::Fault;
+use crate::status::PrintFault;
 use rbc_line::Line;
 use rbc_msgs::encode_track;
-use rbc_world::{Body, Frames, LinkAnswer, Outcome, Reason, Saying, StepFault, Word};
+use rbc_world::{Body, Frames, LinkAnswer, Outcome, Reason, Saying, Word};
 use std::alloc::Global;
 use std::io::Write;
 
@@ -25,7 +25,7 @@ pub fn print_outcome<W: Write>(
     line: &Line,
     centre: &str,
     outcome: &Outcome,
-) -> Result<(), Fault<'static>>
+) -> Result<(), PrintFault>
     ensures { OnOk result ((text : List ℕ) × IsOutcomePrint line.now centre.now (outcome_of outcome.now) text
         × Appends (W.contents out.old) (W.contents out.new) text) }
 {
@@ -41,7 +41,7 @@ fn print_sayings<W: Write>(
     out: &mut W,
     centre: &str,
     sayings: &[Saying],
-) -> Result<(), Fault<'static>>
+) -> Result<(), PrintFault>
     ensures { OnOk result ((text : List ℕ) × AreSayingRows centre.now (map saying_of sayings.now) text
         × Appends (W.contents out.old) (W.contents out.new) text) }
 {
@@ -56,12 +56,12 @@ fn print_saying<W: Write>(
     out: &mut W,
     centre: &str,
     saying: &Saying,
-) -> Result<(), Fault<'static>>
+) -> Result<(), PrintFault>
     ensures { OnOk result ((text : List ℕ) × IsSayingRow centre.now (saying_of saying.now) text
         × Appends (W.contents out.old) (W.contents out.new) text) }
 {
     let Ok(bytes) = encode_track(alloc, &saying.message) else {
-        return Err(Fault::Step(StepFault::Memory));
+        return Err(PrintFault::Memory);
     };
     let digits = hex::encode_upper(alloc, &bytes)?;
     writeln!(out, "{centre} -> {} {digits}", saying.nid_engine)?;
@@ -74,7 +74,7 @@ fn print_all_frames<W: Write>(
     line: &Line,
     centre: &str,
     frames: &Frames,
-) -> Result<(), Fault<'static>>
+) -> Result<(), PrintFault>
     ensures { OnOk result (Appends (W.contents out.old) (W.contents out.new) (frame_rows line.now centre.now
         (frames_to frames.now) (length line.now.centres))) }
 {
@@ -91,7 +91,7 @@ fn print_frames<W: Write>(
     centre: &str,
     to: u8,
     frames: &Frames,
-) -> Result<(), Fault<'static>>
+) -> Result<(), PrintFault>
     ensures { OnOk result (Appends (W.contents out.old) (W.contents out.new) (flat_map (frame_row centre.now
         (name_at line.now to)) (frames_to frames.now to))) }
 {
@@ -125,7 +125,7 @@ fn body_name(body: Body) -> &'static str
 }
 
 // Prints the step's replies to the interlocking.
-fn print_words<W: Write>(out: &mut W, centre: &str, outcome: &Outcome) -> Result<(), Fault<'static>>
+fn print_words<W: Write>(out: &mut W, centre: &str, outcome: &Outcome) -> Result<(), PrintFault>
     ensures { OnOk result (Appends (W.contents out.old) (W.contents out.new) (flat_map (word_row centre.now)
         (outcome_of outcome.now).words)) }
 {
@@ -135,7 +135,7 @@ fn print_words<W: Write>(out: &mut W, centre: &str, outcome: &Outcome) -> Result
     Ok(())
 }
 
-fn print_word<W: Write>(out: &mut W, centre: &str, word: &Word) -> Result<(), Fault<'static>>
+fn print_word<W: Write>(out: &mut W, centre: &str, word: &Word) -> Result<(), PrintFault>
     ensures { OnOk result (Appends (W.contents out.old) (W.contents out.new) (word_row centre.now
         (word_of word.now))) }
 {
@@ -150,11 +150,7 @@ fn print_word<W: Write>(out: &mut W, centre: &str, word: &Word) -> Result<(), Fa
 }
 
 // Prints why the step was silent, or its last remark.
-fn print_remark<W: Write>(
-    out: &mut W,
-    centre: &str,
-    outcome: &Outcome,
-) -> Result<(), Fault<'static>>
+fn print_remark<W: Write>(out: &mut W, centre: &str, outcome: &Outcome) -> Result<(), PrintFault>
     ensures { OnOk result ((text : List ℕ) × IsRemark centre.now (outcome_of outcome.now)
         (outcome_of outcome.now).silence text × Appends (W.contents out.old) (W.contents out.new) text) }
 {
@@ -164,7 +160,7 @@ fn print_remark<W: Write>(
     }
 }
 
-fn print_silence<W: Write>(out: &mut W, centre: &str, why: Reason) -> Result<(), Fault<'static>>
+fn print_silence<W: Write>(out: &mut W, centre: &str, why: Reason) -> Result<(), PrintFault>
     ensures { OnOk result (Appends (W.contents out.old) (W.contents out.new) (silence_row centre.now
         (reason_of why))) }
 {
@@ -172,11 +168,7 @@ fn print_silence<W: Write>(out: &mut W, centre: &str, why: Reason) -> Result<(),
     Ok(())
 }
 
-fn print_last<W: Write>(
-    out: &mut W,
-    centre: &str,
-    remark: Option<&str>,
-) -> Result<(), Fault<'static>>
+fn print_last<W: Write>(out: &mut W, centre: &str, remark: Option<&str>) -> Result<(), PrintFault>
     ensures { OnOk result (Appends (W.contents out.old) (W.contents out.new) (option_map_or (remark_row centre.now)
         (option_map (λ r. r.now) remark.entry) [])) }
 {

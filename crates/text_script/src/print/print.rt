@@ -11,7 +11,7 @@ ghost use Rattle.text_script.specs.Print.Answers.{IsAnswerPrint};
 ghost use Rattle.text_script.specs.Print.Shown.{line_text, section_rows, train_rows};
 
 use crate::print::outcome::print_outcome;
-use crate::status::Fault;
+use crate::status::PrintFault;
 use rbc_line::Line;
 use rbc_world::{Answer, LineView, Mark, SectionView, World, WorldEvent};
 use std::alloc::Global;
@@ -19,7 +19,7 @@ use std::fmt::Display;
 use std::io::Write;
 
 /// Prints the numbers of centres, tracks, sections and trains of the line.
-pub fn print_counts<W: Write>(out: &mut W, line: &Line) -> Result<(), Fault<'static>> {
+pub fn print_counts<W: Write>(out: &mut W, line: &Line) -> Result<(), PrintFault> {
     let centres = line.centre_count();
     let tracks = line.track_count();
     let sections = line.section_count();
@@ -37,7 +37,7 @@ pub fn print_event<W: Write>(
     out: &mut W,
     line: &Line,
     event: &WorldEvent,
-) -> Result<(), Fault<'static>>
+) -> Result<(), PrintFault>
     ensures { OnOk result (Appends (W.contents out.old) (W.contents out.new) (event_row line.now event.now)) }
 {
     match event {
@@ -66,7 +66,7 @@ fn print_row<W: Write, D: Display + Drop>(
     word: &str,
     centre: &str,
     rest: D,
-) -> Result<(), Fault<'static>>
+) -> Result<(), PrintFault>
     ensures { OnOk result (IfSome (D.output rest) (λ text. Appends (W.contents out.old) (W.contents out.new)
         (script_row word.now centre.now text))) }
 {
@@ -75,7 +75,7 @@ fn print_row<W: Write, D: Display + Drop>(
 }
 
 /// Prints the script line `show`, after `> `.
-pub fn print_show<W: Write>(out: &mut W) -> Result<(), Fault<'static>>
+pub fn print_show<W: Write>(out: &mut W) -> Result<(), PrintFault>
     ensures { OnOk result (Appends (W.contents out.old) (W.contents out.new) (codes "> show\n")) }
 {
     writeln!(out, "> show")?;
@@ -89,7 +89,7 @@ pub fn print_answer<W: Write>(
     line: &Line,
     event: &WorldEvent,
     answer: &Answer,
-) -> Result<(), Fault<'static>>
+) -> Result<(), PrintFault>
     ensures { OnOk result ((text : List ℕ) × IsAnswerPrint line.now (centre_of (event_of event.now))
         (answer_of answer.now) text × Appends (W.contents out.old) (W.contents out.new) text) }
 {
@@ -110,7 +110,7 @@ pub fn print_line<W: Write>(
     out: &mut W,
     line: &Line,
     world: &World,
-) -> Result<(), Fault<'static>>
+) -> Result<(), PrintFault>
     ensures { OnOk result (line.now ≡ line_of world.now
         → Appends (W.contents out.old) (W.contents out.new) (line_text line.now (state_of world.now))) }
 {
@@ -120,7 +120,7 @@ pub fn print_line<W: Write>(
 }
 
 // Prints the use of each section.
-fn print_sections<W: Write>(out: &mut W, line: &Line, view: &LineView) -> Result<(), Fault<'static>>
+fn print_sections<W: Write>(out: &mut W, line: &Line, view: &LineView) -> Result<(), PrintFault>
     ensures { OnOk result ((v : LineState) → Shows line.now v view.now
         → Appends (W.contents out.old) (W.contents out.new) (section_rows line.now v (length line.now.sections))) }
 {
@@ -136,7 +136,7 @@ fn print_trains<W: Write>(
     line: &Line,
     world: &World,
     view: &LineView,
-) -> Result<(), Fault<'static>>
+) -> Result<(), PrintFault>
     ensures { OnOk result ((v : LineState) → Shows line.now v view.now
         → Appends (W.contents out.old) (W.contents out.new) (train_rows line.now v (state_of world.now).trains)) }
 {
@@ -164,7 +164,7 @@ pub fn print_section<W: Write>(
     line: &Line,
     number: usize,
     section: &SectionView,
-) -> Result<(), Fault<'static>>
+) -> Result<(), PrintFault>
     ensures { OnOk result (Appends (W.contents out.old) (W.contents out.new) (section_row line.now number
         (mark_shown section.now.mark) section.now.is_wished)) }
 {
@@ -176,7 +176,7 @@ pub fn print_section<W: Write>(
 }
 
 // Prints the use of a section, with the engine of the train that uses it.
-fn print_mark<W: Write>(out: &mut W, mark: Mark) -> Result<(), Fault<'static>>
+fn print_mark<W: Write>(out: &mut W, mark: Mark) -> Result<(), PrintFault>
     ensures { OnOk result (Appends (W.contents out.old) (W.contents out.new) (mark_text (mark_shown mark))) }
 {
     let (word, train) = match mark {
@@ -198,7 +198,7 @@ pub fn print_train<W: Write>(
     line: &Line,
     nid_engine: u32,
     supervisor: Option<u8>,
-) -> Result<(), Fault<'static>>
+) -> Result<(), PrintFault>
     ensures { OnOk result (Appends (W.contents out.old) (W.contents out.new)
         (train_row line.now nid_engine supervisor)) }
 {

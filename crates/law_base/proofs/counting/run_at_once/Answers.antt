@@ -1,6 +1,6 @@
 use Rattle.std.proofs.Common.{ap}
-use Rattle.law_base.proofs.CountingLemmas.Sweep.{sweep_over, sweep_where}
 use Rattle.law_base.proofs.counting.run_at_once.Goals as goal
+use Rattle.law_base.proofs.CountingLemmas.Places.{sweep_over, sweep_where}
 
 pub returns-clause-state : goal.returns-clause-state
 returns-clause-state c change say r f s = ap (λ o. o.state s) (sweep_over change say r f)

@@ -1,5 +1,5 @@
-use Rattle.law_mutants.proofs.Stamps.{stays_stale}
-use Rattle.law_mutants.proofs.Broken.{heard_before, heard_again}
+use Rattle.law_mutants.proofs.Broken.{heard_again, heard_before}
+use Rattle.law_mutants.proofs.Kept.{stays_stale}
 use Rattle.law_mutants.proofs.laws.no_older_stamp_is_kept.Goals as goal
 
 pub returns-clause-the_rule_keeps : goal.returns-clause-the_rule_keeps

@@ -1,5 +1,5 @@
-use Rattle.law_mutants.proofs.Kept.{yielded_once}
 use Rattle.law_mutants.proofs.Broken.{mission_kept}
+use Rattle.law_mutants.proofs.Kept.{yielded_once}
 use Rattle.law_mutants.proofs.laws.no_yield_keeps_its_mission.Goals as goal
 
 pub returns-clause-the_rule_keeps : goal.returns-clause-the_rule_keeps

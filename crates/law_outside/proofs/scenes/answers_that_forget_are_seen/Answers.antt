@@ -1,5 +1,6 @@
-use Rattle.law_outside.proofs.Seen.{shortened_is_not_safe, before_is_not_safe, late_is_not_safe, advance_is_not_safe, another_is_not_safe, rejected_is_not_safe}
 use Rattle.law_outside.proofs.scenes.answers_that_forget_are_seen.Goals as goal
+use Rattle.law_outside.proofs.Seen.{advance_is_not_safe, another_is_not_safe, before_is_not_safe, late_is_not_safe}
+use Rattle.law_outside.proofs.Seen.{rejected_is_not_safe, shortened_is_not_safe}
 
 pub returns-clause-shortened_by_an_authority : goal.returns-clause-shortened_by_an_authority
 returns-clause-shortened_by_an_authority c = shortened_is_not_safe

@@ -1,5 +1,5 @@
-use Rattle.law_outside.proofs.Seen.{own_first, own_second, not_the_first, not_the_second}
 use Rattle.law_outside.proofs.scenes.trains_side_by_side_are_seen.Goals as goal
+use Rattle.law_outside.proofs.Seen.{not_the_first, not_the_second, own_first, own_second}
 
 pub returns-clause-first : goal.returns-clause-first
 returns-clause-first c = own_first

@@ -1,5 +1,6 @@
-use Rattle.law_outside.proofs.Seen.{runs_over_third, reported_first, reported_second, granted_third, granted_second, granted_back, granted_not_back, ended_second, ended_first}
 use Rattle.law_outside.proofs.scenes.what_trains_take_back_is_seen.Goals as goal
+use Rattle.law_outside.proofs.Seen.{ended_first, ended_second, granted_back, granted_not_back, granted_second}
+use Rattle.law_outside.proofs.Seen.{granted_third, reported_first, reported_second, runs_over_third}
 
 pub returns-clause-runs : goal.returns-clause-runs
 returns-clause-runs c = runs_over_third

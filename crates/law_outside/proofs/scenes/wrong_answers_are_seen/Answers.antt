@@ -1,5 +1,6 @@
-use Rattle.law_outside.proofs.Seen.{longer_is_not_safe, over_a_start_is_not_safe, had_back_is_not_safe, out_of_nothing_is_not_safe}
 use Rattle.law_outside.proofs.scenes.wrong_answers_are_seen.Goals as goal
+use Rattle.law_outside.proofs.Seen.{had_back_is_not_safe, longer_is_not_safe, out_of_nothing_is_not_safe}
+use Rattle.law_outside.proofs.Seen.{over_a_start_is_not_safe}
 
 pub returns-clause-longer_than_the_hand : goal.returns-clause-longer_than_the_hand
 returns-clause-longer_than_the_hand c = longer_is_not_safe

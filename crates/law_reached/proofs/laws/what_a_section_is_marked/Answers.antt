@@ -1,5 +1,4 @@
-use Rattle.law_reached.proofs.Known.{flow}
-use Rattle.law_reached.proofs.Marks.{sections_seen}
+use Rattle.law_reached.proofs.Known.{flow, sections_seen}
 use Rattle.law_reached.proofs.laws.what_a_section_is_marked.Goals as goal
 
 pub returns : goal.returns

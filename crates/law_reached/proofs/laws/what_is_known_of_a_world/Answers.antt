@@ -1,5 +1,5 @@
-use Rattle.law_invariants.proofs.FlowLemmas.Numbers.{sent_number}
-use Rattle.law_reached.proofs.Known.{one_proof, is_known, stands, sound}
+use Rattle.law_invariants.proofs.FlowLemmas.Steps.{sent_number}
+use Rattle.law_reached.proofs.Known.{is_known, one_proof, sound, stands}
 use Rattle.law_reached.proofs.laws.what_is_known_of_a_world.Goals as goal
 
 pub returns-clause-reached : goal.returns-clause-reached

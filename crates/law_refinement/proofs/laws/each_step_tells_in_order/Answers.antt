@@ -1,4 +1,4 @@
-use Rattle.law_refinement.proofs.InOrder.{step_in_order}
+use Rattle.law_refinement.proofs.InOrderSteps.{step_in_order}
 use Rattle.law_refinement.proofs.laws.each_step_tells_in_order.Goals as goal
 
 pub returns : goal.returns

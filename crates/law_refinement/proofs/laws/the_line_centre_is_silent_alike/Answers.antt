@@ -1,5 +1,5 @@
-use Rattle.law_refinement.proofs.Silence.{silent, heard, heard_alike}
 use Rattle.law_refinement.proofs.laws.the_line_centre_is_silent_alike.Goals as goal
+use Rattle.law_refinement.proofs.Silence.{heard, heard_alike, silent}
 
 pub returns-clause-silent : goal.returns-clause-silent
 returns-clause-silent ctx line w v c m why meets is = silent line w v meets.sound.flow meets.shows c m why is

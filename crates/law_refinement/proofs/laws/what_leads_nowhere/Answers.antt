@@ -1,4 +1,4 @@
-use Rattle.law_refinement.proofs.Events.{silent_stays, stray_stays, fault_stays, nowhere_stays, unsent_stays}
+use Rattle.law_refinement.proofs.Events.{fault_stays, nowhere_stays, silent_stays, stray_stays, unsent_stays}
 use Rattle.law_refinement.proofs.laws.what_leads_nowhere.Goals as goal
 
 pub returns-clause-silent : goal.returns-clause-silent
@@ -8,7 +8,8 @@ pub returns-clause-unspelled : goal.returns-clause-unspelled
 returns-clause-unspelled ctx line w v c number ok meets = fault_stays line ok w v meets c number
 
 pub returns-clause-stray : goal.returns-clause-stray
-returns-clause-stray ctx line w v a b number f ok meets sent stray = stray_stays line ok w v meets a b number f sent stray
+returns-clause-stray ctx line w v a b number f ok meets sent stray =
+    stray_stays line ok w v meets a b number f sent stray
 
 pub returns-clause-unsent : goal.returns-clause-unsent
 returns-clause-unsent ctx line w v a b number ok meets none = unsent_stays line ok w v meets a b number none

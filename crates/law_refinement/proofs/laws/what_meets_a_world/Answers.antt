@@ -1,5 +1,5 @@
-use Rattle.law_refinement.proofs.Lines.{line_begins, is_read, stands_read}
 use Rattle.law_refinement.proofs.laws.what_meets_a_world.Goals as goal
+use Rattle.law_refinement.proofs.Promises.{is_read, line_begins, stands_read}
 
 pub returns-clause-beginning : goal.returns-clause-beginning
 returns-clause-beginning ctx = line_begins

@@ -1,8 +1,9 @@
 use Rattle.std.proofs.Common.{sym}
-use Rattle.rbc_book.specs.Edits.{with_page}
-use Rattle.rbc_book.proofs.Rows.{at_read}
-use Rattle.rbc_book.proofs.Places.{changed_is}
 use Rattle.rbc_book.proofs.parts.turn.Goals as goal
+use Rattle.rbc_book.proofs.Rows.{at_read, changed_is}
+use Rattle.rbc_book.specs.Edits.{with_page}
 
 pub returns-clause-items : goal.returns-clause-items
-returns-clause-items c = sym (changed_is (with_page c.args.page) c.args.i c.args.runs.now.items c.index_mut-run.result.now (at_read c.args.runs.now.items c.args.i c.index_mut-run.result.now c.requires c.index_mut-run.ensures.value))
+returns-clause-items c =
+    sym (changed_is (with_page c.args.page) c.args.i c.args.runs.now.items c.index_mut-run.result.now
+    (at_read c.args.runs.now.items c.args.i c.index_mut-run.result.now c.requires c.index_mut-run.ensures.value))

@@ -1,5 +1,5 @@
 use Rattle.std.proofs.Common.{◌-◌}
-use Rattle.rbc_book.proofs.Searches.{IsSought}
+use Rattle.rbc_book.proofs.Rows.{IsSought}
 use Rattle.rbc_book.proofs.runs.find.Given as goal
 
 abbrev pub invariant-loop-low : goal.invariant-loop-low

@@ -1,4 +1,4 @@
-use Rattle.rbc_book.proofs.Uses.{AreUnused}
+use Rattle.rbc_book.proofs.Pages.{AreUnused}
 use Rattle.rbc_book.proofs.runs.first_in_use.Given as goal
 
 abbrev pub invariant-loop-i : goal.invariant-loop-i

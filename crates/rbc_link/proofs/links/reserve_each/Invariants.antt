@@ -1,6 +1,6 @@
-use Rattle.std.proofs.Common.{◌≡◌, ℕ, ◌<◌, ◌≤◌, true}
-use Rattle.rbc_link.specs.Links.{KeepsLinks, has_link, room_to}
+use Rattle.std.proofs.Common.{◌<◌, ◌≡◌, ◌≤◌, true, ℕ}
 use Rattle.rbc_link.proofs.links.reserve_each.Given as goal
+use Rattle.rbc_link.specs.Links.{has_link, KeepsLinks, room_to}
 
 abbrev pub invariant-loop-i : goal.invariant-loop-i
 invariant-loop-i g l = record {

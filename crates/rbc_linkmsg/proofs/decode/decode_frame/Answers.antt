@@ -1,6 +1,6 @@
 use Rattle.std.proofs.Common.{◌∙◌}
-use Rattle.rbc_linkmsg.proofs.Readings.{no_fault}
 use Rattle.rbc_linkmsg.proofs.decode.decode_frame.Goals as goal
+use Rattle.rbc_linkmsg.proofs.Readings.{no_fault}
 
 pub returns-in_err-kind-clause-found : goal.returns-in_err-kind-clause-found
 returns-in_err-kind-clause-found c =

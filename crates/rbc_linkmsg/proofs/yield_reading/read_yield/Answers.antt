@@ -1,5 +1,5 @@
 use Rattle.std.proofs.Common.{rules}
-use Rattle.rbc_linkmsg.proofs.Yields.{yielding_fields}
+use Rattle.rbc_linkmsg.proofs.Readings.{yielding_fields}
 use Rattle.rbc_linkmsg.proofs.yield_reading.read_yield.Goals as goal
 
 pub returns-in_err-yielding-clause-found : goal.returns-in_err-yielding-clause-found

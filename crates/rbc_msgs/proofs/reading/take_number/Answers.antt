@@ -1,9 +1,9 @@
 use Rattle.std.proofs.Common.{◌∙◌, ap}
-use Rattle.rbc_bits.specs.Reading.{field_at}
-use Rattle.rbc_bits.proofs.Taking.{field_at-field, field_at-few, field_at_err}
+use Rattle.rbc_bits.proofs.Fields.{field_at-few, field_at-field, field_at_err}
 use Rattle.rbc_bits.specs.declared.fault.BitFault.TheVariants as bits
-use Rattle.rbc_msgs.specs.declared.fault.MsgFault.TheVariants.{Missing}
+use Rattle.rbc_bits.specs.Reading.{field_at}
 use Rattle.rbc_msgs.proofs.reading.take_number.Goals as goal
+use Rattle.rbc_msgs.specs.declared.fault.MsgFault.TheVariants.{Missing}
 
 pub returns-in-Ok-clause-exact : goal.returns-in-Ok-clause-exact
 returns-in-Ok-clause-exact c =

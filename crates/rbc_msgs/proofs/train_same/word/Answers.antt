@@ -1,5 +1,5 @@
 use Rattle.std.proofs.Common.{arith}
-use Rattle.rbc_bits.proofs.Taking.{field_at_err}
+use Rattle.rbc_bits.proofs.Fields.{field_at_err}
 use Rattle.rbc_bits.specs.declared.fault.BitFault.TheVariants as bits
 use Rattle.rbc_msgs.proofs.train_same.word.Goals as goal
 

@@ -1,9 +1,9 @@
-use Rattle.std.proofs.Common.{◌++◌, sym, ap, ◌∙◌}
-use Rattle.rbc_packets.specs.Layout.{joined}
-use Rattle.rbc_packets.proofs.Joined.{joined-nil}
-use Rattle.rbc_msgs.specs.Numbers.{track_number_value}
+use Rattle.std.proofs.Common.{◌++◌, ◌∙◌, ap, sym}
 use Rattle.rbc_msgs.proofs.TrackLaws.{put-together, some_read-again}
 use Rattle.rbc_msgs.proofs.usual_track.bare.Goals as goal
+use Rattle.rbc_msgs.specs.Numbers.{track_number_value}
+use Rattle.rbc_packets.proofs.Again.{joined-nil}
+use Rattle.rbc_packets.specs.Layout.{joined}
 
 pub returns-clause-found : goal.returns-clause-found
 returns-clause-found c =

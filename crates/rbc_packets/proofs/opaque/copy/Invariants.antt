@@ -1,4 +1,4 @@
-use Rattle.std.proofs.Common.{◌≡◌, ◌++◌, length}
+use Rattle.std.proofs.Common.{◌++◌, ◌≡◌, length}
 use Rattle.rbc_packets.proofs.opaque.copy.Given as goal
 
 abbrev pub invariant-loop-word : goal.invariant-loop-word

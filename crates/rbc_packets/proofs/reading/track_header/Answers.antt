@@ -1,4 +1,4 @@
-use Rattle.rbc_packets.proofs.Joined.{track_header-at_once}
+use Rattle.rbc_packets.proofs.Again.{track_header-at_once}
 use Rattle.rbc_packets.proofs.reading.track_header.Goals as goal
 
 pub returns-clause-value : goal.returns-clause-value

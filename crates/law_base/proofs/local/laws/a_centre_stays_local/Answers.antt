@@ -1,5 +1,5 @@
-use Rattle.law_base.proofs.LocalLemmas.Steps.{train_stays, set_step_stays, unset_step_stays}
 use Rattle.law_base.proofs.local.laws.a_centre_stays_local.Goals as goal
+use Rattle.law_base.proofs.LocalLemmas.Steps.{set_step_stays, train_stays, unset_step_stays}
 
 pub returns-clause-train : goal.returns-clause-train
 returns-clause-train o line c d k m ordered one local = train_stays line c ordered d one k m local

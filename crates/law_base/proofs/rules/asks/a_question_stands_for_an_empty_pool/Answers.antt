@@ -1,5 +1,5 @@
-use Rattle.law_base.proofs.RulesLemmas.Questions.{begins, step_keeps, wanted_is}
 use Rattle.law_base.proofs.rules.asks.a_question_stands_for_an_empty_pool.Goals as goal
+use Rattle.law_base.proofs.RulesLemmas.Questions.{begins, step_keeps, wanted_is}
 
 pub returns-clause-beginning : goal.returns-clause-beginning
 returns-clause-beginning a = begins

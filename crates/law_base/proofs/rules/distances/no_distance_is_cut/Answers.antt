@@ -1,5 +1,5 @@
-use Rattle.law_base.proofs.RulesLemmas.Metres.{authority_reaches, shortening_reaches, border_ahead}
 use Rattle.law_base.proofs.rules.distances.no_distance_is_cut.Goals as goal
+use Rattle.law_base.proofs.RulesLemmas.Places.{authority_reaches, border_ahead, shortening_reaches}
 
 pub returns-clause-authority : goal.returns-clause-authority
 returns-clause-authority a line c k m n place h = authority_reaches line c k m n place h

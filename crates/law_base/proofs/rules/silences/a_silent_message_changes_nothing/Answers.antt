@@ -1,5 +1,5 @@
-use Rattle.law_base.proofs.RulesLemmas.Silent.{state_is, sayings_are, frames_are, words_are}
 use Rattle.law_base.proofs.rules.silences.a_silent_message_changes_nothing.Goals as goal
+use Rattle.law_base.proofs.RulesLemmas.Places.{frames_are, sayings_are, state_is, words_are}
 
 pub returns-clause-state : goal.returns-clause-state
 returns-clause-state a = state_is

@@ -1,5 +1,5 @@
-use Rattle.law_base.proofs.RulesLemmas.SentTaken.{few_frames, few_sayings, few_words}
 use Rattle.law_base.proofs.rules.steps.a_step_sends_few.Goals as goal
+use Rattle.law_base.proofs.RulesLemmas.SentTaken.{few_frames, few_sayings, few_words}
 
 pub returns-clause-frames : goal.returns-clause-frames
 returns-clause-frames a line c d k event h few = few_frames d line c k event h few

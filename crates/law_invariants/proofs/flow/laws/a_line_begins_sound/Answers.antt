@@ -1,5 +1,5 @@
-use Rattle.law_invariants.proofs.FlowLemmas.Begins.{line_begins, line_begins_whole, line_begins_numbered, line_shows}
 use Rattle.law_invariants.proofs.flow.laws.a_line_begins_sound.Goals as goal
+use Rattle.law_invariants.proofs.FlowLemmas.OnePlace.{line_begins, line_begins_numbered, line_begins_whole, line_shows}
 
 pub returns-clause-sound : goal.returns-clause-sound
 returns-clause-sound c line = line_begins line

@@ -1,5 +1,5 @@
-use Rattle.law_invariants.proofs.FlowLemmas.Steps.{by_itself, at_head}
 use Rattle.law_invariants.proofs.flow.laws.a_step_is_an_act.Goals as goal
+use Rattle.law_invariants.proofs.FlowLemmas.Steps.{at_head, by_itself}
 
 pub returns-clause-by_itself : goal.returns-clause-by_itself
 returns-clause-by_itself ctx w c stamp k e trains same still = by_itself w c stamp k e trains same still

@@ -1,6 +1,6 @@
-use Rattle.rbc_spec.specs.Step.{Train, Set, Unset, Deliver, stamp_of, ticked}
-use Rattle.law_invariants.proofs.FlowLemmas.Takes.{train_keeps, set_keeps, unset_keeps, deliver_taken}
 use Rattle.law_invariants.proofs.flow.laws.a_step_takes_the_next_frame_alone.Goals as goal
+use Rattle.law_invariants.proofs.FlowLemmas.Takes.{deliver_taken, set_keeps, train_keeps, unset_keeps}
+use Rattle.rbc_spec.specs.Step.{Deliver, Set, stamp_of, ticked, Train, Unset}
 
 pub returns-clause-train : goal.returns-clause-train
 returns-clause-train ctx line c k m = train_keeps line c m (ticked (stamp_of k (Train m)) k)

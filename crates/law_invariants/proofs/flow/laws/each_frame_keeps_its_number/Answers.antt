@@ -1,5 +1,5 @@
-use Rattle.law_invariants.proofs.FlowLemmas.Numbers.{world_step_numbered, sent_number, next_sent}
 use Rattle.law_invariants.proofs.flow.laws.each_frame_keeps_its_number.Goals as goal
+use Rattle.law_invariants.proofs.FlowLemmas.Steps.{next_sent, sent_number, world_step_numbered}
 
 pub returns-clause-kept : goal.returns-clause-kept
 returns-clause-kept ctx line w event answer new has is = world_step_numbered line w has event answer new is

@@ -1,5 +1,5 @@
-use Rattle.law_invariants.proofs.FlowLemmas.Compose.{leads_rest, leads_then}
 use Rattle.law_invariants.proofs.flow.laws.one_act_after_another.Goals as goal
+use Rattle.law_invariants.proofs.FlowLemmas.Shown.{leads_rest, leads_then}
 
 pub returns-clause-none : goal.returns-clause-none
 returns-clause-none ctx line w c k v sound shows = leads_rest line w c k v sound shows

@@ -1,6 +1,6 @@
+use Rattle.law_invariants.proofs.no_loss.laws.each_step_is_exact.Goals as goal
 use Rattle.law_invariants.proofs.NoLossLemmas.Rights.{no_right_lost}
 use Rattle.law_invariants.proofs.NoLossLemmas.Tokens.{no_token_lost}
-use Rattle.law_invariants.proofs.no_loss.laws.each_step_is_exact.Goals as goal
 
 pub returns : goal.returns
 returns ctx line c k event ok range sound order due = record {

@@ -1,4 +1,4 @@
-use Rattle.law_invariants.proofs.FlowLemmas.Begins.{centre_begins}
+use Rattle.law_invariants.proofs.FlowLemmas.OnePlace.{centre_begins}
 use Rattle.law_invariants.proofs.sound.laws.a_centre_begins_sound.Goals as goal
 
 pub returns : goal.returns

@@ -1,5 +1,5 @@
-use Rattle.law_invariants.proofs.SoundLemmas.Ranges.{range_hand, sound_hand}
 use Rattle.law_invariants.proofs.sound.laws.a_frame_in_range_has_a_hand.Goals as goal
+use Rattle.law_invariants.proofs.SoundLemmas.Worlds.{range_hand, sound_hand}
 
 pub returns-clause-ranges : goal.returns-clause-ranges
 returns-clause-ranges o body range = range_hand body range

@@ -1,9 +1,10 @@
-use Rattle.rbc_spec.specs.World.{new_world}
-use Rattle.law_invariants.proofs.RangesLemmas.Worlds.{new_in_range, run_in_range}
 use Rattle.law_invariants.proofs.NoStrayLemmas.Worlds.{each_reached}
-use Rattle.law_progress.proofs.RestLemmas.Rest.{comes_to_rest}
+use Rattle.law_invariants.proofs.RangesLemmas.Worlds.{new_in_range, run_in_range}
 use Rattle.law_progress.proofs.rest.laws.each_line_comes_to_rest.Goals as goal
+use Rattle.law_progress.proofs.RestLemmas.Rest.{comes_to_rest}
+use Rattle.rbc_spec.specs.World.{new_world}
 
 pub returns : goal.returns
-returns ctx line events answers w ok ranges before = comes_to_rest line ok w (each_reached line ok events answers w before)
+returns ctx line events answers w ok ranges before =
+    comes_to_rest line ok w (each_reached line ok events answers w before)
     (run_in_range line ok events (new_world line) ranges (new_in_range line) answers w before)

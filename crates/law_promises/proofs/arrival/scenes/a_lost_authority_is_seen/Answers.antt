@@ -1,5 +1,5 @@
-use Rattle.law_promises.proofs.ArrivalLemmas.Seen.{lost_part, lost_received, lost_third, lost_first}
 use Rattle.law_promises.proofs.arrival.scenes.a_lost_authority_is_seen.Goals as goal
+use Rattle.law_promises.proofs.ArrivalLemmas.Seen.{lost_first, lost_part, lost_received, lost_third}
 
 pub returns-clause-part : goal.returns-clause-part
 returns-clause-part c = lost_part

@@ -1,5 +1,5 @@
-use Rattle.law_promises.proofs.ArrivalLemmas.Within.{both_within, first_over, second_over, not_over, passed_is_not}
 use Rattle.law_promises.proofs.arrival.scenes.trains_within_are_seen.Goals as goal
+use Rattle.law_promises.proofs.ArrivalLemmas.Told.{both_within, first_over, not_over, passed_is_not, second_over}
 
 pub returns-clause-within : goal.returns-clause-within
 returns-clause-within c = both_within

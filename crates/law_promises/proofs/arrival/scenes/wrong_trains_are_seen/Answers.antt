@@ -1,6 +1,7 @@
-use Rattle.law_promises.proofs.ArrivalLemmas.Seen.{authority_refused, authority_two_trains, grant_refused, grant_had_back}
-use Rattle.law_promises.proofs.ArrivalLemmas.Told.{moved_is_safe, granted_is_safe}
 use Rattle.law_promises.proofs.arrival.scenes.wrong_trains_are_seen.Goals as goal
+use Rattle.law_promises.proofs.ArrivalLemmas.Seen.{authority_refused, authority_two_trains, grant_had_back}
+use Rattle.law_promises.proofs.ArrivalLemmas.Seen.{grant_refused}
+use Rattle.law_promises.proofs.ArrivalLemmas.Told.{granted_is_safe, moved_is_safe}
 
 pub returns-clause-authority : goal.returns-clause-authority
 returns-clause-authority c = authority_refused

@@ -1,5 +1,5 @@
-use Rattle.law_refinement.proofs.AbstractionLemmas.Hands.{counted, same, unchanged, was, given, left}
 use Rattle.law_refinement.proofs.abstraction.laws.hands_after.Goals as goal
+use Rattle.law_refinement.proofs.AbstractionLemmas.Hands.{counted, given, left, same, unchanged, was}
 
 pub returns-clause-counted : goal.returns-clause-counted
 returns-clause-counted ctx = counted

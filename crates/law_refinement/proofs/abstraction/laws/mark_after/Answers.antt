@@ -1,5 +1,5 @@
-use Rattle.law_refinement.proofs.AbstractionLemmas.Hands.{mark_shown, mark_stays}
 use Rattle.law_refinement.proofs.abstraction.laws.mark_after.Goals as goal
+use Rattle.law_refinement.proofs.AbstractionLemmas.Hands.{mark_shown, mark_stays}
 
 pub returns-clause-shown : goal.returns-clause-shown
 returns-clause-shown ctx = mark_shown

@@ -1,8 +1,8 @@
-use Rattle.std.specs.Prelude.{ℕ, Option}
-use Rattle.rbc_spec.specs.Place.{Place}
-use Rattle.rbc_spec.specs.Centre.{Phase}
-use Rattle.law_refinement.proofs.AbstractionLemmas.Shows.{part_stays, part_changes}
+use Rattle.std.specs.Prelude.{Option, ℕ}
 use Rattle.law_refinement.proofs.abstraction.laws.one_part_after.Goals as goal
+use Rattle.law_refinement.proofs.AbstractionLemmas.Shows.{part_changes, part_stays}
+use Rattle.rbc_spec.specs.Centre.{Phase}
+use Rattle.rbc_spec.specs.Place.{Place}
 
 pub returns-clause-phase : goal.returns-clause-phase
 returns-clause-phase ctx = (part_stays Phase, part_changes Phase)

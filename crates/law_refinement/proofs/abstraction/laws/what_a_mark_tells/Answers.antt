@@ -1,5 +1,5 @@
-use Rattle.law_refinement.proofs.AbstractionLemmas.Marks.{is_given, given_mark_of, kept_mark_of, in_use, in_no_hand}
 use Rattle.law_refinement.proofs.abstraction.laws.what_a_mark_tells.Goals as goal
+use Rattle.law_refinement.proofs.AbstractionLemmas.Marks.{given_mark_of, in_no_hand, in_use, is_given, kept_mark_of}
 
 pub returns-clause-given : goal.returns-clause-given
 returns-clause-given ctx line w v t s sound sees = is_given line w v t sound sees s

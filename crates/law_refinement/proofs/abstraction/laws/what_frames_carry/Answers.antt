@@ -1,6 +1,6 @@
 use Rattle.law_base.proofs.CountingLemmas.Resource.{carried_none}
-use Rattle.law_refinement.proofs.AbstractionLemmas.Frames.{sends_none, sends_some, sends_both, sends_single, sends_home}
 use Rattle.law_refinement.proofs.abstraction.laws.what_frames_carry.Goals as goal
+use Rattle.law_refinement.proofs.AbstractionLemmas.Hands.{sends_both, sends_home, sends_none, sends_single, sends_some}
 
 pub returns-clause-none : goal.returns-clause-none
 returns-clause-none ctx = sends_none

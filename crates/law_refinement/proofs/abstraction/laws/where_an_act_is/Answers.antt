@@ -1,6 +1,6 @@
-use Rattle.law_refinement.proofs.AbstractionLemmas.Entering.{entry_here, entry_elsewhere, entry_kept}
-use Rattle.law_refinement.proofs.AbstractionLemmas.Hands.{state_here, state_elsewhere}
 use Rattle.law_refinement.proofs.abstraction.laws.where_an_act_is.Goals as goal
+use Rattle.law_refinement.proofs.AbstractionLemmas.Hands.{state_elsewhere, state_here}
+use Rattle.law_refinement.proofs.AbstractionLemmas.Shows.{entry_elsewhere, entry_here, entry_kept}
 
 pub returns-clause-here : goal.returns-clause-here
 returns-clause-here ctx = state_here

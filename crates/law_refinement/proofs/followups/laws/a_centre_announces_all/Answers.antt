@@ -1,5 +1,5 @@
-use Rattle.law_refinement.proofs.FollowupsLemmas.AnnouncedSteps.{step_announces, begins_announced}
 use Rattle.law_refinement.proofs.followups.laws.a_centre_announces_all.Goals as goal
+use Rattle.law_refinement.proofs.FollowupsLemmas.AnnouncedSteps.{begins_announced, step_announces}
 
 pub returns-clause-begins : goal.returns-clause-begins
 returns-clause-begins o line c ok = begins_announced line ok c

@@ -1,5 +1,5 @@
-use Rattle.law_refinement.proofs.FollowupsLemmas.Borders.{asks_so, announces_so, border_so, grants_so}
 use Rattle.law_refinement.proofs.followups.laws.what_follows_at_a_border.Goals as goal
+use Rattle.law_refinement.proofs.FollowupsLemmas.Borders.{announces_so, asks_so, border_so, grants_so}
 
 pub returns-clause-asks : goal.returns-clause-asks
 returns-clause-asks o line w c t d k v = asks_so line w c t d k v

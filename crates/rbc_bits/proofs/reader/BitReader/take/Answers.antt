@@ -1,13 +1,12 @@
-use Rattle.std.proofs.Common.{◌≡◌, ◌+◌, ◌≤◌, ◌++◌, ◌∙◌, length, sym, ap, arith}
+use Rattle.std.proofs.Common.{◌++◌, ◌+◌, ◌∙◌, ◌≡◌, ◌≤◌, ap, arith, length, sym}
 use Rattle.std.proofs.lemmas.Result.{err_from_is_err_and}
-use Rattle.rbc_bits.specs.Bits.{field, bits_of}
-use Rattle.rbc_bits.specs.Reading.{field_at}
-use Rattle.rbc_bits.specs.declared.fault.BitFault.TheVariants.{Short}
-use Rattle.rbc_bits.proofs.Bytes.{length-bits_of}
-use Rattle.rbc_bits.proofs.Taking.{field_at-field, field_at-short}
-use Rattle.rbc_bits.proofs.Window.{window, length-window, window-field}
+use Rattle.rbc_bits.proofs.Bytes.{length-bits_of, length-window, window, window-field}
+use Rattle.rbc_bits.proofs.Fields.{field_at-field, field_at-short}
 use Rattle.rbc_bits.proofs.reader.BitReader.take.Goals as goal
 use Rattle.rbc_bits.proofs.reader.BitReader.take.Goals.{After-field_from}
+use Rattle.rbc_bits.specs.Bits.{bits_of, field}
+use Rattle.rbc_bits.specs.declared.fault.BitFault.TheVariants.{Short}
+use Rattle.rbc_bits.specs.Reading.{field_at}
 
 -- the part that was cut off is the field
 part-is : (c : After-field_from) → c.args.self.now ≡ field c.args.n c.field_from.result ++ c.cut.new.self
@@ -15,9 +14,11 @@ part-is c =
     let r = c.part.inside in
     let bits = bits_of r.bytes.now in
     let within : r.used + r.left ≤ length bits = omega (arith, length-bits_of r.bytes.now, c.part.invariant.1) in
-    let left : r.left ≡ c.args.n = sym (length-window r.used r.left bits within) ∙ ap length c.part.view_is ∙ c.in_ok-part.ensures.length in
+    let left : r.left ≡ c.args.n = sym (length-window r.used r.left bits within) ∙ ap length c.part.view_is
+    ∙ c.in_ok-part.ensures.length in
     let part : c.in_ok-part.part ≡ field c.args.n c.field_from.result =
-    sym c.part.view_is ∙ ap (λ n. window r.used n bits) left ∙ window-field r.used c.args.n c.field_from.result bits c.field_from.ensures.field in
+    sym c.part.view_is ∙ ap (λ n. window r.used n bits) left
+    ∙ window-field r.used c.args.n c.field_from.result bits c.field_from.ensures.field in
     c.in_ok-part.ensures.part ∙ ap (λ t. t ++ c.cut.new.self) part
 
 pub returns-in_err-part-clause-next : goal.returns-in_err-part-clause-next
@@ -30,4 +31,5 @@ returns-clause-field c = part-is c
 
 pub returns-clause-next : goal.returns-clause-next
 returns-clause-next c =
-    ap (field_at Short c.args.n) (part-is c) ∙ field_at-field Short c.args.n c.field_from.result c.cut.new.self c.field_from.ensures.fits
+    ap (field_at Short c.args.n) (part-is c)
+    ∙ field_at-field Short c.args.n c.field_from.result c.cut.new.self c.field_from.ensures.fits

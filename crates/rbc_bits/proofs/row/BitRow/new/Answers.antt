@@ -1,6 +1,6 @@
 use Rattle.std.proofs.Common.{refl}
-use Rattle.rbc_bits.specs.Bits.{field}
 use Rattle.rbc_bits.proofs.row.BitRow.new.Goals as goal
+use Rattle.rbc_bits.specs.Bits.{field}
 
 pub returns : goal.returns
 unfolding field

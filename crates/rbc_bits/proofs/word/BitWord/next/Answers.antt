@@ -1,10 +1,11 @@
-use Rattle.std.proofs.Common.{◌≡◌, ◌∙◌, length, sym, ap, arith}
+use Rattle.std.proofs.Common.{◌∙◌, ◌≡◌, ap, arith, length, sym}
 use Rattle.std.proofs.Math.Nat.{pow-le-pow_right}
-use Rattle.rbc_bits.proofs.Words.{length-front, length-following, taken, high}
 use Rattle.rbc_bits.proofs.word.BitWord.next.Goals as goal
+use Rattle.rbc_bits.proofs.Words.{high, length-following, length-front, taken}
 
 pub returns-clause-fits : goal.returns-clause-fits
-returns-clause-fits c = high c.self.inside.word c.args.n (omega (arith, c.self.ranges)) (omega (arith, c.requires.width.1))
+returns-clause-fits c = high c.self.inside.word c.args.n (omega (arith, c.self.ranges))
+    (omega (arith, c.requires.width.1))
 
 pub overflow_cast-value-2 : goal.overflow_cast-value-2
 overflow_cast-value-2 c =
@@ -13,8 +14,10 @@ overflow_cast-value-2 c =
 
 pub returns-clause-field : goal.returns-clause-field
 returns-clause-field c =
-    let left : c.self.inside.left ≡ length c.args.self.now = sym (length-front c.self.inside.word c.self.inside.left c.self.invariant) ∙ ap length c.self.view_is in
-    sym c.self.view_is ∙ taken c.self.inside.word c.self.inside.left c.args.n (omega (arith, left, c.requires.there)) c.self.invariant
+    let left : c.self.inside.left ≡ length c.args.self.now =
+    sym (length-front c.self.inside.word c.self.inside.left c.self.invariant) ∙ ap length c.self.view_is in
+    sym c.self.view_is ∙ taken c.self.inside.word c.self.inside.left c.args.n
+    (omega (arith, left, c.requires.there)) c.self.invariant
 
 pub returns-clause-length : goal.returns-clause-length
 returns-clause-length c = length-following _ _ c.args.n _ (returns-clause-field c)

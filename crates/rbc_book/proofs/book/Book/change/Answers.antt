@@ -1,9 +1,11 @@
-use Rattle.rbc_book.specs.Sheet.{pages_on}
-use Rattle.rbc_book.proofs.Pages.{IsChanged, changes}
 use Rattle.rbc_book.proofs.book.Book.change.Goals as goal
+use Rattle.rbc_book.proofs.Pages.{changes, IsChanged}
+use Rattle.rbc_book.specs.Sheet.{pages_on}
 
-changed : (c : goal.After-change) → IsChanged (pages_on c.self.inside.runs) (pages_on c.change.new.self) c.args.s c.args.change c.change.result
-changed c = changes c.self.inside.runs c.change.new.self c.args.s c.args.change c.change.result c.change.ensures.page c.change.ensures.pages c.change.ensures.none
+changed : (c : goal.After-change) → IsChanged (pages_on c.self.inside.runs) (pages_on c.change.new.self) c.args.s
+    c.args.change c.change.result
+changed c = changes c.self.inside.runs c.change.new.self c.args.s c.args.change c.change.result c.change.ensures.page
+    c.change.ensures.pages c.change.ensures.none
 
 pub returns-clause-own : goal.returns-clause-own
 returns-clause-own c = rw (← c.self.view_is) (changed c).own

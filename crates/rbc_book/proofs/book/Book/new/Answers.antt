@@ -1,7 +1,7 @@
 use Rattle.std.proofs.Common.{refl}
-use Rattle.rbc_book.specs.declared.page.TheConstants as constants
-use Rattle.rbc_book.proofs.Pages.{new_home, new_entry, new_wish}
 use Rattle.rbc_book.proofs.book.Book.new.Goals as goal
+use Rattle.rbc_book.proofs.Pages.{new_entry, new_home, new_wish}
+use Rattle.rbc_book.specs.declared.page.TheConstants as constants
 
 pub returns-clause-homes : goal.returns-clause-homes
 returns-clause-homes c = new_home c.args.line.now c.args.centre constants.Page.SHUT _ c.in_ok-runs.ensures.page

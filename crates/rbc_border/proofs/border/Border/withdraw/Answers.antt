@@ -39,7 +39,7 @@ returns-clause-run c =
     ap (λ (r : SectionRun). Some r) (part c)
     ∙ sym (cond-true (within c.args.self.now.pool c.args.s) (Some (part_from c.args.s c.args.self.now.pool)) None (in_pool c))
 
--- what is left of it
+-- the rest of it
 left : (c : After-spend_back) → part_before c.args.s c.args.self.now.pool ≡ record { first = c.self.inside.first; count = length c.spend_back.new.names.holds }
 left c =
     let pool : run_of c.pool-pool.result ≡ record { first = c.self.inside.first; count = length c.self.inside.names.holds } = c.pool-pool.ensures.value ∙ ap (λ (b : BorderState). b.pool) (sym c.self.view_is) in

@@ -17,7 +17,7 @@ returns-in_err-sent c =
     c.from_residual.ensures ∙ ap (λ (o : Option (Sent Body)). option_map (frame_by body_of) o) c.in_err-sent.ensures
     ∙ frame_number-by (sent_to c.args.self.now.links c.args.to) c.args.number
 
--- what is kept of each frame that was sent
+-- the invariant of each frame that was sent
 ranges : (c : In_ok-sent) → HasFrameRanges (frame_by body_of c.in_ok-sent.sent.now)
 ranges c =
     let k = c.args.self.now in

@@ -86,7 +86,7 @@ take-taken-requires-clause-announced c =
     let early = heard_early c.args.self.now (step_message c.args.message.now) c.requires.allowed in
     omega (arith, few, early)
 
--- ## What goes to other centres
+-- ## The frames to other centres
 
 pub post-requires : goal.post-requires
 post-requires c =

@@ -26,7 +26,7 @@ invariant_of-self c =
       });
     }
 
--- a message that opens a session tells no other centre
+-- a message that opens a session sends no frame to another centre
 pub returns-then-tells_others-clause-session : goal.returns-then-tells_others-clause-session
 returns-then-tells_others-clause-session c = λ opens timely.
     let m = c.args.message.now in

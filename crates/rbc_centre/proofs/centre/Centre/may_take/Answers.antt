@@ -1,13 +1,13 @@
-use Rattle.std.proofs.Common.{◌≡◌, ◌+◌, ◌∙◌, true, false, nat_lt, sym, refl, arith}
+use Rattle.std.proofs.Common.{◌+◌, ◌∙◌, ◌≡◌, arith, false, nat_lt, refl, sym, true}
 use Rattle.std.proofs.lemmas.Bool.Decides.{nat_tests}
-use Rattle.rbc_spec.specs.Step.{has_full_link}
-use Rattle.rbc_spec.specs.Frame.{last_stamp}
-use Rattle.rbc_link.proofs.Full.{is_full_link}
-use Rattle.rbc_linkmsg.specs.Bodies.{body_of}
+use Rattle.rbc_centre.proofs.centre.Centre.may_take.Goals as goal
+use Rattle.rbc_centre.proofs.centre.Centre.may_take.Goals.{After-is_full}
 use Rattle.rbc_centre.specs.State.{stands_for}
 use Rattle.rbc_centre.specs.States.{state_of}
-use Rattle.rbc_centre.proofs.centre.Centre.may_take.Goals.{After-is_full}
-use Rattle.rbc_centre.proofs.centre.Centre.may_take.Goals as goal
+use Rattle.rbc_link.proofs.Posted.{is_full_link}
+use Rattle.rbc_linkmsg.specs.Bodies.{body_of}
+use Rattle.rbc_spec.specs.Frame.{last_stamp}
+use Rattle.rbc_spec.specs.Step.{has_full_link}
 
 full : (c : After-is_full) → c.is_full.result ≡ has_full_link c.args.self.now.line c.args.self.now.number (state_of c.args.self.now)
 unfolding stands_for

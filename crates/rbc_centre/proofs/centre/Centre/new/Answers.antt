@@ -1,17 +1,17 @@
-use Rattle.std.proofs.Common.{◌≡◌, ◌∙◌, ap, sym, subst, true}
-use Rattle.rbc_spec.specs.Line.{is_centre}
-use Rattle.rbc_spec.specs.Centre.{beginning}
-use Rattle.law_invariants.specs.Flow.Sound.{IsCentreSound}
-use Rattle.law_invariants.proofs.FlowLemmas.Begins.{centre_begins}
-use Rattle.law_invariants.specs.Ranges.Ranges.{HasStateRanges}
+use Rattle.std.proofs.Common.{◌∙◌, ◌≡◌, ap, subst, sym, true}
+use Rattle.law_invariants.proofs.FlowLemmas.OnePlace.{centre_begins}
 use Rattle.law_invariants.proofs.RangesLemmas.Steps.{begins_in_range}
-use Rattle.rbc_book.specs.Book.{Pages, is_own}
-use Rattle.rbc_session.specs.Sessions.{phase_at}
+use Rattle.law_invariants.specs.Flow.Sound.{IsCentreSound}
+use Rattle.law_invariants.specs.Ranges.Ranges.{HasStateRanges}
+use Rattle.rbc_book.specs.Book.{is_own, Pages}
+use Rattle.rbc_centre.proofs.Begins.{none_in_range, stands_at_beginning, trains_begin}
+use Rattle.rbc_centre.proofs.centre.Centre.new.Goals as goal
+use Rattle.rbc_centre.proofs.centre.Centre.new.Goals.{In_ok-trains}
 use Rattle.rbc_centre.specs.declared.desk.Desk.{Desk}
 use Rattle.rbc_centre.specs.State.{stands_for}
-use Rattle.rbc_centre.proofs.Begins.{stands_at_beginning, trains_begin, none_in_range}
-use Rattle.rbc_centre.proofs.centre.Centre.new.Goals.{In_ok-trains}
-use Rattle.rbc_centre.proofs.centre.Centre.new.Goals as goal
+use Rattle.rbc_session.specs.Sessions.{phase_at}
+use Rattle.rbc_spec.specs.Centre.{beginning}
+use Rattle.rbc_spec.specs.Line.{is_centre}
 
 -- the rights of its trains, with no handover announced
 abbrev desk : In_ok-trains → Desk

@@ -14,9 +14,9 @@ returns-in_err-may_step-clause-exact c =
     let p = err_from_is_err_and c.from_residual.result c.from_residual.ensures.1 in
     rw (p.1, p.2) (refused_step k.line k.number (state_of k) (event_of c.args.event.now) c.in_err-may_step.field-0.0 c.in_err-may_step.ensures.err)
 
--- ## What each event's step asks
+-- ## The premises of each event's step
 
--- what is said of the event is said of it by its kind
+-- a fact of the event, by its kind
 not_refused : (k : Centre) {e f : Event} → e ≡ f → refusal k.line k.number (state_of k) (event_of e) ≡ None → refusal k.line k.number (state_of k) (event_of f) ≡ None
 not_refused k is none = subst (λ (x : Event). refusal k.line k.number (state_of k) (event_of x) ≡ None) is none
 
@@ -32,9 +32,9 @@ unset-requires c = record { allowed = not_refused c.args.self.now c.in-Unset.is 
 pub deliver-requires : goal.deliver-requires
 deliver-requires c = record { allowed = not_refused c.args.self.now c.in-Deliver.is c.in_ok-may_step.ensures.ok }
 
--- ## What it comes to
+-- ## Its effect
 
--- memory ran out, where the step is not refused
+-- memory ran out, and the step is not refused
 pub returns-in_err-take-in-Train-clause-exact : goal.returns-in_err-take-in-Train-clause-exact
 returns-in_err-take-in-Train-clause-exact c =
     let k = c.args.self.now in

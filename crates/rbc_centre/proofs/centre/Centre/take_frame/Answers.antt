@@ -44,7 +44,7 @@ overflow_add-self c =
 range : (c : After-offer-answer) → HasBodyRange c.args.frame.now.body
 range c = subst HasBodyRange c.body-body.ensures.value c.body-body.ensures.range
 
--- what the link says of the frame
+-- the answer of the link to the frame
 is_offered : (c : After-offer-answer) → IsOffered c.args.self.now c.args.from c.args.frame.now c.offer-answer.new.self (answer_of c.offer-answer.result)
 is_offered c =
     let is = c.offer-answer.ensures in

@@ -9,7 +9,7 @@ use Rattle.rbc_centre.specs.Posts.{MayPost, HasSent, only}
 use Rattle.rbc_centre.proofs.Posts.{may_first, may_after, only_here, sent_more, some_of}
 use Rattle.rbc_centre.proofs.posted.Dispatch.post_to.Goals as goal
 
--- ## The four parts of the mail to a centre, one after another
+-- ## The four parts of the mail to a centre, in order
 
 abbrev first : Dispatch → ℕ → List Body
 first p to = going_home p.line.now p.centre p.nid_engine p.mail.now.track (run_of p.mail.now.first) to
@@ -105,7 +105,7 @@ post_one-requires-4-clause-room c b is =
     let room = some_of (first p to) (second p to) (third p to) (last p to) (omega (arith, here, part)) c.requires.room in
     omega (arith, room, c.post_one.ensures.count, c.post_one.ensures.capacity, c.post_one-2.ensures.count, c.post_one-2.ensures.capacity, c.post_one-3.ensures.count, c.post_one-3.ensures.capacity)
 
--- ## What was sent
+-- ## The frames that were sent
 
 pub returns-clause-sent : goal.returns-clause-sent
 returns-clause-sent c =

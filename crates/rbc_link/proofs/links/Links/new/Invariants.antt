@@ -1,7 +1,7 @@
 use Rattle.std.proofs.Common.{◌≡◌}
-use Rattle.std.specs.Vec.{vec_len, vec_capacity}
-use Rattle.rbc_link.proofs.Begins.{HasLinks}
+use Rattle.std.specs.Vec.{vec_capacity, vec_len}
 use Rattle.rbc_link.proofs.links.Links.new.Given as goal
+use Rattle.rbc_link.proofs.Posted.{HasLinks}
 
 abbrev pub invariant-loop-d : goal.invariant-loop-d
 invariant-loop-d g l = record {

@@ -6,19 +6,21 @@ use Rattle.rbc_centre.specs.States.{line_of, number_of, state_of}
 use Rattle.rbc_centre.specs.Views.{event_of}
 use Rattle.rbc_centre.specs.declared.centre.Centre.{Centre}
 use Rattle.rbc_log.specs.declared.entry.Entry.{Entry}
-use Rattle.rbc_log.proofs.Refusals.{no_memory}
+use Rattle.rbc_log.proofs.Refusals.{refused_as, no_memory}
 use Rattle.rbc_node.specs.Commit.{Fits, Refuses}
-use Rattle.rbc_node.specs.Faults.{share_fault}
-use Rattle.rbc_node.proofs.Refusals.{refuses_as}
+use Rattle.rbc_node.specs.declared.fault.ShareFault.TheVariants.{Commit}
 use Rattle.rbc_node.proofs.share.Share.commit.Goals as goal
 
 pub returns-in-Err-clause-refused : goal.returns-in-Err-clause-refused
 returns-in-Err-clause-refused c =
     let fits : Fits c.args.self.now c.args.log.now = search rules in
     let same = ap (λ (entries : List Entry). length entries) c.entries-place.ensures.value in
-    subst (Refuses c.args.self.now c.args.log.now c.args.event) (sym (c.from-in-Err.ensures ∙ ap share_fault c.from.ensures))
-    (refuses_as c.args.self.now c.args.log.now c.args.event c.in-Err.fault fits (omega (arith, same, c.if-place-ge-MOST_ENTRIES.false))
-    (subst (λ (k : Centre). IsRefusalOf c.in-Err.fault (refusal (line_of k) (number_of k) (state_of k) (event_of c.args.event))) c.core.ensures.value c.in-Err.ensures.err))
+    subst (Refuses c.args.self.now c.args.log.now c.args.event) (sym (c.from-in-Err.ensures ∙ ap Commit c.from.ensures))
+    ((
+      fits,
+      refused_as c.args.log.now (event_of c.args.event) c.in-Err.fault (omega (arith, same, c.if-place-ge-MOST_ENTRIES.false))
+          (subst (λ (k : Centre). IsRefusalOf c.in-Err.fault (refusal (line_of k) (number_of k) (state_of k) (event_of c.args.event))) c.core.ensures.value c.in-Err.ensures.err),
+    ))
 
 pub returns-in_err-reserve-clause-refused : goal.returns-in_err-reserve-clause-refused
 returns-in_err-reserve-clause-refused c =

@@ -1,7 +1,7 @@
-use Rattle.std.proofs.Common.{◌≤◌, ◌*◌, length, ap, arith}
+use Rattle.std.proofs.Common.{◌*◌, ◌≤◌, ap, arith, length}
 use Rattle.std.proofs.lemmas.List.{length-take}
-use Rattle.rbc_bits.specs.Bits.{bits_of}
 use Rattle.rbc_bits.proofs.Bytes.{length-bits_of}
+use Rattle.rbc_bits.specs.Bits.{bits_of}
 use Rattle.rbc_packets.proofs.opaque.Opaque.new.Goals as goal
 
 pub invariant_of-result : goal.invariant_of-result
@@ -10,5 +10,8 @@ invariant_of-result c =
     let n = length c.args.bits in
     let wide : n ≤ 8 * length bytes =
     omega (arith, ap length c.in_ok-bytes_of.ensures.ok, length-take n (bits_of bytes), length-bits_of bytes) in
-    rw c.in-Ok.ensures.ok
-    (omega (arith, wide, c.remaining.ensures), omega (arith, c.remaining.ensures, c.requires), omega (arith, c.in_ok-bytes_of.ensures.few))
+    rw c.in-Ok.ensures.ok (
+      omega (arith, wide, c.remaining.ensures),
+      omega (arith, c.remaining.ensures, c.requires),
+      omega (arith, c.in_ok-bytes_of.ensures.few),
+    )

@@ -4,7 +4,7 @@ use Rattle.rbc_right.specs.Rights.{Rights, is_here, number_of_right}
 use Rattle.rbc_right.proofs.Rights.{here-set, here-same, past_is_away}
 use Rattle.rbc_right.proofs.registrar.Registrar.back.Goals as goal
 
--- the right of a train of the line comes
+-- the right of a train of the line is given back
 came : (rights : Rights) (i n : ℕ) → i ≡ n → i < length rights → (j : ℕ) → is_here (set rights i true) j ≡ put (is_here rights) n (nat_lt n (length rights)) j
 came rights i n same within j =
     here-set rights i true within j

@@ -1,17 +1,17 @@
-use Rattle.std.proofs.Common.{◌≡◌, ℕ, true, false, Some, sym, ap, ◌∙◌}
-use Rattle.rbc_spec.specs.Maps.{put}
-use Rattle.rbc_spec.specs.Line.{registrar}
-use Rattle.rbc_spec.specs.Centre.{is_registrar_of}
-use Rattle.law_base.proofs.Puts.{put_there}
+use Rattle.std.proofs.Common.{◌∙◌, ◌≡◌, ap, false, Some, sym, true, ℕ}
+use Rattle.law_base.proofs.Lists.{put_there}
 use Rattle.rbc_linkmsg.specs.declared.body.Body.TheVariants.{GiveRight, RefuseRight}
 use Rattle.rbc_right.specs.Rights.{is_here}
-use Rattle.rbc_train.specs.Desk.{with_parts, reply_left}
-use Rattle.rbc_train.specs.declared.heard.Heard.{Heard}
+use Rattle.rbc_spec.specs.Centre.{is_registrar_of}
+use Rattle.rbc_spec.specs.Line.{registrar}
+use Rattle.rbc_spec.specs.Maps.{put}
 use Rattle.rbc_train.proofs.Desk.{same_parts}
+use Rattle.rbc_train.proofs.RightFrames.{gives, not_so, refuses, so_not, was_gone, was_here}
 use Rattle.rbc_train.proofs.Runs.{is_registered, not_registered}
-use Rattle.rbc_train.proofs.RightFrames.{not_so, so_not, was_here, was_gone, gives, refuses}
 use Rattle.rbc_train.proofs.train.TrainState.right_asked.Goals as goal
 use Rattle.rbc_train.proofs.train.TrainState.right_asked.Goals.{in-Given, in-NotHere}
+use Rattle.rbc_train.specs.declared.heard.Heard.{Heard}
+use Rattle.rbc_train.specs.Desk.{reply_left, with_parts}
 
 pub returns-then-ne-clause-exact : goal.returns-then-ne-clause-exact
 returns-then-ne-clause-exact c = λ book k has.

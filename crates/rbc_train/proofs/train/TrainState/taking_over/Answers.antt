@@ -32,7 +32,7 @@ yield_to-requires c =
     let old = c.args.self.now in
     record { held = held_as old.supervision.engine old.supervision.engine (is_home c.args.line.now c.args.centre) (is_own c.args.book.now) old.supervision.hand refl c.requires.at.book c.requires.at.held }
 
--- no handover stands so
+-- no such handover is pending
 pub returns-in_default-clause-exact : goal.returns-in_default-clause-exact
 returns-in_default-clause-exact c = λ rights k has.
     let line = c.args.line.now in
@@ -56,7 +56,7 @@ returns-in_default-clause-keeps c =
     keeps_state c.args.line.now c.args.centre old old.heard left (ap (λ (x : SupervisionState). x.number) same.0) engine
     (still_held c.args.line.now c.args.centre old (record old { supervision = left }) engine (ap (λ (x : SupervisionState). x.hand) same.0) c.requires.at.held)
 
--- the mission has gone, and the train may have been told so
+-- the mission is handed over, and the train may have got an order
 turned : (c : After-order_if_gone-order) → c.order_if_gone-order.new.self
     ≡ record c.args.self.now { said = c.order_if_gone-order.new.self.said; supervision = record c.args.self.now.supervision { mission = None; hand = c.yield_to.new.self.hand } }
 turned c = c.order_if_gone-order.ensures.says.left ∙ (λ i. record c.args.self.now { said = c.order_if_gone-order.new.self.said; supervision = c.in-Some.ensures.gone i })

@@ -13,7 +13,7 @@ use Rattle.rbc_world.proofs.Firsts.{given_here, given_later, given_nowhere}
 use Rattle.rbc_world.proofs.Shown.{seen_at, next_number}
 use Rattle.rbc_world.proofs.world.World.mission_between.Goals as goal
 
--- what is read of a centre of the world
+-- a value read at a centre of the world
 read_of : {X : Type 0} (w : World) (part : centre.Centre → X) (c : ℕ) (k : Centre) → c < length w.centres.items → k ≡ get_or w.centres.items c k → part (one.state_of k) ≡ part ((state_of w).at c)
 read_of w part c k within is = seen_at w.line w.centres.items w.trains.keys c part k (slice_get_read _ _ _ _ refl within is)
 

@@ -1,13 +1,13 @@
-use Rattle.std.proofs.Common.{◌+◌, ◌∙◌, List, ap, sym, map, drop, subst}
+use Rattle.std.proofs.Common.{◌+◌, ◌∙◌, ap, drop, List, map, subst, sym}
 use Rattle.std.proofs.lemmas.Result.{err_from_is_err_and}
+use Rattle.law_reached.proofs.Known.{at_end, goes_on, Reaches}
 use Rattle.rbc_spec.specs.Line.{Line}
-use Rattle.rbc_spec.specs.World.{Event, Answer, world_step}
-use Rattle.rbc_world.specs.World.{state_of}
-use Rattle.rbc_world.specs.Views.{event_of, answer_of}
-use Rattle.rbc_world.specs.Answers.{IsRefusal}
-use Rattle.law_reached.proofs.Whole.{Reaches, goes_on, at_end}
-use Rattle.rbc_world.proofs.Loop.{starts, stops, map_drop, map_drop_all, map_push}
+use Rattle.rbc_spec.specs.World.{Answer, Event, world_step}
+use Rattle.rbc_world.proofs.Loop.{map_drop, map_drop_all, map_push, starts, stops}
 use Rattle.rbc_world.proofs.world.World.outputs.Goals as goal
+use Rattle.rbc_world.specs.Answers.{IsRefusal}
+use Rattle.rbc_world.specs.Views.{answer_of, event_of}
+use Rattle.rbc_world.specs.World.{state_of}
 
 pub returns-in_err-step : goal.returns-in_err-step
 returns-in_err-step c =

@@ -1,8 +1,8 @@
-use Rattle.std.proofs.Common.{◌≡◌, map, drop}
-use Rattle.rbc_world.specs.World.{line_of, state_of}
-use Rattle.rbc_world.specs.Views.{event_of, answer_of}
-use Rattle.law_reached.proofs.Whole.{Reaches}
+use Rattle.std.proofs.Common.{◌≡◌, drop, map}
+use Rattle.law_reached.proofs.Known.{Reaches}
 use Rattle.rbc_world.proofs.world.World.outputs.Given as goal
+use Rattle.rbc_world.specs.Views.{answer_of, event_of}
+use Rattle.rbc_world.specs.World.{line_of, state_of}
 
 abbrev pub invariant-loop-event : goal.invariant-loop-event
 invariant-loop-event l = record {

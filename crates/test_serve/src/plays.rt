@@ -1,0 +1,202 @@
+//! Plays at running centres: the steps of peers, and what is compared when the centres have ended.
+
+use crate::client::{Done, Missed};
+use crate::line::two_centres;
+use crate::play::Round;
+use crate::railway::{audited, served};
+use crate::sheet::{Paper, cells};
+use crate::{interlocking, journals, options, order, sinks, slots, trains};
+use cli_commands::auditing::Verdict;
+use rbc_line::Line;
+use std::alloc::Global;
+use std::net::{Net, TcpListener, TcpStream};
+use std::sync::Wait;
+use std::sync::atomic::{AtomicU8, AtomicUsize};
+use std::test::*;
+use std::thread::Threads;
+use std::time::Clock;
+
+/// The steps of peers at the endpoints of running centres, and what is compared at the end.
+pub struct Play<'a> {
+    pub name: &'a str,
+    pub mode: ServeMode,
+    /// `None` if no journal is kept.
+    pub journals: Option<Journals<'a>>,
+    pub rounds: &'a [Round<'a>],
+    /// The exit status.
+    pub status: u8,
+    pub seen: &'a [Seen<'a>],
+}
+
+/// The options of a serve.
+#[derive(Clone, Copy)]
+pub enum ServeMode {
+    /// The defaults.
+    Usual,
+    /// Each train may send two messages at once, and twenty a second after them.
+    Slow,
+    /// Sections that are shut are reported to the interlocking, and `show` prints the use of each log and link.
+    Reporting,
+    /// A train's messages are taken only over the connection that serves the train.
+    Bound,
+}
+
+/// The journals of the two centres.
+#[derive(Clone, Copy)]
+pub struct Journals<'a> {
+    /// The most bytes of each.
+    pub rooms: (usize, usize),
+    /// The events that the centres took before.
+    pub before: &'a [Before<'a>],
+}
+
+/// The stamp of an event that the centres took before, and the event.
+pub type Before<'a> = (u32, Taken<'a>);
+
+/// An event that the centres took before.
+#[derive(Clone, Copy)]
+pub enum Taken<'a> {
+    /// The interlocking releases section 2 at centre B.
+    Set,
+    /// The bytes come from a train to centre B that these digits spell.
+    Said(&'a str),
+    /// The first frame from one centre to another is delivered.
+    Delivered(u8, u8),
+}
+
+/// A comparison when the centres have ended.
+#[derive(Clone, Copy)]
+pub enum Seen<'a> {
+    /// The print is this text.
+    Prints(&'a str),
+    /// It begins with this text.
+    Begins(&'a str),
+    /// It has this text.
+    Has(&'a str),
+    /// It has this text this many times.
+    Counts(&'a str, usize),
+    /// An audit finds it equal, with as many events at least and at most.
+    Audits(u64, u64),
+    /// The journal of centre A is this.
+    OfA(&'a str),
+    /// The journal of centre B is this.
+    OfB(&'a str),
+}
+
+/// Centre A took train 1's first message: it is the first event of the print.
+pub const OPENED_FIRST: Seen<'_> = Seen::Begins("> train A 9B028000000040000040\n");
+
+#[test]
+fn each_play_ends_as_it_should(rt: HostRuntime) -> Result<(), Fail> {
+    let alloc = rt.alloc();
+    end_as_they_should(&rt, alloc, &interlocking::PLAYS)?;
+    end_as_they_should(&rt, alloc, &slots::PLAYS)?;
+    end_as_they_should(&rt, alloc, &trains::PLAYS)?;
+    end_as_they_should(&rt, alloc, &sinks::PLAYS)?;
+    end_as_they_should(&rt, alloc, &options::PLAYS)?;
+    end_as_they_should(&rt, alloc, &order::PLAYS)
+}
+
+#[test]
+fn each_play_with_journals_ends_as_it_should(rt: HostRuntime) -> Result<(), Fail> {
+    end_as_they_should(&rt, rt.alloc(), &journals::PLAYS)
+}
+
+// The first play that ends otherwise is reported, by its name and its fault.
+fn end_as_they_should<
+    R: Threads + Wait + Sync + Net<Stream = TcpStream, Listener = TcpListener> + Clock,
+>(rt: &R, alloc: Global, plays: &[Play<'_>]) -> Result<(), Fail> {
+    for play in plays {
+        if let Err(missed) = end_so(rt, alloc, play) {
+            let name = play.name;
+            return Err(Fail::new(format_args!("{name}: {missed:?}")));
+        }
+    }
+    Ok(())
+}
+
+fn end_so<R: Threads + Wait + Sync + Net<Stream = TcpStream, Listener = TcpListener> + Clock>(
+    rt: &R,
+    alloc: Global,
+    play: &Play<'_>,
+) -> Done<()> {
+    let of_a = cells(alloc).ok().ok_or(Missed::Memory)?;
+    let of_b = cells(alloc).ok().ok_or(Missed::Memory)?;
+    end_so_over(rt, alloc, play, &of_a, &of_b)
+}
+
+// The same, with cells for the two journals.
+fn end_so_over<R: Threads + Wait + Sync + Net<Stream = TcpStream, Listener = TcpListener> + Clock>(
+    rt: &R,
+    alloc: Global,
+    play: &Play<'_>,
+    of_a: &[AtomicU8],
+    of_b: &[AtomicU8],
+) -> Done<()> {
+    let (a, b) = rooms_of(play);
+    let (room_a, room_b) = (AtomicUsize::new(a), AtomicUsize::new(b));
+    let papers = Papers {
+        a: Paper::new(of_a, &room_a),
+        b: Paper::new(of_b, &room_b),
+    };
+    let line = two_centres(alloc).ok().ok_or(Missed::Memory)?;
+    let scene = Scene {
+        alloc,
+        line: &line,
+        play,
+        papers,
+    };
+    let (status, printed) = served(rt, scene)?;
+    all_seen(scene, status, &printed)
+}
+
+fn rooms_of(play: &Play<'_>) -> (usize, usize) {
+    match play.journals {
+        Some(journals) => journals.rooms,
+        None => (0, 0),
+    }
+}
+
+/// The journals of centres A and B.
+#[derive(Clone, Copy)]
+pub struct Papers<'a> {
+    pub a: Paper<'a>,
+    pub b: Paper<'a>,
+}
+
+/// A play, its line and its journals.
+#[derive(Clone, Copy)]
+pub struct Scene<'a> {
+    pub alloc: Global,
+    pub line: &'a Line,
+    pub play: &'a Play<'a>,
+    pub papers: Papers<'a>,
+}
+
+fn all_seen(scene: Scene<'_>, status: u8, printed: &[u8]) -> Done<()> {
+    if status != scene.play.status {
+        return Err(Missed::Status);
+    }
+    let printed = std::str::from_utf8(printed).ok().ok_or(Missed::Print)?;
+    for seen in scene.play.seen {
+        if !is_seen(scene, printed, *seen)? {
+            return Err(Missed::Print);
+        }
+    }
+    Ok(())
+}
+
+fn is_seen(scene: Scene<'_>, printed: &str, seen: Seen<'_>) -> Done<bool> {
+    match seen {
+        Seen::Prints(text) => Ok(printed == text),
+        Seen::Begins(text) => Ok(printed.starts_with(text)),
+        Seen::Has(text) => Ok(printed.contains(text)),
+        Seen::Counts(text, count) => Ok(printed.matches(text).count() == count),
+        Seen::Audits(least, most) => match audited(scene.alloc, scene.line, printed)? {
+            Verdict::Equal { events } => Ok(least <= events && events <= most),
+            Verdict::Differs { .. } => Ok(false),
+        },
+        Seen::OfA(text) => Ok(scene.papers.a.has(text.as_bytes())),
+        Seen::OfB(text) => Ok(scene.papers.b.has(text.as_bytes())),
+    }
+}

@@ -1,0 +1,155 @@
+//! The Unix socket of the interlocking: the file that it is, which files are removed for it, and a run over it.
+
+use crate::client::{Done, Missed};
+use crate::line::two_centres;
+use rbc_line::Line;
+use serve_line::state::listen_at_path;
+use serve_line::{Endpoints, NoNotes, Record, ServeOptions, SocketFault, free_path, serve};
+use std::alloc::Global;
+use std::fs::File;
+use std::io::{Read, Write};
+use std::net::{Net, TcpListener, TcpStream};
+use std::os::unix::fs::MetadataExt;
+use std::os::unix::net::UnixStream;
+use std::rt::{Env, Files};
+use std::sync::Wait;
+use std::test::*;
+use std::thread::Threads;
+use std::time::{Clock, Duration};
+use std::{env, fs, process, thread};
+
+// The permissions in a mode.
+const PERMISSIONS: u32 = 0o777;
+
+// The path of a socket of this test alone, which is not there.
+fn path_of(rt: &HostRuntime, test: &str) -> Result<String, Fail> {
+    let folder = env::temp_dir(rt)?;
+    let id = process::id(rt.process());
+    let path = format!(in rt.alloc(); "{}/{test}-{id}.socket", folder.as_str())?;
+    if fs::exists(rt, path.as_str())? {
+        fs::remove_file(rt, path.as_str())?;
+    }
+    Ok(path)
+}
+
+#[test]
+fn only_the_owner_may_connect(rt: HostRuntime) -> Result<(), Fail> {
+    let path = path_of(&rt, "owner")?;
+    let listener = listen_at_path(&rt, path.as_str())
+        .ok()
+        .ok_or("the path is free")?;
+    let mode = fs::metadata(&rt, path.as_str())?.mode();
+    drop(listener);
+    fs::remove_file(&rt, path.as_str())?;
+    assert!(rt; mode & PERMISSIONS == 0o600);
+    Ok(())
+}
+
+#[test]
+fn a_socket_has_one_listener(rt: HostRuntime) -> Result<(), Fail> {
+    let path = path_of(&rt, "one")?;
+    let first = listen_at_path(&rt, path.as_str())
+        .ok()
+        .ok_or("the path is free")?;
+    let second = listen_at_path(&rt, path.as_str());
+    assert!(rt; matches!(second, Err(SocketFault::Busy)));
+    assert!(rt; matches!(free_path(&rt, path.as_str()), Err(SocketFault::Busy)));
+    drop(first);
+    let third = listen_at_path(&rt, path.as_str());
+    assert!(rt; third.is_ok());
+    drop(third);
+    assert!(rt; free_path(&rt, path.as_str()).is_ok());
+    assert!(rt; !fs::exists(&rt, path.as_str())?);
+    Ok(())
+}
+
+#[test]
+fn a_file_that_is_not_a_socket_stays(rt: HostRuntime) -> Result<(), Fail> {
+    let path = path_of(&rt, "plain")?;
+    fs::write(&rt, path.as_str(), "text")?;
+    let refused = listen_at_path(&rt, path.as_str());
+    let text = fs::read_to_string(&rt, path.as_str())?;
+    fs::remove_file(&rt, path.as_str())?;
+    assert!(rt; matches!(refused, Err(SocketFault::NotSocket)));
+    assert!(rt; text.as_str() == "text");
+    Ok(())
+}
+
+// The interlocking releases a section, and is answered. Then it sends `stop`, and its connection ends.
+fn ask<R: Net>(rt: &R, path: &str) -> Done<()> {
+    let mut stream = UnixStream::connect(rt, path).ok().ok_or(Missed::Endpoint)?;
+    let _ = stream.set_read_timeout(Some(Duration::from_secs(20)));
+    let answered = release(&mut stream);
+    stream.write_all(b"stop\n").ok().ok_or(Missed::Taking)?;
+    answered?;
+    let mut piece = [0u8; 1];
+    match stream.read(&mut piece) {
+        Ok(0) => Ok(()),
+        _ => Err(Missed::StillOpen),
+    }
+}
+
+fn release(stream: &mut UnixStream) -> Done<()> {
+    stream.write_all(b"set A 1\n").ok().ok_or(Missed::Taking)?;
+    let mut answer = [0u8; 18];
+    stream.read_exact(&mut answer).ok().ok_or(Missed::NoAnswer)?;
+    if answer != *b"> set A 1\nA 1 Done" {
+        return Err(Missed::OtherAnswer);
+    }
+    let mut end = [0u8; 1];
+    stream.read_exact(&mut end).ok().ok_or(Missed::NoAnswer)
+}
+
+fn printed_over_a_socket<
+    R: Threads + Wait + Sync + Net<Stream = TcpStream, Listener = TcpListener> + Clock + Files,
+>(rt: &R, alloc: Global, line: &Line, path: &str) -> Done<Vec<u8>> {
+    let endpoints = Endpoints::open_centres(rt, alloc, line, 0, &NoNotes)
+        .ok()
+        .ok_or(Missed::Endpoint)?;
+    let endpoints = endpoints
+        .and_socket(rt, alloc, path, &NoNotes)
+        .ok()
+        .ok_or(Missed::Endpoint)?;
+    let (printed, asked) = thread::join(
+        rt,
+        || printed(rt, alloc, line, endpoints),
+        || ask(rt, path),
+    );
+    free_path(rt, path).ok().ok_or(Missed::Endpoint)?;
+    asked?;
+    printed
+}
+
+fn printed<R: Threads + Wait + Sync + Clock>(
+    rt: &R,
+    alloc: Global,
+    line: &Line,
+    endpoints: Endpoints,
+) -> Done<Vec<u8>> {
+    let none: Record<File> = Record::none(alloc);
+    let mut out = Vec::new(alloc);
+    serve(
+        rt,
+        alloc,
+        line,
+        endpoints,
+        none,
+        ServeOptions::default(),
+        &NoNotes,
+        &mut out,
+    )
+    .ok()
+    .ok_or(Missed::Print)?;
+    Ok(out)
+}
+
+#[test]
+fn the_interlocking_is_served_over_a_socket(rt: HostRuntime) -> Result<(), Fail> {
+    let path = path_of(&rt, "served")?;
+    let line = two_centres(rt.alloc())?;
+    let printed = printed_over_a_socket(&rt, rt.alloc(), &line, path.as_str())?;
+    let wanted = "> set A 1\nA 1 Done\nsection 0 A shut\nsection 1 A open\nsection 2 B shut\n";
+    assert!(rt; printed.as_slice() == wanted.as_bytes());
+    assert!(rt; !fs::exists(&rt, path.as_str())?);
+    Ok(())
+}
