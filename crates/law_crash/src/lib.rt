@@ -10,5 +10,9 @@
 #![tactic(auto)]
 
 mod laws;
+mod scenes;
 
 pub use laws::a_crash_loses_nothing_that_was_told;
+pub use scenes::{
+    a_program_may_write_first, who_answers_first_forgets, who_takes_first_has_no_run,
+};
