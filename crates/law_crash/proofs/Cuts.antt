@@ -1,9 +1,9 @@
 -- First parts of logs, and the frames that are sent in them.
-use Rattle.std.proofs.Common.{[], ⊎_elim, ◌++◌, ◌∙◌, ◌∷◌, ◌≡◌, ◌≤◌, All, ap, arith, Contains, drop, false, List, map, refl}
+use Rattle.std.proofs.Common.{[], ⊎_elim, ◌∙◌, ◌∷◌, ◌≡◌, ◌≤◌, All, ap, arith, Contains, drop, false, List, refl}
 use Rattle.std.proofs.Common.{subst, suc, sym, take, true, zero, ℕ}
 use Rattle.std.proofs.lemmas.Bool.{cases_Bool}
 use Rattle.std.proofs.lemmas.List.{take-append-drop, take-map}
-use Rattle.std.proofs.lemmas.List.Elements.{All-append, All-weaker, Contains-append_left}
+use Rattle.std.proofs.lemmas.List.Elements.{All-append, Contains-append_left}
 use Rattle.law_crash.specs.Crashes.{events_of}
 use Rattle.law_logs.proofs.BeginningsLemmas.Written.{made_again, sent_append, stop_of}
 use Rattle.law_logs.specs.Beginnings.Beginnings.{cut}
@@ -55,7 +55,8 @@ pub from_longer : (few more : ℕ → ℕ) (logs : ℕ → List LogEntry) → ((
     → IsFromLog (cut few logs) c event → IsFromLog (cut more logs) c event
 from_longer few more logs less c event h =
     from_whole few (cut more logs) c event
-    (from_same (cut few logs) (cut few (cut more logs)) (λ d. sym (take_less (few d) (more d) (logs d) (less d))) c event h)
+    (from_same (cut few logs) (cut few (cut more logs))
+    (λ d. sym (take_less (few d) (more d) (logs d) (less d))) c event h)
 
 pub all_parts : (P : LogEntry → Type 0) (n : ℕ) (xs : List LogEntry) → All P (take n xs) → All P (drop n xs) → All P xs
 all_parts P n xs first rest =

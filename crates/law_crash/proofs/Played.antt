@@ -1,12 +1,12 @@
 -- The scenes, computed.
-use Rattle.std.proofs.Common.{[], ◌++◌, ◌∷◌, ◌≡◌, ◌≤◌, All, ap, arith, drop, Err, false, length, List, map, None, Ok, Option, refl}
-use Rattle.std.proofs.Common.{Result, suc, take, true, zero, ℕ}
+use Rattle.std.proofs.Common.{[], ◌++◌, ◌∷◌, ◌≡◌, ◌≤◌, All, ap, arith, drop, Err, false, List, map, None, Ok}
+use Rattle.std.proofs.Common.{Option, refl, Result, suc, true, zero, ℕ}
 use Rattle.std.proofs.lemmas.List.Elements.{All-drop, All-from_recursion, All-nil, recursion_from_All}
 use Rattle.std.specs.List.{AllByRecursion}
 use Rattle.std.specs.Option.{option_map_or}
-use Rattle.law_crash.specs.Crashes.{events_of, Follows, HasLetOut, IsWrittenFirst, no_period, Period}
+use Rattle.law_crash.specs.Crashes.{events_of, Follows, KeepsSentOut, IsWrittenFirst, no_period}
 use Rattle.law_crash.specs.Scenes.{answers_first, asks, entries_from, forgets, goes_on, line, log_of, logs_of, of_each}
-use Rattle.law_crash.specs.Scenes.{period_of_a, seen_in_all, starts_in, takes_first, writes_first}
+use Rattle.law_crash.specs.Scenes.{period_of_a, seen_in_all, starts_in, takes_first, takes_later, writes_first}
 use Rattle.law_logs.specs.Beginnings.Beginnings.{cut}
 use Rattle.law_logs.specs.Logs.{AreLogs, IsFromLog, IsLegal, LogEntry, Replays, sent_to}
 use Rattle.law_outside.specs.Outside.{front_end, IsSafeOutside, may_run_over}
@@ -16,7 +16,7 @@ use Rattle.rbc_spec.specs.Line.{end, is_centre, start as line_start}
 use Rattle.rbc_spec.specs.Outcome.{Outcome}
 use Rattle.rbc_spec.specs.Place.{extent}
 use Rattle.rbc_spec.specs.SectionRuns.{longest, within}
-use Rattle.rbc_spec.specs.Step.{Deliver, Event, Refusal, refusal, Set, step, taken, Train, Unset}
+use Rattle.rbc_spec.specs.Step.{Deliver, Event, Refusal, refusal, Set, step, taken, Train}
 
 -- ## Logs of events that are not refused
 
@@ -32,7 +32,8 @@ step_taken : (c : ℕ) (k : Centre) (event : Event) → refusal line c k event �
     → step line c event k ≡ Ok ((taken line c event k).0, (taken line c event k).1)
 unfolding step
 step_taken c k event h =
-    ap (λ (o : Option Refusal). option_map_or {U = Result (Outcome × Centre) Refusal} (λ why. Err why) o (Ok (taken line c event k))) h
+    ap (λ (o : Option Refusal).
+    option_map_or {U = Result (Outcome × Centre) Refusal} (λ why. Err why) o (Ok (taken line c event k))) h
 
 replayed : (c : ℕ) (k : Centre) (events : List Event) → AreTaken c k events
     → Replays line c k (entries_from c k events) (last_of c k events)
@@ -100,7 +101,8 @@ own_framed logs events own n c =
     All-drop (λ (e : LogEntry). IsFromLog logs c e.event) n (logs_of events [] c) (whole c)
   where
     whole : (c : ℕ) → All (λ (e : LogEntry). IsFromLog logs c e.event) (logs_of events [] c)
-    whole zero = All-from_recursion (λ (e : LogEntry). IsFromLog logs 0 e.event) (entries_from 0 (beginning line 0) events)
+    whole zero =
+        All-from_recursion (λ (e : LogEntry). IsFromLog logs 0 e.event) (entries_from 0 (beginning line 0) events)
         (own_entries logs 0 (beginning line 0) events own)
     whole (suc zero) = All-nil (λ (e : LogEntry). IsFromLog logs 1 e.event)
     whole (suc (suc d)) = All-nil (λ (e : LogEntry). IsFromLog logs (suc (suc d)) e.event)
@@ -125,10 +127,14 @@ answers_begins = begins (Set 1 ∷ starts_in 1 1) 4 1 first_taken
 pub goes_on_follows : Follows line writes_first goes_on
 unfolding log_of
 goes_on_follows = record {
-  replays = (ends_of (Set 1 ∷ starts_in 1 1 ++ Set 3 ∷ []) [], logs_are (Set 1 ∷ starts_in 1 1 ++ Set 3 ∷ []) [] goes_on_taken tt);
+  replays = (
+    ends_of (Set 1 ∷ starts_in 1 1 ++ Set 3 ∷ []) [],
+    logs_are (Set 1 ∷ starts_in 1 1 ++ Set 3 ∷ []) [] goes_on_taken tt,
+  );
   resumed = resumed;
   framed = λ c. own_framed (cut goes_on.out goes_on.logs) (Set 1 ∷ starts_in 1 1 ++ Set 3 ∷ [])
-      ((λ logs c. tt), ((λ logs c. tt), ((λ logs c. tt), ((λ logs c. tt), ((λ logs c. tt), tt))))) (writes_first.kept c) c;
+      ((λ logs c. tt), ((λ logs c. tt), ((λ logs c. tt), ((λ logs c. tt), ((λ logs c. tt), tt)))))
+      (writes_first.kept c) c;
   still_out = still_out;
 }
   where
@@ -172,11 +178,11 @@ second_train (e ∷ d ∷ es) = train_of d.event
     train_of (Train m) = m.nid_engine
     train_of event = 0
 
-pub is_forgotten : HasLetOut answers_first forgets → ⊥
+pub is_forgotten : KeepsSentOut answers_first forgets → ⊥
 unfolding log_of
 is_forgotten has = let wrong : 3 ≡ 1 = ap second_train (has 0) in omega (arith, wrong)
 
--- ## What is seen
+-- ## The view from outside
 
 pub first_runs : may_run_over line seen_in_all 1 1 ≡ true
 unfolding within longest line_start end extent front_end beginning ◌>>◌ step log_of seen_in_all
@@ -215,6 +221,28 @@ takes_legal (suc zero) =
     ((0, omega arith, refl), tt)
 takes_legal (suc (suc c)) =
     All-from_recursion (λ (e : LogEntry). IsFromLog takes_first.logs (suc (suc c)) e.event) [] tt
+
+pub later_begins : Follows line no_period takes_later
+unfolding within longest line_start end extent front_end beginning ◌>>◌ log_of
+later_begins = record {
+  replays = (ends_of asks frames, takes_are);
+  resumed = λ c. refl;
+  framed = framed;
+  still_out = λ c. omega arith;
+}
+  where
+    sent : ℕ → List LogEntry
+    sent = cut takes_later.out takes_later.logs
+
+    framed : (c : ℕ) → All (λ (e : LogEntry). IsFromLog sent c e.event) (drop 0 (takes_later.logs c))
+    framed zero =
+        All-from_recursion (λ (e : LogEntry). IsFromLog sent 0 e.event) (takes_later.logs 0)
+        (tt, (tt, (tt, (tt, tt))))
+    framed (suc zero) =
+        All-from_recursion (λ (e : LogEntry). IsFromLog sent 1 e.event) (takes_later.logs 1)
+        ((0, omega arith, refl), tt)
+    framed (suc (suc c)) =
+        All-from_recursion (λ (e : LogEntry). IsFromLog sent (suc (suc c)) e.event) [] tt
 
 pub takes_written : IsWrittenFirst takes_first
 takes_written zero = omega arith

@@ -1,10 +1,9 @@
--- Scenes of programs that write journals, on a small line. One program keeps the premises. Each of the others breaks one
--- premise, and no other, and something is lost.
+-- Scenes of programs that write journals, on a small line. One program keeps the premises. Two others break one premise
+-- each, and no other, and something is lost.
 use Rattle.std.specs.Prelude.{ℕ, zero, suc, true, List, [], ◌∷◌, ◌++◌, drop, map}
 use Rattle.rbc_spec.specs.Line.{Line}
 use Rattle.rbc_spec.specs.Message.{TrainBody, InitiationOfSession, SessionEstablished, StartOfMission}
 use Rattle.rbc_spec.specs.Centre.{Centre, beginning}
-use Rattle.rbc_spec.specs.Frame.{Frame}
 use Rattle.rbc_spec.specs.Step.{Event, Train, Set, Deliver, taken}
 use Rattle.law_outside.specs.Outside.{View, nothing_seen, sees_all, spoken_of}
 use Rattle.law_outside.specs.Scenes as outside
@@ -42,7 +41,7 @@ of_each a b other (suc (suc c)) = other
 abbrev pub logs_of : List Event → List Event → ℕ → List LogEntry
 logs_of at_a at_b = of_each (log_of 0 at_a) (log_of 1 at_b) []
 
--- a period in which only A takes events; this many are let out, and this many are in its journal at the end
+-- a period in which only A takes events; this many are sent out, and this many are in its journal at the end
 abbrev pub period_of_a : List Event → (out kept : ℕ) → Period
 period_of_a events out kept = record {
   logs = logs_of events [];
@@ -60,8 +59,8 @@ starts_in t s =
 
 -- ## A program that writes first
 
--- Section 1 is set, and train 1 is accepted there. These four entries are written and let out. A set of section 2 is
--- neither.
+-- Section 1 is set, and train 1 is accepted there. These four entries are written and sent out. The last, a set of
+-- section 2, is neither.
 abbrev pub writes_first : Period
 writes_first = period_of_a (Set 1 ∷ starts_in 1 1 ++ Set 2 ∷ []) 4 4
 
@@ -71,15 +70,15 @@ goes_on = period_of_a (Set 1 ∷ starts_in 1 1 ++ Set 3 ∷ []) 5 5
 
 -- ## A program that answers first
 
--- the same events, and train 1 is told that it is accepted, but only the set of section 1 is in the journal
+-- train 1 is accepted in section 1, and all is sent out; but only the set of section 1 is in the journal
 abbrev pub answers_first : Period
 answers_first = period_of_a (Set 1 ∷ starts_in 1 1) 4 1
 
--- after the crash A knows nothing of train 1, and train 3 is accepted in section 1
+-- after the crash A has forgotten train 1, and train 3 is accepted in section 1
 abbrev pub forgets : Period
 forgets = period_of_a (Set 1 ∷ starts_in 3 1) 4 4
 
--- all that was let out, before the crash and after it, as it is seen outside
+-- the view from outside of all that was sent out, before the crash and after it
 unfoldable pub seen_in_all : View
 seen_in_all = sees_all line (map happened told) (map spoken_of (map answered told)) nothing_seen
   where
@@ -92,10 +91,18 @@ seen_in_all = sees_all line (map happened told) (map spoken_of (map answered tol
 abbrev pub asks : List Event
 asks = Set 1 ∷ starts_in 2 1
 
--- B takes the frames of A before they are let out; A's journal lacks the entry that sent one
-abbrev pub takes_first : Period
-takes_first = record {
+-- A's frames arrive at B; these numbers of entries of A and B are sent out, and as many are in the journals
+abbrev pub period_of_both : (out_a out_b : ℕ) → Period
+period_of_both out_a out_b = record {
   logs = logs_of asks (map (Deliver 0) (sent_to 1 (log_of 0 asks)));
-  out = of_each 3 1 0;
-  kept = of_each 3 1 0;
+  out = of_each out_a out_b 0;
+  kept = of_each out_a out_b 0;
 }
+
+-- B takes the frame of A's fourth entry before it is sent out, and A's journal lacks that entry
+abbrev pub takes_first : Period
+takes_first = period_of_both 3 1
+
+-- B takes it after that
+abbrev pub takes_later : Period
+takes_later = period_of_both 4 1

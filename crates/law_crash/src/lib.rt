@@ -1,11 +1,12 @@
-//! A crash loses nothing that was sent. Each centre writes its events to a journal, and lets nothing out before its
-//! event is there. The centres begin again from the journals, of which a crash cuts each at any position.
+//! A crash loses nothing that was sent out. Each centre sends an outcome out only after its event is in the centre's
+//! journal. A crash cuts each journal at any position after that, and the centres begin again from the journals.
 //!
-//! `specs/Crashes.antt` has the premises: how a program writes, and how it begins again. It has two statements, of one
-//! crash and of any number. All that was let out before a crash is in the logs after it, with the same outcomes. And
-//! all that was let out before and after it keeps the promise to the outside, together.
+//! `specs/Crashes.antt` has the premises: how a program writes, and how it begins again. Its two statements are of one
+//! crash and of any number. All that was sent out before a crash is in the logs after it, with the same outcomes. All
+//! that was sent out, before the crash and after it, keeps the promise to the outside. `specs/Scenes.antt` has programs
+//! that keep the premises, and two that break one and lose something.
 //!
-//! No code. The statements of `laws.rt` have to stay; their proofs may change. That `serve` keeps the premises is
+//! No code. The statements of `laws.rt` have to stay; their proofs may change. That the program keeps the premises is
 //! tested, and not proved.
 #![tactic(auto)]
 
