@@ -26,7 +26,7 @@ IsSent v c (Deliver from f) = (1 ≤ f.number) × (slice_get ((v from).sent c) (
 IsSent v c event = Unit {0}
 
 -- in this world the frame that the event brings is there under its number already
-abbrev IsThere : World → ℕ → Event → Type 0
+abbrev pub IsThere : World → ℕ → Event → Type 0
 IsThere w c (Deliver from f) = frame_sent w from c f.number ≡ Some f
 IsThere w c event = Unit {0}
 
@@ -39,7 +39,7 @@ module _ (line : Line) where
   at_own w c done own = cond-true (is_centre line c) done (Ok (NoCentre, w)) own
 
   -- the step of a centre is a step of the world
-  answers : (w : World) (c : ℕ) (event : Event) (outcome : Outcome) (mid : Centre) → is_centre line c ≡ true
+  pub answers : (w : World) (c : ℕ) (event : Event) (outcome : Outcome) (mid : Centre) → is_centre line c ≡ true
       → step line c event (w.at c) ≡ Ok (outcome, mid) → IsThere w c event
       → (trains : List ℕ)
       × (world_step line w (happening c event)
@@ -59,7 +59,7 @@ module _ (line : Line) where
   )
 
   -- a step, and the run after it
-  run_on : (w mid last : World) (event : world.Event) (events : List world.Event) (answer : Answer)
+  pub run_on : (w mid last : World) (event : world.Event) (events : List world.Event) (answer : Answer)
       (others : List Answer) → world_step line w event ≡ Ok (answer, mid)
       → world_run line mid events ≡ Ok (others, last) → world_run line w (event ∷ events) ≡ Ok (answer ∷ others, last)
   unfolding world_run
@@ -171,11 +171,11 @@ module _ (line : Line) where
 -- ## From the beginning
 
 -- how a centre ends; a number of no centre is as at the beginning
-abbrev ended : Line → (ℕ → Centre) → ℕ → Centre
+abbrev pub ended : Line → (ℕ → Centre) → ℕ → Centre
 ended line ends d = if is_centre line d then ends d else beginning line d
 
 module _ (line : Line) (logs : ℕ → List LogEntry) (ends : ℕ → Centre) (are : AreLogs line logs ends) where
-  replayed : (d : ℕ) → Replays line d (beginning line d) (logs d) (ended line ends d)
+  pub replayed : (d : ℕ) → Replays line d (beginning line d) (logs d) (ended line ends d)
   replayed d = ⊎_elim
       (λ (t : is_centre line d ≡ true). subst (λ k. Replays line d (beginning line d) (logs d) k)
       (sym (cond-true (is_centre line d) (ends d) (beginning line d) t)) (are.replays d t))

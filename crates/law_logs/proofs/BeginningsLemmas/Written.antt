@@ -106,7 +106,7 @@ logs_in entries c = entries_of c entries
 abbrev IsCovered : List LogEntry → List LogEntry → Type 0
 IsCovered all entries = AllByRecursion (λ e. IsFromLog (logs_in all) e.centre e.event) entries
 
-sent_append : (d : ℕ) (xs ys : List LogEntry) → sent_to d (xs ++ ys) ≡ sent_to d xs ++ sent_to d ys
+pub sent_append : (d : ℕ) (xs ys : List LogEntry) → sent_to d (xs ++ ys) ≡ sent_to d xs ++ sent_to d ys
 sent_append d [] ys = refl
 sent_append d (x ∷ xs) ys = ap (λ t. x.outcome.frames d ++ t) (sent_append d xs ys)
     ∙ sym (append_assoc (x.outcome.frames d) (sent_to d xs) (sent_to d ys))

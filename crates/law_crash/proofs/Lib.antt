@@ -1,0 +1,4 @@
+mod Cuts
+mod Crashes
+mod Orders
+mod Played
