@@ -187,7 +187,7 @@ module _ (line : Line) (w : World) (a b number : ℕ) (f : Frame) where
 
 -- ## It stays refused
 
-got_front : (xs ys : List Frame) (i : ℕ) (f : Frame) → slice_get xs i ≡ Some f → slice_get (xs ++ ys) i ≡ Some f
+pub got_front : (xs ys : List Frame) (i : ℕ) (f : Frame) → slice_get xs i ≡ Some f → slice_get (xs ++ ys) i ≡ Some f
 got_front [] ys i f is = cc
 got_front (x ∷ xs) ys zero f is = is
 got_front (x ∷ xs) ys (suc i) f is = got_front xs ys i f is

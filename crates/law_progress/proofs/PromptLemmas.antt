@@ -1,0 +1,8 @@
+pub mod Lists
+pub mod Links
+pub mod Queue
+pub mod Rules
+pub mod Answers
+pub mod Asked
+pub mod Soon
+pub mod Prompt
