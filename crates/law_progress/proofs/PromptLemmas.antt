@@ -6,3 +6,8 @@ pub mod Answers
 pub mod Asked
 pub mod Soon
 pub mod Prompt
+pub mod Waits
+pub mod WaitFrames
+pub mod WaitEnds
+pub mod WaitSteps
+pub mod Starts

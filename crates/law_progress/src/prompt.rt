@@ -8,4 +8,5 @@ mod laws;
 
 pub use laws::{
     a_question_is_answered_at_once, each_frame_is_taken_in_time, each_question_is_answered_in_time,
+    each_start_is_answered_in_time,
 };

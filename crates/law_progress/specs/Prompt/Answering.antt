@@ -1,11 +1,13 @@
 -- Prompt schedules: trains and the interlocking go on, and each link delivers its next frame within k events. The
 -- bounds within which a question between centres is answered.
-use Rattle.std.specs.Prelude.{◌≡◌, ◌≢◌, ◌⊎◌, ℕ, ◌+◌, ◌*◌, ◌≤◌, ◌<◌, Bool, true, false, List, [], ◌∷◌, length, Err}
+use Rattle.std.specs.Prelude.{◌≡◌, ◌≢◌, ◌⊎◌, ℕ, ◌+◌, ◌*◌, ◌≤◌, ◌<◌, ◌==◌, ◌&&◌, Bool, true, false, List, [], ◌∷◌, length, Result, Ok, Err}
+use Rattle.std.specs.List.{list_any}
 use Rattle.rbc_spec.specs.Line.{Line, is_home}
+use Rattle.rbc_spec.specs.Message.{TrackBody, InitiationOfSession, TerminationOfSession, TrainAccepted, TrainRejected}
 use Rattle.rbc_spec.specs.Frame.{Frame}
 use Rattle.rbc_spec.specs.Centre.{is_registrar_of}
 use Rattle.rbc_spec.specs.Step.{Refusal}
-use Rattle.rbc_spec.specs.World.{World, Event, Delivery, way, world_step}
+use Rattle.rbc_spec.specs.World.{World, Event, Bytes, Delivery, Answer, Answered, centre_of, way, world_step}
 use Rattle.law_invariants.specs.NoUnasked.Asked.{Question, OfRight, OfRoute, answers, stands}
 use Rattle.law_progress.specs.Fair.Schedule.{next_number, world_after}
 
@@ -65,3 +67,40 @@ pub record IsAnsweredSoon (line : Line) (schedule : ℕ → Event) (k n c d : �
   pub soon : at ≤ n + answer_time (world_after line schedule n) k c d
   pub ends : (stands x ((world_after line schedule at).at c) ≡ false)
       ⊎ (IsHeldUp line schedule n at c d ⊎ IsHeldUp line schedule n at d c)
+
+-- ## Starts of mission
+
+-- message 41 or 40
+abbrev pub is_start_answer : TrackBody → Bool
+is_start_answer TrainAccepted = true
+is_start_answer TrainRejected = true
+is_start_answer body = false
+
+-- the step answers a start of train t, by message 41 or 40
+abbrev pub AnswersStart : ℕ → Result (Answer × World) Refusal → Type 0
+AnswersStart t (Ok (Answered o, new)) =
+    list_any (λ s. (s.nid_engine == t) && is_start_answer s.message.body) o.sayings ≡ true
+AnswersStart t r = ⊥
+
+-- a message of train t to centre c that begins a session, or ends it
+abbrev pub IsSessionOf : ℕ → ℕ → Event → Type 0
+IsSessionOf c t (Bytes d (Ok m)) = (d ≡ c) × (m.nid_engine ≡ t)
+    × ((m.body ≡ InitiationOfSession) ⊎ (m.body ≡ TerminationOfSession))
+IsSessionOf c t event = ⊥
+
+-- After position n and before position m the start of train t that waits at centre c ends, in a step of c. The step
+-- answers it, or its train begins or ends a session.
+pub record IsStartEnded (line : Line) (schedule : ℕ → Event) (n m c t : ℕ) : Type 0 where
+  pub at : ℕ
+  pub late : n ≤ at
+  pub soon : at < m
+  pub here : centre_of (schedule at) ≡ c
+  pub ends : AnswersStart t (world_step line (world_after line schedule at) (schedule at)) ⊎ IsSessionOf c t (schedule at)
+
+-- Within the time of an answer to c from the registrar d (`answer_time`), the start of train t that waits at c ends so.
+-- Or a delivery from c to d, or from d to c, is refused before that.
+pub record IsStartAnswered (line : Line) (schedule : ℕ → Event) (k n c d t : ℕ) : Type 0 where
+  pub at : ℕ
+  pub late : n ≤ at
+  pub soon : at ≤ n + answer_time (world_after line schedule n) k c d
+  pub ends : IsStartEnded line schedule n at c t ⊎ (IsHeldUp line schedule n at c d ⊎ IsHeldUp line schedule n at d c)

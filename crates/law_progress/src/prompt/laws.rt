@@ -2,6 +2,8 @@
 
 ghost use Rattle.std.specs.Prelude.{◌≡◌, ℕ, ◌<◌, true, false, List, length, Some, Ok};
 ghost use Rattle.rbc_spec.specs.Line.{Line, IsLine, is_centre};
+ghost use Rattle.rbc_spec.specs.Centre.{is_registrar_of};
+ghost use Rattle.rbc_spec.specs.Place.{Place};
 ghost use Rattle.rbc_spec.specs.Frame.{Frame};
 ghost use Rattle.rbc_spec.specs.Outcome.{Next, Outcome};
 ghost use Rattle.rbc_spec.specs.Step.{link_answer};
@@ -11,6 +13,7 @@ ghost use Rattle.law_invariants.specs.NoUnasked.Asked.{Question, asks, answers, 
 ghost use Rattle.law_invariants.specs.Ranges.Stays.{IsReadInRange};
 ghost use Rattle.law_progress.specs.Fair.Schedule.{world_after};
 ghost use Rattle.law_progress.specs.Prompt.Answering.{IsPrompt, IsTakenSoon, IsAnsweredSoon, PutsAnswer, is_asked_of};
+ghost use Rattle.law_progress.specs.Prompt.Answering.{IsStartAnswered};
 
 /// Take an endless schedule in which each link delivers its next frame within k events. Trains and the interlocking may
 /// go on for ever. Then each frame on the way is taken within k events for each frame up to it on its link. Or a
@@ -44,4 +47,14 @@ pub fn each_question_is_answered_in_time()
         → ((j : ℕ) → IsReadInRange (schedule j)) → IsPrompt line schedule k → is_centre line c ≡ true
         → is_asked_of line d x ≡ true → stands x ((world_after line schedule n).at c) ≡ true
         → IsAnsweredSoon line schedule k n c d x }
+{}
+
+/// In such a schedule, take a start of mission that waits at centre c. Within that number of events it is answered by
+/// message 41 or 40 of c, or its train begins or ends a session at c. Or a delivery between c and the registrar of its
+/// train is refused before that.
+pub fn each_start_is_answered_in_time()
+    ensures { (line : Line) (schedule : ℕ → Event) (k n c d t : ℕ) (place : Place) → IsLine line
+        → ((j : ℕ) → IsReadInRange (schedule j)) → IsPrompt line schedule k → is_centre line c ≡ true
+        → is_registrar_of line d t ≡ true → ((world_after line schedule n).at c).wait t ≡ Some place
+        → IsStartAnswered line schedule k n c d t }
 {}
