@@ -11,3 +11,4 @@ pub mod WaitFrames
 pub mod WaitEnds
 pub mod WaitSteps
 pub mod Starts
+pub mod Between

@@ -7,6 +7,6 @@
 mod laws;
 
 pub use laws::{
-    a_question_is_answered_at_once, each_frame_is_taken_in_time, each_question_is_answered_in_time,
-    each_start_is_answered_in_time,
+    a_question_is_answered_at_once, each_endless_list_has_a_prompt_schedule,
+    each_frame_is_taken_in_time, each_question_is_answered_in_time, each_start_is_answered_in_time,
 };

@@ -1,5 +1,5 @@
 -- The delivery of a question puts its answer on the way, and the delivery of an answer ends its question.
-use Rattle.std.proofs.Common.{[], ◌+◌, ◌∙◌, ◌∷◌, ◌≡◌, ap, Err, false, length, List, None, Ok, Option, refl, Result}
+use Rattle.std.proofs.Common.{◌+◌, ◌∙◌, ◌≡◌, ap, Err, false, length, List, None, Ok, Option, refl, Result}
 use Rattle.std.proofs.Common.{Some, subst, sym, true, ℕ}
 use Rattle.std.specs.Option.{option_map_or}
 use Rattle.law_base.specs.Walk.Trains.{train_of}

@@ -1,6 +1,6 @@
 -- Each answer on the way is of the centre that was asked.
-use Rattle.std.proofs.Common.{[], ◌&&◌, ◌+◌, ◌<◌, ◌==◌, ◌∙◌, ◌∷◌, ◌≡◌, ◌≢◌, ◌≤◌, All, ap, arith, Bool, false, List}
-use Rattle.std.proofs.Common.{ne_eqb, None, Ok, Option, refl, Some, subst, suc, sym, true, zero, ℕ}
+use Rattle.std.proofs.Common.{[], ◌&&◌, ◌<◌, ◌==◌, ◌∙◌, ◌∷◌, ◌≡◌, ◌≢◌, ◌≤◌, All, ap, arith, Bool, false, List}
+use Rattle.std.proofs.Common.{ne_eqb, None, Ok, Option, refl, Some, subst, sym, true, ℕ}
 use Rattle.std.proofs.lemmas.Bool.{and_from, and_parts, eqb-true}
 use Rattle.std.proofs.lemmas.List.Elements.{All-cons, All-nil}
 use Rattle.law_base.proofs.CountingLemmas.Network.{counted_took, each_acted, each_start, each_took}
@@ -9,7 +9,7 @@ use Rattle.law_base.proofs.CountingLemmas.Sums.{one_if_some, one_if_true, term_l
 use Rattle.law_base.proofs.Lists.{itself, one_home}
 use Rattle.law_base.specs.Counting.Network.{EachOnTheWay, took}
 use Rattle.law_base.specs.Counting.Resource.{carried, IsFair, sent_by as all_sent}
-use Rattle.law_base.specs.Counting.Sums.{one_if, sum_below}
+use Rattle.law_base.specs.Counting.Sums.{one_if}
 use Rattle.law_invariants.proofs.FlowLemmas.OnePlace.{none_way}
 use Rattle.law_invariants.proofs.NoStrayLemmas.Steps.{known_head}
 use Rattle.law_invariants.proofs.NoStrayLemmas.Worlds.{IsReachedSo}

@@ -1,14 +1,14 @@
 -- A link in a schedule: each step keeps the count of its taken frames, or takes the next one.
-use Rattle.std.proofs.Common.{[], ⊎_elim, ◌++◌, ◌*◌, ◌+◌, ◌-◌, ◌<◌, ◌==◌, ◌∙◌, ◌∷◌, ◌≡◌, ◌≢◌, ◌≤◌, ◌⊎◌, ap, arith, drop}
-use Rattle.std.proofs.Common.{Err, if◌then◌else◌, inl, inr, length, length-append, List, ne_eqb, None, Ok, Option, refl, Result}
-use Rattle.std.proofs.Common.{slice_get, Some, subst, subst₂, suc, sym, zero, ℕ}
-use Rattle.std.proofs.lemmas.Bool.{cases_eq, cases_lt}
+use Rattle.std.proofs.Common.{[], ⊎_elim, ◌++◌, ◌+◌, ◌-◌, ◌∙◌, ◌∷◌, ◌≡◌, ◌≢◌, ◌≤◌, ◌⊎◌, ap, arith}
+use Rattle.std.proofs.Common.{if◌then◌else◌, inl, inr, length, List, ne_eqb, None, Ok, refl}
+use Rattle.std.proofs.Common.{slice_get, Some, subst, subst₂, sym, ℕ}
+use Rattle.std.proofs.lemmas.Bool.{cases_eq}
 use Rattle.std.proofs.lemmas.List.{append-nil}
 use Rattle.std.proofs.lemmas.List.Elements.{All-cons, All-head, All-nil}
 use Rattle.law_base.proofs.CountingLemmas.Sums.{cases_link}
 use Rattle.law_base.proofs.Lists.{put_here, put_holds, put_other}
 use Rattle.law_base.proofs.PiecesLemmas.Loop.{run_of_none, whole_run}
-use Rattle.law_base.proofs.Worlds.{Brings, delivers, IsIdle, of_event, says, sets, unsets}
+use Rattle.law_base.proofs.Worlds.{Brings, delivers, of_event, says, sets, unsets}
 use Rattle.law_invariants.proofs.FlowLemmas.Steps.{is_next, sent_number}
 use Rattle.law_invariants.proofs.FlowLemmas.Takes.{deliver_taken, set_keeps, train_keeps, unset_keeps}
 use Rattle.law_invariants.proofs.HandoverLemmas.Worlds.{linked_next}

@@ -1,6 +1,6 @@
 -- Places in a queue of frames.
-use Rattle.std.proofs.Common.{[], ◌++◌, ◌+◌, ◌<◌, ◌∙◌, ◌∷◌, ◌≡◌, ap, arith, Bool, drop, false, length, List, map, None, refl}
-use Rattle.std.proofs.Common.{slice_get, Some, sym, suc, true, zero, ℕ}
+use Rattle.std.proofs.Common.{[], ◌++◌, ◌+◌, ◌<◌, ◌∙◌, ◌∷◌, ◌≡◌, ap, arith, Bool, drop, false, length, List, map, refl}
+use Rattle.std.proofs.Common.{slice_get, Some, suc, true, zero, ℕ}
 use Rattle.std.proofs.lemmas.Option.{same_Some}
 use Rattle.std.specs.List.{count_by, flat_map, range_with_len}
 use Rattle.law_base.proofs.CountingLemmas.Sums.{sum_some}

@@ -1,6 +1,6 @@
 -- In a prompt schedule each pending question between centres is answered in time.
-use Rattle.std.proofs.Common.{[], ⊎_elim, ◌&&◌, ◌*◌, ◌+◌, ◌<◌, ◌==◌, ◌∙◌, ◌≡◌, ◌≢◌, ◌≤◌, ◌⊎◌, ap, arith, Bool, eq-eqb, false}
-use Rattle.std.proofs.Common.{length, ltb-true, not, Ok, refl, slice_get, Some, subst, suc, sym, true, zero, ℕ}
+use Rattle.std.proofs.Common.{⊎_elim, ◌&&◌, ◌*◌, ◌+◌, ◌<◌, ◌==◌, ◌∙◌, ◌≡◌, ◌≢◌, ◌≤◌, ap, arith, Bool, eq-eqb, false}
+use Rattle.std.proofs.Common.{length, ltb-true, not, slice_get, Some, subst, suc, sym, true, zero, ℕ}
 use Rattle.std.proofs.Math.Nat.{mul-le-mul_left}
 use Rattle.std.proofs.lemmas.Bool.{and_parts, cases_lt}
 use Rattle.std.specs.List.{count_by}
@@ -22,7 +22,7 @@ use Rattle.law_progress.proofs.PromptLemmas.Soon.{answer_ends, question_ends, So
 use Rattle.law_progress.specs.Fair.Schedule.{world_after}
 use Rattle.law_progress.specs.Prompt.Answering.{answer_time, is_asked_of, IsAnsweredSoon, IsPrompt}
 use Rattle.rbc_spec.specs.Frame.{Body, Frame}
-use Rattle.rbc_spec.specs.Line.{is_centre, is_linked, IsLine, Line}
+use Rattle.rbc_spec.specs.Line.{is_centre, IsLine, Line}
 use Rattle.rbc_spec.specs.World.{Event, way, World}
 
 module _ (line : Line) (ok : IsLine line) (schedule : ℕ → Event) (ranges : (n : ℕ) → IsReadInRange (schedule n)) where

@@ -1,9 +1,9 @@
 -- The frames on the way of a link in a prompt schedule: each is taken in time, or a delivery is refused.
-use Rattle.std.proofs.Common.{[], ⊎_elim, ◌++◌, ◌*◌, ◌+◌, ◌-◌, ◌<◌, ◌==◌, ◌∙◌, ◌∷◌, ◌≡◌, ◌≢◌, ◌≤◌, ◌⊎◌, ap, arith, drop}
-use Rattle.std.proofs.Common.{Err, if◌then◌else◌, inl, inr, length, length-append, List, ne_eqb, None, Ok, Option, refl}
+use Rattle.std.proofs.Common.{[], ⊎_elim, ◌*◌, ◌+◌, ◌-◌, ◌<◌, ◌∙◌, ◌∷◌, ◌≡◌, ◌≢◌, ◌≤◌, ◌⊎◌, ap, arith, drop}
+use Rattle.std.proofs.Common.{Err, inl, inr, length, length-append, List, Ok, refl}
 use Rattle.std.proofs.Common.{Result, slice_get, Some, subst, suc, sym, zero, ℕ}
 use Rattle.std.proofs.Math.Nat.{mul-suc, mul-zero}
-use Rattle.std.proofs.lemmas.Bool.{cases_eq, cases_lt}
+use Rattle.std.proofs.lemmas.Bool.{cases_lt}
 use Rattle.std.proofs.lemmas.List.{append-nil, length-drop}
 use Rattle.std.proofs.lemmas.Option.{same_Some}
 use Rattle.law_base.proofs.Lists.{put_here}
@@ -22,7 +22,7 @@ use Rattle.rbc_spec.specs.Centre.{Centre}
 use Rattle.rbc_spec.specs.Frame.{Frame}
 use Rattle.rbc_spec.specs.Line.{IsLine, Line}
 use Rattle.rbc_spec.specs.Step.{Refusal}
-use Rattle.rbc_spec.specs.World.{Answer, Delivery, Event, frame_sent, way, World, world_step}
+use Rattle.rbc_spec.specs.World.{Answer, Delivery, Event, way, World, world_step}
 
 module _ (line : Line) (ok : IsLine line) (schedule : ℕ → Event) (ranges : (n : ℕ) → IsReadInRange (schedule n)) where
   abbrev pub At : ℕ → World
@@ -209,8 +209,13 @@ module _ (line : Line) (ok : IsLine line) (schedule : ℕ → Event) (ranges : (
 
         by_event : (m : ℕ) → n ≤ m → m < n + k → Reaches m (suc m) (Taken m + 1) → Reaches n (n + k * suc d) goal
         by_event m later soon (inl it) = inl (wider m (suc m) n (n + k * suc d) later (omega (arith, soon, past)) it)
-        by_event m later soon (inr more) = on (omega (arith, near, more, up_to n m later,
-            up_to (suc m) (n + k) (omega (arith, soon))))
+        by_event m later soon (inr more) = on (omega (
+          arith,
+          near,
+          more,
+          up_to n m later,
+          up_to (suc m) (n + k) (omega (arith, soon)),
+        ))
 
         reached_or : (m : ℕ) → Stops m (suc m) ⊎ (Taken (suc m) ≡ Taken m + 1) → Reaches m (suc m) (Taken m + 1)
         reached_or m (inl it) = inl it

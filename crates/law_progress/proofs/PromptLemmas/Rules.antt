@@ -1,6 +1,6 @@
 -- The frame that a question causes, and the state after its answer.
 use Rattle.std.proofs.Common.{[], ◌&&◌, ◌==◌, ◌∙◌, ◌∷◌, ◌≡◌, ap, Bool, false, if◌then◌else◌, is_none, is_some, List, None}
-use Rattle.std.proofs.Common.{Option, refl, Some, subst, sym, true, ℕ}
+use Rattle.std.proofs.Common.{Option, refl, Some, sym, true, ℕ}
 use Rattle.std.proofs.lemmas.Bool.{and_parts, eqb-true}
 use Rattle.std.specs.Option.{option_map_or}
 use Rattle.law_base.proofs.Lists.{itself, put_here}

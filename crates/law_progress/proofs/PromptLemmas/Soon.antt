@@ -1,33 +1,22 @@
 -- In a prompt schedule each question between centres is answered in time.
-use Rattle.std.proofs.Common.{[], ⊎_elim, ◌++◌, ◌*◌, ◌+◌, ◌-◌, ◌<◌, ◌∙◌, ◌∷◌, ◌≡◌, ◌≢◌, ◌≤◌, ◌⊎◌, ap, arith, drop}
-use Rattle.std.proofs.Common.{false, inl, inr, length, length-append, List, ltb-true, Ok, refl, slice_get, Some, subst, suc}
-use Rattle.std.proofs.Common.{sym, true, zero, ℕ}
+use Rattle.std.proofs.Common.{[], ⊎_elim, ◌++◌, ◌*◌, ◌+◌, ◌-◌, ◌<◌, ◌∙◌, ◌∷◌, ◌≡◌, ◌≤◌, ◌⊎◌, ap, arith}
+use Rattle.std.proofs.Common.{false, inl, inr, length, List, slice_get, Some, suc}
+use Rattle.std.proofs.Common.{sym, true, ℕ}
 use Rattle.std.proofs.Math.Nat.{mul-le-mul_left}
-use Rattle.std.proofs.lemmas.Bool.{cases_lt}
 use Rattle.std.proofs.lemmas.List.{length-drop, length-map}
-use Rattle.std.specs.List.{count_by}
-use Rattle.law_base.proofs.Lists.{each_at}
-use Rattle.law_base.specs.Counting.Network.{EachOnTheWay}
-use Rattle.law_base.specs.Counting.Sums.{one_if}
-use Rattle.law_invariants.proofs.FlowLemmas.Seats.{way_is}
-use Rattle.law_invariants.proofs.NoStrayLemmas.Counts.{is_answered}
 use Rattle.law_invariants.proofs.NoStrayLemmas.Worlds.{frame_due, IsReachedSo}
-use Rattle.law_invariants.specs.Flow.Flow.{centre_count, flow_of}
 use Rattle.law_invariants.specs.NoStray.Due.{IsFrameDue}
-use Rattle.law_invariants.specs.NoStray.Questions.{frames_from, frames_to}
 use Rattle.law_invariants.specs.NoUnasked.Asked.{answers, asks, Question, stands}
 use Rattle.law_invariants.specs.Ranges.Stays.{IsReadInRange}
 use Rattle.law_progress.proofs.PromptLemmas.Answers.{ends_question, puts_answer}
-use Rattle.law_progress.proofs.PromptLemmas.Asked.{asked_there, from_asked_begins, from_asked_step, IsFromAsked, one_asked}
-use Rattle.law_progress.proofs.PromptLemmas.Lists.{get_drop, got_body, got_last, got_small, Passes, some_list}
-use Rattle.law_progress.proofs.PromptLemmas.Queue.{by_result, frame_is, in_range, IsTakenWithin, known, link_at}
+use Rattle.law_progress.proofs.PromptLemmas.Lists.{get_drop, got_last, got_small}
+use Rattle.law_progress.proofs.PromptLemmas.Queue.{frame_is, IsTakenWithin, known, link_at}
 use Rattle.law_progress.proofs.PromptLemmas.Queue.{more_to, taken_in_time, TakesAt, up_to, wider}
 use Rattle.law_progress.proofs.PromptLemmas.Links.{takes_got}
 use Rattle.law_progress.specs.Fair.Schedule.{world_after}
-use Rattle.law_progress.specs.Prompt.Answering.{answer_time, is_asked_of, IsAnsweredSoon, IsHeldUp, IsPrompt, IsTakenSoon, PutsAnswer}
-use Rattle.rbc_spec.specs.Centre.{Centre}
+use Rattle.law_progress.specs.Prompt.Answering.{answer_time, IsHeldUp, IsPrompt, IsTakenSoon, PutsAnswer}
 use Rattle.rbc_spec.specs.Frame.{Frame}
-use Rattle.rbc_spec.specs.Line.{is_centre, IsLine, Line}
+use Rattle.rbc_spec.specs.Line.{IsLine, Line}
 use Rattle.rbc_spec.specs.Step as centre
 use Rattle.rbc_spec.specs.Step.{taken}
 use Rattle.rbc_spec.specs.World.{Event, way, World}

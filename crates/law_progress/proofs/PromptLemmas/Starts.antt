@@ -1,12 +1,12 @@
 -- In a prompt schedule each start of mission that waits is answered in time.
-use Rattle.std.proofs.Common.{[], ⊎_elim, ◌+◌, ◌-◌, ◌<◌, ◌==◌, ◌∙◌, ◌≡◌, ◌≢◌, ◌≤◌, ◌⊎◌, ap, arith, Err, false, inl, inr}
+use Rattle.std.proofs.Common.{⊎_elim, ◌+◌, ◌-◌, ◌∙◌, ◌≡◌, ◌≢◌, ◌⊎◌, ap, arith, false, inl, inr}
 use Rattle.std.proofs.Common.{is_some, List, None, Ok, Option, refl, Result, Some, subst, suc, sym, true, zero, ℕ}
 use Rattle.std.proofs.lemmas.Bool.{cases_eq}
 use Rattle.law_base.proofs.Lists.{put_here, put_other}
 use Rattle.law_base.proofs.Worlds.{Brings, delivers, of_event, says, sets, unsets}
 use Rattle.law_base.specs.Walk.Trains.{train_of}
 use Rattle.law_invariants.proofs.NoStrayLemmas.Worlds.{frame_due, IsReachedSo}
-use Rattle.law_invariants.specs.NoStray.Due.{IsDue, IsFrameDue}
+use Rattle.law_invariants.specs.NoStray.Due.{IsDue}
 use Rattle.law_invariants.specs.NoUnasked.Asked.{OfRight}
 use Rattle.law_invariants.specs.Ranges.Stays.{IsReadInRange}
 use Rattle.law_progress.proofs.PromptLemmas.Prompt.{is_answered_soon}
@@ -16,7 +16,7 @@ use Rattle.law_progress.proofs.PromptLemmas.WaitEnds.{refused_tells, tells}
 use Rattle.law_progress.proofs.PromptLemmas.WaitFrames.{frame_still, set_still, unset_still}
 use Rattle.law_progress.proofs.PromptLemmas.WaitSteps.{message_keeps, OfSession}
 use Rattle.law_progress.specs.Fair.Schedule.{world_after}
-use Rattle.law_progress.specs.Prompt.Answering.{AnswersStart, answer_time, IsAnsweredSoon, IsHeldUp, IsPrompt, IsSessionOf}
+use Rattle.law_progress.specs.Prompt.Answering.{AnswersStart, IsAnsweredSoon, IsHeldUp, IsPrompt, IsSessionOf}
 use Rattle.law_progress.specs.Prompt.Answering.{IsStartAnswered, IsStartEnded}
 use Rattle.rbc_spec.specs.Acts.{◌>>◌, Reply}
 use Rattle.rbc_spec.specs.Centre.{Centre, is_registrar_of}
@@ -28,7 +28,7 @@ use Rattle.rbc_spec.specs.Outcome as outcome
 use Rattle.rbc_spec.specs.Outcome.{Early, Next, NoLink, Old}
 use Rattle.rbc_spec.specs.Place.{Place}
 use Rattle.rbc_spec.specs.Step as centre
-use Rattle.rbc_spec.specs.Step.{link_answer, Refusal, stamp_of, taken, taken_by, ticked}
+use Rattle.rbc_spec.specs.Step.{link_answer, Refusal, silence, stamp_of, taken, taken_by, ticked}
 use Rattle.rbc_spec.specs.World.{Answer, Answered, Bytes, centre_of, Delivery, Event, World, world_step}
 
 -- ## A frame
@@ -84,7 +84,7 @@ module _ (line : Line) (ok : IsLine line) (w : World) (reached : IsReachedSo lin
     (waits : (w.at c).wait t ≡ Some place) where
   abbrev Goes : Event → Answer → World → Type 0
   Goes event answer new = ((new.at c).wait t ≡ (w.at c).wait t)
-      ⊎ ((centre_of event ≡ c) × (AnswersStart t (Ok (answer, new)) ⊎ IsSessionOf c t event))
+      ⊎ ((centre_of event ≡ c) × (AnswersStart t (Ok (answer, new)) ⊎ IsSessionOf line w c t event))
 
   module _ (d : ℕ) (own : centre.Event) (trains : List ℕ) where
     abbrev y : Centre
@@ -111,10 +111,10 @@ module _ (line : Line) (ok : IsLine line) (w : World) (reached : IsReachedSo lin
     where
       by_message : Keeps line d t (ticked (stamp_of (w.at d) (centre.Train m)) (w.at d))
           (centre.effect line d (ticked (stamp_of (w.at d) (centre.Train m)) (w.at d)) (centre.Train m)).reply
-          ⊎ OfSession t m m.body
+          ⊎ ((silence line d (w.at d) m ≡ None) × OfSession t m m.body)
           → Goes (Bytes d (Ok m)) (Answered (taken line d (centre.Train m) (w.at d)).0) (new d (centre.Train m) trains)
       by_message (inl it) = inl (keeps d (centre.Train m) trains same it.law)
-      by_message (inr it) = inr (sym same, inr (sym same, it.0, it.1))
+      by_message (inr it) = inr (sym same, inr (sym same, it.1.0, it.0, it.1.1))
   by_step _ _ _ trains (sets d s to) same = inl (keeps d (centre.Set s) trains same
       (of_still line d t (centre.set line d s) (ticked (stamp_of (w.at d) (centre.Set s)) (w.at d))
       (set_still line d s)).law)
@@ -179,12 +179,12 @@ module _ (line : Line) (ok : IsLine line) (schedule : ℕ → Event) (ranges : (
 
     abbrev On : ℕ → World → Type 0
     On n v = ((v.at c).wait t ≡ Wait n)
-        ⊎ ((centre_of (schedule n) ≡ c) × (AnswersStart t (Step n) ⊎ IsSessionOf c t (schedule n)))
+        ⊎ ((centre_of (schedule n) ≡ c) × (AnswersStart t (Step n) ⊎ IsSessionOf line (At n) c t (schedule n)))
 
     wait_on : (n : ℕ) (place : Place) → Wait n ≡ Some place → On n (At (suc n))
     wait_on n place waits = by_result line ok schedule ranges (On n) n (inl refl) (λ answer v is.
         subst (λ r. ((v.at c).wait t ≡ Wait n) ⊎ ((centre_of (schedule n) ≡ c)
-        × (AnswersStart t r ⊎ IsSessionOf c t (schedule n)))) (sym is)
+        × (AnswersStart t r ⊎ IsSessionOf line (At n) c t (schedule n)))) (sym is)
         (start_step line ok (At n) (known line ok schedule ranges n) c t place waits (schedule n) answer v is))
 
     ends_by : (d n : ℕ) (place : Place) → Wait n ≡ Some place → Wait (d + n) ≡ None

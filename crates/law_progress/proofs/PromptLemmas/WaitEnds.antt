@@ -1,31 +1,26 @@
 -- The effects that end a wait: the answer of the right, or a session of its train that begins or ends.
 use Rattle.std.proofs.Common.{[], ◌&&◌, ◌+◌, ◌==◌, ◌||◌, ◌∙◌, ◌∷◌, ◌≡◌, ◌≢◌, ◌⊎◌, ap, Bool, false, if◌then◌else◌, inl}
 use Rattle.std.proofs.Common.{inr, is_none, is_some, None, not, Option, refl, Some, subst, sym, true, ℕ}
-use Rattle.std.proofs.lemmas.Bool.{or_parts}
 use Rattle.std.specs.List.{list_any}
 use Rattle.std.specs.Option.{option_map_or}
-use Rattle.law_base.proofs.Lists.{itself, none_passes, put_other}
+use Rattle.law_base.proofs.Lists.{itself, put_other}
 use Rattle.law_invariants.proofs.FlowLemmas.Takes.{given_is}
-use Rattle.law_progress.proofs.PromptLemmas.Waits.{both, Leaves, Still, still_end_mission, still_granted, still_report}
-use Rattle.law_progress.proofs.PromptLemmas.Waits.{plain, still_request}
+use Rattle.law_progress.proofs.PromptLemmas.Waits.{Still}
 use Rattle.law_progress.specs.Prompt.Answering.{is_start_answer}
-use Rattle.rbc_spec.specs.Acts.{◌>>◌, Act, become, booked, change_mission, freed, hear, Reply, rest, return_right, say}
+use Rattle.rbc_spec.specs.Acts.{◌>>◌, Act, become, booked, change_mission, freed, Reply, rest, return_right}
 use Rattle.rbc_spec.specs.Acts.{send, where_so, with_some}
 use Rattle.rbc_spec.specs.Centre.{Centre, is_closed, is_free, is_open, is_registrar_of, is_taken_for, Mission, Taken}
 use Rattle.rbc_spec.specs.Frame.{AskRight, GiveRight, RefuseRight, ReturnRight}
 use Rattle.rbc_spec.specs.Line.{Line, registrar}
 use Rattle.rbc_spec.specs.Links.{answered_ask, is_train, received}
 use Rattle.rbc_spec.specs.Maps.{put}
-use Rattle.rbc_spec.specs.Message.{EndOfMission, InitiationOfSession, Report, Request, SessionEstablished}
-use Rattle.rbc_spec.specs.Message.{ShorteningGranted, ShorteningRejected, StartOfMission, TerminationOfSession}
-use Rattle.rbc_spec.specs.Message.{TrackBody, TrainAccepted, TrainBody, TrainData, TrainMessage, TrainRejected}
+use Rattle.rbc_spec.specs.Message.{TrackBody, TrainAccepted, TrainRejected}
 use Rattle.rbc_spec.specs.Message.{unknown_group}
-use Rattle.rbc_spec.specs.Outcome.{Saying, WrongPhase}
+use Rattle.rbc_spec.specs.Outcome.{Saying}
 use Rattle.rbc_spec.specs.Place.{covered, fit_place, Place, Position}
 use Rattle.rbc_spec.specs.Rules.{answered, begin, close_session, drop_wait, reject, restart, set_phase, start_here}
 use Rattle.rbc_spec.specs.Rules.{start_mission, start_new, start_waiting}
 use Rattle.rbc_spec.specs.SectionRuns.{all_of, within}
-use Rattle.rbc_spec.specs.Step.{hear_and_answer, holds, silence}
 
 -- some message of these answers the train's start
 abbrev pub tells : ℕ → Rattle.std.proofs.Common.List Saying → Bool

@@ -1,13 +1,11 @@
 -- The frames and the words of the interlocking that leave each start of mission that waits as it is.
-use Rattle.std.proofs.Common.{[], ◌&&◌, ◌==◌, ◌≡◌, ◌≢◌, ap, Bool, false, if◌then◌else◌, is_none, is_some, length, nat_lt}
-use Rattle.std.proofs.Common.{None, not, Option, refl, Some, true, ℕ}
-use Rattle.std.specs.List.{find, range_with_len}
-use Rattle.std.specs.Option.{option_map_or}
-use Rattle.law_progress.proofs.PromptLemmas.Waits.{both, chosen, if_act, if_reply, Leaves, or_act, plain, some_act, Still, still_end}
+use Rattle.std.proofs.Common.{◌&&◌, ◌==◌, ◌≡◌, Bool, false, if◌then◌else◌, is_none, is_some, length, nat_lt}
+use Rattle.std.proofs.Common.{None, not, refl, Some, true, ℕ}
+use Rattle.law_progress.proofs.PromptLemmas.Waits.{both, chosen, if_act, if_reply, or_act, plain, some_act, Still, still_end}
 use Rattle.law_progress.proofs.PromptLemmas.Waits.{still_propose, still_rest, still_right, when}
 use Rattle.rbc_spec.specs.Acts.{◌>>◌, Act, become, booked, change_mission, end_order, part_at, propose_if_so, rest}
 use Rattle.rbc_spec.specs.Acts.{return_right, returned, send, yield}
-use Rattle.rbc_spec.specs.Centre.{Centre, Entry, Handing, is_open, is_registrar_of, is_unused, Mission, Open, Out, Shut}
+use Rattle.rbc_spec.specs.Centre.{Entry, Handing, is_open, is_registrar_of, is_unused, Mission, Open, Out, Shut}
 use Rattle.rbc_spec.specs.Centre.{Taken}
 use Rattle.rbc_spec.specs.Frame.{Announce, AskRight, Body, Cancel, carried_place, GiveRight, RefuseRight, ReturnRight}
 use Rattle.rbc_spec.specs.Frame.{RouteAsk, RouteInfo, RouteReturn, RouteWithdraw, TakingOver, Yield}
@@ -17,9 +15,9 @@ use Rattle.rbc_spec.specs.Links.{received, right_asked, right_returned, route_as
 use Rattle.rbc_spec.specs.Links.{route_withdrawn, take_mission, taking_over, yielded}
 use Rattle.rbc_spec.specs.Maps.{has, put}
 use Rattle.rbc_spec.specs.Outcome.{Asked, Done, NotHome}
-use Rattle.rbc_spec.specs.Rules.{choose, tell}
+use Rattle.rbc_spec.specs.Rules.{tell}
 use Rattle.rbc_spec.specs.SectionRuns.{all_of, is_empty, no_run, part_before, part_from, SectionRun, within}
-use Rattle.rbc_spec.specs.Step.{make, set, unset, wished, withdraw}
+use Rattle.rbc_spec.specs.Step.{make, set, unset, wished}
 
 -- the body answers a question for a right
 abbrev pub is_right_answer : Body → Bool

@@ -1,23 +1,22 @@
 -- A start that waits goes on waiting at each step, is answered, or its train begins or ends a session.
-use Rattle.std.proofs.Common.{[], ⊎_elim, ◌&&◌, ◌+◌, ◌==◌, ◌||◌, ◌∙◌, ◌∷◌, ◌≡◌, ◌≢◌, ◌⊎◌, ap, Bool, false, inl, inr}
-use Rattle.std.proofs.Common.{is_some, None, not, Ok, Option, refl, slice_get, Some, subst, sym, true, ℕ}
+use Rattle.std.proofs.Common.{⊎_elim, ◌||◌, ◌∙◌, ◌≡◌, ◌≢◌, ◌⊎◌, ap, Bool, false, inl, inr}
+use Rattle.std.proofs.Common.{is_some, None, not, Option, refl, slice_get, Some, subst, sym, true, ℕ}
 use Rattle.std.proofs.lemmas.Bool.{cases_eq, or_parts}
 use Rattle.std.specs.Option.{option_map_or}
 use Rattle.law_base.proofs.Lists.{none_passes}
 use Rattle.law_progress.proofs.PromptLemmas.WaitEnds.{close_other, Keeps, of_still, start_other}
 use Rattle.law_progress.proofs.PromptLemmas.Waits.{both, plain, Still, still_end_mission, still_granted, still_report}
 use Rattle.law_progress.proofs.PromptLemmas.Waits.{still_request}
-use Rattle.rbc_spec.specs.Acts.{◌>>◌, Act, become, change_mission, hear, Reply, rest, say}
-use Rattle.rbc_spec.specs.Centre.{Centre, is_up, Opened, Up}
+use Rattle.rbc_spec.specs.Acts.{◌>>◌, Act, change_mission, hear, rest, say}
+use Rattle.rbc_spec.specs.Centre.{Centre, is_up, Up}
 use Rattle.rbc_spec.specs.Line.{Line}
 use Rattle.rbc_spec.specs.Message.{DataAcknowledged, EndOfMission, InitiationOfSession, Report, Request, SessionEstablished}
-use Rattle.rbc_spec.specs.Message.{ShorteningGranted, ShorteningRejected, StartOfMission, SystemVersion}
-use Rattle.rbc_spec.specs.Message.{TerminationAcknowledged, TerminationOfSession, TrainBody, TrainData, TrainMessage}
+use Rattle.rbc_spec.specs.Message.{ShorteningGranted, ShorteningRejected, StartOfMission}
+use Rattle.rbc_spec.specs.Message.{TerminationOfSession, TrainBody, TrainData, TrainMessage}
 use Rattle.rbc_spec.specs.Message.{unknown_group}
 use Rattle.rbc_spec.specs.Outcome.{Reason, reasons_of, WrongPhase}
 use Rattle.rbc_spec.specs.Place.{Place, Position}
-use Rattle.rbc_spec.specs.Rules.{answer_granted, answered, close_session, end_mission, report, request, set_phase}
-use Rattle.rbc_spec.specs.Rules.{start_mission}
+use Rattle.rbc_spec.specs.Rules.{answer_granted, answered, end_mission, report, request, set_phase}
 use Rattle.rbc_spec.specs.Step as step
 use Rattle.rbc_spec.specs.Step.{Effect, effect, hear_and_answer, holds, silence}
 
@@ -92,12 +91,15 @@ module _ (line : Line) (c t : ℕ) (m : TrainMessage) (k : Centre) where
         (cases_eq t m.nid_engine)
 
   pub message_keeps : (place : Place) → k.wait t ≡ Some place
-      → Keeps line c t k (effect line c k (step.Train m)).reply ⊎ OfSession t m m.body
+      → Keeps line c t k (effect line c k (step.Train m)).reply
+      ⊎ ((silence line c k m ≡ None) × OfSession t m m.body)
   message_keeps place waits = by_silence (silence line c k m) refl
     where
       by_silence : (o : Option Reason) → silence line c k m ≡ o
           → Keeps line c t k
           (option_map_or {U = Effect} (λ why. record { reply = rest k; link = None; silence = Some why }) o
-          (record { reply = hear_and_answer line c m k; link = None; silence = None })).reply ⊎ OfSession t m m.body
+          (record { reply = hear_and_answer line c m k; link = None; silence = None })).reply
+          ⊎ ((silence line c k m ≡ None) × OfSession t m m.body)
       by_silence (Some why) is = inl (record { law = refl })
-      by_silence None is = by_body is place waits m.body refl
+      by_silence None is = ⊎_elim (λ (it : Keeps line c t k (hear_and_answer line c m k)). inl it)
+          (λ (it : OfSession t m m.body). inr (is, it)) (by_body is place waits m.body refl)

@@ -1,30 +1,19 @@
 -- The acts that leave each start of mission that waits as it is.
-use Rattle.std.proofs.Common.{[], ◌&&◌, ◌*◌, ◌+◌, ◌-◌, ◌==◌, ◌||◌, ◌∙◌, ◌≡◌, ◌≢◌, ap, Bool, false, if◌then◌else◌}
-use Rattle.std.proofs.Common.{is_none, is_some, length, nat_le, nat_lt, None, not, Option, refl, Some, true, ℕ}
-use Rattle.std.specs.List.{find, range_with_len}
+use Rattle.std.proofs.Common.{◌&&◌, ◌*◌, ◌+◌, ◌-◌, ◌==◌, ◌∙◌, ◌≡◌, Bool, false, if◌then◌else◌}
+use Rattle.std.proofs.Common.{is_none, nat_le, nat_lt, None, not, Option, refl, Some, true, ℕ}
 use Rattle.std.specs.Option.{option_map_or}
-use Rattle.rbc_spec.specs.Acts.{◌>>◌, Act, ask_route, announce, become, booked, cancel, change_mission, close, end_order}
-use Rattle.rbc_spec.specs.Acts.{leave, may_propose, part_at, propose, propose_if_so, Reply, rest, return_pool}
-use Rattle.rbc_spec.specs.Acts.{return_right, returned, say, send, set_mission, where_so, with_mission, with_some, yield}
-use Rattle.rbc_spec.specs.Centre.{Centre, Entry, Handing, is_open, is_out_for, is_registrar_of, is_unused, is_up, Mission, Open}
-use Rattle.rbc_spec.specs.Centre.{Out, Proposal, Shut, Taken}
-use Rattle.rbc_spec.specs.Frame.{Announce, AskRight, Body, Cancel, carried_place, GiveRight, RefuseRight, ReturnRight}
-use Rattle.rbc_spec.specs.Frame.{RouteAsk, RouteInfo, RouteReturn, RouteWithdraw, TakingOver, Yield}
-use Rattle.rbc_spec.specs.Line.{end, is_home, Line, next_centre, registrar, section}
-use Rattle.rbc_spec.specs.Links.{announced, cancelled, expect, is_train, is_under, is_wanted, lendable, may_take, of_train}
-use Rattle.rbc_spec.specs.Links.{received, right_asked, right_returned, route_asked, route_returned, route_told}
-use Rattle.rbc_spec.specs.Links.{route_withdrawn, take_mission, taking_over, yielded}
-use Rattle.rbc_spec.specs.Maps.{has, put}
-use Rattle.rbc_spec.specs.Message.{EndOfMission, Report, Request, SessionEstablished, ShorteningGranted}
-use Rattle.rbc_spec.specs.Message.{EndSession, ShorteningRejected, unknown_group, TrainBody, TrainData, TrainMessage}
-use Rattle.rbc_spec.specs.Outcome.{Asked, Done, NotHome}
+use Rattle.rbc_spec.specs.Acts.{◌>>◌, Act, ask_route, announce, cancel, close, end_order}
+use Rattle.rbc_spec.specs.Acts.{leave, may_propose, part_at, propose, propose_if_so, Reply, rest}
+use Rattle.rbc_spec.specs.Acts.{return_right, say, send, where_so, with_some}
+use Rattle.rbc_spec.specs.Centre.{Centre, is_registrar_of, is_up, Mission}
+use Rattle.rbc_spec.specs.Frame.{ReturnRight}
+use Rattle.rbc_spec.specs.Line.{end, is_home, Line, next_centre, registrar}
+use Rattle.rbc_spec.specs.Message.{EndSession, unknown_group}
 use Rattle.rbc_spec.specs.Place.{Place, place_on, Position}
 use Rattle.rbc_spec.specs.Rules.{announce_if_due, answer_granted, ask_route_if_due, at_border, choose, clear, cut, cut_ahead}
-use Rattle.rbc_spec.specs.Rules.{end_mission, grant, granted, reached, report, report_here, request, stand_still, take_over, tell}
-use Rattle.rbc_spec.specs.SectionRuns.{all_of, is_empty, most_in_hand, next_after, no_run, part_before, part_from, SectionRun}
-use Rattle.rbc_spec.specs.SectionRuns.{within}
+use Rattle.rbc_spec.specs.Rules.{end_mission, grant, reached, report, report_here, request, stand_still, take_over}
+use Rattle.rbc_spec.specs.SectionRuns.{is_empty, most_in_hand, next_after, no_run, part_before, SectionRun}
 use Rattle.rbc_spec.specs.Sections.{is_on, nid_rbc}
-use Rattle.rbc_spec.specs.Step.{make, set, unset, wished, withdraw}
 
 -- the reply leaves the starts that wait as they are in state k
 pub record Leaves (k : Centre) (q : Reply) : Type 0 where

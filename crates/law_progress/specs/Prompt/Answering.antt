@@ -1,12 +1,12 @@
 -- Prompt schedules: trains and the interlocking go on, and each link delivers its next frame within k events. The
 -- bounds within which a question between centres is answered.
-use Rattle.std.specs.Prelude.{◌≡◌, ◌≢◌, ◌⊎◌, ℕ, ◌+◌, ◌*◌, ◌≤◌, ◌<◌, ◌==◌, ◌&&◌, Bool, true, false, List, [], ◌∷◌, length, Result, Ok, Err}
+use Rattle.std.specs.Prelude.{◌≡◌, ◌≢◌, ◌⊎◌, ℕ, ◌+◌, ◌*◌, ◌≤◌, ◌<◌, ◌==◌, ◌&&◌, Bool, true, false, List, [], ◌∷◌, length, None, Result, Ok, Err}
 use Rattle.std.specs.List.{list_any}
 use Rattle.rbc_spec.specs.Line.{Line, is_home}
 use Rattle.rbc_spec.specs.Message.{TrackBody, InitiationOfSession, TerminationOfSession, TrainAccepted, TrainRejected}
 use Rattle.rbc_spec.specs.Frame.{Frame}
 use Rattle.rbc_spec.specs.Centre.{is_registrar_of}
-use Rattle.rbc_spec.specs.Step.{Refusal}
+use Rattle.rbc_spec.specs.Step.{Refusal, silence}
 use Rattle.rbc_spec.specs.World.{World, Event, Bytes, Delivery, Answer, Answered, centre_of, way, world_step}
 use Rattle.law_invariants.specs.NoUnasked.Asked.{Question, OfRight, OfRoute, answers, stands}
 use Rattle.law_progress.specs.Fair.Schedule.{next_number, world_after}
@@ -18,6 +18,10 @@ use Rattle.law_progress.specs.Fair.Schedule.{next_number, world_after}
 pub record IsPrompt (line : Line) (schedule : ℕ → Event) (k : ℕ) : Type 0 where
   pub delivers : (n a b : ℕ) → way (world_after line schedule n) a b ≢ []
       → (m : ℕ) × (n ≤ m) × (m < n + k) × (schedule m ≡ Delivery a b (next_number (world_after line schedule m) a b))
+
+-- a schedule has these events in their order, one after every so many
+pub record Has (others : ℕ → Event) (every : ℕ) (schedule : ℕ → Event) : Type 0 where
+  pub each : (i : ℕ) → schedule (i * every) ≡ others i
 
 -- After position n and before position m the delivery of the next frame from a to b is refused. A step clock is at its
 -- end, or a link is full. A refused step of any other event is none of these.
@@ -82,11 +86,11 @@ AnswersStart t (Ok (Answered o, new)) =
     list_any (λ s. (s.nid_engine == t) && is_start_answer s.message.body) o.sayings ≡ true
 AnswersStart t r = ⊥
 
--- a message of train t to centre c that begins a session, or ends it
-abbrev pub IsSessionOf : ℕ → ℕ → Event → Type 0
-IsSessionOf c t (Bytes d (Ok m)) = (d ≡ c) × (m.nid_engine ≡ t)
+-- a message of train t to centre c, which begins or ends a session and is not silent
+abbrev pub IsSessionOf : Line → World → ℕ → ℕ → Event → Type 0
+IsSessionOf line w c t (Bytes d (Ok m)) = (d ≡ c) × (m.nid_engine ≡ t) × (silence line d (w.at d) m ≡ None)
     × ((m.body ≡ InitiationOfSession) ⊎ (m.body ≡ TerminationOfSession))
-IsSessionOf c t event = ⊥
+IsSessionOf line w c t event = ⊥
 
 -- After position n and before position m the start of train t that waits at centre c ends, in a step of c. The step
 -- answers it, or its train begins or ends a session.
@@ -95,7 +99,8 @@ pub record IsStartEnded (line : Line) (schedule : ℕ → Event) (n m c t : ℕ)
   pub late : n ≤ at
   pub soon : at < m
   pub here : centre_of (schedule at) ≡ c
-  pub ends : AnswersStart t (world_step line (world_after line schedule at) (schedule at)) ⊎ IsSessionOf c t (schedule at)
+  pub ends : AnswersStart t (world_step line (world_after line schedule at) (schedule at))
+      ⊎ IsSessionOf line (world_after line schedule at) c t (schedule at)
 
 -- Within the time of an answer to c from the registrar d (`answer_time`), the start of train t that waits at c ends so.
 -- Or a delivery from c to d, or from d to c, is refused before that.

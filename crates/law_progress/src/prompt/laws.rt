@@ -13,7 +13,7 @@ ghost use Rattle.law_invariants.specs.NoUnasked.Asked.{Question, asks, answers, 
 ghost use Rattle.law_invariants.specs.Ranges.Stays.{IsReadInRange};
 ghost use Rattle.law_progress.specs.Fair.Schedule.{world_after};
 ghost use Rattle.law_progress.specs.Prompt.Answering.{IsPrompt, IsTakenSoon, IsAnsweredSoon, PutsAnswer, is_asked_of};
-ghost use Rattle.law_progress.specs.Prompt.Answering.{IsStartAnswered};
+ghost use Rattle.law_progress.specs.Prompt.Answering.{IsStartAnswered, Has};
 
 /// Take an endless schedule in which each link delivers its next frame within k events. Trains and the interlocking may
 /// go on for ever. Then each frame on the way is taken within k events for each frame up to it on its link. Or a
@@ -57,4 +57,11 @@ pub fn each_start_is_answered_in_time()
         → ((j : ℕ) → IsReadInRange (schedule j)) → IsPrompt line schedule k → is_centre line c ≡ true
         → is_registrar_of line d t ≡ true → ((world_after line schedule n).at c).wait t ≡ Some place
         → IsStartAnswered line schedule k n c d t }
+{}
+
+/// There are such schedules, whatever trains and the interlocking do. Take any endless list of events. Some prompt
+/// schedule has them in their order, with the same number of deliveries between any two.
+pub fn each_endless_list_has_a_prompt_schedule()
+    ensures { (line : Line) (others : ℕ → Event) → IsLine line
+        → (schedule : ℕ → Event) × (k : ℕ) × Has others k schedule × IsPrompt line schedule k }
 {}
