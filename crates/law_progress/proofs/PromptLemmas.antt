@@ -1,6 +1,7 @@
 pub mod Lists
 pub mod Links
 pub mod Queue
+pub mod Within
 pub mod Rules
 pub mod Answers
 pub mod Asked

@@ -1,6 +1,10 @@
 //! Progress while trains and the interlocking go on. Suppose that each link delivers its next frame within k events,
-//! whatever happens between. Then each frame is taken, and each question between centres is answered, within a number of
-//! events that the lengths of two queues give. That frames are delivered so is the premise, and not claimed.
+//! whatever happens between. Then each frame is taken within a bound, and each question between centres is answered
+//! within one. The bounds follow from the lengths of queues. That frames are delivered so is the premise, and not
+//! claimed.
+//!
+//! A question asks for the right of a train, or for sections. Other things between centres wait for a train, so they
+//! have no bound. An announced handover waits for a report, and a section that its home asks back for its train.
 //!
 //! No code. The statements of `laws.rt` have to stay; their proofs may change.
 

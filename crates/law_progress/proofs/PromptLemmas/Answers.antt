@@ -17,7 +17,8 @@ use Rattle.rbc_spec.specs.Outcome as outcome
 use Rattle.rbc_spec.specs.Outcome.{Early, Next, NoLink, Old, Outcome}
 use Rattle.rbc_spec.specs.Step as centre
 use Rattle.rbc_spec.specs.Step.{link_answer, numbered, Refusal, refusal, stamp_of, step, taken, taken_by, ticked}
-use Rattle.rbc_spec.specs.World.{Answer, Answered, Delivery, Event, Fault, frame_sent, new_world, NoCentre, NotSent, stepped}
+use Rattle.rbc_spec.specs.World.{Answer, Answered, Delivery, Event, Fault, frame_sent, new_world, NoCentre, NotSent}
+use Rattle.rbc_spec.specs.World.{stepped}
 use Rattle.rbc_spec.specs.World.{takes, World, world_run, world_step}
 use Rattle.law_invariants.proofs.NoStrayLemmas.Reached.{delivered_at, due}
 use Rattle.law_progress.specs.Prompt.Answering.{PutsAnswer}
@@ -98,7 +99,8 @@ module _ (line : Line) (ok : IsLine line) (events : List Event) (replies : List 
       → (taken line b (centre.Deliver a f) (w.at b)).0 ≡ o
   unfolding world_step step
   answer_of o new done = by_refusal o new (refusal line b (w.at b) (centre.Deliver a f))
-      (sym (ap (λ g. option_map_or (λ h. takes line w b w.trains (centre.Deliver a h)) g (Ok (NotSent, w))) sent) ∙ done)
+      (sym (ap (λ g. option_map_or (λ h. takes line w b w.trains (centre.Deliver a h)) g (Ok (NotSent, w))) sent)
+      ∙ done)
 
   pub sends_at_once : asks x f.body ≡ true → (o : Outcome) (new : World)
       → world_step line w (Delivery a b number) ≡ Ok (Answered o, new) → PutsAnswer x (o.frames a)

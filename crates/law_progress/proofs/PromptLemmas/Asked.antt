@@ -20,7 +20,8 @@ use Rattle.law_base.proofs.CountingLemmas.Network.{each_head}
 use Rattle.law_invariants.specs.Flow.Flow.{centre_count, flow_of}
 use Rattle.law_invariants.specs.Handover.Steps.{left_by, sent_by}
 use Rattle.law_invariants.specs.NoStray.Questions.{IsBodyKnown}
-use Rattle.law_invariants.specs.NoUnasked.Asked.{answers, asks, IsBodyAsked, OfRight, OfRoute, Question, questions, stands}
+use Rattle.law_invariants.specs.NoUnasked.Asked.{answers, asks, IsBodyAsked, OfRight, OfRoute, Question, questions}
+use Rattle.law_invariants.specs.NoUnasked.Asked.{stands}
 use Rattle.law_progress.specs.Prompt.Answering.{is_asked_of}
 use Rattle.rbc_spec.specs.Centre.{Centre, is_registrar_of}
 use Rattle.rbc_spec.specs.Frame.{AskRight, Body, RouteAsk}

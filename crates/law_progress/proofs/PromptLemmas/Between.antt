@@ -8,7 +8,7 @@ use Rattle.law_invariants.specs.Flow.Flow.{centre_count}
 use Rattle.law_progress.proofs.FairLemmas.Idle.{reached_at}
 use Rattle.law_progress.proofs.FairLemmas.InTurn.{from_line, to_line}
 use Rattle.law_progress.specs.Fair.Schedule.{after, next_number, world_after}
-use Rattle.law_progress.specs.Prompt.Answering.{Has, IsPrompt}
+use Rattle.law_progress.specs.Prompt.Answering.{HasInOrder, IsPrompt}
 use Rattle.rbc_spec.specs.Line.{IsLine, Line}
 use Rattle.rbc_spec.specs.World.{Delivery, Event, new_world, World, world_step}
 
@@ -43,7 +43,8 @@ module _ (line : Line) (others : ℕ → Event) where
   round_some = omega arith
 
   has_each : (i : ℕ) → schedule (i * Round) ≡ others i
-  has_each i = ap (λ b. if b then others (i * Round / Round) else turn (i * Round % Round - 1) (world_there (i * Round)))
+  has_each i = ap (λ b. if b then others (i * Round / Round)
+      else turn (i * Round % Round - 1) (world_there (i * Round)))
       (eq-eqb (i * Round % Round) 0 rest)
       ∙ ap others quotient
     where
@@ -110,14 +111,16 @@ module _ (line : Line) (others : ℕ → Event) where
         rest : n % Round < Round
         rest = mod-lt n round_some
 
-  pub has_prompt : IsLine line → (schedule : ℕ → Event) × (k : ℕ) × Has others k schedule × IsPrompt line schedule k
+  pub has_prompt : IsLine line → (schedule : ℕ → Event) × (k : ℕ) × HasInOrder others k schedule
+      × IsPrompt line schedule k
   has_prompt ok = (
     schedule,
     Round,
     record { each = has_each },
     record {
       delivers =
-          λ n a b some. comes a b (from_line line (world_after line schedule n) (reached_at line ok schedule n) a b some)
+          λ n a b some. comes a b
+          (from_line line (world_after line schedule n) (reached_at line ok schedule n) a b some)
           (to_line line (world_after line schedule n) (reached_at line ok schedule n) a b some) n;
     },
   )

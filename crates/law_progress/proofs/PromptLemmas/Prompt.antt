@@ -15,7 +15,8 @@ use Rattle.law_invariants.specs.Flow.Flow.{centre_count, flow_of}
 use Rattle.law_invariants.specs.NoStray.Questions.{frames_from, frames_to, IsBodyKnown}
 use Rattle.law_invariants.specs.NoUnasked.Asked.{answers, asks, IsBodyAsked, Question, stands}
 use Rattle.law_invariants.specs.Ranges.Stays.{IsFrameInRange, IsReadInRange}
-use Rattle.law_progress.proofs.PromptLemmas.Asked.{asked_there, from_asked_begins, from_asked_step, IsFromAsked, one_asked}
+use Rattle.law_progress.proofs.PromptLemmas.Asked.{asked_there, from_asked_begins, from_asked_step, IsFromAsked}
+use Rattle.law_progress.proofs.PromptLemmas.Asked.{one_asked}
 use Rattle.law_progress.proofs.PromptLemmas.Lists.{get_drop, got_body, Passes, some_list}
 use Rattle.law_progress.proofs.PromptLemmas.Queue.{by_result, in_range, known}
 use Rattle.law_progress.proofs.PromptLemmas.Soon.{answer_ends, question_ends, Soon}

@@ -5,7 +5,6 @@ use Rattle.std.proofs.Common.{Result, slice_get, Some, subst, suc, sym, zero, �
 use Rattle.std.proofs.Math.Nat.{mul-suc, mul-zero}
 use Rattle.std.proofs.lemmas.Bool.{cases_lt}
 use Rattle.std.proofs.lemmas.List.{append-nil, length-drop}
-use Rattle.std.proofs.lemmas.Option.{same_Some}
 use Rattle.law_base.proofs.Lists.{put_here}
 use Rattle.law_invariants.proofs.NoStrayLemmas.Reached.{delivered_at}
 use Rattle.law_invariants.proofs.NoStrayLemmas.Worlds.{IsReachedSo}
@@ -14,7 +13,7 @@ use Rattle.law_progress.proofs.FairLemmas.Fair.{in_range_at, one_on}
 use Rattle.law_progress.proofs.FairLemmas.Idle.{reached_at}
 use Rattle.law_progress.proofs.FairLemmas.InTurn.{got_front}
 use Rattle.law_progress.proofs.PromptLemmas.Lists.{some_left}
-use Rattle.law_progress.proofs.PromptLemmas.Links.{HasSent, Keeps, link_step, sent_step, Takes, takes_got}
+use Rattle.law_progress.proofs.PromptLemmas.Links.{HasSent, Keeps, link_step, sent_step, Takes}
 use Rattle.law_progress.proofs.RestLemmas.Delivers.{head_of, IsHead, one_more}
 use Rattle.law_progress.specs.Fair.Schedule.{after, next_number, world_after}
 use Rattle.law_progress.specs.Prompt.Answering.{IsHeldUp, IsPrompt}
@@ -182,7 +181,8 @@ module _ (line : Line) (ok : IsLine line) (schedule : ℕ → Event) (ranges : (
         of_result (Ok (answer, new)) is = inr (ap (λ (v : World). (v.at b).taken a) (after_is n (Ok (answer, new)) is)
             ∙ ap (λ (x : Centre). x.taken a) (delivered_at line (At n) a b (next_number (At n) a b) left.0 answer new
             head.sent (sym (ap (world_step line (At n)) at) ∙ is))
-            ∙ one_more line (At n) (known n).sound.flow (known n).sound.numbered a b (next_number (At n) a b) left.0 head a
+            ∙ one_more line (At n) (known n).sound.flow (known n).sound.numbered a b (next_number (At n) a b)
+            left.0 head a
             ∙ put_here ((At n).at b).taken a a (Taken n + 1) refl)
 
     -- ## Each frame on the way
@@ -193,7 +193,8 @@ module _ (line : Line) (ok : IsLine line) (schedule : ℕ → Event) (ranges : (
 
     module _ (k : ℕ) (prompt : IsPrompt line schedule k) where
       module _ (d n goal : ℕ) (near : goal ≤ Taken n + suc d) (sent : goal ≤ length (Sent n))
-          (rest : goal ≤ Taken (n + k) + d → goal ≤ length (Sent (n + k)) → Reaches (n + k) ((n + k) + k * d) goal) where
+          (rest : goal ≤ Taken (n + k) + d → goal ≤ length (Sent (n + k))
+          → Reaches (n + k) ((n + k) + k * d) goal) where
         there : (n + k) + k * d ≡ n + k * suc d
         there = omega (arith, mul-suc k d)
 
@@ -201,7 +202,8 @@ module _ (line : Line) (ok : IsLine line) (schedule : ℕ → Event) (ranges : (
         past = omega (arith, mul-suc k d)
 
         by_rest : Reaches (n + k) ((n + k) + k * d) goal → Reaches n (n + k * suc d) goal
-        by_rest (inl it) = inl (wider (n + k) ((n + k) + k * d) n (n + k * suc d) (omega arith) (omega (arith, there)) it)
+        by_rest (inl it) =
+            inl (wider (n + k) ((n + k) + k * d) n (n + k * suc d) (omega arith) (omega (arith, there)) it)
         by_rest (inr done) = inr (subst (λ m. goal ≤ Taken m) there done)
 
         on : goal ≤ Taken (n + k) + d → Reaches n (n + k * suc d) goal
@@ -242,65 +244,3 @@ module _ (line : Line) (ok : IsLine line) (schedule : ℕ → Event) (ranges : (
       reach zero n goal near sent = let here : n ≡ n + k * 0 = omega (arith, mul-zero k) in
           let done : goal ≤ Taken n = omega (arith, near) in inr (subst (λ m. goal ≤ Taken m) here done)
       reach (suc d) n goal near sent = reach_one d n goal near sent (reach d (n + k) goal)
-
-    -- the position at which the frame of a number is taken
-    pub record IsTakenWithin (n m number : ℕ) : Type 0 where
-      pub at : ℕ
-      pub late : n ≤ at
-      pub soon : at < m
-      pub takes : TakesAt a b at
-      pub number_is : Taken at + 1 ≡ number
-
-    pub crossed : (d n number : ℕ) → Taken n < number → number ≤ Taken (d + n) → IsTakenWithin n (d + n) number
-    crossed zero n number before done = let here : 0 + n ≡ n = omega arith in
-        absurd (let same : number ≤ Taken n = subst (λ m. number ≤ Taken m) here done in omega (arith, before, same))
-    crossed (suc d) n number before done = by_link
-        (λ missing. crossed d (suc n) number missing (subst (λ m. number ≤ Taken m) there done)) (link_at n)
-      where
-        there : suc d + n ≡ d + suc n
-        there = omega arith
-
-        on : IsTakenWithin (suc n) (d + suc n) number → IsTakenWithin n (suc d + n) number
-        on it = record {
-          at = it.at;
-          late = omega (arith, it.late);
-          soon = omega (arith, it.soon);
-          takes = it.takes;
-          number_is = it.number_is;
-        }
-
-        by_link : (Taken (suc n) < number → IsTakenWithin (suc n) (d + suc n) number)
-            → (Taken (suc n) ≡ Taken n) ⊎ TakesAt a b n → IsTakenWithin n (suc d + n) number
-        by_link later (inl same) = on (later (omega (arith, same, before)))
-        by_link later (inr it) = ⊎_elim
-            (λ (missing : Taken n + 1 < number). on (later (omega (arith, it.takes.one_more, missing))))
-            (λ (here : number ≤ Taken n + 1). record {
-              at = n;
-              late = omega arith;
-              soon = omega arith;
-              takes = it;
-              number_is = omega (arith, here, before);
-            })
-            (cases_lt (Taken n + 1) number)
-
-    -- each frame that was sent is taken in time, or a delivery is refused
-    pub taken_in_time : (k : ℕ) → IsPrompt line schedule k → (d n number : ℕ) → Taken n < number
-        → number ≤ Taken n + d → number ≤ length (Sent n)
-        → Stops n (n + k * d) ⊎ IsTakenWithin n (n + k * d) number
-    taken_in_time k prompt d n number before near sent = by_end (reach k prompt d n number near sent)
-      where
-        there : k * d + n ≡ n + k * d
-        there = omega arith
-
-        by_end : Stops n (n + k * d) ⊎ (number ≤ Taken (n + k * d))
-            → Stops n (n + k * d) ⊎ IsTakenWithin n (n + k * d) number
-        by_end (inl it) = inl it
-        by_end (inr done) = inr (subst (λ m. IsTakenWithin n m number) there
-            (crossed (k * d) n number before (subst (λ m. number ≤ Taken m) (sym there) done)))
-
-    -- the frame that is taken is the one that was sent under that number
-    pub frame_is : (n at : ℕ) → n ≤ at → (it : TakesAt a b at) → (f : Frame)
-        → slice_get (Sent n) (Taken at) ≡ Some f → it.takes.frame ≡ f
-    frame_is n at later it f is = same_Some it.takes.frame f
-        (sym (takes_got line (At at) a b (schedule at) it.answer (At (suc at)) it.takes)
-        ∙ stays_to n at (Taken at) f later is)

@@ -1,5 +1,6 @@
 -- The frame that a question causes, and the state after its answer.
-use Rattle.std.proofs.Common.{[], ◌&&◌, ◌==◌, ◌∙◌, ◌∷◌, ◌≡◌, ap, Bool, false, if◌then◌else◌, is_none, is_some, List, None}
+use Rattle.std.proofs.Common.{[], ◌&&◌, ◌==◌, ◌∙◌, ◌∷◌, ◌≡◌, ap, Bool, false, if◌then◌else◌, is_none, is_some, List}
+use Rattle.std.proofs.Common.{None}
 use Rattle.std.proofs.Common.{Option, refl, Some, sym, true, ℕ}
 use Rattle.std.proofs.lemmas.Bool.{and_parts, eqb-true}
 use Rattle.std.specs.Option.{option_map_or}
@@ -111,7 +112,8 @@ module _ (line : Line) where
         i : Centre
         i = (answered_ask u j).state
 
-        by_wait : (o : Option Place) → (if is_some o then (drop_wait line c u >> reject u) i else rest i).state.has_asked
+        by_wait : (o : Option Place)
+            → (if is_some o then (drop_wait line c u >> reject u) i else rest i).state.has_asked
             ≡ i.has_asked
         by_wait None = refl
         by_wait (Some place) = by_place (j.wait u)
@@ -129,7 +131,8 @@ module _ (line : Line) where
         → (received line c d (RouteInfo u r) j).state.route_ask ≡ put j.route_ask u None
     unfolding ◌>>◌
     told_ends u r known asked on home homes =
-        rw (known, has_equal r.first (j.route_ask u) asked, on, home, homes) (by_use (has (is_wanted line r) (j.mission u)))
+        rw (known, has_equal r.first (j.route_ask u) asked, on, home, homes)
+        (by_use (has (is_wanted line r) (j.mission u)))
       where
         i : Centre
         i = record j { route_ask = put j.route_ask u None }

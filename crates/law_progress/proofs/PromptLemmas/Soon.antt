@@ -10,9 +10,9 @@ use Rattle.law_invariants.specs.NoUnasked.Asked.{answers, asks, Question, stands
 use Rattle.law_invariants.specs.Ranges.Stays.{IsReadInRange}
 use Rattle.law_progress.proofs.PromptLemmas.Answers.{ends_question, puts_answer}
 use Rattle.law_progress.proofs.PromptLemmas.Lists.{get_drop, got_last, got_small}
-use Rattle.law_progress.proofs.PromptLemmas.Queue.{frame_is, IsTakenWithin, known, link_at}
-use Rattle.law_progress.proofs.PromptLemmas.Queue.{more_to, taken_in_time, TakesAt, up_to, wider}
 use Rattle.law_progress.proofs.PromptLemmas.Links.{takes_got}
+use Rattle.law_progress.proofs.PromptLemmas.Queue.{TakesAt, known, link_at, more_to, up_to, wider}
+use Rattle.law_progress.proofs.PromptLemmas.Within.{IsTakenWithin, frame_is, taken_in_time}
 use Rattle.law_progress.specs.Fair.Schedule.{world_after}
 use Rattle.law_progress.specs.Prompt.Answering.{answer_time, IsHeldUp, IsPrompt, IsTakenSoon, PutsAnswer}
 use Rattle.rbc_spec.specs.Frame.{Frame}
@@ -35,7 +35,8 @@ module _ (line : Line) (ok : IsLine line) (schedule : ℕ → Event) (ranges : (
   reached n = known line ok schedule ranges n
 
   counted : (a b n : ℕ) → Taken a b n ≤ length (Sent a b n)
-  counted a b n = omega (arith, (reached n).sound.flow.counted.counts a b, length-map (Sent a b n) (λ (f : Frame). f.body))
+  counted a b n =
+      omega (arith, (reached n).sound.flow.counted.counts a b, length-map (Sent a b n) (λ (f : Frame). f.body))
 
   -- the frame that is taken is due
   due_at : (a b n : ℕ) (it : TakesAt line ok schedule ranges a b n) → IsFrameDue line (At n) a b it.takes.frame
@@ -156,7 +157,8 @@ module _ (line : Line) (ok : IsLine line) (schedule : ℕ → Event) (ranges : (
       )
 
       back : Soon n (answer_time (At n) k c d)
-      back = let it = answer_ends (suc at) (length (Sent d c at) - Taken d c (suc at)) sends.frame got sends.answers_it in
+      back = let it = answer_ends (suc at) (length (Sent d c at) - Taken d c (suc at)) sends.frame got
+          sends.answers_it in
           record {
             at = it.at;
             late = omega (arith, it.late, later);

@@ -107,7 +107,8 @@ module _ (line : Line) (ok : IsLine line) (w : World) (reached : IsReachedSo lin
   by_step : (event : Event) (d : ℕ) (own : centre.Event) (trains : List ℕ) → Brings line w event d own trains
       → c ≡ d → Goes event (Answered (taken line d own (w.at d)).0) (new d own trains)
   by_step _ _ _ trains (says d m to) same =
-      by_message (message_keeps line d t m (ticked (stamp_of (w.at d) (centre.Train m)) (w.at d)) place (waits_at d same))
+      by_message (message_keeps line d t m (ticked (stamp_of (w.at d) (centre.Train m)) (w.at d)) place
+      (waits_at d same))
     where
       by_message : Keeps line d t (ticked (stamp_of (w.at d) (centre.Train m)) (w.at d))
           (centre.effect line d (ticked (stamp_of (w.at d) (centre.Train m)) (w.at d)) (centre.Train m)).reply
@@ -146,7 +147,8 @@ module _ (line : Line) (ok : IsLine line) (w : World) (reached : IsReachedSo lin
           → (o : outcome.Taken) → link_answer line d (w.at d) a f ≡ o
           → Goes (Delivery a d number) (Answered (taken line d (centre.Deliver a f) (w.at d)).0)
           (new d (centre.Deliver a f) trains)
-      by_frame waits_on Next is = let due = frame_due line ok w reached.sound reached.asked reached.answered a d number f
+      by_frame waits_on Next is = let due =
+          frame_due line ok w reached.sound reached.asked reached.answered a d number f
           sent is in
           here (waits_on due.known due.due (stamp_of (w.at d) (centre.Deliver a f)) (link_answer line d (w.at d) a f))
       by_frame waits_on Old is = here (still (link_answer line d (w.at d) a f)
@@ -212,7 +214,8 @@ module _ (line : Line) (ok : IsLine line) (schedule : ℕ → Event) (ranges : (
       where
         by_wait : (o : Option Place) → Wait n ≡ o → o ≡ None
         by_wait None is = refl
-        by_wait (Some place) is = absurd (let wrong : true ≡ false = sym (((known line ok schedule ranges n).answered.waits
+        by_wait (Some place) is = absurd (let wrong : true ≡ false =
+            sym (((known line ok schedule ranges n).answered.waits
             c).each t (ap is_some is)) ∙ ended in cc)
 
     module _ (k : ℕ) (prompt : IsPrompt line schedule k) (d : ℕ) (to : is_centre line c ≡ true)
@@ -221,7 +224,8 @@ module _ (line : Line) (ok : IsLine line) (schedule : ℕ → Event) (ranges : (
       asked = ((known line ok schedule ranges n).answered.waits c).each t (ap is_some waits)
 
       pub is_start_answered : IsStartAnswered line schedule k n c d t
-      is_start_answered = by_answer (is_answered_soon line ok schedule ranges k prompt c d (OfRight t) to registrar n asked)
+      is_start_answered =
+          by_answer (is_answered_soon line ok schedule ranges k prompt c d (OfRight t) to registrar n asked)
         where
           by_answer : IsAnsweredSoon line schedule k n c d (OfRight t) → IsStartAnswered line schedule k n c d t
           by_answer it = record { at = it.at; late = it.late; soon = it.soon; ends = by_end it.ends }

@@ -194,4 +194,5 @@ module _ (line : Line) (c t : ℕ) where
   pub refused_tells : (d : ℕ) (place : Place) (k : Centre) → is_train line t ≡ true → k.has_asked t ≡ true
       → k.wait t ≡ Some place → tells t (received line c d (RefuseRight t) k).sayings ≡ true
   unfolding ◌>>◌
-  refused_tells d place k known asked waits = rw (known, asked, waits) (one_told (k.said t + 1) unknown_group TrainRejected refl)
+  refused_tells d place k known asked waits =
+      rw (known, asked, waits) (one_told (k.said t + 1) unknown_group TrainRejected refl)

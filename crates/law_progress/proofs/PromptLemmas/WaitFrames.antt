@@ -1,7 +1,8 @@
 -- The frames and the words of the interlocking that leave each start of mission that waits as it is.
 use Rattle.std.proofs.Common.{◌&&◌, ◌==◌, ◌≡◌, Bool, false, if◌then◌else◌, is_none, is_some, length, nat_lt}
 use Rattle.std.proofs.Common.{None, not, refl, Some, true, ℕ}
-use Rattle.law_progress.proofs.PromptLemmas.Waits.{both, chosen, if_act, if_reply, or_act, plain, some_act, Still, still_end}
+use Rattle.law_progress.proofs.PromptLemmas.Waits.{both, chosen, if_act, if_reply, or_act, plain, some_act, Still}
+use Rattle.law_progress.proofs.PromptLemmas.Waits.{still_end}
 use Rattle.law_progress.proofs.PromptLemmas.Waits.{still_propose, still_rest, still_right, when}
 use Rattle.rbc_spec.specs.Acts.{◌>>◌, Act, become, booked, change_mission, end_order, part_at, propose_if_so, rest}
 use Rattle.rbc_spec.specs.Acts.{return_right, returned, send, yield}
@@ -10,7 +11,8 @@ use Rattle.rbc_spec.specs.Centre.{Taken}
 use Rattle.rbc_spec.specs.Frame.{Announce, AskRight, Body, Cancel, carried_place, GiveRight, RefuseRight, ReturnRight}
 use Rattle.rbc_spec.specs.Frame.{RouteAsk, RouteInfo, RouteReturn, RouteWithdraw, TakingOver, Yield}
 use Rattle.rbc_spec.specs.Line.{is_home, Line, section}
-use Rattle.rbc_spec.specs.Links.{announced, cancelled, expect, is_train, is_under, is_wanted, lendable, may_take, of_train}
+use Rattle.rbc_spec.specs.Links.{announced, cancelled, expect, is_train, is_under, is_wanted, lendable, may_take}
+use Rattle.rbc_spec.specs.Links.{of_train}
 use Rattle.rbc_spec.specs.Links.{received, right_asked, right_returned, route_asked, route_returned, route_told}
 use Rattle.rbc_spec.specs.Links.{route_withdrawn, take_mission, taking_over, yielded}
 use Rattle.rbc_spec.specs.Maps.{has, put}
@@ -29,7 +31,8 @@ module _ (line : Line) (c : ℕ) where
   frame_asked : (d t : ℕ) → Still (right_asked line c d t)
   frame_asked d t = when (λ k. is_registrar_of line c t) _
       (chosen (λ k. k.has_right t) (become (λ k. record k { has_right = put k.has_right t false })
-      >> send d (GiveRight t)) (send d (RefuseRight t)) (both _ _ (λ k. plain refl) (λ k. plain refl)) (λ k. plain refl))
+      >> send d (GiveRight t)) (send d (RefuseRight t)) (both _ _ (λ k. plain refl) (λ k. plain refl))
+      (λ k. plain refl))
 
   frame_back : (t : ℕ) → Still (right_returned line c t)
   frame_back t = when (λ k. is_registrar_of line c t && (not (k.has_right t) && is_none (k.mission t)))

@@ -10,7 +10,8 @@ use Rattle.law_progress.proofs.PromptLemmas.Waits.{still_request}
 use Rattle.rbc_spec.specs.Acts.{◌>>◌, Act, change_mission, hear, rest, say}
 use Rattle.rbc_spec.specs.Centre.{Centre, is_up, Up}
 use Rattle.rbc_spec.specs.Line.{Line}
-use Rattle.rbc_spec.specs.Message.{DataAcknowledged, EndOfMission, InitiationOfSession, Report, Request, SessionEstablished}
+use Rattle.rbc_spec.specs.Message.{DataAcknowledged, EndOfMission, InitiationOfSession, Report, Request}
+use Rattle.rbc_spec.specs.Message.{SessionEstablished}
 use Rattle.rbc_spec.specs.Message.{ShorteningGranted, ShorteningRejected, StartOfMission}
 use Rattle.rbc_spec.specs.Message.{TerminationOfSession, TrainBody, TrainData, TrainMessage}
 use Rattle.rbc_spec.specs.Message.{unknown_group}
@@ -63,7 +64,8 @@ module _ (line : Line) (c t : ℕ) (m : TrainMessage) (k : Centre) where
 
   module _ (heard : silence line c k m ≡ None) (place : Place) (waits : k.wait t ≡ Some place) where
     by_body : (body : TrainBody) → m.body ≡ body → Answered body
-    by_body (TrainData position) is = inl (by_still _ (both (change_mission m.nid_engine (λ n. record n { has_data = true }))
+    by_body (TrainData position) is = inl (by_still _
+        (both (change_mission m.nid_engine (λ n. record n { has_data = true }))
         (say m.nid_engine unknown_group (DataAcknowledged m.t_train)) (λ j. plain refl) (λ j. plain refl)))
     by_body (Request position) is = inl (by_still (request line c m.nid_engine position)
         (still_request line c m.nid_engine position))

@@ -10,7 +10,8 @@ use Rattle.rbc_spec.specs.Frame.{ReturnRight}
 use Rattle.rbc_spec.specs.Line.{end, is_home, Line, next_centre, registrar}
 use Rattle.rbc_spec.specs.Message.{EndSession, unknown_group}
 use Rattle.rbc_spec.specs.Place.{Place, place_on, Position}
-use Rattle.rbc_spec.specs.Rules.{announce_if_due, answer_granted, ask_route_if_due, at_border, choose, clear, cut, cut_ahead}
+use Rattle.rbc_spec.specs.Rules.{announce_if_due, answer_granted, ask_route_if_due, at_border, choose, clear, cut}
+use Rattle.rbc_spec.specs.Rules.{cut_ahead}
 use Rattle.rbc_spec.specs.Rules.{end_mission, grant, reached, report, report_here, request, stand_still, take_over}
 use Rattle.rbc_spec.specs.SectionRuns.{is_empty, most_in_hand, next_after, no_run, part_before, SectionRun}
 use Rattle.rbc_spec.specs.Sections.{is_on, nid_rbc}
@@ -162,7 +163,8 @@ module _ (line : Line) (c : ℕ) where
   still_stand : (t : ℕ) (position : Position) (m : Mission) → Still (stand_still line c t position m)
   still_stand t position m = if_act (position.v_train == 0)
       (option_map_or (cut_ahead line c t m) (place_on line m.place.track position) rest) rest
-      (or_act (place_on line m.place.track position) (cut_ahead line c t m) rest (still_ahead t m) still_rest) still_rest
+      (or_act (place_on line m.place.track position) (cut_ahead line c t m) rest (still_ahead t m) still_rest)
+      still_rest
 
   pub still_end_mission : (t : ℕ) (position : Position) → Still (end_mission line c t position)
   still_end_mission t position = both _ _

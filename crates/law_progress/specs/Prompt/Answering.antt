@@ -1,6 +1,7 @@
 -- Prompt schedules: trains and the interlocking go on, and each link delivers its next frame within k events. The
 -- bounds within which a question between centres is answered.
-use Rattle.std.specs.Prelude.{◌≡◌, ◌≢◌, ◌⊎◌, ℕ, ◌+◌, ◌*◌, ◌≤◌, ◌<◌, ◌==◌, ◌&&◌, Bool, true, false, List, [], ◌∷◌, length, None, Result, Ok, Err}
+use Rattle.std.specs.Prelude.{◌≡◌, ◌≢◌, ◌⊎◌, ℕ, ◌+◌, ◌*◌, ◌≤◌, ◌<◌, ◌==◌, ◌&&◌, Bool, true, false, List, [], ◌∷◌}
+use Rattle.std.specs.Prelude.{length, None, Result, Ok, Err}
 use Rattle.std.specs.List.{list_any}
 use Rattle.rbc_spec.specs.Line.{Line, is_home}
 use Rattle.rbc_spec.specs.Message.{TrackBody, InitiationOfSession, TerminationOfSession, TrainAccepted, TrainRejected}
@@ -14,13 +15,13 @@ use Rattle.law_progress.specs.Fair.Schedule.{next_number, world_after}
 -- ## Schedules
 
 -- If a frame from a to b is on the way, the next frame of that link is delivered within k events. Any events may happen
--- between deliveries, for ever. That a delivery is accepted is not said.
+-- between deliveries, for ever. A delivery may be refused.
 pub record IsPrompt (line : Line) (schedule : ℕ → Event) (k : ℕ) : Type 0 where
   pub delivers : (n a b : ℕ) → way (world_after line schedule n) a b ≢ []
       → (m : ℕ) × (n ≤ m) × (m < n + k) × (schedule m ≡ Delivery a b (next_number (world_after line schedule m) a b))
 
--- a schedule has these events in their order, one after every so many
-pub record Has (others : ℕ → Event) (every : ℕ) (schedule : ℕ → Event) : Type 0 where
+-- the schedule has these events in their order, from position 0 on, one at each multiple of a number
+pub record HasInOrder (others : ℕ → Event) (every : ℕ) (schedule : ℕ → Event) : Type 0 where
   pub each : (i : ℕ) → schedule (i * every) ≡ others i
 
 -- After position n and before position m the delivery of the next frame from a to b is refused. A step clock is at its
@@ -33,8 +34,8 @@ pub record IsHeldUp (line : Line) (schedule : ℕ → Event) (n m a b : ℕ) : T
   pub why : Refusal
   pub refused : world_step line (world_after line schedule at) (schedule at) ≡ Err why
 
--- The frame at place i, counted from 0, of those on the way from a to b is taken within k events for each frame up to
--- it. Or a delivery from a to b is refused before that.
+-- Of the frames on the way from a to b, the one at place i, counted from 0, is taken. The time is k events for it and
+-- for each frame before it. Or a delivery from a to b is refused before that.
 pub record IsTakenSoon (line : Line) (schedule : ℕ → Event) (k n a b i : ℕ) : Type 0 where
   pub at : ℕ
   pub late : n ≤ at
@@ -55,7 +56,7 @@ pub record PutsAnswer (x : Question) (frames : List Frame) : Type 0 where
   pub alone : frames ≡ frame ∷ []
   pub answers_it : answers x frame.body ≡ true
 
--- Within so many events a question of centre c to centre d is answered, if each link delivers within k events. The
+-- The events within which centre d answers a question of centre c, if each link delivers within k events. The
 -- question waits for the frames before it on its way, and then its answer for those before it on its own. A step sends
 -- at most three frames on a link.
 abbrev pub answer_time : World → ℕ → ℕ → ℕ → ℕ

@@ -13,7 +13,7 @@ ghost use Rattle.law_invariants.specs.NoUnasked.Asked.{Question, asks, answers, 
 ghost use Rattle.law_invariants.specs.Ranges.Stays.{IsReadInRange};
 ghost use Rattle.law_progress.specs.Fair.Schedule.{world_after};
 ghost use Rattle.law_progress.specs.Prompt.Answering.{IsPrompt, IsTakenSoon, IsAnsweredSoon, PutsAnswer, is_asked_of};
-ghost use Rattle.law_progress.specs.Prompt.Answering.{IsStartAnswered, Has};
+ghost use Rattle.law_progress.specs.Prompt.Answering.{IsStartAnswered, HasInOrder};
 
 /// Take an endless schedule in which each link delivers its next frame within k events. Trains and the interlocking may
 /// go on for ever. Then each frame on the way is taken within k events for each frame up to it on its link. Or a
@@ -39,9 +39,9 @@ pub fn a_question_is_answered_at_once()
         → world_step line w (Delivery d c number) ≡ Ok (answer, new) → stands x (new.at c) ≡ false }
 {}
 
-/// In such a schedule, each pending question of centre c to centre d is answered within a number of events (`answer_time`).
-/// That number follows from k and the frames on the way between c and d. Or a delivery between c and d is refused before
-/// that. No event has to end.
+/// In such a schedule, each pending question of centre c to centre d is answered within a number of events
+/// (`answer_time`). That number follows from k and from the frames on the way between c and d. Or a delivery between c
+/// and d is refused before that. Trains and the interlocking may go on for ever.
 pub fn each_question_is_answered_in_time()
     ensures { (line : Line) (schedule : ℕ → Event) (k n c d : ℕ) (x : Question) → IsLine line
         → ((j : ℕ) → IsReadInRange (schedule j)) → IsPrompt line schedule k → is_centre line c ≡ true
@@ -59,9 +59,9 @@ pub fn each_start_is_answered_in_time()
         → IsStartAnswered line schedule k n c d t }
 {}
 
-/// There are such schedules, whatever trains and the interlocking do. Take any endless list of events. Some prompt
-/// schedule has them in their order, with the same number of deliveries between any two.
+/// There are such schedules, whatever trains and the interlocking do. Take any endless list of events. Some schedule
+/// has them in their order, one at each multiple of k, and is prompt for k.
 pub fn each_endless_list_has_a_prompt_schedule()
     ensures { (line : Line) (others : ℕ → Event) → IsLine line
-        → (schedule : ℕ → Event) × (k : ℕ) × Has others k schedule × IsPrompt line schedule k }
+        → (schedule : ℕ → Event) × (k : ℕ) × HasInOrder others k schedule × IsPrompt line schedule k }
 {}
