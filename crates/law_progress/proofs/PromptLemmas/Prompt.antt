@@ -42,7 +42,7 @@ module _ (line : Line) (ok : IsLine line) (schedule : ℕ → Event) (ranges : (
       on old = by_result line ok schedule ranges (λ v. EachOnTheWay (IsFromAsked line) (flow_of v)) n old
           (λ answer new is. from_asked_step line ok (At n) (reached n) old (schedule n) answer new is)
 
-  -- what is known of each body on the way
+  -- a property of each body on the way
   known_body : (P : ℕ → ℕ → Body → Type 0) (n a b i : ℕ) (f : Frame) → EachOnTheWay P (flow_of (At n))
       → slice_get (way (At n) a b) i ≡ Some f → P a b f.body
   known_body P n a b i f each got = each_at (P a b) (net.way (flow_of (At n)) a b) i f.body (each.each a b)

@@ -1,5 +1,6 @@
 -- Prompt schedules: trains and the interlocking go on, and each link delivers its next frame within k events. The
--- bounds within which a question between centres is answered.
+-- bounds within which a question between centres is answered. An announced handover waits for a train, and so does a
+-- section that its home asks back: they have no bound here. A TakingOver and its Yield have only the bound of a frame.
 use Rattle.std.specs.Prelude.{◌≡◌, ◌≢◌, ◌⊎◌, ℕ, ◌+◌, ◌*◌, ◌≤◌, ◌<◌, ◌==◌, ◌&&◌, Bool, true, false, List, [], ◌∷◌}
 use Rattle.std.specs.Prelude.{length, None, Result, Ok, Err}
 use Rattle.std.specs.List.{list_any}
