@@ -5,3 +5,4 @@ pub mod Messages
 pub mod Rounds
 pub mod RestLemmas
 pub mod FairLemmas
+pub mod PromptLemmas

@@ -1,3 +1,4 @@
 pub mod Ends
 pub mod Rest
 pub mod Fair
+pub mod Prompt

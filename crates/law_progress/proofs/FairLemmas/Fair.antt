@@ -27,11 +27,11 @@ module _ (line : Line) (ok : IsLine line) (schedule : ℕ → Event) (ranges : (
   known : (n : ℕ) → IsReachedSo line (At n)
   known = reached_at line ok schedule
 
-  one_on : (n : ℕ) → At (suc n) ≡ after (At n) (Step n)
+  pub one_on : (n : ℕ) → At (suc n) ≡ after (At n) (Step n)
   unfolding world_after
   one_on n = refl
 
-  in_range_at : (n : ℕ) → IsWorldInRange line (At n)
+  pub in_range_at : (n : ℕ) → IsWorldInRange line (At n)
   unfolding world_after
   in_range_at zero = new_in_range line
   in_range_at (suc n) = by_step (in_range_at n) (Step n) refl

@@ -45,10 +45,10 @@ module _ (line : Line) (w : World) (reached : IsReachedSo line w) (a b : ℕ) (s
       by_centre true is = ltb-true c (centre_count line) is
       by_centre false is = absurd (some (none_sent ((w.at a).sent b) ((w.at b).taken a) (none is)))
 
-  from_line : a < centre_count line
+  pub from_line : a < centre_count line
   from_line = of_line a (λ no. reached.sound.flow.no_sent a b (inl no))
 
-  to_line : b < centre_count line
+  pub to_line : b < centre_count line
   to_line = of_line b (λ no. reached.sound.flow.no_sent a b (inr no))
 
 -- ## The schedule
@@ -187,7 +187,7 @@ module _ (line : Line) (w : World) (a b number : ℕ) (f : Frame) where
 
 -- ## It stays refused
 
-got_front : (xs ys : List Frame) (i : ℕ) (f : Frame) → slice_get xs i ≡ Some f → slice_get (xs ++ ys) i ≡ Some f
+pub got_front : (xs ys : List Frame) (i : ℕ) (f : Frame) → slice_get xs i ≡ Some f → slice_get (xs ++ ys) i ≡ Some f
 got_front [] ys i f is = cc
 got_front (x ∷ xs) ys zero f is = is
 got_front (x ∷ xs) ys (suc i) f is = got_front xs ys i f is

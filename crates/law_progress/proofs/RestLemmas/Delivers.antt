@@ -71,7 +71,7 @@ pub record IsHead (line : Line) (w : World) (a b number : ℕ) (f : Frame) : Typ
 
 module _ (line : Line) (w : World) (numbered : IsNumbered w)
     (sent : (a b : ℕ) → All (IsFrameInRange line a b) ((w.at a).sent b)) where
-  head_of : (a b : ℕ) (f : Frame) (rest : List Frame) → world.way w a b ≡ f ∷ rest
+  pub head_of : (a b : ℕ) (f : Frame) (rest : List Frame) → world.way w a b ≡ f ∷ rest
       → IsHead line w a b ((w.at b).taken a + 1) f
   head_of a b f rest is = record { sent = by_number; next = by_link }
     where
@@ -154,7 +154,7 @@ module _ (line : Line) (w : World) (sound : IsFlowSound line (flow_of w)) (numbe
     takes_head = next_sent w numbered a b number f head.sent
         (linked_next (is_linked line b a) ((w.at b).taken a) f.number head.next).1
 
-    one_more : (x : ℕ) → (done line b (w.at b) (centre.Deliver a f)).reply.state.taken x
+    pub one_more : (x : ℕ) → (done line b (w.at b) (centre.Deliver a f)).reply.state.taken x
         ≡ put (w.at b).taken a ((w.at b).taken a + 1) x
     one_more x = ap (λ (g : ℕ → ℕ). g x) (deliver_taken line b a (stamp_of (w.at b) (centre.Deliver a f)) f (w.at b))
         ∙ ap (λ answer. taken_after a f answer (w.at b) x) head.next

@@ -1,0 +1,15 @@
+pub mod Lists
+pub mod Links
+pub mod Queue
+pub mod Within
+pub mod Rules
+pub mod Answers
+pub mod Asked
+pub mod Soon
+pub mod Prompt
+pub mod Waits
+pub mod WaitFrames
+pub mod WaitEnds
+pub mod WaitSteps
+pub mod Starts
+pub mod Between
