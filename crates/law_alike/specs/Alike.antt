@@ -37,6 +37,21 @@ AreSteps line w (event ∷ events) (result ∷ results) new =
     (mid : World) × IsStep line w event result line mid × AreSteps line mid events results new
 AreSteps line w events results new = ⊥
 
+-- ## Events that were answered
+
+-- The events that were answered, in order. Those that were refused are left out, whether memory ran out, a link is full
+-- or a clock is at its end.
+abbrev pub answered : List Event → List (Result Answer StepFault) → List Event
+answered (event ∷ events) (Ok answer ∷ results) = event ∷ answered events results
+answered (event ∷ events) (Err fault ∷ results) = answered events results
+answered events results = []
+
+-- the visible parts of their answers, in order
+abbrev pub answers_of : List (Result Answer StepFault) → List spec.Answer
+answers_of [] = []
+answers_of (Ok answer ∷ results) = answer_of answer ∷ answers_of results
+answers_of (Err fault ∷ results) = answers_of results
+
 -- ## Bytes
 
 -- the messages to trains as bytes, each after its NID_ENGINE, in order

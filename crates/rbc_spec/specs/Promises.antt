@@ -97,7 +97,8 @@ pub record IsSound (line : Line) (w : World) : Type 0 where
 -- The event may free a section of train t. It is a message of the train that its supervisor answers, and one of three
 -- things holds. `cleared`: a report or an end of mission clears the section. `shortened`: the train grants the pending
 -- request, which keeps only sections before this one, and its front is not past the kept part. `stopped`: the train
--- ends its mission at standstill, has reached its hand, and the section starts at the front or past it.
+-- ends its mission at standstill, has reached its hand, and the section starts at the front or past it. It has reached
+-- its hand if a section of the hand starts before the front, and the same message does not clear that section.
 pub data MayFree (line : Line) (w : World) (t s : ℕ) : Event → Type 0 where
   cleared : (c : ℕ) (m : TrainMessage) (position : Position) (n : centre.Mission) (place : Place)
       → m.nid_engine ≡ t → step.silence line c (w.at c) m ≡ None → (w.at c).mission t ≡ Some n
@@ -112,9 +113,9 @@ pub data MayFree (line : Line) (w : World) (t s : ℕ) : Event → Type 0 where
   stopped : (c : ℕ) (m : TrainMessage) (position : Position) (n : centre.Mission) (place : Place) (r : ℕ)
       → m.nid_engine ≡ t → step.silence line c (w.at c) m ≡ None → (w.at c).mission t ≡ Some n
       → m.body ≡ EndOfMission position → position.v_train ≡ 0
-      → place_on line n.place.track position ≡ Some place → is_given line w t r ≡ true → 10 * start line r < place.front
-      → place.front ≤ 10 * start line s
-      → MayFree line w t s (Bytes c (Ok m))
+      → place_on line n.place.track position ≡ Some place → is_given line w t r ≡ true
+      → is_cleared line place r ≡ false → 10 * start line r < place.front
+      → place.front ≤ 10 * start line s → MayFree line w t s (Bytes c (Ok m))
 
 -- the effect of an event on the sections in hands, and its replies to the interlocking
 pub record KeepsPromises (line : Line) (w : World) (event : Event) (answer : Answer) (new : World) : Type 0 where

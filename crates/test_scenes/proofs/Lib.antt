@@ -27,3 +27,4 @@ pub mod StrayFrames
 pub mod PlacesMet
 pub mod NotAllowed
 pub mod OnePlaces
+pub mod Standstill

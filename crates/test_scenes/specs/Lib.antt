@@ -19,3 +19,4 @@ pub mod StrayFrames
 pub mod PlaceMoves
 pub mod NotAllowed
 pub mod OnePlaces
+pub mod Standstill

@@ -7,6 +7,7 @@
 //! What is expected comes from the standard or from the rules in words, never from the program's own output.
 #![tactic(auto)]
 
+mod at_standstill;
 mod late;
 mod not_allowed;
 mod one_places;
@@ -33,6 +34,7 @@ ghost use Rattle.test_scenes.specs.PlaceMoves.{requests_without_place_moves, han
 ghost use Rattle.rbc_spec.specs.World.{new_world, world_run};
 ghost use Rattle.test_scenes.specs.Limits.{asks_ahead, run_items, set_and_session, set_and_session_shows, stamps, having_sent, last_stamp_is_taken, last_stamp_is_taken_shows, stamp_past_the_last, stamp_past_the_last_shows, frame_without_a_link, frame_without_a_link_shows};
 
+pub use at_standstill::standstill_at_the_start_of_a_section;
 pub use late::{late_frames, races_met};
 pub use not_allowed::{moves_not_allowed, two_yields_on_the_way};
 pub use one_places::each_thing_stays_in_one_place;

@@ -21,7 +21,8 @@ use Rattle.rbc_spec.specs.SectionRuns.{all_of, next_after, SectionRun, within}
 use Rattle.rbc_spec.specs.Sections.{is_on, section_count}
 
 -- Why a section stops being given to train u by a message of train t. Its report or end of mission clears it. Its
--- granted shortening cuts it off. Or it ends at standstill, has reached its hand, and the section is ahead.
+-- granted shortening cuts it off. Or it ends at standstill, has reached a section that it has not cleared, and the
+-- section is ahead.
 pub data Frees (line : Line) (v : LineState) (t u s : ℕ) : TrainBody → Type 0 where
   by_report : (position : Position) (place : Place) → t ≡ u → place_on line (track_of v t) position ≡ Some place
       → is_cleared line place s ≡ true → Frees line v t u s (Report position)
@@ -29,7 +30,8 @@ pub data Frees (line : Line) (v : LineState) (t u s : ℕ) : TrainBody → Type 
       → is_cleared line place s ≡ true → Frees line v t u s (EndOfMission position)
   by_standstill : (position : Position) (place : Place) (r : ℕ) → t ≡ u
       → place_on line (track_of v t) position ≡ Some place → (position.v_train == 0) ≡ true → r < section_count line
-      → is_given_to t (v.mark r) ≡ true → nat_lt (10 * start line r) place.front ≡ true
+      → is_given_to t (v.mark r) ≡ true → is_cleared line place r ≡ false
+      → nat_lt (10 * start line r) place.front ≡ true
       → nat_le place.front (10 * start line s) ≡ true → Frees line v t u s (EndOfMission position)
   by_cut : (stamp : ℕ) (position : Position) (place : Place) → t ≡ u
       → place_on line (track_of v t) position ≡ Some place
@@ -195,6 +197,18 @@ module _ (line : Line) (v : LineState) (keep : WaitsKeep line v) (c : ℕ) (at :
         (λ so. other (and_parts (is_released s) (is_home line c s) so).0)
         ∙ if_not (is_released s && not (is_home line c s)) (Kept t) (v.mark s)
         (λ so. other (and_parts (is_released s) (not (is_home line c s)) so).0)
+
+    -- a released section is not given any more
+    pub released_gone : (s : ℕ) → is_released s ≡ true → is_given_to t ((release line c t is_released v).mark s) ≡ false
+    released_gone s = by_home (is_released s) (is_home line c s) (v.wish s)
+      where
+        by_home : (is_so at_home is_wished : Bool) → is_so ≡ true
+            → is_given_to t (if is_so && at_home then (if is_wished then Shut else Open)
+            else (if is_so && not at_home then Kept t else v.mark s)) ≡ false
+        by_home false at_home is_wished so = cc
+        by_home true true true so = refl
+        by_home true true false so = refl
+        by_home true false is_wished so = refl
 
     waited_stay : (u d s : ℕ) → IsWaited line v u d s → is_released s ≡ true → ⊥
     waited_stay u d s waited so = let wrong : true ≡ false = sym (of_hand s so) ∙ ap (is_given_to t) waited.kept in cc

@@ -218,7 +218,7 @@ module _ (line : Line) (w : World) (v : LineState) (stands : StandsFor line w v)
         (subst (λ (x : ℕ). (w.at c).mission x ≡ Some h.0.mission) train h.0.has) (inr refl)
         (subst (λ (o : Option LineMission). place_on line (option_map_or (λ n. n.place.track) o 0) position
         ≡ Some place) h.0.is_seen on) is
-    frees_is (EndOfMission position) fair u s (by_standstill _ place r train on still on_line reached near ahead) =
+    frees_is (EndOfMission position) fair u s (by_standstill _ place r train on still on_line reached left near ahead) =
         let h = here_is c t (λ n. true)
         (not-false (has_here v c t (λ n. true))
         (none_passes (run.holds line v c (message (EndOfMission position)) (EndOfMission position))
@@ -232,7 +232,7 @@ module _ (line : Line) (w : World) (v : LineState) (stands : StandsFor line w v)
         ≡ Some place) h.0.is_seen on)
         (subst (λ (x : ℕ). is_given line w x r ≡ true) train
         (given_held line w v stands t r home.0 home.1 (given_is t (v.mark r) reached)))
-        (ltb-true (10 * start line r) place.front near) (leb-true place.front (10 * start line s) ahead)
+        left (ltb-true (10 * start line r) place.front near) (leb-true place.front (10 * start line s) ahead)
     frees_is (ShorteningGranted stamp position) fair u s (by_cut _ _ place train on time past) =
         let h = here_is c t (answers_it stamp)
         (not-false (has_here v c t (answers_it stamp))

@@ -4,7 +4,8 @@ use Rattle.std.proofs.Common.{nat_lt, None, not, Option, refl, Some, subst, sym,
 use Rattle.std.proofs.lemmas.Bool.{and_parts}
 use Rattle.law_base.proofs.Lists.{any-range_some}
 use Rattle.law_base.proofs.PiecesLemmas.Frees.{by_cut, by_end, by_report, by_standstill, extends_leave, Frees}
-use Rattle.law_base.proofs.PiecesLemmas.Frees.{of_leaves, OwnLeaves, release_leaves, released_stay, starts_leave}
+use Rattle.law_base.proofs.PiecesLemmas.Frees.{of_leaves, OwnLeaves, release_leaves, released_gone, released_stay}
+use Rattle.law_base.proofs.PiecesLemmas.Frees.{starts_leave}
 use Rattle.law_base.proofs.PiecesLemmas.Waits.{end_leaves, Leaves, plain_leaves, WaitsKeep}
 use Rattle.rbc_spec.specs.Line.{end, is_centre, Line, start}
 use Rattle.rbc_spec.specs.LineCentre.{close_if_empty, is_given_to, LineState, Mark, release, Said}
@@ -70,16 +71,28 @@ module _ (line : Line) (v : LineState) (keep : WaitsKeep line v) (c : ℕ) (at :
   closed_is : (place : Place) → (after_report place).mark ≡ (release line c t (is_cleared_of line v t place) v).mark
   closed_is place = closed_mark _ _ _ refl
 
-  -- a section that is given after a report was given before
+  -- a section that is given after a report was given before, and the report does not clear it
   given_before : (place : Place) (s : ℕ) → is_given_to t ((after_report place).mark s) ≡ true
-      → is_given_to t (v.mark s) ≡ true
+      → (is_given_to t (v.mark s) ≡ true) × (is_cleared line place s ≡ false)
   given_before place s is = by_cleared (is_cleared_of line v t place s) refl
     where
-      by_cleared : (b : Bool) → is_cleared_of line v t place s ≡ b → is_given_to t (v.mark s) ≡ true
-      by_cleared true so = (cleared_given place s so).0
-      by_cleared false so = ap (is_given_to t) (sym (ap (λ (f : ℕ → Mark). f s) (closed_is place)
-          ∙ released_stay line v keep c at t (is_cleared_of line v t place) (λ e is. (cleared_given place e is).0) s
-          (λ yes. let wrong : true ≡ false = sym yes ∙ so in cc))) ∙ is
+      marks : (after_report place).mark s ≡ (release line c t (is_cleared_of line v t place) v).mark s
+      marks = ap (λ (f : ℕ → Mark). f s) (closed_is place)
+
+      of_hand : (e : ℕ) → is_cleared_of line v t place e ≡ true → is_given_to t (v.mark e) ≡ true
+      of_hand e so = (cleared_given place e so).0
+
+      by_cleared : (b : Bool) → is_cleared_of line v t place s ≡ b
+          → (is_given_to t (v.mark s) ≡ true) × (is_cleared line place s ≡ false)
+      by_cleared true so =
+          let wrong : true ≡ false = sym is ∙ ap (is_given_to t) marks
+          ∙ released_gone line v keep c at t (is_cleared_of line v t place) of_hand s so in
+          cc
+      by_cleared false so =
+          let stays = marks ∙ released_stay line v keep c at t (is_cleared_of line v t place) of_hand s
+          (λ yes. let wrong : true ≡ false = sym yes ∙ so in cc) in
+          let given : is_given_to t (v.mark s) ≡ true = ap (is_given_to t) (sym stays) ∙ is in
+          (given, ap (λ (b : Bool). b && is_cleared line place s) (sym given) ∙ so)
 
   ahead_given : (place : Place) (s : ℕ) → is_ahead_of line (after_report place) t place s ≡ true
       → (is_given_to t ((after_report place).mark s) ≡ true) × (nat_le place.front (10 * start line s) ≡ true)
@@ -115,12 +128,13 @@ module _ (line : Line) (v : LineState) (keep : WaitsKeep line v) (c : ℕ) (at :
           let below = r.2 in
           let parts = and_parts (is_given_to t ((after_report place).mark r.0))
           (nat_lt (10 * start line r.0) place.front) r.3 in
+          let before = given_before place r.0 parts.0 in
           both_leave (EndOfMission position) (after_report place) new one
           (release_leaves line (after_report place) one.waits c at t (is_ahead_of line (after_report place) t place)
           (λ s so. (ahead_given place s so).0) new (May (EndOfMission position))
           (ap (λ (x : LineState). x.mark) is) (ap (λ (x : LineState). x.wait) is)
           (λ s so. by_standstill position place r.0 refl on still (omega (arith, below))
-          (given_before place r.0 parts.0) parts.1 (ahead_given place s so).1))
+          before.0 before.1 parts.1 (ahead_given place s so).1))
 
   end_leaves_all : (position : Position) (still : Bool) (o : Option Place) (said : Said) (new : LineState)
       → (position.v_train == 0) ≡ still → place_on line (track_of v t) position ≡ o → Ending line t c still o v said new

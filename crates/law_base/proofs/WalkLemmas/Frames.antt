@@ -17,7 +17,7 @@ use Rattle.rbc_spec.specs.Frame.{RouteInfo, RouteReturn, TakingOver, Yield, Yiel
 use Rattle.rbc_spec.specs.Line.{is_home, Line, section}
 use Rattle.rbc_spec.specs.Links.{announced, cancelled, expect, is_train, is_under, may_take, right_returned}
 use Rattle.rbc_spec.specs.Links.{route_returned, route_withdrawn, take_mission, yielded}
-use Rattle.rbc_spec.specs.Maps.{has, put}
+use Rattle.rbc_spec.specs.Maps.{put}
 use Rattle.rbc_spec.specs.Place.{Place}
 use Rattle.rbc_spec.specs.SectionRuns.{no_run, part_before, part_from, SectionRun, within}
 
