@@ -8,7 +8,7 @@ use crate::railway::Addresses;
 use rbc_msgs::decode_track;
 use std::alloc::Global;
 use std::io::{ErrorKind, Read};
-use std::net::{Net, Shutdown, TcpStream};
+use std::net::{Net, Shutdown, TcpListener, TcpStream};
 use std::sync::atomic::{AtomicBool, Ordering};
 use std::thread;
 use std::thread::Threads;
@@ -37,7 +37,7 @@ pub static PLAYS: [Play<'_>; 1] = [Play {
 
 /// Opens a train's session, and starts its missions over two connections at once, by two threads. All answers come over
 /// the first connection, in order.
-pub fn start_over_two<R: Threads + Sync + Net<Stream = TcpStream>>(
+pub fn start_over_two<R: Threads + Sync + Net<Stream = TcpStream, Listener = TcpListener>>(
     rt: &R,
     alloc: Global,
     addresses: Addresses,

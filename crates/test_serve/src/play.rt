@@ -7,7 +7,7 @@ use crate::railway::Addresses;
 use crate::sheet::Paper;
 use crate::sinks::ask_until_both_come;
 use std::alloc::Global;
-use std::net::{Net, SocketAddr, TcpStream};
+use std::net::{Net, SocketAddr, TcpListener, TcpStream};
 use std::thread::Threads;
 use std::time::Clock;
 
@@ -62,7 +62,7 @@ pub struct Stage<'a> {
 }
 
 /// Plays the rounds.
-pub fn play_rounds<R: Threads + Sync + Net<Stream = TcpStream> + Clock>(
+pub fn play_rounds<R: Threads + Sync + Net<Stream = TcpStream, Listener = TcpListener> + Clock>(
     rt: &R,
     stage: Stage<'_>,
     rounds: &[Round<'_>],
@@ -75,7 +75,7 @@ pub fn play_rounds<R: Threads + Sync + Net<Stream = TcpStream> + Clock>(
     Ok(())
 }
 
-fn play_once<R: Threads + Sync + Net<Stream = TcpStream> + Clock>(
+fn play_once<R: Threads + Sync + Net<Stream = TcpStream, Listener = TcpListener> + Clock>(
     rt: &R,
     stage: Stage<'_>,
     turn: u32,
@@ -114,7 +114,7 @@ fn come<R: Net<Stream = TcpStream>>(
         .ok_or(Missed::Memory)
 }
 
-fn done<R: Threads + Sync + Net<Stream = TcpStream> + Clock>(
+fn done<R: Threads + Sync + Net<Stream = TcpStream, Listener = TcpListener> + Clock>(
     rt: &R,
     stage: Stage<'_>,
     turn: u32,
@@ -135,7 +135,7 @@ fn done<R: Threads + Sync + Net<Stream = TcpStream> + Clock>(
 }
 
 // A step of no connection, or a comparison.
-fn done_beside<R: Threads + Sync + Net<Stream = TcpStream> + Clock>(
+fn done_beside<R: Threads + Sync + Net<Stream = TcpStream, Listener = TcpListener> + Clock>(
     rt: &R,
     stage: Stage<'_>,
     act: Act<'_>,

@@ -126,12 +126,15 @@ fn end_so<R: Threads + Wait + Sync + Net<Stream = TcpStream, Listener = TcpListe
 }
 
 // The same, with cells for the two journals.
-fn end_so_over<R: Threads + Wait + Sync + Net<Stream = TcpStream, Listener = TcpListener> + Clock>(
+fn end_so_over<
+    'a,
+    R: Threads + Wait + Sync + Net<Stream = TcpStream, Listener = TcpListener> + Clock,
+>(
     rt: &R,
     alloc: Global,
-    play: &Play<'_>,
-    of_a: &[AtomicU8],
-    of_b: &[AtomicU8],
+    play: &'a Play<'a>,
+    of_a: &'a [AtomicU8],
+    of_b: &'a [AtomicU8],
 ) -> Done<()> {
     let (a, b) = rooms_of(play);
     let (room_a, room_b) = (AtomicUsize::new(a), AtomicUsize::new(b));
@@ -178,7 +181,11 @@ fn all_seen(scene: Scene<'_>, status: u8, printed: &[u8]) -> Done<()> {
         return Err(Missed::Status);
     }
     let printed = std::str::from_utf8(printed).ok().ok_or(Missed::Print)?;
-    for seen in scene.play.seen {
+    each_seen(scene, printed, scene.play.seen)
+}
+
+fn each_seen(scene: Scene<'_>, printed: &str, all: &[Seen<'_>]) -> Done<()> {
+    for seen in all {
         if !is_seen(scene, printed, *seen)? {
             return Err(Missed::Print);
         }

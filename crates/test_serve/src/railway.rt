@@ -53,7 +53,7 @@ fn addresses_of(endpoints: &Endpoints) -> Done<Addresses> {
     })
 }
 
-fn played<R: Threads + Sync + Net<Stream = TcpStream> + Clock>(
+fn played<R: Threads + Sync + Net<Stream = TcpStream, Listener = TcpListener> + Clock>(
     rt: &R,
     scene: Scene<'_>,
     addresses: Addresses,
