@@ -11,7 +11,7 @@ use rbc_line::Line;
 use std::alloc::Global;
 use std::net::{Net, TcpListener, TcpStream};
 use std::sync::Wait;
-use std::sync::atomic::{AtomicU8, AtomicUsize};
+use std::sync::atomic::AtomicUsize;
 use std::test::*;
 use std::thread::Threads;
 use std::time::Clock;
@@ -105,7 +105,7 @@ fn each_play_with_journals_ends_as_it_should(rt: HostRuntime) -> Result<(), Fail
 // The first play that ends otherwise is reported, by its name and its fault.
 fn end_as_they_should<
     R: Threads + Wait + Sync + Net<Stream = TcpStream, Listener = TcpListener> + Clock,
->(rt: &R, alloc: Global, plays: &[Play<'_>]) -> Result<(), Fail> {
+>(rt: &R, alloc: Global, plays: &'static [Play<'static>]) -> Result<(), Fail> {
     for play in plays {
         if let Err(missed) = end_so(rt, alloc, play) {
             let name = play.name;
@@ -118,29 +118,15 @@ fn end_as_they_should<
 fn end_so<R: Threads + Wait + Sync + Net<Stream = TcpStream, Listener = TcpListener> + Clock>(
     rt: &R,
     alloc: Global,
-    play: &Play<'_>,
+    play: &'static Play<'static>,
 ) -> Done<()> {
     let of_a = cells(alloc).ok().ok_or(Missed::Memory)?;
     let of_b = cells(alloc).ok().ok_or(Missed::Memory)?;
-    end_so_over(rt, alloc, play, &of_a, &of_b)
-}
-
-// The same, with cells for the two journals.
-fn end_so_over<
-    'a,
-    R: Threads + Wait + Sync + Net<Stream = TcpStream, Listener = TcpListener> + Clock,
->(
-    rt: &R,
-    alloc: Global,
-    play: &'a Play<'a>,
-    of_a: &'a [AtomicU8],
-    of_b: &'a [AtomicU8],
-) -> Done<()> {
     let (a, b) = rooms_of(play);
     let (room_a, room_b) = (AtomicUsize::new(a), AtomicUsize::new(b));
     let papers = Papers {
-        a: Paper::new(of_a, &room_a),
-        b: Paper::new(of_b, &room_b),
+        a: Paper::new(&of_a, &room_a),
+        b: Paper::new(&of_b, &room_b),
     };
     let line = two_centres(alloc).ok().ok_or(Missed::Memory)?;
     let scene = Scene {
@@ -172,7 +158,7 @@ pub struct Papers<'a> {
 pub struct Scene<'a> {
     pub alloc: Global,
     pub line: &'a Line,
-    pub play: &'a Play<'a>,
+    pub play: &'static Play<'static>,
     pub papers: Papers<'a>,
 }
 
