@@ -56,12 +56,17 @@ pub(crate) fn run_pages<R: Threads + Wait + Sync + Clock, N: Notes + Sync>(
     });
 }
 
-// The next connection; `None` if none came for a while. It rests if the system can give none.
+// The next connection; `None` if none came for a while. It rests if the system can give none, or if the control endpoint
+// can take none for lack of files.
 fn next_browser<R: Wait>(
     rt: &R,
     server: &Server<'_>,
     endpoint: &PageEndpoint,
 ) -> Option<Arc<TcpStream, Global>> {
+    if server.state.is_short_of_files() {
+        endpoint.rest(rt);
+        return None;
+    }
     match endpoint.listener.accept() {
         Ok((stream, _)) => Arc::new(server.alloc, stream).ok(),
         Err(error) if is_idle(error.kind()) => None,

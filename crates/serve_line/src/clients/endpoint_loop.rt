@@ -1,14 +1,14 @@
 use crate::clients::control::serve_control;
-use crate::clients::entrance::{Entrance, is_idle};
-use crate::clients::limits::{DEAF_REST_MS, GRACE_RESTS, LEAVING_RESTS, NEXT_RESTS};
+use crate::clients::entrance::{Entrance, accept, rest, rest_after};
+use crate::clients::limits::{GRACE_RESTS, LEAVING_RESTS, NEXT_RESTS};
 use crate::clients::sessions::serve_train;
-use crate::state::{ENDPOINT_REST_MS, Endpoint, Peer, PeerStream, Server, Slot, Watch};
+use crate::state::{Endpoint, Peer, PeerStream, Server, Slot, Watch};
 use crate::status::{Kind, Life, Notes};
 use std::sync::Wait;
 use std::sync::atomic::Ordering;
+use std::thread;
 use std::thread::Threads;
-use std::time::{Clock, Duration};
-use std::{io, thread};
+use std::time::Clock;
 
 /// Accepts connections at one endpoint until the centres stop, and closes it. After the stop, connections have a
 /// limited time to end; then they are shut. It returns after the last connection.
@@ -131,7 +131,7 @@ fn next_peer<'a, R: Wait, N: Notes>(
     endpoint: &'a Endpoint,
     entrance: &mut Entrance,
 ) -> Option<(PeerStream, &'a Slot)> {
-    let stream = match entrance.accept(server.alloc) {
+    let stream = match accept(rt, server, endpoint, entrance) {
         Ok(stream) => stream,
         Err(error) => {
             rest_after(rt, server, notes, endpoint, &error);
@@ -164,34 +164,6 @@ fn next_peer<'a, R: Wait, N: Notes>(
     slot.heard.store(server.state.hear(), Ordering::SeqCst);
     *slot.stream.lock(rt) = Some(shared);
     Some((stream, slot))
-}
-
-// Rests if the system can give no connection, as when too many files are open.
-fn rest_after<R: Wait, N: Notes>(
-    rt: &R,
-    server: &Server<'_>,
-    notes: &N,
-    endpoint: &Endpoint,
-    error: &io::Error,
-) {
-    if is_idle(error.kind()) {
-        return;
-    }
-    let name = server.name(endpoint.peer);
-    notes.often(
-        Kind::Device,
-        format_args!("{name}: no connection can be taken now: {error}"),
-    );
-    endpoint
-        .waker
-        .park_timeout(rt, Duration::from_millis(DEAF_REST_MS));
-}
-
-// Rests at an endpoint for at most `ENDPOINT_REST_MS`, or until its waker is rung.
-fn rest<R: Wait>(rt: &R, endpoint: &Endpoint) {
-    endpoint
-        .waker
-        .park_timeout(rt, Duration::from_millis(ENDPOINT_REST_MS));
 }
 
 // A slot for a new connection. If all are taken, another connection has to leave its slot. At a centre, this is the

@@ -1,7 +1,11 @@
-use crate::state::{Listener, PeerStream};
+use crate::clients::limits::DEAF_REST_MS;
+use crate::state::{ENDPOINT_REST_MS, Endpoint, Listener, Peer, PeerStream, Server};
+use crate::status::{Kind, Notes};
 use std::alloc::Global;
 use std::io;
 use std::io::ErrorKind;
+use std::sync::Wait;
+use std::time::Duration;
 
 /// The source of an endpoint's connections: its listener, and a file in reserve.
 #[derive(Drop)]
@@ -52,4 +56,58 @@ pub(crate) fn is_idle(kind: ErrorKind) -> bool {
         kind,
         ErrorKind::WouldBlock | ErrorKind::Interrupted | ErrorKind::ConnectionAborted
     )
+}
+
+/// The next connection of an endpoint. If the control endpoint can take none, since too many files are open, the endpoints
+/// of trains take none until it can. A call of `accept` that waits needs room for a file, too.
+pub(crate) fn accept<R: Wait>(
+    rt: &R,
+    server: &Server<'_>,
+    endpoint: &Endpoint,
+    entrance: &mut Entrance,
+) -> io::Result<PeerStream> {
+    match endpoint.peer {
+        Peer::Trains(_) if server.state.is_short_of_files() => {
+            rest(rt, endpoint);
+            Err(io::Error::from(ErrorKind::WouldBlock))
+        }
+        Peer::Trains(_) => entrance.accept(server.alloc),
+        Peer::Interlocking => {
+            let next = entrance.accept(server.alloc);
+            let is_short = match &next {
+                Ok(_) => false,
+                Err(error) => !is_idle(error.kind()),
+            };
+            server.state.note_files(is_short);
+            next
+        }
+    }
+}
+
+/// Rests if the system can give no connection, as when too many files are open.
+pub(crate) fn rest_after<R: Wait, N: Notes>(
+    rt: &R,
+    server: &Server<'_>,
+    notes: &N,
+    endpoint: &Endpoint,
+    error: &io::Error,
+) {
+    if is_idle(error.kind()) {
+        return;
+    }
+    let name = server.name(endpoint.peer);
+    notes.often(
+        Kind::Device,
+        format_args!("{name}: no connection can be taken now: {error}"),
+    );
+    endpoint
+        .waker
+        .park_timeout(rt, Duration::from_millis(DEAF_REST_MS));
+}
+
+/// Rests at an endpoint for at most `ENDPOINT_REST_MS`, or until its waker is rung.
+pub(crate) fn rest<R: Wait>(rt: &R, endpoint: &Endpoint) {
+    endpoint
+        .waker
+        .park_timeout(rt, Duration::from_millis(ENDPOINT_REST_MS));
 }

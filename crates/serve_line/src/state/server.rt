@@ -51,6 +51,8 @@ pub struct State {
     has_lost: AtomicBool,
     /// Memory ran out, or a thread could not be made.
     has_failed: AtomicBool,
+    /// The control endpoint can take no connection, since the system gives no file.
+    is_short_of_files: AtomicBool,
 }
 
 impl State {
@@ -64,6 +66,7 @@ impl State {
             is_done: AtomicBool::new(false),
             has_lost: AtomicBool::new(false),
             has_failed: AtomicBool::new(false),
+            is_short_of_files: AtomicBool::new(false),
         }
     }
 
@@ -91,6 +94,16 @@ impl State {
     /// Nothing new arrives from now on.
     pub fn end(&self) {
         self.is_over.store(true, Ordering::SeqCst);
+    }
+
+    /// Notes whether the control endpoint can take no connection, since the system gives no file.
+    pub fn note_files(&self, is_short: bool) {
+        self.is_short_of_files.store(is_short, Ordering::SeqCst);
+    }
+
+    /// Whether the control endpoint can take no connection, since the system gives no file.
+    pub fn is_short_of_files(&self) -> bool {
+        self.is_short_of_files.load(Ordering::SeqCst)
     }
 
     /// Whether a journal was given up.
