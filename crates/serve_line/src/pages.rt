@@ -56,8 +56,8 @@ pub(crate) fn run_pages<R: Threads + Wait + Sync + Clock, N: Notes + Sync>(
     });
 }
 
-// The next connection; `None` if none came for a while. It rests if the system can give none, or if the control endpoint
-// can take none for lack of files.
+// The next connection; `None` if none came for a while. It rests if the system can give none, or if the control
+// endpoint can take none for lack of files.
 fn next_browser<R: Wait>(
     rt: &R,
     server: &Server<'_>,

@@ -58,8 +58,8 @@ pub(crate) fn is_idle(kind: ErrorKind) -> bool {
     )
 }
 
-/// The next connection of an endpoint. If the control endpoint can take none, since too many files are open, the endpoints
-/// of trains take none until it can. A call of `accept` that waits needs room for a file, too.
+/// The next connection of an endpoint. If the control endpoint can take none, since too many files are open, the
+/// endpoints of trains take none until it can. A call of `accept` that waits needs room for a file, too.
 pub(crate) fn accept<R: Wait>(
     rt: &R,
     server: &Server<'_>,
