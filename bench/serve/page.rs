@@ -13,7 +13,7 @@ use std::time::{Duration, Instant};
 const CROWD: usize = 1000;
 
 /// What a request is answered, by its status.
-const DUE: [(&str, u16); 16] = [
+const DUE: [(&str, u16); 18] = [
     ("GET / HTTP/1.1\r\nHost: localhost\r\n\r\n", 200),
     ("GET /line.json HTTP/1.0\r\nHost: 127.0.0.1:1\r\n\r\n", 200),
     ("GET /now HTTP/1.1\r\nHost: localhost:1\r\n\r\nGET / HTTP/1.1\r\n\r\n", 200),
