@@ -1,9 +1,9 @@
 #!/usr/bin/env python3
 """An interlocking by hand, for docs/TUTORIAL.md: interlocking.py PORT|PATH LINE..
 
-Sends the lines to the control endpoint of running centres, and prints the answers. The endpoint is a port of this host,
-or the path of a Unix socket. An answer has no mark at its end. So this ends its own side of the connection after the last
-line, and reads until the endpoint ends the other.
+Sends the lines to the control endpoint of running centres, and prints the answers. The endpoint is a port of this
+host, or the path of a Unix socket. An answer has no mark at its end. So this ends its own side of the connection after
+the last line, and reads until the endpoint ends the other.
 """
 
 import socket
