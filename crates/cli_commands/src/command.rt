@@ -1,6 +1,7 @@
 ghost use Rattle.text_script.specs.Status.Statuses.{IsStatus};
 
 use crate::audit::audit_printed;
+use crate::decode::decode;
 use crate::diagram::draw_printed;
 use crate::explain::explain;
 use crate::files::Files;
@@ -17,9 +18,9 @@ use std::io::Write;
 use text_script::status::{Fault, ended};
 
 /// Runs the command of the arguments after the program's name, and returns the exit status. It is 0 for success, and 1
-/// if an audit found a difference. It is 2 for refused arguments (help too), and 3 for an unreadable file, a script
-/// fault or journals. It is 4 for a line fault, 5 for a refused step, and 7 for a message fault. It is 6 for a refused
-/// write, or for a command that needs sockets.
+/// if an audit found a difference, or `decode` a fault. It is 2 for refused arguments (help too), and 3 for an
+/// unreadable file, a script fault or journals. It is 4 for a line fault, 5 for a refused step, and 7 for a message
+/// fault. It is 6 for a refused write, or for a command that needs sockets.
 pub fn command<S: AsStr, F: Files, O: Write, E: Write>(
     alloc: Global,
     words: &[S],
@@ -56,6 +57,7 @@ fn obey<'a, S: AsStr, F: Files, O: Write, E: Write>(
         Request::Audit { file, printed } => {
             tell_part(audit_printed(alloc, file, printed, files, out)?, err)
         }
+        Request::Decode(decoding) => decode(alloc, words, decoding, files, out),
         Request::Message { digits } => show_message(alloc, digits, out),
         Request::Printed { file, printed } => tell_printed(alloc, file, printed, files, out),
         Request::Picture {

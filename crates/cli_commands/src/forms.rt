@@ -19,7 +19,7 @@ const PRINTED: (&str, &str) = (
 
 const SCRIPT: (&str, &str) = ("SCRIPT", "The script, one event a line");
 
-static FORMS: [Form; 10] = [
+static FORMS: [Form; 11] = [
     Form {
         name: "check",
         about: "Read a line file, and say how many centres, tracks, sections and trains it has",
@@ -85,6 +85,11 @@ static FORMS: [Form; 10] = [
         words: &[FILE, PRINTED],
     },
     Form {
+        name: "decode",
+        about: "Show bytes as radio messages, field by field, also where they are refused",
+        words: &[],
+    },
+    Form {
         name: "picture",
         about: "Draw what a run printed as a time-distance diagram, in SVG",
         words: &[FILE, PRINTED],
@@ -105,7 +110,7 @@ pub(crate) const VERSION: &str = "0.1.0";
 
 // The exit statuses, and a first command to try.
 const ENDS: &str =
-    "Exit status: 0 done, 1 a print differs, 2 these words, 3 a file or script, 4 the line file, 5 a refused step, \
+    "Exit status: 0 done, 1 a print differs or bytes are refused, 2 these words, 3 a file or script, 4 the line file, 5 a refused step, \
 6 a socket or the output, 7 bytes that spell no message\n\nTo begin: rbcline run line.toml script.txt";
 
 // The program without its commands.
@@ -123,6 +128,9 @@ fn command_of<'a>(alloc: Global, form: &Form) -> Result<Command<'a>, AllocError>
     let mut command = Command::new(alloc, form.name).about(form.about);
     if form.name == "words" {
         command = command.arg(message(alloc))?;
+    }
+    if form.name == "decode" {
+        command = command.arg(bytes(alloc))?;
     }
     for (name, help) in flags_of(form.name) {
         command = command.arg(flag(alloc, name, help))?;
@@ -207,6 +215,11 @@ static PICTURE: [(&str, &str); 1] = [(
     "Draw it in an HTML page with a slider over the events",
 )];
 
+static DECODE: [(&str, &str); 2] = [
+    ("frame", "The bytes are a frame between centres"),
+    ("json", "Print a JSON object for each field, one a line"),
+];
+
 static SERVE: [(&str, &str); 5] = [
     (
         "quiet",
@@ -235,6 +248,7 @@ fn flags_of(command: &str) -> &'static [(&'static str, &'static str)] {
     match command {
         "picture" => &PICTURE,
         "serve" => &SERVE,
+        "decode" => &DECODE,
         _ => &[],
     }
 }
@@ -246,10 +260,19 @@ fn flag<'a>(alloc: Global, name: &'static str, help: &'static str) -> Arg<'a> {
         .help(help)
 }
 
+fn bytes<'a>(alloc: Global) -> Arg<'a> {
+    Arg::new(alloc, "HEX")
+        .help(
+            "Bytes in hexadecimal, also with blanks, colons or `0x`; or a file of them; `-` is standard input",
+        )
+        .required(true)
+        .num_args(1..)
+}
+
 fn message<'a>(alloc: Global) -> Arg<'a> {
     Arg::new(alloc, "message")
         .long("message")
         .value_name("HEX")
-        .help("The message in hexadecimal, of a train or of a centre")
+        .help("The message in hexadecimal, of a train or of a centre; `decode` shows more of it")
         .exclusive(true)
 }

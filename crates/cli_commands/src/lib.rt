@@ -8,6 +8,7 @@
 mod audit;
 pub mod auditing;
 pub mod command;
+mod decode;
 mod diagram;
 pub mod disk;
 mod explain;

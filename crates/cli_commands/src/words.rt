@@ -1,3 +1,4 @@
+use crate::decode::Decoding;
 use crate::forms::rbcline;
 use clap::error::ErrorKind;
 use clap::{ArgMatches, Error};
@@ -53,6 +54,8 @@ pub enum Request<'a> {
         /// The longest time in seconds that the train waits for the centre, if it is given.
         timeout_s: Option<u32>,
     },
+    /// Show the bytes of the arguments field by field.
+    Decode(Decoding),
     /// Show the message of these hexadecimal digits field by field.
     Message {
         digits: &'a str,
@@ -120,6 +123,7 @@ fn named<'a>(matches: &ArgMatches<'a>) -> Option<Request<'a>> {
     let (command, words) = matches.subcommand()?;
     match command {
         "words" => named_words(words),
+        "decode" => Some(named_decode(words)),
         "serve" => named_serve(words),
         "drive" => named_drive(words),
         _ => named_of_file(command, words),
@@ -175,6 +179,13 @@ fn named_words<'a>(words: &ArgMatches<'a>) -> Option<Request<'a>> {
     let file = words.get_str("FILE")?;
     let printed = words.get_str("PRINTED")?;
     Some(Request::Printed { file, printed })
+}
+
+fn named_decode<'a>(words: &ArgMatches<'a>) -> Request<'a> {
+    Request::Decode(Decoding {
+        is_frame: words.get_flag("frame"),
+        is_json: words.get_flag("json"),
+    })
 }
 
 fn named_serve<'a>(words: &ArgMatches<'a>) -> Option<Request<'a>> {

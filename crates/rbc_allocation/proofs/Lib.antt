@@ -1,4 +1,4 @@
-pub mod Backs
+pub mod Freed
 pub mod Runs
 pub mod Held
 pub mod Marks

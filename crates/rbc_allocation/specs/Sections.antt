@@ -1,11 +1,12 @@
 -- Sections that are taken into use for a train, and given back.
-use Rattle.std.specs.Prelude.{◌≡◌, ℕ, ◌+◌, ◌-◌, ◌==◌, Bool, true, ◌&&◌, not, List, take, drop, Some, slice_get, if◌then◌else◌}
 use Rattle.std.specs.List.{filter, range_with_len}
-use Rattle.rbc_spec.specs.SectionRuns.{SectionRun, within, next_after}
-use Rattle.rbc_spec.specs.Centre.{Shut, Open, Taken, is_open, is_taken_for}
-use Rattle.rbc_book.specs.Book.{Pages, is_own, entry_at, wish_at}
-use Rattle.rbc_hand.specs.Tokens.{Held, Own, Name}
+use Rattle.std.specs.Prelude.{if◌then◌else◌, ◌&&◌, ◌+◌, ◌-◌, ◌==◌, ◌≡◌, Bool, drop, List, not, slice_get, Some, take}
+use Rattle.std.specs.Prelude.{true, ℕ}
+use Rattle.rbc_book.specs.Book.{entry_at, is_own, Pages, wish_at}
 use Rattle.rbc_hand.specs.Hands.{Holding}
+use Rattle.rbc_hand.specs.Tokens.{Held, Name, Own}
+use Rattle.rbc_spec.specs.Centre.{is_open, is_taken_for, Open, Shut, Taken}
+use Rattle.rbc_spec.specs.SectionRuns.{next_after, SectionRun, within}
 
 -- the open sections of the run are in use for the train, and nothing else changed
 pub record TakesRun (t : ℕ) (r : SectionRun) (old new : Pages) : Type 0 where

@@ -1,9 +1,6 @@
 pub mod Lists
-pub mod NameSteps
-pub mod Longest
+pub mod Hands
 pub mod HomeParts
 pub mod Loans
 pub mod Returns
 pub mod Borders
-pub mod Uses
-pub mod Arrivals

@@ -1,15 +1,16 @@
 -- A train at the border to the next centre: the lent sections that follow its hand, and the question for more.
-use Rattle.std.specs.Prelude.{◌≡◌, ℕ, ◌+◌, ◌<◌, ◌≤◌, ◌==◌, Bool, true, false, ◌&&◌, length, replicate, Option, Some, None, option_map, is_none, nat_lt}
-use Rattle.rbc_spec.specs.Maps.{has, put}
-use Rattle.rbc_spec.specs.SectionRuns.{SectionRun, no_run, most_in_hand, next_after, is_empty, all_of}
-use Rattle.rbc_spec.specs.Line.{Line, is_home}
-use Rattle.rbc_spec.specs.Sections.{is_on}
-use Rattle.rbc_spec.specs.Centre.{Centre, Mission}
-use Rattle.rbc_spec.specs.Links.{is_of_line}
-use Rattle.rbc_hand.specs.Tokens.{Name}
-use Rattle.rbc_hand.specs.Hands.{Holding}
-use Rattle.rbc_line.specs.SectionRuns.{run_of}
+use Rattle.std.specs.Prelude.{◌&&◌, ◌+◌, ◌<◌, ◌==◌, ◌≡◌, ◌≤◌, Bool, false, is_none, length, nat_lt, None, Option}
+use Rattle.std.specs.Prelude.{option_map, replicate, Some, true, ℕ}
 use Rattle.rbc_border.specs.declared.way.Way.{Way}
+use Rattle.rbc_hand.specs.Hands.{Holding}
+use Rattle.rbc_hand.specs.Tokens.{Name}
+use Rattle.rbc_line.specs.SectionRuns.{run_of}
+use Rattle.rbc_spec.specs.Centre.{Centre, Mission}
+use Rattle.rbc_spec.specs.Line.{is_home, Line}
+use Rattle.rbc_spec.specs.Links.{is_of_line}
+use Rattle.rbc_spec.specs.Maps.{has, put}
+use Rattle.rbc_spec.specs.SectionRuns.{all_of, is_empty, most_in_hand, next_after, no_run, SectionRun}
+use Rattle.rbc_spec.specs.Sections.{is_on}
 
 -- The state of a train's border at a centre. It has the train's NID_ENGINE, the centre that lent its pool, the pool,
 -- and the first section of a pending question.
@@ -67,7 +68,8 @@ answers line from r b =
 
 -- the mission is not ended, the sections follow its hand at once, on its track, and the pool is empty
 abbrev pub wants : Line → SectionRun → Option Way → BorderState → Bool
-wants line r way b = has (λ w. (r.first == next_after (run_of w.hand)) && is_on line w.track r.first) way && is_empty b.pool
+wants line r way b =
+    has (λ w. (r.first == next_after (run_of w.hand)) && is_on line w.track r.first) way && is_empty b.pool
 
 -- ## In memory
 

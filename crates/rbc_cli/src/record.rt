@@ -3,8 +3,8 @@
 use cli_commands::journal::{Journal, journal_name, journal_of};
 use cli_commands::line_file::LineFile;
 use cli_commands::words::JournalWords;
-use serve_line::journaling::{OpenFault, make_journal, open_journal, read_whole};
-use serve_line::{JournalFile, Notes, Record, ServeFault};
+use serve_journal::{JournalFile, OpenFault, SystemFile, make_journal, open_journal, read_whole};
+use serve_line::{Notes, Record, ServeFault};
 use std::alloc::AllocError;
 use std::fs;
 use std::fs::File;
@@ -62,7 +62,7 @@ impl Locked<'_> {
         rt: &R,
         given: &LineFile,
         notes: &N,
-    ) -> Result<Record<File>, ServeFault> {
+    ) -> Result<Record<SystemFile>, ServeFault> {
         let Locked {
             words,
             mut places,
@@ -77,7 +77,8 @@ impl Locked<'_> {
             let Some(place) = places.pop() else {
                 break;
             };
-            let first = first_line(rt.alloc(), &given.line, centre, given.text.as_str())?;
+            let mut first = first_line(rt.alloc(), &given.line, centre, given.text.as_str())?;
+            first.push('\n')?;
             files.push(begun_one(rt, place, first.as_str(), words.is_synced, notes)?)?;
         }
         if words.is_synced {
@@ -212,14 +213,15 @@ fn sync<R: Files<File = File>, N: Notes>(
     })
 }
 
-// Makes the journal of a centre, if it does not exist. Writes its first line, if it has none.
+// Makes the journal of a centre, if it does not exist. The disk then has the events that were read. Writes the first
+// line, if there is none.
 fn begun_one<R: Files<File = File> + Clock, N: Notes>(
     rt: &R,
     mut place: Place,
     first: &str,
     is_synced: bool,
     notes: &N,
-) -> Result<JournalFile<File>, ServeFault> {
+) -> Result<JournalFile<SystemFile>, ServeFault> {
     match begun(rt, &mut place, first, is_synced) {
         Ok(journal) => Ok(journal),
         Err(fault) => {
@@ -235,14 +237,14 @@ fn begun<R: Files<File = File> + Clock>(
     place: &mut Place,
     first: &str,
     is_synced: bool,
-) -> Result<JournalFile<File>, OpenFault> {
+) -> Result<JournalFile<SystemFile>, OpenFault> {
     let file = match place.file.take() {
         Some(file) => file,
         None => make_journal(rt, place.name.as_str())?,
     };
-    let mut journal = JournalFile::new(file, place.length as u64, is_synced);
+    let mut journal = JournalFile::open(SystemFile::new(file, is_synced), place.length as u64)?;
     if place.length == 0 {
-        journal.begin(first)?;
+        journal.add(first.as_bytes())?;
     }
     Ok(journal)
 }

@@ -1,13 +1,14 @@
 -- The handovers of one train that other centres have announced to a centre, by their numbers.
-use Rattle.std.specs.Prelude.{◌≡◌, ℕ, ◌==◌, Bool, false, ◌&&◌, not, if◌then◌else◌, List, [], ◌∷◌, length, slice_index_or, Option, Some, None, is_none}
 use Rattle.std.specs.Option.{option_map_or}
-use Rattle.rbc_spec.specs.Maps.{has, put}
-use Rattle.rbc_spec.specs.Line.{Line}
-use Rattle.rbc_spec.specs.Frame.{Body, TakingOver}
-use Rattle.rbc_spec.specs.Centre.{Centre, Expectation}
-use Rattle.rbc_spec.specs.Acts.{Reply}
-use Rattle.rbc_spec.specs.Links.{is_under}
+use Rattle.std.specs.Prelude.{[], if◌then◌else◌, ◌&&◌, ◌==◌, ◌∷◌, ◌≡◌, Bool, false, is_none, length, List, None, not}
+use Rattle.std.specs.Prelude.{Option, slice_index_or, Some, ℕ}
 use Rattle.rbc_handover.specs.declared.announcers.Announcers.{Announcers}
+use Rattle.rbc_spec.specs.Acts.{Reply}
+use Rattle.rbc_spec.specs.Centre.{Centre, Expectation}
+use Rattle.rbc_spec.specs.Frame.{Body, TakingOver}
+use Rattle.rbc_spec.specs.Line.{Line}
+use Rattle.rbc_spec.specs.Links.{is_under}
+use Rattle.rbc_spec.specs.Maps.{has, put}
 
 -- the expectation from centre d; none from a centre that is not of the line
 unfoldable pub expected_from : List (Option Expectation) → ℕ → Option Expectation

@@ -1,21 +1,24 @@
 -- The homes along a track, one section at a time.
-use Rattle.std.proofs.Common.{◌≡◌, ◌≢◌, ℕ, zero, suc, ◌+◌, ◌<◌, ◌≤◌, ◌==◌, ◌&&◌, ◌⊎◌, inl, inr, Bool, true, false, List, [], ◌∷◌, length, take, Some, refl, ap, sym, ◌∙◌, arith}
-use Rattle.std.specs.List.{slice_get, list_any}
-use Rattle.std.proofs.lemmas.Bool.{false≢true, cases_lt}
+use Rattle.std.proofs.Common.{[], ◌&&◌, ◌+◌, ◌<◌, ◌==◌, ◌∙◌, ◌∷◌, ◌≡◌, ◌≢◌, ◌≤◌, ◌⊎◌, ap, arith, Bool, false, inl, inr}
+use Rattle.std.proofs.Common.{length, List, refl, Some, suc, sym, take, true, zero, ℕ}
+use Rattle.std.proofs.lemmas.Bool.{cases_lt, false≢true}
 use Rattle.std.proofs.lemmas.Bool.Decides.{nat_tests}
 use Rattle.std.proofs.lemmas.Option.{none-some, same_Some, slice_get_within}
+use Rattle.std.specs.List.{list_any, slice_get}
+use Rattle.rbc_line.proofs.FileFacts.{position_found, some_at}
+use Rattle.rbc_line.proofs.Lists.{slice_get_take}
 use Rattle.rbc_line.specs.declared.parts.Section.{Section}
 use Rattle.rbc_line.specs.Homes.{IsAscending, IsSplit, IsUnsplit}
-use Rattle.rbc_line.proofs.Lists.{slice_get_take}
-use Rattle.rbc_line.proofs.FileFacts.{some_at, position_found}
 
 -- unsplit as far as the first n sections
 abbrev pub IsUnsplitBelow : List Section → ℕ → Type 0
 IsUnsplitBelow rows i =
-    (s m e : ℕ) (p n q : Section) → e < i → s ≤ m → m ≤ e → slice_get rows s ≡ Some p → slice_get rows m ≡ Some n → slice_get rows e ≡ Some q
+    (s m e : ℕ) (p n q : Section) → e < i → s ≤ m → m ≤ e → slice_get rows s ≡ Some p → slice_get rows m ≡ Some n
+    → slice_get rows e ≡ Some q
     → p.track ≡ q.track → p.home ≡ q.home → n.home ≡ p.home
 
-pub slice_get_front : {X : Type 0} (i : ℕ) (xs : List X) (j : ℕ) (y : X) → j < i → slice_get xs j ≡ Some y → slice_get (take i xs) j ≡ Some y
+pub slice_get_front : {X : Type 0} (i : ℕ) (xs : List X) (j : ℕ) (y : X) → j < i → slice_get xs j ≡ Some y
+    → slice_get (take i xs) j ≡ Some y
 slice_get_front zero xs j y lt h = absurd (omega arith)
 slice_get_front (suc i) [] j y lt h = absurd (none-some y h)
 slice_get_front (suc i) (x ∷ xs) zero y lt h = h
@@ -43,8 +46,10 @@ like_parts section p h =
     (grind (arith, nat_tests), grind (arith, nat_tests))
 
 -- one more section that begins no home again
-pub unsplit_more : (rows : List Section) (i j : ℕ) (r x : Section) → j + 1 ≡ i → slice_get rows j ≡ Some r → slice_get rows i ≡ Some x → IsAscending rows → IsUnsplitBelow rows i
-    → (r.track ≢ x.track) ⊎ ((r.home ≡ x.home) ⊎ (list_any (is_like x) (take j rows) ≡ false)) → IsUnsplitBelow rows (i + 1)
+pub unsplit_more : (rows : List Section) (i j : ℕ) (r x : Section) → j + 1 ≡ i → slice_get rows j ≡ Some r
+    → slice_get rows i ≡ Some x → IsAscending rows → IsUnsplitBelow rows i
+    → (r.track ≢ x.track) ⊎ ((r.home ≡ x.home) ⊎ (list_any (is_like x) (take j rows) ≡ false))
+    → IsUnsplitBelow rows (i + 1)
 unsplit_more rows i j r x next at_j at_i ascending before fine s m e p n q below s_m m_e at_s at_m at_e track home =
     elim (cases_lt e i) [
       | inl earlier ↦ before s m e p n q earlier s_m m_e at_s at_m at_e track home
@@ -65,11 +70,18 @@ unsplit_more rows i j r x next at_j at_i ascending before fine s m e p n q below
                 elim fine [
                   | inl other ↦ absurd (other on_track)
                   | inr rest ↦ elim rest [
-                    | inl one_home ↦ before s m j p n r (omega arith) s_m (omega arith) at_s at_m at_j (track ∙ q_x ∙ sym on_track) (home ∙ h_x ∙ sym one_home)
+                    | inl one_home ↦
+                        before s m j p n r (omega arith) s_m (omega arith) at_s at_m at_j (track ∙ q_x ∙ sym on_track)
+                        (home ∙ h_x ∙ sym one_home)
                     | inr none ↦ elim (cases_lt s j) [
-                      | inl s_before ↦ absurd (false≢true (sym none ∙ some_at (is_like x) (take j rows) s p (slice_get_front j rows s p s_before at_s) (like_true x p (track ∙ q_x) (home ∙ h_x))))
-                      | inr s_last ↦ before s m j p n r (omega arith) s_m (omega arith) at_s at_m at_j (track ∙ q_x ∙ sym on_track)
-                          (let s_j : s ≡ j = omega arith in ap (λ v. v.home) (same_Some p r (sym at_s ∙ ap (slice_get rows) s_j ∙ at_j)))
+                      | inl s_before ↦
+                          absurd
+                          (false≢true (sym none ∙ some_at (is_like x) (take j rows) s p
+                          (slice_get_front j rows s p s_before at_s) (like_true x p (track ∙ q_x) (home ∙ h_x))))
+                      | inr s_last ↦
+                          before s m j p n r (omega arith) s_m (omega arith) at_s at_m at_j (track ∙ q_x ∙ sym on_track)
+                          (let s_j : s ≡ j = omega arith in
+                          ap (λ v. v.home) (same_Some p r (sym at_s ∙ ap (slice_get rows) s_j ∙ at_j)))
                     ]
                   ]
                 ]
@@ -77,7 +89,8 @@ unsplit_more rows i j r x next at_j at_i ascending before fine s m e p n q below
     ]
 
 -- a section that begins a home again
-pub split_found : (rows : List Section) (i j : ℕ) (r x : Section) → j + 1 ≡ i → slice_get rows j ≡ Some r → slice_get rows i ≡ Some x → r.home ≢ x.home
+pub split_found : (rows : List Section) (i j : ℕ) (r x : Section) → j + 1 ≡ i → slice_get rows j ≡ Some r
+    → slice_get rows i ≡ Some x → r.home ≢ x.home
     → list_any (is_like x) (take j rows) ≡ true → IsSplit rows
 split_found rows i j r x next at_j at_i other some =
     let found = position_found (is_like x) (take j rows) some in
@@ -86,7 +99,8 @@ split_found rows i j r x next at_j at_i other some =
     (found.0, j, i, found.1, r, x, place.0, omega arith, place.1, at_j, at_i, like.0, like.1, λ e. other (e ∙ like.1))
 
 pub unsplit_all : (rows : List Section) (i : ℕ) → length rows ≤ i → IsUnsplitBelow rows i → IsUnsplit rows
-unsplit_all rows i past before s m e p n q s_m m_e at_s at_m at_e track home = before s m e p n q (omega (arith, slice_get_within rows e q at_e)) s_m m_e at_s at_m at_e track home
+unsplit_all rows i past before s m e p n q s_m m_e at_s at_m at_e track home =
+    before s m e p n q (omega (arith, slice_get_within rows e q at_e)) s_m m_e at_s at_m at_e track home
 
 pub unsplit_one : (rows : List Section) → IsUnsplitBelow rows 1
 unsplit_one rows s m e p n q below s_m m_e at_s at_m at_e track home =

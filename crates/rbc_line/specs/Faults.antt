@@ -1,15 +1,17 @@
 -- Which faults apply to a line file, and the lowest of them.
-use Rattle.std.specs.Prelude.{◌≡◌, ◌≢◌, ℕ, ◌<◌, Bool, true, false, ◌&&◌, ◌||◌, ◌⊎◌, not, nat_lt, nat_le, ◌==◌, ℤ, pos, negsuc, List, [], ◌∷◌, length, map, Some, MatchOption, slice_get, IsTrue}
-use Rattle.std.specs.List.{list_any, list_all}
 use Rattle.std.specs.Char.{is_ascii_alphanumeric}
+use Rattle.std.specs.List.{list_all, list_any}
 use Rattle.std.specs.Ordering.{int_eq}
+use Rattle.std.specs.Prelude.{[], ◌&&◌, ◌<◌, ◌==◌, ◌||◌, ◌∷◌, ◌≡◌, ◌≢◌, ◌⊎◌, Bool, false, IsTrue, length, List, map}
+use Rattle.std.specs.Prelude.{MatchOption, nat_le, nat_lt, negsuc, not, pos, slice_get, Some, true, ℕ, ℤ}
 use Rattle.std.specs.Str.{bytes_eq}
+use Rattle.rbc_line.specs.declared.fault.LineFault.{LineFault}
+use Rattle.rbc_line.specs.declared.fault.LineFault.TheVariants.{Centres, Home, Length, Memory, Number, Order, Sections}
+use Rattle.rbc_line.specs.declared.fault.LineFault.TheVariants.{Shape, Text, Tracks, Trains, Twice}
+use Rattle.rbc_line.specs.LineFile.{FileSection, line_file, line_of, LineFile}
+use Rattle.rbc_spec.specs.Line.{Line}
 use Rattle.toml.specs.Data.{Members}
 use Rattle.toml.specs.Parse.{parse_document}
-use Rattle.rbc_spec.specs.Line.{Line}
-use Rattle.rbc_line.specs.LineFile.{FileSection, LineFile, line_file, line_of}
-use Rattle.rbc_line.specs.declared.fault.LineFault.{LineFault}
-use Rattle.rbc_line.specs.declared.fault.LineFault.TheVariants.{Memory, Text, Shape, Centres, Tracks, Sections, Trains, Length, Number, Twice, Home, Order}
 
 -- 1 to 12
 abbrev pub number_of : LineFault → ℕ

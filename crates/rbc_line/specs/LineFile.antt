@@ -1,8 +1,10 @@
 -- The content of a line file before any limit is tested: numbers as they are written, homes and registrars by name.
-use Rattle.std.specs.Prelude.{ℕ, suc, ◌+◌, ◌==◌, if◌then◌else◌, ℤ, pos, negsuc, List, [], ◌∷◌, ◌++◌, map, position, Option, Some, None, option_map, option_and_then, unwrap_or, codes}
+use Rattle.std.specs.Prelude.{[], if◌then◌else◌, ◌++◌, ◌+◌, ◌==◌, ◌∷◌, codes, List, map, negsuc, None, Option}
+use Rattle.std.specs.Prelude.{option_and_then, option_map, pos, position, Some, suc, unwrap_or, ℕ, ℤ}
 use Rattle.std.specs.Str.{bytes_eq}
-use Rattle.toml.specs.Data.{Data, Items, no_items, item, Members, no_members, member, get_member, as_str, as_integer, as_array, as_table}
-use Rattle.rbc_spec.specs.Line.{Line, Centre, Section, Train}
+use Rattle.rbc_spec.specs.Line.{Centre, Line, Section, Train}
+use Rattle.toml.specs.Data.{as_array, as_integer, as_str, as_table, Data, get_member, item, Items, member, Members}
+use Rattle.toml.specs.Data.{no_items, no_members}
 
 -- a centre of the file
 pub record FileCentre : Type 0 where

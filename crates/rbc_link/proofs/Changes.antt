@@ -1,7 +1,7 @@
 -- The links of a centre after a change of one, and room on each.
-use Rattle.std.proofs.Common.{[], ◌&&◌, ◌++◌, ◌+◌, ◌<◌, ◌==◌, ◌||◌, ◌∙◌, ◌∷◌, ◌≡◌, ◌≢◌, ◌≤◌, ap, arith, Bool, false}
-use Rattle.std.proofs.Common.{if◌then◌else◌, inl, inr, le-ltb, length, List, nat_lt, refl, set, slice_get, Some, suc}
-use Rattle.std.proofs.Common.{sym, true, zero, ℕ}
+use Rattle.std.proofs.Common.{[], if◌then◌else◌, ◌&&◌, ◌++◌, ◌+◌, ◌<◌, ◌==◌, ◌||◌, ◌∙◌, ◌∷◌, ◌≡◌, ◌≢◌, ◌≤◌, ap, arith}
+use Rattle.std.proofs.Common.{Bool, false, inl, inr, le-ltb, length, List, nat_lt, refl, set, slice_get, Some, suc, sym}
+use Rattle.std.proofs.Common.{true, zero, ℕ}
 use Rattle.std.proofs.lemmas.Bool.{cases_lt, false≢true}
 use Rattle.std.proofs.lemmas.Bool.Decides.{eqb_tells}
 use Rattle.std.proofs.lemmas.List.{append-nil}

@@ -1,7 +1,7 @@
 -- The links of a centre at the beginning, full links, and frames that are posted in one step.
-use Rattle.std.proofs.Common.{[], ◌&&◌, ◌++◌, ◌+◌, ◌<◌, ◌==◌, ◌||◌, ◌∙◌, ◌∷◌, ◌≡◌, ◌≢◌, ◌≤◌, ap, append_assoc, arith}
-use Rattle.std.proofs.Common.{Bool, false, if◌then◌else◌, inl, inr, le-ltb, length, length-append, List, lt-ltb, nat_lt}
-use Rattle.std.proofs.Common.{None, Option, refl, slice_get, Some, suc, sym, true, zero, ℕ}
+use Rattle.std.proofs.Common.{[], if◌then◌else◌, ◌&&◌, ◌++◌, ◌+◌, ◌<◌, ◌==◌, ◌||◌, ◌∙◌, ◌∷◌, ◌≡◌, ◌≢◌, ◌≤◌, ap}
+use Rattle.std.proofs.Common.{append_assoc, arith, Bool, false, inl, inr, le-ltb, length, length-append, List, lt-ltb}
+use Rattle.std.proofs.Common.{nat_lt, None, Option, refl, slice_get, Some, suc, sym, true, zero, ℕ}
 use Rattle.std.proofs.lemmas.Bool.{cases_lt}
 use Rattle.std.proofs.lemmas.Bool.Decides.{eqb_tells}
 use Rattle.std.proofs.lemmas.List.{append-nil, length-map}

@@ -1,7 +1,8 @@
 -- The frames sent on a link.
-use Rattle.std.specs.Prelude.{◌≡◌, ℕ, ◌+◌, ◌-◌, ◌≤◌, ◌==◌, if◌then◌else◌, List, length, map, Option, Some, None, slice_get}
-use Rattle.rbc_spec.specs.Frame.{Frame, Body, last_stamp}
+use Rattle.std.specs.Prelude.{if◌then◌else◌, ◌+◌, ◌-◌, ◌==◌, ◌≡◌, ◌≤◌, length, List, map, None, Option, slice_get, Some}
+use Rattle.std.specs.Prelude.{ℕ}
 use Rattle.rbc_link.specs.declared.sent.Sent.{Sent}
+use Rattle.rbc_spec.specs.Frame.{Body, Frame, last_stamp}
 
 -- the frames in order, and how many further ones have room
 pub record Outgoing (B : Type 0) : Type 0 where

@@ -1,6 +1,6 @@
 -- Consecutive fields have one reading, and a body is read by its kind.
-use Rattle.std.proofs.Common.{[], ℤ, ◌%◌, ◌++◌, ◌+◌, ◌/◌, ◌<◌, ◌^◌, ◌∙◌, ◌∷◌, ◌≡◌, ap, arith, Bool, drop, false, length}
-use Rattle.std.proofs.Common.{length-append, List, negsuc, pos, refl, sym, true, ℕ}
+use Rattle.std.proofs.Common.{[], ◌%◌, ◌++◌, ◌+◌, ◌/◌, ◌<◌, ◌^◌, ◌∙◌, ◌∷◌, ◌≡◌, ap, arith, Bool, drop, false, length}
+use Rattle.std.proofs.Common.{length-append, List, negsuc, pos, refl, sym, true, ℕ, ℤ}
 use Rattle.std.proofs.lemmas.List.{drop_at}
 use Rattle.std.proofs.Math.Facts.{Fits-of_z, to_z-of_z}
 use Rattle.std.specs.Int.{cast_signed, w32}

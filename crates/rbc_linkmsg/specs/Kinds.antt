@@ -1,11 +1,13 @@
 -- The kinds of frames: the byte that names each, and how many bytes its frames have (profile).
-use Rattle.std.specs.Prelude.{ℕ, ◌==◌, List, [], ◌∷◌, Result}
-use Rattle.std.specs.Option.{ok_or}
 use Rattle.std.specs.List.{find}
+use Rattle.std.specs.Option.{ok_or}
+use Rattle.std.specs.Prelude.{[], ◌==◌, ◌∷◌, List, Result, ℕ}
 use Rattle.rbc_linkmsg.specs.declared.fault.FrameFault.{FrameFault}
 use Rattle.rbc_linkmsg.specs.declared.fault.FrameFault.TheVariants.{Kind}
 use Rattle.rbc_linkmsg.specs.declared.kind.FrameKind.{FrameKind}
-use Rattle.rbc_linkmsg.specs.declared.kind.FrameKind.TheVariants.{AskRight, GiveRight, RefuseRight, ReturnRight, RouteAsk, RouteInfo, RouteWithdraw, RouteReturn, Announce, Cancel, TakingOver, Yield}
+use Rattle.rbc_linkmsg.specs.declared.kind.FrameKind.TheVariants.{Announce, AskRight, Cancel, GiveRight, RefuseRight}
+use Rattle.rbc_linkmsg.specs.declared.kind.FrameKind.TheVariants.{ReturnRight, RouteAsk, RouteInfo, RouteReturn}
+use Rattle.rbc_linkmsg.specs.declared.kind.FrameKind.TheVariants.{RouteWithdraw, TakingOver, Yield}
 
 abbrev pub kind_number : FrameKind → ℕ
 kind_number AskRight = 1

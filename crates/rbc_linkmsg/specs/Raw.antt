@@ -1,6 +1,7 @@
 -- The numbers of a Yield in its bytes.
-use Rattle.std.specs.Prelude.{ℕ, List, [], ◌∷◌, ◌++◌, drop, ◌/◌, ◌%◌, ◌==◌, Bool, Option, None, Some, ℤ, nat_lt, if◌then◌else◌}
-use Rattle.std.specs.Int.{w32, cast_signed}
+use Rattle.std.specs.Int.{cast_signed, w32}
+use Rattle.std.specs.Prelude.{[], if◌then◌else◌, ◌%◌, ◌++◌, ◌/◌, ◌==◌, ◌∷◌, Bool, drop, List, nat_lt, None, Option}
+use Rattle.std.specs.Prelude.{Some, ℕ, ℤ}
 use Rattle.byteorder.specs.Endian.{big_number}
 use Rattle.rbc_linkmsg.specs.Spelling.{Field}
 

@@ -1,12 +1,15 @@
 -- The spelling of a frame: its fields in order, each a number of n bytes, the highest byte first (profile).
-use Rattle.std.specs.Prelude.{◌≡◌, ℕ, ◌+◌, ◌^◌, Bool, List, [], ◌∷◌, ◌++◌, Option, None, Some, ℤ, ◌<◌, if◌then◌else◌, is_some}
-use Rattle.std.specs.Int.{w32, cast_unsigned}
+use Rattle.std.specs.Int.{cast_unsigned, w32}
+use Rattle.std.specs.Prelude.{[], if◌then◌else◌, ◌++◌, ◌+◌, ◌<◌, ◌^◌, ◌∷◌, ◌≡◌, Bool, is_some, List, None, Option, Some}
+use Rattle.std.specs.Prelude.{ℕ, ℤ}
 use Rattle.byteorder.specs.Endian.{big_bytes}
-use Rattle.rbc_spec.specs.SectionRuns.{SectionRun}
-use Rattle.rbc_linkmsg.specs.Kinds.{kind_number}
 use Rattle.rbc_linkmsg.specs.declared.kind.FrameKind.{FrameKind}
 use Rattle.rbc_linkmsg.specs.declared.kind.FrameKind.TheVariants as kinds
-use Rattle.rbc_spec.specs.Frame.{Body, AskRight, GiveRight, RefuseRight, ReturnRight, RouteAsk, RouteInfo, RouteWithdraw, RouteReturn, Announce, Cancel, TakingOver, Yield, YieldedPlace, Frame, HasFrameRanges}
+use Rattle.rbc_linkmsg.specs.Kinds.{kind_number}
+use Rattle.rbc_spec.specs.Frame.{Announce, AskRight, Body, Cancel, Frame, GiveRight, HasFrameRanges, RefuseRight}
+use Rattle.rbc_spec.specs.Frame.{ReturnRight, RouteAsk, RouteInfo, RouteReturn, RouteWithdraw, TakingOver, Yield}
+use Rattle.rbc_spec.specs.Frame.{YieldedPlace}
+use Rattle.rbc_spec.specs.SectionRuns.{SectionRun}
 
 -- a field: how many bytes it has, and its value
 abbrev pub Field : Type 0

@@ -1,27 +1,28 @@
 -- The state of a train's mission at a centre, in memory and by the rules.
-use Rattle.std.specs.Prelude.{◌≡◌, ℕ, ◌+◌, ◌==◌, ◌≤◌, ◌<◌, ◌&&◌, true, false, if◌then◌else◌, length, replicate, Option, Some, None, option_map, option_and_then, is_some, is_none}
 use Rattle.std.specs.Option.{option_map_or}
-use Rattle.rbc_spec.specs.Maps.{has, put}
-use Rattle.rbc_spec.specs.Line.{Line}
-use Rattle.rbc_spec.specs.Place.{Place}
-use Rattle.rbc_spec.specs.SectionRuns.{SectionRun, no_run, within, next_after, is_empty, joined, part_before}
-use Rattle.rbc_spec.specs.Centre as spec
-use Rattle.rbc_spec.specs.Centre.{is_open}
-use Rattle.rbc_spec.specs.Acts.{part_at}
-use Rattle.rbc_spec.specs.Rules.{extended_by}
-use Rattle.rbc_hand.specs.Tokens.{Own}
-use Rattle.rbc_hand.specs.Hands.{Holding, run, nothing}
-use Rattle.rbc_right.specs.Rights.{right_of}
-use Rattle.rbc_place.specs.Places.{place_of}
-use Rattle.rbc_shorten.specs.Facts.{standing_of}
-use Rattle.rbc_book.specs.Book.{Pages, is_own, entry_at}
-use Rattle.rbc_allocation.specs.Sections.{front_of, rest_of, next_of}
+use Rattle.std.specs.Prelude.{if◌then◌else◌, ◌&&◌, ◌+◌, ◌<◌, ◌==◌, ◌≡◌, ◌≤◌, false, is_none, is_some, length, None}
+use Rattle.std.specs.Prelude.{Option, option_and_then, option_map, replicate, Some, true, ℕ}
+use Rattle.rbc_allocation.specs.Sections.{front_of, next_of, rest_of}
+use Rattle.rbc_book.specs.Book.{entry_at, is_own, Pages}
 use Rattle.rbc_border.specs.Border.{BorderState}
-use Rattle.rbc_handover.specs.Handings.{handover_name}
+use Rattle.rbc_hand.specs.Hands.{Holding, nothing, run}
+use Rattle.rbc_hand.specs.Tokens.{Own}
 use Rattle.rbc_handover.specs.declared.handing.HandoverName.{HandoverName}
+use Rattle.rbc_handover.specs.Handings.{handover_name}
 use Rattle.rbc_mission.specs.declared.facts.MissionFacts.{MissionFacts}
 use Rattle.rbc_mission.specs.declared.held.HeldRight.{HeldRight}
-use Rattle.rbc_mission.specs.declared.held.HeldRight.TheVariants.{Nothing, Held}
+use Rattle.rbc_mission.specs.declared.held.HeldRight.TheVariants.{Held, Nothing}
+use Rattle.rbc_place.specs.Places.{place_of}
+use Rattle.rbc_right.specs.Rights.{right_of}
+use Rattle.rbc_shorten.specs.Facts.{standing_of}
+use Rattle.rbc_spec.specs.Acts.{part_at}
+use Rattle.rbc_spec.specs.Centre as spec
+use Rattle.rbc_spec.specs.Centre.{is_open}
+use Rattle.rbc_spec.specs.Line.{Line}
+use Rattle.rbc_spec.specs.Maps.{has, put}
+use Rattle.rbc_spec.specs.Place.{Place}
+use Rattle.rbc_spec.specs.Rules.{extended_by}
+use Rattle.rbc_spec.specs.SectionRuns.{is_empty, joined, next_after, no_run, part_before, SectionRun, within}
 
 -- A train of the line, by its position in the line file and its NID_ENGINE. `mission` is its mission, if there is one,
 -- and `hand` the tokens of its hand. `asked` is the first section of a pending question over the border. The question

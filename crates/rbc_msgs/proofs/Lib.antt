@@ -1,16 +1,14 @@
 pub mod Spelled
-mod Steps
 pub mod TrainLaws
+pub mod TrainParts
+pub mod TrackParts
 pub mod TrackLaws
 mod Further
 mod Kept
-mod Lengths
-mod SameBits
 pub mod Needed
+mod SameBits
 pub mod Streams
-mod OneReading
-mod Cuts
+pub mod OneReading
 mod NotShort
 mod FirstFault
-mod Start
 mod Placed

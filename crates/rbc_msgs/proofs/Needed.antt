@@ -1,13 +1,16 @@
--- The number of bytes that a message needs, and the decisions that its first bytes allow.
-use Rattle.std.proofs.Common.{◌++◌, ◌<◌, ◌^◌, ◌∙◌, ◌≡◌, ◌≤◌, ap, arith, Bool, Err, false, inl, inr, length}
-use Rattle.std.proofs.Common.{length-append, List, ltb, Ok, refl, Result, subst, sym, take, true, ℕ}
+-- The number of bytes that a message needs, and the bytes that a message of a train takes.
+use Rattle.std.proofs.Common.{◌++◌, ◌+◌, ◌/◌, ◌<◌, ◌^◌, ◌∙◌, ◌∷◌, ◌≡◌, ◌≤◌, ap, arith, Bool, drop, Err, false, inl, inr}
+use Rattle.std.proofs.Common.{length, length-append, List, ltb, Ok, refl, Result, subst, sym, take, true, ℕ}
 use Rattle.std.proofs.lemmas.Bool.{cases_lt, le-ltb, lt-ltb}
-use Rattle.std.proofs.lemmas.List.{take-append-le}
+use Rattle.std.proofs.lemmas.List.{take-append-drop, take-append-le}
+use Rattle.std.proofs.lemmas.List.Concat.{flat_map-append}
+use Rattle.std.specs.List.{flat_map}
 use borrow.Author.Tests.{ltb-false}
 use Rattle.rbc_bits.proofs.Fields.{field_at_ok}
 use Rattle.rbc_bits.specs.Bits.{bits_of}
 use Rattle.rbc_bits.specs.Reading.{field_at}
-use Rattle.rbc_msgs.proofs.TrainLaws.{l_message_at-again}
+use Rattle.rbc_msgs.proofs.TrainLaws.{l_message_at-again, train_length-is}
+use Rattle.rbc_msgs.proofs.TrainParts.{length-position}
 use Rattle.rbc_msgs.specs.declared.fault.MsgFault.{MsgFault}
 use Rattle.rbc_msgs.specs.declared.fault.MsgFault.TheVariants.{Length, Short}
 use Rattle.rbc_msgs.specs.declared.number.TrainNumber.{TrainNumber}
@@ -15,18 +18,76 @@ use Rattle.rbc_msgs.specs.declared.number.TrainNumber.TheVariants.{EndOfMission,
 use Rattle.rbc_msgs.specs.declared.number.TrainNumber.TheVariants.{SessionEstablished, ShorteningGranted}
 use Rattle.rbc_msgs.specs.declared.number.TrainNumber.TheVariants.{ShorteningRejected, StartOfMission}
 use Rattle.rbc_msgs.specs.declared.number.TrainNumber.TheVariants.{TerminationOfSession, TrainData}
+use Rattle.rbc_msgs.specs.declared.train_body.TrainBody.{TrainBody}
 use Rattle.rbc_msgs.specs.Numbers.{least_train_length, train_of_number}
 use Rattle.rbc_msgs.specs.Reading.{start_at}
 use Rattle.rbc_msgs.specs.Streams.{IsRest, l_message_at, needed_at, ShowsFault}
 use Rattle.rbc_msgs.specs.TrainReading.{read_train}
-use Rattle.rbc_msgs.specs.TrainSpelling.{SpellsTrain}
+use Rattle.rbc_msgs.specs.TrainSpelling.{packet_bits, position_packet, SpellsTrain, train_body_bits, train_length}
 use Rattle.rbc_msgs.specs.TrainText.{TrainText}
+use Rattle.rbc_packets.proofs.Again.{length-joined}
+use Rattle.rbc_packets.specs.declared.position.Position.{Position}
+use Rattle.rbc_packets.specs.Layout.{joined, widths}
+use Rattle.rbc_packets.specs.Packet.{Packet}
+use Rattle.rbc_packets.specs.PositionSpelling.{position_fields}
 use Rattle.rbc_packets.specs.Steps.{◌>>=◌, refuse}
+
+-- # How many bytes a train's message takes.
+
+-- the first packets have no more bits than all
+pub front-shorter : (i : ℕ) (ps : List Packet)
+    → length (flat_map packet_bits (take i ps)) ≤ length (flat_map packet_bits ps)
+front-shorter i ps =
+    omega (
+      arith,
+      ap (λ (qs : List Packet). length (flat_map packet_bits qs)) (take-append-drop i ps),
+      ap length (flat_map-append packet_bits (take i ps) (drop i ps)),
+      length-append (flat_map packet_bits (take i ps)) (flat_map packet_bits (drop i ps)),
+    )
+
+-- the parts counted one by one
+pub counted : (m : TrainText) (body : TrainBody) (ps : List Packet) (k n : ℕ) → body ≡ m.body → ps ≡ m.further
+    → k ≡ length (train_body_bits body) → n ≡ 74 + k + length (flat_map packet_bits ps) → (n + 7) / 8 ≡ train_length m
+counted m body ps k n body-is ps-is k-is n-is =
+    let same : n ≡ 74 + length (train_body_bits m.body) + length (flat_map packet_bits m.further) =
+    omega (
+      arith,
+      n-is,
+      k-is,
+      ap (λ b. length (train_body_bits b)) body-is,
+      ap (λ (qs : List Packet). length (flat_map packet_bits qs)) ps-is,
+    ) in
+    ap (λ i. (i + 7) / 8) same ∙ sym (train_length-is m)
+
+pub too-long : (m : TrainText) (body : TrainBody) (ps : List Packet) (k : ℕ) → body ≡ m.body → ps ≡ m.further
+    → k ≡ length (train_body_bits body) → 8184 < 74 + k + length (flat_map packet_bits ps) → 1023 < train_length m
+too-long m body ps k body-is ps-is k-is many =
+    omega (arith, counted m body ps k (74 + k + length (flat_map packet_bits ps)) body-is ps-is k-is refl)
+
+-- ---- the fields between the header and the further packets
+
+pub position-alone : (b : TrainBody) (p : Position) (l : ℕ) → train_body_bits b ≡ joined (position_packet p)
+    → l ≡ 21 + widths (position_fields p) → l ≡ length (train_body_bits b)
+position-alone b p l e l-is = omega (arith, ap length e, length-position p)
+
+pub field-and-position : (b : TrainBody) (p : Position) (n v l : ℕ)
+    → train_body_bits b ≡ joined ((n, v) ∷ position_packet p) → l ≡ 21 + widths (position_fields p)
+    → n + l ≡ length (train_body_bits b)
+field-and-position b p n v l e l-is = omega (arith, ap length e, length-joined ((n, v) ∷ position_packet p))
+
+pub position-and-packet : (b : TrainBody) (p : Position) (q : Packet) (l k : ℕ)
+    → train_body_bits b ≡ joined (position_packet p) ++ packet_bits q → l ≡ 21 + widths (position_fields p)
+    → k ≡ length (packet_bits q) → l + k ≡ length (train_body_bits b)
+position-and-packet b p q l k e l-is k-is =
+    omega (arith, ap length e, length-append (joined (position_packet p)) (packet_bits q), length-position p)
+
+-- # The number of bytes that a message needs, and the decisions that its first bytes allow.
 
 -- ---- steps back
 
 -- two steps gave an answer, so each did
-pub bind-ok : {A B : Type 0} (r : Result A MsgFault) (f : A → Result B MsgFault) (y : B) → (r >>= f) ≡ Ok y → (x : A) × (r ≡ Ok x) × (f x ≡ Ok y)
+pub bind-ok : {A B : Type 0} (r : Result A MsgFault) (f : A → Result B MsgFault) (y : B) → (r >>= f) ≡ Ok y
+    → (x : A) × (r ≡ Ok x) × (f x ≡ Ok y)
 bind-ok (Ok x) f y e = (x, refl, e)
 bind-ok (Err fault) f y e = cc
 
@@ -89,7 +150,14 @@ announced bytes n e =
     let start = bind-ok (start_at bytes) then-known n e in
     let number = bind-ok (train_of_number start.0.0) (λ k. then-tested start.0.1 k) n start.2 in
     let enough = bind-ok (refuse (ltb start.0.1 (least_train_length number.0)) Length) (λ _. Ok start.0.1) n number.2 in
-    record { start = start.0; number = number.0; started = start.1; known = number.1; enough = not-refused _ Length enough.0 enough.1; same = cc enough.2 }
+    record {
+      start = start.0;
+      number = number.0;
+      started = start.1;
+      known = number.1;
+      enough = not-refused _ Length enough.0 enough.1;
+      same = cc enough.2;
+    }
 
 l_message-range : (bytes : List ℕ) (n : ℕ) → l_message_at bytes ≡ Ok n → (10 ≤ n) × (n < 2 ^ 10)
 l_message-range bytes n e =
@@ -137,7 +205,10 @@ needed-front a b many =
 -- if they have a fault, they are there
 pub err-many : (bytes : List ℕ) (fault : MsgFault) → needed_at bytes ≡ Err fault → 3 ≤ length bytes
 err-many bytes fault e =
-    elim (cases_lt (length bytes) 3) [ inl few ↦ (let no : 3 ≤ length bytes = cc (needed-few bytes few) in no) | inr many ↦ many ]
+    elim (cases_lt (length bytes) 3) [
+      | inl few ↦ (let no : 3 ≤ length bytes = cc (needed-few bytes few) in no)
+      | inr many ↦ many
+    ]
 
 -- and so are they if no more bytes are needed
 pub whole-many : (bytes : List ℕ) (n : ℕ) → needed_at bytes ≡ Ok n → n ≤ length bytes → 3 ≤ length bytes
@@ -159,7 +230,8 @@ shows-front a b fault (inr h) =
 -- ---- spellings
 
 -- as many bytes are needed as there are, also if more follow
-pub spelled-needed : (first later : List ℕ) (m : TrainText) → SpellsTrain first m → needed_at (first ++ later) ≡ Ok (length first)
+pub spelled-needed : (first later : List ℕ) (m : TrainText) → SpellsTrain first m
+    → needed_at (first ++ later) ≡ Ok (length first)
 spelled-needed first later m s =
     let l = l_message_at-again first m s in
     let ten = l.0 in

@@ -40,7 +40,8 @@ long-ok x e = cc
 long-err : {A : Type 0} (fault : MsgFault) → fault ≢ faults.Short → IsLong {A = A} (Err fault)
 long-err fault ne e = ne (cc e)
 
-long-then : {A B : Type 0} (r : Result A MsgFault) (f : A → Result B MsgFault) → IsLong r → ((x : A) → r ≡ Ok x → IsLong (f x)) → IsLong (r >>= f)
+long-then : {A B : Type 0} (r : Result A MsgFault) (f : A → Result B MsgFault) → IsLong r
+    → ((x : A) → r ≡ Ok x → IsLong (f x)) → IsLong (r >>= f)
 long-then (Ok x) f p q = q x refl
 long-then (Err fault) f p q = long-err fault (λ e. p (ap (λ y. Err y) e))
 
@@ -49,7 +50,8 @@ long-refuse true fault ne = long-err fault ne
 long-refuse false fault ne = long-ok tt
 
 -- a test, and the steps after it
-long-tested : {B : Type 0} (b : Bool) (fault : MsgFault) (r : Result B MsgFault) → fault ≢ faults.Short → (b ≡ false → IsLong r) → IsLong (refuse b fault >>= λ _. r)
+long-tested : {B : Type 0} (b : Bool) (fault : MsgFault) (r : Result B MsgFault) → fault ≢ faults.Short
+    → (b ≡ false → IsLong r) → IsLong (refuse b fault >>= λ _. r)
 long-tested true fault r ne q = long-err fault ne
 long-tested false fault r ne q = q refl
 
@@ -66,13 +68,15 @@ unfolding field_at
 long-field n bits le = let t : ltb (length bits) n ≡ false = le-ltb _ _ le in rw t (long-ok _)
 
 -- the rest after it
-left-of : (n : ℕ) (bits : List Bool) (x : ℕ × List Bool) → field_at faults.Short n bits ≡ Ok x → length bits ≡ n + length x.1
+left-of : (n : ℕ) (bits : List Bool) (x : ℕ × List Bool) → field_at faults.Short n bits ≡ Ok x
+    → length bits ≡ n + length x.1
 left-of n bits x e =
     let parts = (field_at_ok faults.Short n bits x.0 x.1 e).0 in
     omega (arith, ap length parts, length-append (field n x.0) x.1, length-field n x.0)
 
 -- a field with another fault
-long-other : (fault : MsgFault) (n : ℕ) (bits : List Bool) (b : Bool) → ltb (length bits) n ≡ b → fault ≢ faults.Short → IsLong (field_at fault n bits)
+long-other : (fault : MsgFault) (n : ℕ) (bits : List Bool) (b : Bool) → ltb (length bits) n ≡ b → fault ≢ faults.Short
+    → IsLong (field_at fault n bits)
 unfolding field_at
 long-other fault n bits true t ne = rw t (long-err fault ne)
 long-other fault n bits false t ne = rw t (long-ok _)
@@ -93,7 +97,8 @@ long-or (Some x) fault ne = long-ok x
 long-required : (n : ℕ) (bits : List Bool) → IsLong (required_at n bits)
 unfolding required_at
 long-required n bits =
-    long-then (field_at faults.Missing 8 bits) _ (long-other faults.Missing 8 bits _ refl (λ e. cc)) (λ x e. long-tested (not (eqb x.0 n)) faults.Missing (Ok (tt, x.1)) (λ e2. cc) (λ t. long-ok (tt, x.1)))
+    long-then (field_at faults.Missing 8 bits) _ (long-other faults.Missing 8 bits _ refl (λ e. cc))
+    (λ x e. long-tested (not (eqb x.0 n)) faults.Missing (Ok (tt, x.1)) (λ e2. cc) (λ t. long-ok (tt, x.1)))
 
 long-position : (bits : List Bool) → IsLong (position_packet_at bits)
 unfolding position_packet_at
@@ -106,7 +111,9 @@ long-data bits = long-then (required_at 11 bits) _ (long-required 11 bits) (λ x
 long-further_packet : (bits : List Bool) → 8 ≤ length bits → IsLong (further_packet_at bits)
 unfolding further_packet_at
 long-further_packet bits le =
-    long-then (field_at faults.Short 8 bits) _ (long-field 8 bits le) (λ x e. long-tested (eqb x.0 0) faults.Value (packet_read (opaque_at x.0 x.1)) (λ e2. cc) (λ t. long-packet (opaque_at x.0 x.1)))
+    long-then (field_at faults.Short 8 bits) _ (long-field 8 bits le)
+    (λ x e. long-tested (eqb x.0 0) faults.Value (packet_read (opaque_at x.0 x.1)) (λ e2. cc)
+    (λ t. long-packet (opaque_at x.0 x.1)))
 
 long-further : (n : ℕ) (bits : List Bool) → IsLong (further_at n bits)
 unfolding further_at
@@ -115,7 +122,9 @@ long-further (suc n) bits =
     elim (ltb-cases (length bits) 8) [
       | inl t ↦ rw t (long-ok _)
       | inr t ↦
-          rw t (long-then (further_packet_at bits) _ (long-further_packet bits (ltb-false _ _ t)) (λ x e. long-then (further_at n x.1) _ (long-further n x.1) (λ y e2. long-ok _)))
+          rw t
+          (long-then (further_packet_at bits) _ (long-further_packet bits (ltb-false _ _ t))
+          (λ x e. long-then (further_at n x.1) _ (long-further n x.1) (λ y e2. long-ok _)))
     ]
 
 -- ---- bodies: the fixed fields have room
@@ -123,29 +132,37 @@ long-further (suc n) bits =
 long-train_data : (bits : List Bool) → IsLong (train_data_at bits)
 unfolding train_data_at
 long-train_data bits =
-    long-then (position_packet_at bits) _ (long-position bits) (λ x e. long-then (data_packet_at x.1) _ (long-data x.1) (λ y e2. long-ok _))
+    long-then (position_packet_at bits) _ (long-position bits)
+    (λ x e. long-then (data_packet_at x.1) _ (long-data x.1) (λ y e2. long-ok _))
 
 long-request : (bits : List Bool) → 5 ≤ length bits → IsLong (request_at bits)
 unfolding request_at
 long-request bits le =
-    long-then (field_at faults.Short 5 bits) _ (long-field 5 bits le) (λ x e. long-then (position_packet_at x.1) _ (long-position x.1) (λ y e2. long-ok _))
+    long-then (field_at faults.Short 5 bits) _ (long-field 5 bits le)
+    (λ x e. long-then (position_packet_at x.1) _ (long-position x.1) (λ y e2. long-ok _))
 
 long-answered : (bits : List Bool) → 32 ≤ length bits → IsLong (answered_at bits)
 unfolding answered_at
 long-answered bits le =
-    long-then (field_at faults.Short 32 bits) _ (long-field 32 bits le) (λ x e. long-then (position_packet_at x.1) _ (long-position x.1) (λ y e2. long-ok _))
+    long-then (field_at faults.Short 32 bits) _ (long-field 32 bits le)
+    (λ x e. long-then (position_packet_at x.1) _ (long-position x.1) (λ y e2. long-ok _))
 
 long-start : (bits : List Bool) → 2 ≤ length bits → IsLong (start_of_mission_at bits)
 unfolding start_of_mission_at
 long-start bits le =
-    long-then (field_at faults.Short 2 bits) _ (long-field 2 bits le) (λ x e. long-then (ok_or (q_status_of x.0) faults.Value) _ (long-or (q_status_of x.0) faults.Value (λ e2. cc)) (λ s e3. long-then (position_packet_at x.1) _ (long-position x.1) (λ y e4. long-ok _)))
+    long-then (field_at faults.Short 2 bits) _ (long-field 2 bits le)
+    (λ x e. long-then (ok_or (q_status_of x.0) faults.Value) _ (long-or (q_status_of x.0) faults.Value (λ e2. cc))
+    (λ s e3. long-then (position_packet_at x.1) _ (long-position x.1) (λ y e4. long-ok _)))
 
-long-body : (k : TrainNumber) (bits : List Bool) → 8 * least_train_length k ≤ 74 + length bits → IsLong (train_body_at k bits)
+long-body : (k : TrainNumber) (bits : List Bool) → 8 * least_train_length k ≤ 74 + length bits
+    → IsLong (train_body_at k bits)
 long-body number.TrainData bits h = long-train_data bits
 long-body number.Request bits h = long-request bits (omega arith)
 long-body number.Report bits h = long-then (position_packet_at bits) _ (long-position bits) (λ x e. long-ok _)
-long-body number.ShorteningGranted bits h = long-then (answered_at bits) _ (long-answered bits (omega arith)) (λ x e. long-ok _)
-long-body number.ShorteningRejected bits h = long-then (answered_at bits) _ (long-answered bits (omega arith)) (λ x e. long-ok _)
+long-body number.ShorteningGranted bits h =
+    long-then (answered_at bits) _ (long-answered bits (omega arith)) (λ x e. long-ok _)
+long-body number.ShorteningRejected bits h =
+    long-then (answered_at bits) _ (long-answered bits (omega arith)) (λ x e. long-ok _)
 long-body number.EndOfMission bits h = long-then (position_packet_at bits) _ (long-position bits) (λ x e. long-ok _)
 long-body number.InitiationOfSession bits h = long-ok _
 long-body number.TerminationOfSession bits h = long-ok _
@@ -157,19 +174,26 @@ long-body number.SessionEstablished bits h = long-ok _
 long-end : (bits : List Bool) → IsLong (end_at faults.Packet bits)
 unfolding end_at
 long-end bits =
-    long-tested (leb 8 (length bits)) faults.Packet (field_at faults.Short (length bits) bits >>= λ filling. refuse (not (eqb filling.0 0)) faults.Padding) (λ e. cc)
-    (λ t. long-then (field_at faults.Short (length bits) bits) _ (long-field (length bits) bits (omega arith)) (λ x e. long-refuse (not (eqb x.0 0)) faults.Padding (λ e2. cc)))
+    long-tested (leb 8 (length bits)) faults.Packet
+    (field_at faults.Short (length bits) bits >>= λ filling. refuse (not (eqb filling.0 0)) faults.Padding) (λ e. cc)
+    (λ t. long-then (field_at faults.Short (length bits) bits) _ (long-field (length bits) bits (omega arith))
+    (λ x e. long-refuse (not (eqb x.0 0)) faults.Padding (λ e2. cc)))
 
 long-time : (bits : List Bool) → 32 ≤ length bits → IsLong (time_at bits)
 unfolding time_at
 long-time bits le =
-    long-then (field_at faults.Short 32 bits) _ (long-field 32 bits le) (λ x e. long-tested (eqb x.0 unknown_time) faults.Value (Ok x) (λ e2. cc) (λ t. long-ok x))
+    long-then (field_at faults.Short 32 bits) _ (long-field 32 bits le)
+    (λ x e. long-tested (eqb x.0 unknown_time) faults.Value (Ok x) (λ e2. cc) (λ t. long-ok x))
 
-time-left-tested : (bits : List Bool) (x y : ℕ × List Bool) (b : Bool) → field_at faults.Short 32 bits ≡ Ok y → (refuse b faults.Value >>= λ _. Ok y) ≡ Ok x → length bits ≡ 32 + length x.1
+time-left-tested : (bits : List Bool) (x y : ℕ × List Bool) (b : Bool) → field_at faults.Short 32 bits ≡ Ok y
+    → (refuse b faults.Value >>= λ _. Ok y) ≡ Ok x → length bits ≡ 32 + length x.1
 time-left-tested bits x y true f e = cc
-time-left-tested bits x y false f e = let same : y ≡ x = cc e in omega (arith, left-of 32 bits y f, ap (λ z. length z.1) same)
+time-left-tested bits x y false f e = let same : y ≡ x = cc e in
+    omega (arith, left-of 32 bits y f, ap (λ z. length z.1) same)
 
-time-left-by : (bits : List Bool) (x : ℕ × List Bool) (r : Result (ℕ × List Bool) MsgFault) → field_at faults.Short 32 bits ≡ r → (r >>= λ y. refuse (eqb y.0 unknown_time) faults.Value >>= λ _. Ok y) ≡ Ok x → length bits ≡ 32 + length x.1
+time-left-by : (bits : List Bool) (x : ℕ × List Bool) (r : Result (ℕ × List Bool) MsgFault)
+    → field_at faults.Short 32 bits ≡ r → (r >>= λ y. refuse (eqb y.0 unknown_time) faults.Value >>= λ _. Ok y) ≡ Ok x
+    → length bits ≡ 32 + length x.1
 time-left-by bits x (Ok y) f e = time-left-tested bits x y (eqb y.0 unknown_time) f e
 time-left-by bits x (Err fault) f e = cc
 
@@ -186,7 +210,10 @@ long-start_at bytes many =
     let t : ltb (length bytes) 3 ≡ false = le-ltb _ _ many in
     let first = bits_of (take 3 bytes) in
     let wide : length first ≡ 24 = omega (arith, length-bits_of (take 3 bytes), length-take 3 bytes) in
-    rw t (long-then (field_at faults.Short 8 first) _ (long-field 8 first (omega arith)) (λ x e. long-then (field_at faults.Short 10 x.1) _ (long-field 10 x.1 (omega (arith, left-of 8 first x e))) (λ y e2. long-ok _)))
+    rw t
+    (long-then (field_at faults.Short 8 first) _ (long-field 8 first (omega arith))
+    (λ x e. long-then (field_at faults.Short 10 x.1) _ (long-field 10 x.1 (omega (arith, left-of 8 first x e)))
+    (λ y e2. long-ok _)))
 
 long-number : (n : ℕ) → IsLong (train_of_number n)
 unfolding train_of_number
@@ -195,7 +222,9 @@ long-number n = long-or (find (λ k. train_number_value k == n) train_numbers) f
 pub long-l_message : (bytes : List ℕ) → 3 ≤ length bytes → IsLong (l_message_at bytes)
 unfolding l_message_at
 long-l_message bytes many =
-    long-then (start_at bytes) _ (long-start_at bytes many) (λ x e. long-then (train_of_number x.0) _ (long-number x.0) (λ k e2. long-tested (ltb x.1 (least_train_length k)) faults.Length (Ok x.1) (λ e3. cc) (λ t. long-ok x.1)))
+    long-then (start_at bytes) _ (long-start_at bytes many)
+    (λ x e. long-then (train_of_number x.0) _ (long-number x.0)
+    (λ k e2. long-tested (ltb x.1 (least_train_length k)) faults.Length (Ok x.1) (λ e3. cc) (λ t. long-ok x.1)))
 
 -- ---- the whole message
 
@@ -205,8 +234,11 @@ long-whole least l bytes same many =
     let there : ltb (length bytes) l ≡ false = le-ltb _ _ (omega arith) in
     let no-more : ltb l (length bytes) ≡ false = le-ltb _ _ (omega arith) in
     let bits : IsLong (field_at faults.Short 18 (bits_of bytes) >>= λ start. Ok start.1) =
-    long-then (field_at faults.Short 18 (bits_of bytes)) (λ start. Ok start.1) (long-field 18 (bits_of bytes) (omega (arith, length-bits_of bytes))) (λ x e. long-ok x.1) in
-    rw (there, no-more) (long-tested (ltb l least) faults.Length (field_at faults.Short 18 (bits_of bytes) >>= λ start. Ok start.1) (λ e. cc) (λ t. bits))
+    long-then (field_at faults.Short 18 (bits_of bytes)) (λ start. Ok start.1)
+    (long-field 18 (bits_of bytes) (omega (arith, length-bits_of bytes))) (λ x e. long-ok x.1) in
+    rw (there, no-more)
+    (long-tested (ltb l least) faults.Length (field_at faults.Short 18 (bits_of bytes) >>= λ start. Ok start.1)
+    (λ e. cc) (λ t. bits))
 
 -- the bits after L_MESSAGE
 whole-bits : List ℕ → Result (List Bool) MsgFault
@@ -218,21 +250,28 @@ no-more-bytes l bytes = refuse (ltb l (length bytes)) faults.Length >>= λ _. wh
 all-bytes : ℕ → List ℕ → Result (List Bool) MsgFault
 all-bytes l bytes = refuse (ltb (length bytes) l) faults.Short >>= λ _. no-more-bytes l bytes
 
-whole-left : (least l : ℕ) (bytes : List ℕ) (bits : List Bool) → whole_at least l bytes ≡ Ok bits → (least ≤ l) × (8 * length bytes ≡ 18 + length bits)
+whole-left : (least l : ℕ) (bytes : List ℕ) (bits : List Bool) → whole_at least l bytes ≡ Ok bits
+    → (least ≤ l) × (8 * length bytes ≡ 18 + length bits)
 unfolding whole_at all-bytes no-more-bytes whole-bits
 whole-left least l bytes bits e =
     let one = bind-ok (refuse (ltb l least) faults.Length) (λ _. all-bytes l bytes) bits e in
     let two = bind-ok (refuse (ltb (length bytes) l) faults.Short) (λ _. no-more-bytes l bytes) bits one.2 in
     let three = bind-ok (refuse (ltb l (length bytes)) faults.Length) (λ _. whole-bits bytes) bits two.2 in
     let four = bind-ok (field_at faults.Short 18 (bits_of bytes)) (λ start. Ok start.1) bits three.2 in
-    let same : four.0.1 ≡ bits = cc four.2 in
-    (ltb-false l least (not-refused _ faults.Length one.0 one.1), omega (arith, left-of 18 (bits_of bytes) four.0 four.1, length-bits_of bytes, ap length same))
+    let same : four.0.1 ≡ bits = cc four.2 in (
+      ltb-false l least (not-refused _ faults.Length one.0 one.1),
+      omega (arith, left-of 18 (bits_of bytes) four.0 four.1, length-bits_of bytes, ap length same),
+    )
 
-long-after : (start : ℕ × ℕ) (k : TrainNumber) (bytes : List ℕ) → start.1 ≡ length bytes → 3 ≤ start.1 → start_at bytes ≡ Ok start → train_of_number start.0 ≡ Ok k → least_train_length k ≤ start.1 → IsLong (read_train bytes)
+long-after : (start : ℕ × ℕ) (k : TrainNumber) (bytes : List ℕ) → start.1 ≡ length bytes → 3 ≤ start.1
+    → start_at bytes ≡ Ok start → train_of_number start.0 ≡ Ok k → least_train_length k ≤ start.1
+    → IsLong (read_train bytes)
 unfolding read_train
 long-after start k bytes same many s-at n-at least =
     let ten = least-some k in
-    rw (s-at, n-at) (long-then (whole_at (least_train_length k) start.1 bytes) _ (long-whole (least_train_length k) start.1 bytes same many) (λ bits e.
+    rw (s-at, n-at)
+    (long-then (whole_at (least_train_length k) start.1 bytes) _
+    (long-whole (least_train_length k) start.1 bytes same many) (λ bits e.
     let left = (whole-left (least_train_length k) start.1 bytes bits e).1 in
     long-then (time_at bits) _ (long-time bits (omega arith)) (λ t e2.
     let t-left = time-left bits t e2 in

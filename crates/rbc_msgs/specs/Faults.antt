@@ -1,9 +1,10 @@
 -- The numbers by which a program names the faults of a message and of a stream (profile).
 use Rattle.std.specs.Prelude.{ℕ}
 use Rattle.rbc_msgs.specs.declared.fault.MsgFault.{MsgFault}
-use Rattle.rbc_msgs.specs.declared.fault.MsgFault.TheVariants.{Short, Length, Padding, UnknownNumber, Packet, Missing, Value, Memory}
+use Rattle.rbc_msgs.specs.declared.fault.MsgFault.TheVariants.{Length, Memory, Missing, Packet, Padding, Short}
+use Rattle.rbc_msgs.specs.declared.fault.MsgFault.TheVariants.{UnknownNumber, Value}
 use Rattle.rbc_msgs.specs.declared.fault.StreamFault.{StreamFault}
-use Rattle.rbc_msgs.specs.declared.fault.StreamFault.TheVariants.{Message, Failed}
+use Rattle.rbc_msgs.specs.declared.fault.StreamFault.TheVariants.{Failed, Message}
 
 abbrev pub fault_number : MsgFault → ℕ
 fault_number Short = 1

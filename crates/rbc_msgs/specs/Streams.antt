@@ -1,15 +1,16 @@
 -- The consecutive messages of a train on a stream of bytes, which arrive in pieces of any size (profile).
-use Rattle.std.specs.Prelude.{◌≡◌, ◌≢◌, ◌⊎◌, ℕ, ◌<◌, ◌≤◌, List, [], ◌∷◌, ◌++◌, length, take, Option, Some, None, Result, Ok, Err, nat_lt, if◌then◌else◌}
-use Rattle.rbc_packets.specs.Steps.{◌>>=◌, refuse}
-use Rattle.rbc_msgs.specs.TrainText.{TrainText}
-use Rattle.rbc_msgs.specs.Numbers.{train_of_number, least_train_length}
-use Rattle.rbc_msgs.specs.Reading.{start_at}
-use Rattle.rbc_msgs.specs.TrainSpelling.{SpellsTrain}
-use Rattle.rbc_msgs.specs.TrainReading.{read_train}
+use Rattle.std.specs.Prelude.{[], if◌then◌else◌, ◌++◌, ◌<◌, ◌∷◌, ◌≡◌, ◌≢◌, ◌≤◌, ◌⊎◌, Err, length, List, nat_lt, None}
+use Rattle.std.specs.Prelude.{Ok, Option, Result, Some, take, ℕ}
 use Rattle.rbc_msgs.specs.declared.fault.MsgFault.{MsgFault}
 use Rattle.rbc_msgs.specs.declared.fault.MsgFault.TheVariants as message
 use Rattle.rbc_msgs.specs.declared.fault.StreamFault.{StreamFault}
-use Rattle.rbc_msgs.specs.declared.fault.StreamFault.TheVariants.{Message, Failed}
+use Rattle.rbc_msgs.specs.declared.fault.StreamFault.TheVariants.{Failed, Message}
+use Rattle.rbc_msgs.specs.Numbers.{least_train_length, train_of_number}
+use Rattle.rbc_msgs.specs.Reading.{start_at}
+use Rattle.rbc_msgs.specs.TrainReading.{read_train}
+use Rattle.rbc_msgs.specs.TrainSpelling.{SpellsTrain}
+use Rattle.rbc_msgs.specs.TrainText.{TrainText}
+use Rattle.rbc_packets.specs.Steps.{◌>>=◌, refuse}
 
 -- ## The end of a message, and the bytes that suffice to refuse it
 

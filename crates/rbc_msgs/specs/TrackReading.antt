@@ -1,15 +1,17 @@
 -- The order in which the bytes of a centre's message are tested (profile).
-use Rattle.std.specs.Prelude.{ℕ, ◌==◌, Bool, List, Result, Ok, Err, if◌then◌else◌}
-use Rattle.rbc_spec.specs.Message.{TrackBody, Authority, DataAcknowledged, ShorteningRequest, Transition, EndSession, SystemVersion, TerminationAcknowledged, TrainRejected, TrainAccepted, TrackMessage}
+use Rattle.std.specs.Prelude.{if◌then◌else◌, ◌==◌, Bool, Err, List, Ok, Result, ℕ}
 use Rattle.rbc_bits.specs.Reading.{field_at}
-use Rattle.rbc_packets.specs.Steps.{◌>>=◌}
-use Rattle.rbc_packets.specs.TrackReading.{authority_at, transition_at, session_order_at}
-use Rattle.rbc_msgs.specs.Numbers.{track_of_number, least_track_length}
-use Rattle.rbc_msgs.specs.Reading.{start_at, whole_at, time_at, fixed_at, required_at, packet_read, end_at}
 use Rattle.rbc_msgs.specs.declared.fault.MsgFault.{MsgFault}
-use Rattle.rbc_msgs.specs.declared.fault.MsgFault.TheVariants.{Short, Length, Missing}
+use Rattle.rbc_msgs.specs.declared.fault.MsgFault.TheVariants.{Length, Missing, Short}
 use Rattle.rbc_msgs.specs.declared.number.TrackNumber.{TrackNumber}
 use Rattle.rbc_msgs.specs.declared.number.TrackNumber.TheVariants as number
+use Rattle.rbc_msgs.specs.Numbers.{least_track_length, track_of_number}
+use Rattle.rbc_msgs.specs.Reading.{end_at, fixed_at, packet_read, required_at, start_at, time_at, whole_at}
+use Rattle.rbc_packets.specs.Steps.{◌>>=◌}
+use Rattle.rbc_packets.specs.TrackReading.{authority_at, session_order_at, transition_at}
+use Rattle.rbc_spec.specs.Message.{Authority, DataAcknowledged, EndSession, ShorteningRequest, SystemVersion}
+use Rattle.rbc_spec.specs.Message.{TerminationAcknowledged, TrackBody, TrackMessage, TrainAccepted, TrainRejected}
+use Rattle.rbc_spec.specs.Message.{Transition}
 
 -- L_ENDSECTION of packet 15, which is required
 unfoldable pub end_of_authority_at : List Bool → Result (ℕ × List Bool) MsgFault

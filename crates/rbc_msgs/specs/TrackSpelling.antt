@@ -1,10 +1,12 @@
 -- How the message of a centre is spelled (SUBSET-026 8.7).
-use Rattle.std.specs.Prelude.{◌≡◌, ℕ, ◌+◌, ◌/◌, ◌^◌, ◌<◌, List, [], ◌∷◌, ◌++◌, length}
-use Rattle.rbc_spec.specs.Message.{TrackBody, Authority, DataAcknowledged, ShorteningRequest, Transition, EndSession, SystemVersion, TerminationAcknowledged, TrainRejected, TrainAccepted, TrackMessage, unknown_time}
+use Rattle.std.specs.Prelude.{[], ◌++◌, ◌+◌, ◌/◌, ◌<◌, ◌^◌, ◌∷◌, ◌≡◌, length, List, ℕ}
 use Rattle.rbc_bits.specs.Bits.{bits_of, filled}
-use Rattle.rbc_packets.specs.Layout.{Field, joined, widths, track_packet}
-use Rattle.rbc_packets.specs.TrackSpelling.{authority_fields, transition_fields, session_order_fields}
 use Rattle.rbc_msgs.specs.Layout.{length_limit}
+use Rattle.rbc_packets.specs.Layout.{Field, joined, track_packet, widths}
+use Rattle.rbc_packets.specs.TrackSpelling.{authority_fields, session_order_fields, transition_fields}
+use Rattle.rbc_spec.specs.Message.{Authority, DataAcknowledged, EndSession, ShorteningRequest, SystemVersion}
+use Rattle.rbc_spec.specs.Message.{TerminationAcknowledged, TrackBody, TrackMessage, TrainAccepted, TrainRejected}
+use Rattle.rbc_spec.specs.Message.{Transition, unknown_time}
 
 -- NID_MESSAGE
 abbrev pub track_number : TrackBody → ℕ

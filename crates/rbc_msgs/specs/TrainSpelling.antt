@@ -1,18 +1,21 @@
 -- How the message of a train is spelled (SUBSET-026 8.6).
-use Rattle.std.specs.Prelude.{◌≡◌, ◌≢◌, ℕ, ◌+◌, ◌/◌, ◌^◌, ◌<◌, Bool, List, [], ◌∷◌, ◌++◌, length}
-use Rattle.std.specs.List.{flat_map, AllByRecursion}
-use Rattle.rbc_spec.specs.Message.{unknown_time}
+use Rattle.std.specs.List.{AllByRecursion, flat_map}
+use Rattle.std.specs.Prelude.{[], ◌++◌, ◌+◌, ◌/◌, ◌<◌, ◌^◌, ◌∷◌, ◌≡◌, ◌≢◌, Bool, length, List, ℕ}
 use Rattle.rbc_bits.specs.Bits.{bits_of, filled}
-use Rattle.rbc_vars.specs.Values.{q_status_value}
-use Rattle.rbc_packets.specs.Layout.{Field, joined, train_packet}
-use Rattle.rbc_packets.specs.Packet.{Packet, PacketFits}
-use Rattle.rbc_packets.specs.OpaqueReading.{opaque_bits}
-use Rattle.rbc_packets.specs.PositionSpelling.{position_fields, PositionFits}
-use Rattle.rbc_packets.specs.declared.position.Position.{Position}
-use Rattle.rbc_msgs.specs.TrainText.{TrainText}
-use Rattle.rbc_msgs.specs.Layout.{length_limit}
 use Rattle.rbc_msgs.specs.declared.train_body.TrainBody.{TrainBody}
-use Rattle.rbc_msgs.specs.declared.train_body.TrainBody.TheVariants.{TrainData, Request, Report, ShorteningGranted, ShorteningRejected, EndOfMission, InitiationOfSession, TerminationOfSession, StartOfMission, SessionEstablished}
+use Rattle.rbc_msgs.specs.declared.train_body.TrainBody.TheVariants.{EndOfMission, InitiationOfSession, Report, Request}
+use Rattle.rbc_msgs.specs.declared.train_body.TrainBody.TheVariants.{SessionEstablished, ShorteningGranted}
+use Rattle.rbc_msgs.specs.declared.train_body.TrainBody.TheVariants.{ShorteningRejected, StartOfMission}
+use Rattle.rbc_msgs.specs.declared.train_body.TrainBody.TheVariants.{TerminationOfSession, TrainData}
+use Rattle.rbc_msgs.specs.Layout.{length_limit}
+use Rattle.rbc_msgs.specs.TrainText.{TrainText}
+use Rattle.rbc_packets.specs.declared.position.Position.{Position}
+use Rattle.rbc_packets.specs.Layout.{Field, joined, train_packet}
+use Rattle.rbc_packets.specs.OpaqueReading.{opaque_bits}
+use Rattle.rbc_packets.specs.Packet.{Packet, PacketFits}
+use Rattle.rbc_packets.specs.PositionSpelling.{position_fields, PositionFits}
+use Rattle.rbc_spec.specs.Message.{unknown_time}
+use Rattle.rbc_vars.specs.Values.{q_status_value}
 
 -- NID_MESSAGE
 abbrev pub train_number : TrainBody → ℕ

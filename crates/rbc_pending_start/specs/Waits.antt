@@ -1,20 +1,21 @@
 -- A start of mission that waits for the right to supervise, and the ask for that right.
-use Rattle.std.specs.Prelude.{◌≡◌, ℕ, ◌+◌, ◌≤◌, ◌==◌, Bool, List, [], ◌∷◌, length, map, Option, Some, None, option_map, is_some, true, if◌then◌else◌}
 use Rattle.std.specs.Option.{option_map_or}
+use Rattle.std.specs.Prelude.{[], if◌then◌else◌, ◌+◌, ◌==◌, ◌∷◌, ◌≡◌, ◌≤◌, Bool, is_some, length, List, map, None}
+use Rattle.std.specs.Prelude.{Option, option_map, Some, true, ℕ}
+use Rattle.rbc_book.specs.Book.{entry_at, is_own, Pages, wish_at}
+use Rattle.rbc_hand.specs.Hands.{Holding, IsAllOwn, run}
+use Rattle.rbc_place.specs.declared.place.Place.{Place}
+use Rattle.rbc_place.specs.Places.{place_of}
+use Rattle.rbc_spec.specs.Acts.{Reply}
+use Rattle.rbc_spec.specs.Centre.{Centre}
+use Rattle.rbc_spec.specs.Frame.{AskRight, Body}
+use Rattle.rbc_spec.specs.Line.{is_home, Line, registrar}
 use Rattle.rbc_spec.specs.Maps.{put}
-use Rattle.rbc_spec.specs.SectionRuns.{SectionRun, no_run}
-use Rattle.rbc_spec.specs.Line.{Line, is_home, registrar}
+use Rattle.rbc_spec.specs.Outcome.{Told}
 use Rattle.rbc_spec.specs.Place as spec
 use Rattle.rbc_spec.specs.Place.{covered}
-use Rattle.rbc_spec.specs.Frame.{Body, AskRight}
-use Rattle.rbc_spec.specs.Outcome.{Told}
-use Rattle.rbc_spec.specs.Centre.{Centre}
-use Rattle.rbc_spec.specs.Acts.{Reply}
 use Rattle.rbc_spec.specs.Rules.{reject}
-use Rattle.rbc_book.specs.Book.{Pages, is_own, entry_at, wish_at}
-use Rattle.rbc_hand.specs.Hands.{Holding, run, IsAllOwn}
-use Rattle.rbc_place.specs.Places.{place_of}
-use Rattle.rbc_place.specs.declared.place.Place.{Place}
+use Rattle.rbc_spec.specs.SectionRuns.{no_run, SectionRun}
 
 -- The state of a train's waiting start at a centre, by its NID_ENGINE. It has the place of the start, and the sections
 -- that are claimed for it; without a waiting start these are empty. `has_asked`: the registrar was asked for the right

@@ -1,5 +1,5 @@
 -- The number of consecutive sections that pass a test: the invariant of a loop over them.
-use Rattle.std.proofs.Common.{◌≡◌, ℕ, zero, suc, ◌+◌, ◌-◌, ◌<◌, ◌≤◌, Bool, true, false, refl, ap, sym, ◌∙◌, arith}
+use Rattle.std.proofs.Common.{◌+◌, ◌-◌, ◌<◌, ◌∙◌, ◌≡◌, ◌≤◌, ap, arith, Bool, false, refl, suc, sym, true, zero, ℕ}
 use Rattle.rbc_spec.specs.SectionRuns.{longest}
 
 -- the first k sections have passed, up to the limit
@@ -7,7 +7,8 @@ pub record HasPassed (test : ℕ → Bool) (first most k : ℕ) : Type 0 where
   pub within : k ≤ most
   pub rest : longest test first most ≡ k + longest test (first + k) (most - k)
 
-longest_more : (test : ℕ → Bool) (first n : ℕ) → test first ≡ true → longest test first (suc n) ≡ suc (longest test (first + 1) n)
+longest_more : (test : ℕ → Bool) (first n : ℕ) → test first ≡ true
+    → longest test first (suc n) ≡ suc (longest test (first + 1) n)
 unfolding longest
 longest_more test first n passes = rw passes refl
 
@@ -21,7 +22,8 @@ unfolding longest
 longest_zero test first = refl
 
 -- the next passes too
-pub one_more : (test : ℕ → Bool) (first most k s : ℕ) → k < most → s ≡ first + k → test s ≡ true → HasPassed test first most k → HasPassed test first most (k + 1)
+pub one_more : (test : ℕ → Bool) (first most k s : ℕ) → k < most → s ≡ first + k → test s ≡ true
+    → HasPassed test first most k → HasPassed test first most (k + 1)
 one_more test first most k s lt is_next passes so_far =
     let left : most - k ≡ suc (most - (k + 1)) = omega arith in
     let at : first + k + 1 ≡ first + (k + 1) = omega arith in
@@ -34,11 +36,16 @@ one_more test first most k s lt is_next passes so_far =
     }
 
 -- the next does not
-pub stops : (test : ℕ → Bool) (first most k s : ℕ) → s ≡ first + k → test s ≡ false → HasPassed test first most k → k ≡ longest test first most
-stops test first most k s is_next fails so_far = sym (so_far.rest ∙ ap (λ n. k + n) (longest_none test (first + k) (most - k) (ap test (sym is_next) ∙ fails)) ∙ (omega arith))
+pub stops : (test : ℕ → Bool) (first most k s : ℕ) → s ≡ first + k → test s ≡ false → HasPassed test first most k
+    → k ≡ longest test first most
+stops test first most k s is_next fails so_far =
+    sym (so_far.rest ∙ ap (λ n. k + n) (longest_none test (first + k) (most - k) (ap test (sym is_next) ∙ fails))
+    ∙ (omega arith))
 
 -- all pass
-pub all_passed : (test : ℕ → Bool) (first most k : ℕ) → most ≤ k → HasPassed test first most k → most ≡ longest test first most
+pub all_passed : (test : ℕ → Bool) (first most k : ℕ) → most ≤ k → HasPassed test first most k
+    → most ≡ longest test first most
 all_passed test first most k last so_far =
     let none : most - k ≡ 0 = omega arith in
-    sym (so_far.rest ∙ ap (λ n. k + longest test (first + k) n) none ∙ ap (λ n. k + n) (longest_zero test (first + k)) ∙ (omega arith))
+    sym (so_far.rest ∙ ap (λ n. k + longest test (first + k) n) none ∙ ap (λ n. k + n) (longest_zero test (first + k))
+    ∙ (omega arith))

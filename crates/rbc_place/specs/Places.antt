@@ -1,10 +1,11 @@
 -- Places of trains in memory.
-use Rattle.std.specs.Prelude.{ℕ, ◌+◌, ◌*◌, ◌==◌, Bool, true, false, ◌&&◌, ◌||◌, nat_lt, Option, ℤ, pos, ◌-ℤ◌, int_le, option_map, if◌then◌else◌}
 use Rattle.std.specs.Option.{option_map_or}
-use Rattle.rbc_spec.specs.Line.{Line, section, end}
-use Rattle.rbc_spec.specs.SectionRuns.{SectionRun, is_empty}
-use Rattle.rbc_spec.specs.Place as spec
+use Rattle.std.specs.Prelude.{if◌then◌else◌, ◌&&◌, ◌*◌, ◌+◌, ◌-ℤ◌, ◌==◌, ◌||◌, Bool, false, int_le, nat_lt, Option}
+use Rattle.std.specs.Prelude.{option_map, pos, true, ℕ, ℤ}
 use Rattle.rbc_place.specs.declared.place.Place.{Place}
+use Rattle.rbc_spec.specs.Line.{end, Line, section}
+use Rattle.rbc_spec.specs.Place as spec
+use Rattle.rbc_spec.specs.SectionRuns.{is_empty, SectionRun}
 
 abbrev pub place_of : Place → spec.Place
 place_of p = record { track = p.track; group = p.group; front = p.front; rear = p.rear }

@@ -1,15 +1,17 @@
 -- Laws of the rights at a centre.
-use Rattle.std.proofs.Common.{◌≡◌, ◌≢◌, ℕ, zero, suc, ◌<◌, ◌≤◌, ◌==◌, inl, inr, Bool, true, false, nat_lt, List, [], ◌∷◌, length, set, Option, Some, None, option_map, unwrap_or, slice_get, refl, ap, sym, ◌∙◌, arith}
-use Rattle.std.specs.List.{position_or_len, find}
-use Rattle.std.specs.Option.{option_map_or}
-use Rattle.std.proofs.lemmas.Bool.{false≢true, cases_lt}
+use Rattle.std.proofs.Common.{[], ◌<◌, ◌==◌, ◌∙◌, ◌∷◌, ◌≡◌, ◌≢◌, ◌≤◌, ap, arith, Bool, false, inl, inr, length, List}
+use Rattle.std.proofs.Common.{nat_lt, None, Option, option_map, refl, set, slice_get, Some, suc, sym, true, unwrap_or}
+use Rattle.std.proofs.Common.{zero, ℕ}
+use Rattle.std.proofs.lemmas.Bool.{cases_lt, false≢true}
 use Rattle.std.proofs.lemmas.Bool.Decides.{eqb_tells}
-use Rattle.std.proofs.lemmas.Option.{slice_get_past, cond_some}
 use Rattle.std.proofs.lemmas.List.Folds.{find_at}
-use Rattle.rbc_spec.specs.Maps.{put}
-use Rattle.rbc_spec.specs.Line.{Line, Train, train_number}
+use Rattle.std.proofs.lemmas.Option.{cond_some, slice_get_past}
+use Rattle.std.specs.List.{find, position_or_len}
+use Rattle.std.specs.Option.{option_map_or}
+use Rattle.rbc_right.specs.Rights.{is_here, is_registered_at, Rights}
 use Rattle.rbc_spec.specs.Centre.{is_registrar_of}
-use Rattle.rbc_right.specs.Rights.{Rights, is_here, is_registered_at}
+use Rattle.rbc_spec.specs.Line.{Line, Train, train_number}
+use Rattle.rbc_spec.specs.Maps.{put}
 
 -- ## Lists
 
@@ -35,7 +37,8 @@ here_within rights i here =
       | inr past ↦ absurd (false≢true (ap (λ o. unwrap_or o false) (sym (slice_get_past rights i past)) ∙ here))
     ]
 
-pub here-set : (rights : Rights) (i : ℕ) (b : Bool) → i < length rights → (j : ℕ) → is_here (set rights i b) j ≡ put (is_here rights) i b j
+pub here-set : (rights : Rights) (i : ℕ) (b : Bool) → i < length rights → (j : ℕ)
+    → is_here (set rights i b) j ≡ put (is_here rights) i b j
 unfolding is_here
 here-set rights i b within j =
     elim (eqb_tells j i) as (λ _. is_here (set rights i b) j ≡ put (is_here rights) i b j) [
@@ -44,7 +47,8 @@ here-set rights i b within j =
     ]
 
 -- a right that is here already stays
-pub here-same : (rights : Rights) (i : ℕ) (b : Bool) → is_here rights i ≡ b → (j : ℕ) → is_here rights j ≡ put (is_here rights) i b j
+pub here-same : (rights : Rights) (i : ℕ) (b : Bool) → is_here rights i ≡ b → (j : ℕ)
+    → is_here rights j ≡ put (is_here rights) i b j
 here-same rights i b at j =
     elim (eqb_tells j i) as (λ _. is_here rights j ≡ put (is_here rights) i b j) [
       | inl e ↦ rw (e.0, e.1) at
@@ -63,7 +67,8 @@ pub record HasRights (line : Line) (c n : ℕ) (rights : Rights) : Type 0 where
   pub count : length rights ≡ n
   pub each : (k : ℕ) → k < n → slice_get rights k ≡ Some (is_registered_at line c k)
 
-module _ (line : Line) (c n : ℕ) (rights : Rights) (whole : HasRights line c n rights) (all : n ≡ length line.trains) where
+module _ (line : Line) (c n : ℕ) (rights : Rights) (whole : HasRights line c n rights)
+    (all : n ≡ length line.trains) where
   pub new_here : (j : ℕ) → is_here rights j ≡ is_registered_at line c j
   unfolding is_here
   new_here j =
@@ -71,15 +76,23 @@ module _ (line : Line) (c n : ℕ) (rights : Rights) (whole : HasRights line c n
         | inl within ↦ ap (λ o. unwrap_or o false) (whole.each j within)
         | inr past ↦
             ap (λ o. unwrap_or o false) (slice_get_past rights j (omega (arith, whole.count)))
-            ∙ sym (ap (λ o. option_map_or (λ (p : Train). p.registrar == c) o false) (slice_get_past line.trains j (omega (arith, all))))
+            ∙ sym (ap (λ o. option_map_or (λ (p : Train). p.registrar == c) o false)
+            (slice_get_past line.trains j (omega (arith, all))))
       ]
 
   pub new_engines : (t j : ℕ) → train_number line t ≡ Some j → is_here rights j ≡ is_registrar_of line c t
-  new_engines t j at = new_here j ∙ by_found (slice_get line.trains j) ∙ ap (λ o. option_map_or (λ r. r == c) (option_map (λ (p : Train). p.registrar) o) false) (sym found)
+  new_engines t j at = new_here j ∙ by_found (slice_get line.trains j)
+      ∙ ap (λ o. option_map_or (λ r. r == c) (option_map (λ (p : Train). p.registrar) o) false) (sym found)
     where
-      by_found : (o : Option Train) → option_map_or (λ p. p.registrar == c) o false ≡ option_map_or (λ r. r == c) (option_map (λ p. p.registrar) o) false
+      by_found : (o : Option Train)
+          → option_map_or (λ p. p.registrar == c) o false
+          ≡ option_map_or (λ r. r == c) (option_map (λ p. p.registrar) o) false
       by_found None = refl
       by_found (Some p) = refl
 
       found : find (λ p. p.nid_engine == t) line.trains ≡ slice_get line.trains j
-      found = find_at (λ p. p.nid_engine == t) line.trains ∙ ap (slice_get line.trains) (cond_some (nat_lt (position_or_len (λ p. p.nid_engine == t) line.trains) (length line.trains)) (position_or_len (λ p. p.nid_engine == t) line.trains) j at).1
+      found =
+          find_at (λ p. p.nid_engine == t) line.trains
+          ∙ ap (slice_get line.trains)
+          (cond_some (nat_lt (position_or_len (λ p. p.nid_engine == t) line.trains) (length line.trains))
+          (position_or_len (λ p. p.nid_engine == t) line.trains) j at).1

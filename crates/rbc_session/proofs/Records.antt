@@ -1,12 +1,14 @@
 -- The record of a train among those of all sessions.
-use Rattle.std.proofs.Common.{◌≡◌, ◌≢◌, ◌⊎◌, ℕ, zero, suc, inl, inr, true, false, cond, List, [], ◌∷◌, get_or, Option, Some, None, option_map, refl, ap, sym, ◌∙◌, arith}
+use Rattle.std.proofs.Common.{[], ◌∙◌, ◌∷◌, ◌≡◌, ◌≢◌, ◌⊎◌, ap, arith, cond, false, get_or, inl, inr, List, None, Option}
+use Rattle.std.proofs.Common.{option_map, refl, Some, suc, sym, true, zero, ℕ}
 use Rattle.std.proofs.lemmas.Bool.{cases_eq}
 use Rattle.std.proofs.lemmas.Bool.Decides.{eqb_tells}
 use Rattle.std.proofs.lemmas.Option.{none-some, same_Some}
-use Rattle.slab.specs.Slab.{get}
-use Rattle.rbc_spec.specs.Centre.{Closed, Opened, Up}
-use Rattle.rbc_session.specs.Sessions.{Records, record_phase, phase_in, phase_at, train_at, IsOneATrain, AtMostOneATrain}
 use Rattle.rbc_session.specs.declared.sessions.Record.{Record}
+use Rattle.rbc_session.specs.Sessions.{AtMostOneATrain, IsOneATrain, phase_at, phase_in, record_phase, Records}
+use Rattle.rbc_session.specs.Sessions.{train_at}
+use Rattle.rbc_spec.specs.Centre.{Closed, Opened, Up}
+use Rattle.slab.specs.Slab.{get}
 
 abbrev Slots : Type 0
 Slots = List (Option Record)
@@ -24,10 +26,12 @@ IsOne slots = (j k : ℕ) (p q : Record) → IsAt slots j p → IsAt slots k q �
 
 one_of_rest : (slot : Option Record) (rest : Slots) → IsOne (slot ∷ rest) → IsOne rest
 unfolding IsOne
-one_of_rest slot rest one j k p q at_j at_k same = let next : suc j ≡ suc k = one (suc j) (suc k) p q at_j at_k same in omega arith
+one_of_rest slot rest one j k p q at_j at_k same = let next : suc j ≡ suc k = one (suc j) (suc k) p q at_j at_k same in
+    omega arith
 
 -- the phase of a train that has a record
-found_phase : (slots : Slots) (k : ℕ) (r : Record) (t : ℕ) → IsOne slots → IsAt slots k r → r.nid_engine ≡ t → phase_in slots t ≡ record_phase r
+found_phase : (slots : Slots) (k : ℕ) (r : Record) (t : ℕ) → IsOne slots → IsAt slots k r → r.nid_engine ≡ t
+    → phase_in slots t ≡ record_phase r
 unfolding IsOne
 found_phase [] k r t one at same = absurd (none-some r at)
 found_phase (None ∷ rest) zero r t one at same = absurd (none-some r at)
@@ -79,19 +83,24 @@ is_found (Some p ∷ rest) t = elim (cases_eq p.nid_engine t) [
 
 -- ## The same of the sessions of a centre
 
-pub phase_of_found : (sessions : Records) (k : ℕ) (r : Record) → IsOneATrain sessions → get sessions k ≡ Some r → phase_at sessions r.nid_engine ≡ record_phase r
+pub phase_of_found : (sessions : Records) (k : ℕ) (r : Record) → IsOneATrain sessions → get sessions k ≡ Some r
+    → phase_at sessions r.nid_engine ≡ record_phase r
 unfolding phase_at IsOne
 phase_of_found sessions k r one at = found_phase sessions.slots k r r.nid_engine one at refl
 
-pub phase_of_absent : (sessions : Records) (t : ℕ) → ((k : ℕ) (r : Record) → get sessions k ≡ Some r → r.nid_engine ≢ t) → phase_at sessions t ≡ Closed
+pub phase_of_absent : (sessions : Records) (t : ℕ) → ((k : ℕ) (r : Record) → get sessions k ≡ Some r → r.nid_engine ≢ t)
+    → phase_at sessions t ≡ Closed
 unfolding phase_at
 phase_of_absent sessions t absent = absent_phase sessions.slots t absent
 
-pub found_or_absent : (sessions : Records) (t : ℕ) → ((k : ℕ) × (r : Record) × (get sessions k ≡ Some r) × (r.nid_engine ≡ t)) ⊎ ((k : ℕ) (r : Record) → get sessions k ≡ Some r → r.nid_engine ≢ t)
+pub found_or_absent : (sessions : Records) (t : ℕ)
+    → ((k : ℕ) × (r : Record) × (get sessions k ≡ Some r) × (r.nid_engine ≡ t))
+    ⊎ ((k : ℕ) (r : Record) → get sessions k ≡ Some r → r.nid_engine ≢ t)
 found_or_absent sessions t = is_found sessions.slots t
 
 -- a train whose phase is closed has no record
-pub closed_is_absent : (sessions : Records) (t : ℕ) → IsOneATrain sessions → phase_at sessions t ≡ Closed → (k : ℕ) (r : Record) → get sessions k ≡ Some r → r.nid_engine ≢ t
+pub closed_is_absent : (sessions : Records) (t : ℕ) → IsOneATrain sessions → phase_at sessions t ≡ Closed
+    → (k : ℕ) (r : Record) → get sessions k ≡ Some r → r.nid_engine ≢ t
 closed_is_absent sessions t one closed k r at same =
     never r.is_up (sym (phase_of_found sessions k r one at) ∙ ap (phase_at sessions) same ∙ closed)
   where
@@ -100,11 +109,13 @@ closed_is_absent sessions t one closed k r at same =
     never false h = cc
 
 -- the key of a train is that of its record
-record_of_train : (sessions : Records) (key t : ℕ) → train_at sessions key ≡ Some t → (r : Record) × (get sessions key ≡ Some r) × (r.nid_engine ≡ t)
+record_of_train : (sessions : Records) (key t : ℕ) → train_at sessions key ≡ Some t
+    → (r : Record) × (get sessions key ≡ Some r) × (r.nid_engine ≡ t)
 unfolding train_at
 record_of_train sessions key t at = by_record (get sessions key) refl at
   where
-    by_record : (o : Option Record) → get sessions key ≡ o → option_map (λ (r : Record). r.nid_engine) o ≡ Some t → (r : Record) × (get sessions key ≡ Some r) × (r.nid_engine ≡ t)
+    by_record : (o : Option Record) → get sessions key ≡ o → option_map (λ (r : Record). r.nid_engine) o ≡ Some t
+        → (r : Record) × (get sessions key ≡ Some r) × (r.nid_engine ≡ t)
     by_record (Some r) is at = (r, is, same_Some r.nid_engine t at)
     by_record None is at = absurd (none-some t at)
 

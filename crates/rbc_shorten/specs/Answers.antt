@@ -1,17 +1,18 @@
 -- Answers to a request to shorten.
-use Rattle.std.specs.Prelude.{◌≡◌, ℕ, ◌+◌, ◌*◌, ◌==◌, Option, Some, None, Result, Ok, Err, option_map, if◌then◌else◌, nat_le}
 use Rattle.std.specs.Option.{option_map_or}
-use Rattle.rbc_spec.specs.SectionRuns.{SectionRun, part_before}
-use Rattle.rbc_spec.specs.Line.{Line, end}
-use Rattle.rbc_spec.specs.Place.{Position, place_on}
-use Rattle.rbc_spec.specs.Centre.{Mission, Proposal}
-use Rattle.rbc_spec.specs.Acts.{Act, rest}
-use Rattle.rbc_spec.specs.Rules.{cut}
-use Rattle.rbc_shorten.specs.Facts.{standing_of}
-use Rattle.rbc_shorten.specs.declared.facts.Proposal.{Proposal as ProposalCode}
+use Rattle.std.specs.Prelude.{if◌then◌else◌, ◌*◌, ◌+◌, ◌==◌, ◌≡◌, Err, nat_le, None, Ok, Option, option_map, Result}
+use Rattle.std.specs.Prelude.{Some, ℕ}
 use Rattle.rbc_shorten.specs.declared.answer.Cut.{Cut}
-use Rattle.rbc_shorten.specs.declared.answer.Cut.TheVariants.{Nothing, Keep}
+use Rattle.rbc_shorten.specs.declared.answer.Cut.TheVariants.{Keep, Nothing}
 use Rattle.rbc_shorten.specs.declared.answer.Unasked.{Unasked}
+use Rattle.rbc_shorten.specs.declared.facts.Proposal.{Proposal as ProposalCode}
+use Rattle.rbc_shorten.specs.Facts.{standing_of}
+use Rattle.rbc_spec.specs.Acts.{Act, rest}
+use Rattle.rbc_spec.specs.Centre.{Mission, Proposal}
+use Rattle.rbc_spec.specs.Line.{end, Line}
+use Rattle.rbc_spec.specs.Place.{place_on, Position}
+use Rattle.rbc_spec.specs.Rules.{cut}
+use Rattle.rbc_spec.specs.SectionRuns.{part_before, SectionRun}
 
 abbrev pub unasked : Unasked
 unasked = record {}

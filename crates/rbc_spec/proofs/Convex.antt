@@ -1,8 +1,10 @@
 -- The numbers that pass a convex test are a run.
-use Rattle.std.proofs.Common.{◌≡◌, ℕ, zero, suc, ◌+◌, ◌<◌, ◌≤◌, ◌&&◌, Bool, true, false, nat_lt, List, [], ◌∷◌, length, filter, refl, sym, ap, ◌∙◌, arith, ⊎_elim}
+use Rattle.std.proofs.Common.{[], ◌&&◌, ◌+◌, ◌<◌, ◌∙◌, ◌∷◌, ◌≡◌, ◌≤◌, ap, arith, Bool, false, filter, length, List}
+use Rattle.std.proofs.Common.{nat_lt, refl, suc, sym, true, zero, ℕ, ⊎_elim}
+use Rattle.std.proofs.lemmas.Bool.{and_left, and_right, both_ways, cases_Bool, cases_eq, cases_lt, cond-false}
+use Rattle.std.proofs.lemmas.Bool.{cond-true, false_from_ne_true, le-leb, le-ltb, lt-leb, lt-ltb}
 use Rattle.std.specs.List.{range_with_len}
-use Rattle.std.proofs.lemmas.Bool.{cond-true, cond-false, cases_Bool, cases_lt, cases_eq, both_ways, false_from_ne_true, and_left, and_right, le-leb, lt-leb, lt-ltb, le-ltb}
-use Rattle.rbc_spec.specs.SectionRuns.{within, run_of}
+use Rattle.rbc_spec.specs.SectionRuns.{run_of, within}
 
 -- the two cases of a test
 by_test : {P : Type 0} (b : Bool) → (b ≡ true → P) → (b ≡ false → P) → P
@@ -70,11 +72,13 @@ first_found test a (suc n) closed s low high = by_test (test a)
     (λ (apart : s ≡ a → ⊥). later passes (found_kept test a n passes)
     (first_found test (a + 1) n (λ t m from to is. closed t m (omega arith) to is) s (omega arith) (omega arith))))
     (λ (fails : test a ≡ false).
-    let none : (t : ℕ) → a ≤ t → test t ≡ false = λ t from. false_from_ne_true (test t) (λ is. both_ways (test a) fails (closed t a (omega arith) from is)) in
+    let none : (t : ℕ) → a ≤ t → test t ≡ false =
+    λ t from. false_from_ne_true (test t) (λ is. both_ways (test a) fails (closed t a (omega arith) from is)) in
     rw (none_found test a (suc n) none) (le-ltb s (a + 0) (omega arith) ∙ sym (none s low)))
   where
     later : test a ≡ true → found test a (suc n) ≡ a ∷ found test (a + 1) n
-        → nat_lt s (a + 1 + length (found test (a + 1) n)) ≡ test s → nat_lt s (a + length (found test a (suc n))) ≡ test s
+        → nat_lt s (a + 1 + length (found test (a + 1) n)) ≡ test s
+        → nat_lt s (a + length (found test a (suc n))) ≡ test s
     later passes is rest =
         let e : a + length (found test a (suc n)) ≡ a + 1 + length (found test (a + 1) n) = rw is (omega arith) in
         ap (λ b. nat_lt s b) e ∙ rest
@@ -86,7 +90,8 @@ unfolding within
 starts test a n s low passes rest =
     let is = found_kept test a n passes in
     let e : a + (length (found test (a + 1) n) + 1) ≡ a + length (found test a (suc n)) = rw is (omega arith) in
-    ap (λ xs. within (run_of xs) s) is ∙ ap (λ b. b && nat_lt s (a + (length (found test (a + 1) n) + 1))) (le-leb a s low) ∙ ap (λ b. nat_lt s b) e ∙ rest
+    ap (λ xs. within (run_of xs) s) is
+    ∙ ap (λ b. b && nat_lt s (a + (length (found test (a + 1) n) + 1))) (le-leb a s low) ∙ ap (λ b. nat_lt s b) e ∙ rest
 
 -- the numbers that pass a convex test, of n numbers, are a run
 pub convex_run : (test : ℕ → Bool) (a n : ℕ) → IsConvex test
@@ -100,7 +105,8 @@ convex_run test a (suc n) convex s low high = by_test (test a)
     (λ (apart : s ≡ a → ⊥). convex_run test (a + 1) n convex s (omega arith) (omega arith))))
 
 -- the numbers from 0 that pass a convex test are a run, if no number after the last passes
-pub convex_run_of : (test : ℕ → Bool) (n s : ℕ) → IsConvex test → (n ≤ s → test s ≡ false) → within (run_of (found test 0 n)) s ≡ test s
+pub convex_run_of : (test : ℕ → Bool) (n s : ℕ) → IsConvex test → (n ≤ s → test s ≡ false)
+    → within (run_of (found test 0 n)) s ≡ test s
 convex_run_of test n s convex outside = ⊎_elim
     (λ (low : s < n). convex_run test 0 n convex s (omega arith) (omega arith))
     (λ (high : n ≤ s). none_after test 0 n s (omega arith) ∙ sym (outside high))

@@ -1,17 +1,17 @@
 -- A world that some state represents is safe.
-use Rattle.std.proofs.Common.{◌≡◌, ℕ, true, false, Option, Some, None, refl, sym, ap, ◌∙◌, subst, eqb-true, eq-eqb}
+use Rattle.std.proofs.Common.{◌∙◌, ◌≡◌, ap, eq-eqb, eqb-true, false, None, Option, refl, Some, subst, sym, true, ℕ}
 use Rattle.std.specs.Prelude.{Contains}
-use Rattle.rbc_spec.specs.Maps.{has}
-use Rattle.rbc_spec.specs.SectionRuns.{within}
-use Rattle.rbc_spec.specs.Line.{Line, is_home}
-use Rattle.rbc_spec.specs.Frame.{Frame}
+use Rattle.rbc_spec.proofs.Held.{away_if_handed, held_as, held_on_way, is_seen, is_there, only_one}
 use Rattle.rbc_spec.specs.Centre as centre
 use Rattle.rbc_spec.specs.Centre.{Entry, is_used_for}
-use Rattle.rbc_spec.specs.LineCentre.{LineState, LineMission, Mark, Shut, Open, Kept, Given, At, is_at, is_given_to}
+use Rattle.rbc_spec.specs.Frame.{Frame}
+use Rattle.rbc_spec.specs.Line.{is_home, Line}
+use Rattle.rbc_spec.specs.LineCentre.{At, Given, is_at, is_given_to, Kept, LineMission, LineState, Mark, Open, Shut}
+use Rattle.rbc_spec.specs.Maps.{has}
+use Rattle.rbc_spec.specs.Promises.{is_given, IsSafe}
+use Rattle.rbc_spec.specs.ReadOff.{all_held, frames_on_way, handed_over, Held, held, holder, mark_of, seen, StandsFor}
+use Rattle.rbc_spec.specs.SectionRuns.{within}
 use Rattle.rbc_spec.specs.World.{World}
-use Rattle.rbc_spec.specs.ReadOff.{StandsFor, Held, seen, handed_over, frames_on_way, all_held, held, holder, mark_of}
-use Rattle.rbc_spec.specs.Promises.{IsSafe, is_given}
-use Rattle.rbc_spec.proofs.Held.{held_as, is_seen, is_there, held_on_way, only_one, away_if_handed}
 
 module _ (line : Line) (w : World) (v : LineState) (stands : StandsFor line w v) where
   -- two missions of one train are one
@@ -22,7 +22,8 @@ module _ (line : Line) (w : World) (v : LineState) (stands : StandsFor line w v)
   pub given_mark : (t s : ℕ) → is_given line w t s ≡ true → is_given_to t (v.mark s) ≡ true
   given_mark t s given = by_held (held line w t) refl given
     where
-      by_held : (o : Option Held) → held line w t ≡ o → has (λ (h : Held). within h.hand s) o ≡ true → is_given_to t (v.mark s) ≡ true
+      by_held : (o : Option Held) → held line w t ≡ o → has (λ (h : Held). within h.hand s) o ≡ true
+          → is_given_to t (v.mark s) ≡ true
       by_held None none inside = cc
       by_held (Some h) some inside = (stands.hands t h some).each s ∙ inside
 
@@ -45,24 +46,34 @@ module _ (line : Line) (w : World) (v : LineState) (stands : StandsFor line w v)
       marked = sym (ap (is_given_to t) (stands.mark s c home)) ∙ given_mark t s given
 
       by_holder : (o : Option ℕ) → holder line w s ≡ o → is_used_for t ((w.at c).book s) ≡ true
-      by_holder None none = absurd (not_given t ((w.at c).book s) (sym (ap (λ (x : Option ℕ). is_given_to t (mark_of x ((w.at c).book s))) none) ∙ marked))
+      by_holder None none =
+          absurd (not_given t ((w.at c).book s)
+          (sym (ap (λ (x : Option ℕ). is_given_to t (mark_of x ((w.at c).book s))) none) ∙ marked))
       by_holder (Some u) some = subst (λ (x : ℕ). is_used_for x ((w.at c).book s) ≡ true)
-          (eqb-true u t (sym (ap (λ (x : Option ℕ). is_given_to t (mark_of x ((w.at c).book s))) some) ∙ marked)) (stands.in_use s c u home some)
+          (eqb-true u t (sym (ap (λ (x : Option ℕ). is_given_to t (mark_of x ((w.at c).book s))) some) ∙ marked))
+          (stands.in_use s c u home some)
 
-  none_handed : (t c : ℕ) (m : centre.Mission) (f : Frame) → (w.at c).mission t ≡ Some m → Contains (frames_on_way line w) f → handed_over t f.body ≡ None
+  none_handed : (t c : ℕ) (m : centre.Mission) (f : Frame) → (w.at c).mission t ≡ Some m
+      → Contains (frames_on_way line w) f → handed_over t f.body ≡ None
   none_handed t c m f at on = by_frame (handed_over t f.body) refl
     where
       by_frame : (o : Option Held) → handed_over t f.body ≡ o → handed_over t f.body ≡ None
       by_frame None is = is
       by_frame (Some h) is = absurd (
-          let same : held_as (seen c m) m.hand ≡ h = only_one (all_held line w t) (held_as (seen c m) m.hand) h (stands.one_seat t) (is_there line w v stands t c m at) (held_on_way line w t f h on is) in
-          let wrong : is_at c (At c) ≡ false = ap (λ (x : Held). is_at c x.mission.supervisor) same ∙ away_if_handed t c f.body h is in
+          let same : held_as (seen c m) m.hand ≡ h =
+          only_one (all_held line w t) (held_as (seen c m) m.hand) h (stands.one_seat t)
+          (is_there line w v stands t c m at) (held_on_way line w t f h on is) in
+          let wrong : is_at c (At c) ≡ false = ap (λ (x : Held). is_at c x.mission.supervisor) same
+          ∙ away_if_handed t c f.body h is in
           let no : true ≡ false = sym (eq-eqb c c refl) ∙ wrong in cc)
 
   pub safe : IsSafe line w
   safe = record {
     one_supervisor = λ t c d m n at there.
-        let same : At c ≡ At d = ap (λ (x : LineMission). x.supervisor) (one_mission t (seen c m) (seen d n) (is_seen line w v stands t c m at) (is_seen line w v stands t d n there)) in cc;
+        let same : At c ≡ At d =
+        ap (λ (x : LineMission). x.supervisor)
+        (one_mission t (seen c m) (seen d n) (is_seen line w v stands t c m at)
+        (is_seen line w v stands t d n there)) in cc;
     none_meanwhile = none_handed;
     one_train = λ t u s one two. one_train t u (v.mark s) (given_mark t s one) (given_mark u s two);
     in_use = in_use;

@@ -1,16 +1,18 @@
 -- The acts that make up a step of a centre. Their frames, messages and replies keep the order of the acts.
-use Rattle.std.specs.Prelude.{ℕ, ◌+◌, ◌-◌, ◌*◌, ◌==◌, Bool, true, false, ◌&&◌, ◌||◌, not, if◌then◌else◌, List, [], ◌∷◌, ◌++◌, map, min, Option, Some, None, option_map, is_none, nat_le}
-use Rattle.std.specs.Option.{option_map_or}
 use Rattle.std.specs.List.{filter, range_with_len}
+use Rattle.std.specs.Option.{option_map_or}
+use Rattle.std.specs.Prelude.{[], if◌then◌else◌, ◌&&◌, ◌*◌, ◌++◌, ◌+◌, ◌-◌, ◌==◌, ◌||◌, ◌∷◌, Bool, false, is_none, List}
+use Rattle.std.specs.Prelude.{map, min, nat_le, None, not, Option, option_map, Some, true, ℕ}
+use Rattle.rbc_spec.specs.Centre.{Centre, Entry, Handing, is_registrar_of, is_taken_for, is_up, Mission, Open, Out}
+use Rattle.rbc_spec.specs.Centre.{Shut}
+use Rattle.rbc_spec.specs.Frame.{Announce, Body, Cancel, ReturnRight, RouteAsk, RouteReturn, Yield, yielded_place}
+use Rattle.rbc_spec.specs.Line.{is_home, Line, registrar, start}
 use Rattle.rbc_spec.specs.Maps.{put}
-use Rattle.rbc_spec.specs.SectionRuns.{SectionRun, no_run, most_in_hand, within, next_after, is_empty, shared}
-use Rattle.rbc_spec.specs.Line.{Line, is_home, start, registrar}
-use Rattle.rbc_spec.specs.Sections.{nid_rbc, home_run}
-use Rattle.rbc_spec.specs.Place.{Place, covered, group_start, has_room}
-use Rattle.rbc_spec.specs.Message.{TrainMessage, TrackBody, ShorteningRequest, Transition, EndSession, unknown_group}
-use Rattle.rbc_spec.specs.Frame.{Body, ReturnRight, RouteReturn, RouteAsk, Announce, Cancel, Yield, yielded_place}
-use Rattle.rbc_spec.specs.Outcome.{Saying, Word, Told}
-use Rattle.rbc_spec.specs.Centre.{Centre, Entry, Shut, Open, Out, Mission, Handing, is_up, is_taken_for, is_registrar_of}
+use Rattle.rbc_spec.specs.Message.{EndSession, ShorteningRequest, TrackBody, TrainMessage, Transition, unknown_group}
+use Rattle.rbc_spec.specs.Outcome.{Saying, Told, Word}
+use Rattle.rbc_spec.specs.Place.{covered, group_start, has_room, Place}
+use Rattle.rbc_spec.specs.SectionRuns.{is_empty, most_in_hand, next_after, no_run, SectionRun, shared, within}
+use Rattle.rbc_spec.specs.Sections.{home_run, nid_rbc}
 
 infixr 0 ◌$◌
 abbrev pub ◌$◌ : {X Y : Type 0} → (X → Y) → X → Y

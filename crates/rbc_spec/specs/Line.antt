@@ -2,10 +2,11 @@
 -- one direction. Each section has a home centre, and a balise group at its start. Each train has a centre at which its
 -- supervision right is registered. Centres, tracks and sections are numbered from 0, the sections over all tracks. A
 -- train is identified by its NID_ENGINE.
-use Rattle.std.specs.Prelude.{◌≡◌, ℕ, ◌+◌, ◌*◌, ◌<◌, ◌≤◌, ◌==◌, Bool, ◌&&◌, not, List, length, take, drop, Option, Some, option_map, nat_lt, slice_get, IsTrue}
-use Rattle.std.specs.List.{zip, find, filter, sum_by, position, All}
-use Rattle.std.specs.Option.{option_map_or}
 use Rattle.std.specs.Char.{is_ascii_alphanumeric}
+use Rattle.std.specs.List.{All, filter, find, position, sum_by, zip}
+use Rattle.std.specs.Option.{option_map_or}
+use Rattle.std.specs.Prelude.{◌&&◌, ◌*◌, ◌+◌, ◌<◌, ◌==◌, ◌≡◌, ◌≤◌, Bool, drop, IsTrue, length, List, nat_lt, not}
+use Rattle.std.specs.Prelude.{Option, option_map, slice_get, Some, take, ℕ}
 use Rattle.rbc_spec.specs.Maps.{has}
 
 -- a radio block centre: its name in the line file, and its NID_RBC (profile)

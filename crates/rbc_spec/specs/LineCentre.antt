@@ -1,15 +1,16 @@
 -- The one line centre: the state that a single centre for the whole line would keep. It has no borders, no frames and
 -- no second book. The main theorem (rbc_world) is that the centres together act as the one line centre may.
-use Rattle.std.specs.Prelude.{◌≡◌, ◌+◌, ℕ, List, [], length, Bool, true, false, ◌==◌, ◌&&◌, not, if◌then◌else◌, Option, Some, None, map, option_map}
 use Rattle.std.specs.List.{filter, list_any, range_with_len}
+use Rattle.std.specs.Prelude.{[], if◌then◌else◌, ◌&&◌, ◌+◌, ◌==◌, ◌≡◌, Bool, false, length, List, map, None, not}
+use Rattle.std.specs.Prelude.{Option, option_map, Some, true, ℕ}
+use Rattle.rbc_spec.specs.Centre.{Closed, Phase, Proposal}
+use Rattle.rbc_spec.specs.Line.{is_home, Line}
 use Rattle.rbc_spec.specs.Maps.{has, put, put_pair}
+use Rattle.rbc_spec.specs.Message.{TrackBody, TrainMessage}
+use Rattle.rbc_spec.specs.Outcome.{Saying, Told, Word}
+use Rattle.rbc_spec.specs.Place.{covered, Place}
 use Rattle.rbc_spec.specs.SectionRuns.{SectionRun, within}
-use Rattle.rbc_spec.specs.Line.{Line, is_home}
 use Rattle.rbc_spec.specs.Sections.{section_count}
-use Rattle.rbc_spec.specs.Place.{Place, covered}
-use Rattle.rbc_spec.specs.Message.{TrainMessage, TrackBody}
-use Rattle.rbc_spec.specs.Outcome.{Saying, Word, Told}
-use Rattle.rbc_spec.specs.Centre.{Phase, Closed, Proposal}
 
 -- The mark of a section. `Kept`: it is in use for a train, but not in its movement authority. `Given`: it is in the
 -- train's movement authority.

@@ -1,18 +1,22 @@
 -- The rules for a frame that is the next of its link. A frame has no effect if its body names an engine, section, track
 -- or group that is not of the line. Nor has it one if no rule below gives it one.
-use Rattle.std.specs.Prelude.{ℕ, ◌*◌, ◌==◌, Bool, false, ◌&&◌, not, if◌then◌else◌, length, max, Option, Some, None, is_some, is_none, nat_lt, nat_le}
-use Rattle.std.specs.Option.{option_map_or}
 use Rattle.std.specs.List.{find, range_with_len}
-use Rattle.rbc_spec.specs.Maps.{has, put}
-use Rattle.rbc_spec.specs.Maps.{put_pair}
-use Rattle.rbc_spec.specs.SectionRuns.{SectionRun, no_run, within, next_after, is_empty, part_before, part_from, longest, all_of}
-use Rattle.rbc_spec.specs.Line.{Line, is_home, section, next_centre, train_number, section_of_group}
+use Rattle.std.specs.Option.{option_map_or}
+use Rattle.std.specs.Prelude.{if◌then◌else◌, ◌&&◌, ◌*◌, ◌==◌, Bool, false, is_none, is_some, length, max, nat_le}
+use Rattle.std.specs.Prelude.{nat_lt, None, not, Option, Some, ℕ}
+use Rattle.rbc_spec.specs.Acts.{◌>>◌, Act, become, booked, change_mission, end_order, freed, propose_if_so, rest}
+use Rattle.rbc_spec.specs.Acts.{return_right, returned, send, set_mission, where_so, with_mission, with_some, yield}
+use Rattle.rbc_spec.specs.Centre.{Centre, Expectation, is_expected, is_free, is_open, is_out_for, is_registrar_of}
+use Rattle.rbc_spec.specs.Centre.{Mission, Out, Taken, uses_some}
+use Rattle.rbc_spec.specs.Frame.{Announce, AskRight, Body, Cancel, carried_place, GiveRight, RefuseRight, ReturnRight}
+use Rattle.rbc_spec.specs.Frame.{RouteAsk, RouteInfo, RouteReturn, RouteWithdraw, TakingOver, Yield}
+use Rattle.rbc_spec.specs.Line.{is_home, Line, next_centre, section, section_of_group, train_number}
+use Rattle.rbc_spec.specs.Maps.{has, put, put_pair}
+use Rattle.rbc_spec.specs.Place.{group_start, Place}
+use Rattle.rbc_spec.specs.Rules.{begin, choose, drop_wait, reject}
+use Rattle.rbc_spec.specs.SectionRuns.{all_of, is_empty, longest, next_after, no_run, part_before, part_from}
+use Rattle.rbc_spec.specs.SectionRuns.{SectionRun, within}
 use Rattle.rbc_spec.specs.Sections.{is_on, is_on_track}
-use Rattle.rbc_spec.specs.Place.{Place, group_start}
-use Rattle.rbc_spec.specs.Frame.{Body, AskRight, GiveRight, RefuseRight, ReturnRight, RouteAsk, RouteInfo, RouteWithdraw, RouteReturn, Announce, Cancel, TakingOver, Yield, carried_place}
-use Rattle.rbc_spec.specs.Centre.{Centre, Taken, Out, Mission, Expectation, is_out_for, is_free, is_open, uses_some, is_expected, is_registrar_of}
-use Rattle.rbc_spec.specs.Acts.{Act, become, rest, ◌>>◌, where_so, with_some, with_mission, send, booked, freed, returned, set_mission, change_mission, return_right, propose_if_so, end_order, yield}
-use Rattle.rbc_spec.specs.Rules.{choose, drop_wait, begin, reject}
 
 -- the run is of sections of the line, all on one track
 abbrev pub is_of_line : Line → SectionRun → Bool

@@ -1,7 +1,9 @@
 -- The outcome of a centre's step.
-use Rattle.std.specs.Prelude.{ℕ, List, [], ◌∷◌, Option}
-use Rattle.rbc_spec.specs.Message.{TrackMessage, TrainBody, TrainData, Request, Report, ShorteningGranted, ShorteningRejected, EndOfMission, InitiationOfSession, TerminationOfSession, StartOfMission, SessionEstablished}
+use Rattle.std.specs.Prelude.{[], ◌∷◌, List, Option, ℕ}
 use Rattle.rbc_spec.specs.Frame.{Frame}
+use Rattle.rbc_spec.specs.Message.{EndOfMission, InitiationOfSession, Report, Request, SessionEstablished}
+use Rattle.rbc_spec.specs.Message.{ShorteningGranted, ShorteningRejected, StartOfMission, TerminationOfSession}
+use Rattle.rbc_spec.specs.Message.{TrackMessage, TrainBody, TrainData}
 
 -- The reason why a train's message has no effect, with the number that is printed (profile). In these comments such a
 -- message is "silent". Any other is "answered", even if its answer sends no message.

@@ -1,17 +1,24 @@
 -- The own steps of the one line centre: a message of a train that is answered, a set, and an unset. Each is a relation,
 -- since the line centre has a choice if the rules leave one.
-use Rattle.std.specs.Prelude.{◌≡◌, ◌+◌, ◌-◌, ◌*◌, ◌≤◌, ◌⊎◌, ℕ, ◌==◌, List, [], ◌∷◌, ◌++◌, Bool, true, false, ◌&&◌, ◌||◌, not, if◌then◌else◌, Option, Some, None, nat_le, nat_lt, MatchBool}
-use Rattle.std.specs.Option.{option_map_or}
 use Rattle.std.specs.List.{list_any, range_with_len}
+use Rattle.std.specs.Option.{option_map_or}
+use Rattle.std.specs.Prelude.{[], if◌then◌else◌, ◌&&◌, ◌*◌, ◌++◌, ◌+◌, ◌-◌, ◌==◌, ◌||◌, ◌∷◌, ◌≡◌, ◌≤◌, ◌⊎◌, Bool, false}
+use Rattle.std.specs.Prelude.{List, MatchBool, nat_le, nat_lt, None, not, Option, Some, true, ℕ}
+use Rattle.rbc_spec.specs.Centre.{Closed, is_registrar_of, Opened, Phase, Up}
+use Rattle.rbc_spec.specs.Line.{end, is_home, Line, start}
+use Rattle.rbc_spec.specs.LineCentre.{At, change_mission, close_if_empty, free, Given, is_at, is_given_to, is_kept_for}
+use Rattle.rbc_spec.specs.LineCentre.{is_mark_open, is_waiting, is_waiting_at, IsHand, Kept, LineMission, LineState}
+use Rattle.rbc_spec.specs.LineCentre.{Mark, mark_all, Open, release, Said, saying_of, says, set_mission, Shut}
+use Rattle.rbc_spec.specs.LineCentre.{supervises, told}
 use Rattle.rbc_spec.specs.Maps.{put, put_pair}
-use Rattle.rbc_spec.specs.SectionRuns.{SectionRun, most_in_hand, within, next_after, all_of}
-use Rattle.rbc_spec.specs.Line.{Line, is_home, start, end}
-use Rattle.rbc_spec.specs.Sections.{section_count, is_on}
-use Rattle.rbc_spec.specs.Place.{Place, covered, is_cleared, group_start, farthest, has_room, fit_place, place_on}
-use Rattle.rbc_spec.specs.Message.{TrainMessage, TrainBody, TrainData, Request, Report, ShorteningGranted, ShorteningRejected, EndOfMission, InitiationOfSession, TerminationOfSession, StartOfMission, SessionEstablished, TrackBody, Authority, DataAcknowledged, SystemVersion, TerminationAcknowledged, TrainRejected, TrainAccepted, unknown_group}
-use Rattle.rbc_spec.specs.Outcome.{Word, Done, Asked, NotHome}
-use Rattle.rbc_spec.specs.Centre.{Phase, Closed, Opened, Up, is_registrar_of}
-use Rattle.rbc_spec.specs.LineCentre.{LineState, Mark, Shut, Open, Kept, Given, LineMission, At, is_given_to, is_kept_for, is_mark_open, IsHand, is_at, supervises, is_waiting_at, is_waiting, free, told, mark_all, release, set_mission, change_mission, close_if_empty, saying_of, says, Said}
+use Rattle.rbc_spec.specs.Message.{Authority, DataAcknowledged, EndOfMission, InitiationOfSession, Report, Request}
+use Rattle.rbc_spec.specs.Message.{SessionEstablished, ShorteningGranted, ShorteningRejected, StartOfMission}
+use Rattle.rbc_spec.specs.Message.{SystemVersion, TerminationAcknowledged, TerminationOfSession, TrackBody}
+use Rattle.rbc_spec.specs.Message.{TrainAccepted, TrainBody, TrainData, TrainMessage, TrainRejected, unknown_group}
+use Rattle.rbc_spec.specs.Outcome.{Asked, Done, NotHome, Word}
+use Rattle.rbc_spec.specs.Place.{covered, farthest, fit_place, group_start, has_room, is_cleared, Place, place_on}
+use Rattle.rbc_spec.specs.SectionRuns.{all_of, most_in_hand, next_after, SectionRun, within}
+use Rattle.rbc_spec.specs.Sections.{is_on, section_count}
 
 -- one message is sent to a train, with these replies; the new state is `changed`, with that message counted
 pub record Says (t c group : ℕ) (body : TrackBody) (words : List Word) (v changed : LineState) (said : Said)
@@ -104,7 +111,8 @@ Starts line t c (Some place) v said new =
 -- home c. The hand has its 32 sections. Or the section ends farther from the group than L_ENDSECTION can name.
 pub data Ends (line : Line) (v : LineState) (c : ℕ) (place : Place) (hand : SectionRun) : Type 0 where
   off_track : is_on line place.track (next_after hand) ≡ false → Ends line v c place hand
-  not_free : (is_home line c (next_after hand) && is_mark_open (v.mark (next_after hand))) ≡ false → Ends line v c place hand
+  not_free : (is_home line c (next_after hand) && is_mark_open (v.mark (next_after hand))) ≡ false
+      → Ends line v c place hand
   full : hand.count ≡ most_in_hand → Ends line v c place hand
   too_far : has_room line place (end line (next_after hand)) ≡ false → Ends line v c place hand
 

@@ -1,10 +1,11 @@
 -- The place of a train on the line, as computed from a position report (3.6). The formulas of the safe front end and
 -- the safe rear end are the profile's.
-use Rattle.std.specs.Prelude.{ℕ, ◌+◌, ◌*◌, ◌==◌, Bool, ◌&&◌, if◌then◌else◌, Option, Some, None, option_map, option_and_then, nat_lt, nat_le, ℤ, pos, ◌-ℤ◌, int_lt, int_le}
 use Rattle.std.specs.Option.{option_map_or}
+use Rattle.std.specs.Prelude.{if◌then◌else◌, ◌&&◌, ◌*◌, ◌+◌, ◌-ℤ◌, ◌==◌, Bool, int_le, int_lt, nat_le, nat_lt, None}
+use Rattle.std.specs.Prelude.{Option, option_and_then, option_map, pos, Some, ℕ, ℤ}
+use Rattle.rbc_spec.specs.Line.{end, Line, Section, section, section_of_group, start}
 use Rattle.rbc_spec.specs.Maps.{has}
-use Rattle.rbc_spec.specs.SectionRuns.{SectionRun, most_in_hand}
-use Rattle.rbc_spec.specs.Line.{Line, Section, section, section_of_group, start, end}
+use Rattle.rbc_spec.specs.SectionRuns.{most_in_hand, SectionRun}
 use Rattle.rbc_spec.specs.Sections.{is_on, run_where, track_end}
 
 -- The fields of a position packet that a centre reads (7.4). `scale` is Q_SCALE as a factor on decimetres: 1, 10 or

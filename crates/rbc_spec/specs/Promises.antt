@@ -1,19 +1,20 @@
 -- The promises of the centres of a line, of a world and of one event. Each is proved, and each can be read without the
 -- one line centre.
-use Rattle.std.specs.Prelude.{◌≡◌, ◌⊎◌, ◌≤◌, ◌<◌, ◌*◌, ◌+◌, ◌==◌, ℕ, List, [], ◌∷◌, ◌++◌, length, map, Bool, true, false, Some, None, is_some, Ok, if◌then◌else◌}
-use Rattle.std.specs.List.{Contains, flat_map, count_by}
+use Rattle.std.specs.List.{Contains, count_by, flat_map}
 use Rattle.std.specs.Option.{option_map_or}
-use Rattle.rbc_spec.specs.Maps.{has}
-use Rattle.rbc_spec.specs.SectionRuns.{within}
-use Rattle.rbc_spec.specs.Line.{Line, is_home, start, end, registrar}
-use Rattle.rbc_spec.specs.Place.{Place, Position, covered, is_cleared, place_on}
-use Rattle.rbc_spec.specs.Message.{TrainMessage, Report, EndOfMission, ShorteningGranted}
-use Rattle.rbc_spec.specs.Outcome.{Outcome, Told, Done}
-use Rattle.rbc_spec.specs.Frame.{Frame, Body, GiveRight, ReturnRight, RouteInfo, RouteReturn, Yield}
+use Rattle.std.specs.Prelude.{[], if◌then◌else◌, ◌*◌, ◌++◌, ◌+◌, ◌<◌, ◌==◌, ◌∷◌, ◌≡◌, ◌≤◌, ◌⊎◌, Bool, false, is_some}
+use Rattle.std.specs.Prelude.{length, List, map, None, Ok, Some, true, ℕ}
 use Rattle.rbc_spec.specs.Centre as centre
+use Rattle.rbc_spec.specs.Frame.{Body, Frame, GiveRight, ReturnRight, RouteInfo, RouteReturn, Yield}
+use Rattle.rbc_spec.specs.Line.{end, is_home, Line, registrar, start}
+use Rattle.rbc_spec.specs.Maps.{has}
+use Rattle.rbc_spec.specs.Message.{EndOfMission, Report, ShorteningGranted, TrainMessage}
+use Rattle.rbc_spec.specs.Outcome.{Done, Outcome, Told}
+use Rattle.rbc_spec.specs.Place.{covered, is_cleared, Place, place_on, Position}
+use Rattle.rbc_spec.specs.ReadOff.{all_held, centres_of, frames_on_way, handed_over, held, read_off, StandsFor}
+use Rattle.rbc_spec.specs.SectionRuns.{within}
 use Rattle.rbc_spec.specs.Step as step
-use Rattle.rbc_spec.specs.World.{World, Event, Bytes, Unset, Answer, Answered}
-use Rattle.rbc_spec.specs.ReadOff.{StandsFor, read_off, centres_of, frames_on_way, handed_over, held, all_held}
+use Rattle.rbc_spec.specs.World.{Answer, Answered, Bytes, Event, Unset, World}
 
 -- ## A world
 

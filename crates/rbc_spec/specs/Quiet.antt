@@ -1,18 +1,20 @@
 -- The quiet steps: steps that the one line centre may take by itself after an event. Only the admission of a start
 -- gives a section to a train, and no quiet step frees a given section.
-use Rattle.std.specs.Prelude.{◌≡◌, ◌+◌, ◌-◌, ◌*◌, ◌≤◌, ◌<◌, ℕ, List, [], ◌∷◌, ◌++◌, max, Bool, true, false, ◌==◌, ◌&&◌, Some, None}
-use Rattle.std.specs.Option.{option_map_or}
 use Rattle.std.specs.List.{find, range_with_len}
-use Rattle.rbc_spec.specs.Maps.{put}
-use Rattle.rbc_spec.specs.Maps.{put_pair}
-use Rattle.rbc_spec.specs.SectionRuns.{SectionRun, within}
-use Rattle.rbc_spec.specs.Line.{Line, is_home, start, next_centre}
-use Rattle.rbc_spec.specs.Sections.{nid_rbc, section_count}
-use Rattle.rbc_spec.specs.Place.{Place, group_start, farthest}
-use Rattle.rbc_spec.specs.Message.{ShorteningRequest, Transition, EndSession, TrainAccepted, TrainRejected, unknown_group}
+use Rattle.std.specs.Option.{option_map_or}
+use Rattle.std.specs.Prelude.{[], ◌&&◌, ◌*◌, ◌++◌, ◌+◌, ◌-◌, ◌<◌, ◌==◌, ◌∷◌, ◌≡◌, ◌≤◌, Bool, false, List, max, None}
+use Rattle.std.specs.Prelude.{Some, true, ℕ}
 use Rattle.rbc_spec.specs.Centre.{Up}
-use Rattle.rbc_spec.specs.LineCentre.{LineState, Open, Kept, LineMission, At, Parted, is_given_to, IsHand, is_waiting_at, is_waiting, free, told, set_mission, change_mission, Said, nothing}
-use Rattle.rbc_spec.specs.OwnSteps.{Says, SaysNothing, Tells, begins}
+use Rattle.rbc_spec.specs.Line.{is_home, Line, next_centre, start}
+use Rattle.rbc_spec.specs.LineCentre.{At, change_mission, free, is_given_to, is_waiting, is_waiting_at, IsHand, Kept}
+use Rattle.rbc_spec.specs.LineCentre.{LineMission, LineState, nothing, Open, Parted, Said, set_mission, told}
+use Rattle.rbc_spec.specs.Maps.{put, put_pair}
+use Rattle.rbc_spec.specs.Message.{EndSession, ShorteningRequest, TrainAccepted, TrainRejected, Transition}
+use Rattle.rbc_spec.specs.Message.{unknown_group}
+use Rattle.rbc_spec.specs.OwnSteps.{begins, Says, SaysNothing, Tells}
+use Rattle.rbc_spec.specs.Place.{farthest, group_start, Place}
+use Rattle.rbc_spec.specs.SectionRuns.{SectionRun, within}
+use Rattle.rbc_spec.specs.Sections.{nid_rbc, section_count}
 
 pub data Quiet : Type 0 where
   Keep : (t s : ℕ) → Quiet  -- keeps an open section for t

@@ -1,15 +1,17 @@
 -- The read-off: which state of the one line centre represents a world of centres.
-use Rattle.std.specs.Prelude.{◌≡◌, ◌≤◌, ℕ, List, ◌++◌, ◌==◌, length, map, slice_get, true, false, Option, Some, None, option_map, if◌then◌else◌}
 use Rattle.std.specs.List.{filter_map, find, flat_map, range_with_len}
 use Rattle.std.specs.Option.{option_map_or}
-use Rattle.rbc_spec.specs.Maps.{has}
-use Rattle.rbc_spec.specs.SectionRuns.{SectionRun, within}
-use Rattle.rbc_spec.specs.Line.{Line, is_centre, is_home, section}
-use Rattle.rbc_spec.specs.Frame.{Frame, Body, Yield, carried_place}
+use Rattle.std.specs.Prelude.{if◌then◌else◌, ◌++◌, ◌==◌, ◌≡◌, ◌≤◌, false, length, List, map, None, Option, option_map}
+use Rattle.std.specs.Prelude.{slice_get, Some, true, ℕ}
 use Rattle.rbc_spec.specs.Centre as centre
-use Rattle.rbc_spec.specs.LineCentre.{LineState, Mark, Shut, Open, Kept, Given, LineMission, At, Parted, IsHand, line_beginning}
-use Rattle.rbc_spec.specs.World.{World, Event, Answer, way}
+use Rattle.rbc_spec.specs.Frame.{Body, carried_place, Frame, Yield}
+use Rattle.rbc_spec.specs.Line.{is_centre, is_home, Line, section}
+use Rattle.rbc_spec.specs.LineCentre.{At, Given, IsHand, Kept, line_beginning, LineMission, LineState, Mark, Open}
+use Rattle.rbc_spec.specs.LineCentre.{Parted, Shut}
+use Rattle.rbc_spec.specs.Maps.{has}
 use Rattle.rbc_spec.specs.Run as run
+use Rattle.rbc_spec.specs.SectionRuns.{SectionRun, within}
+use Rattle.rbc_spec.specs.World.{Answer, Event, way, World}
 
 -- ## The mission of a train
 

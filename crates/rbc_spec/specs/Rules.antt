@@ -1,16 +1,24 @@
 -- The rules of a centre: the acts with which it answers each event.
-use Rattle.std.specs.Prelude.{ℕ, ◌+◌, ◌-◌, ◌*◌, ◌==◌, Bool, true, false, ◌&&◌, ◌||◌, not, if◌then◌else◌, [], ◌∷◌, Some, None, is_none, nat_lt, nat_le, option_map}
 use Rattle.std.specs.Option.{option_map_or}
-use Rattle.rbc_spec.specs.Maps.{has, put}
-use Rattle.rbc_spec.specs.SectionRuns.{SectionRun, no_run, most_in_hand, within, next_after, is_empty, part_before, part_from, joined, longest, passing, all_of}
-use Rattle.rbc_spec.specs.Line.{Line, is_centre, is_home, start, end, next_centre, registrar}
-use Rattle.rbc_spec.specs.Sections.{is_on}
-use Rattle.rbc_spec.specs.Place.{Place, Position, covered, is_cleared, group_start, has_room, place_on, fit_place}
-use Rattle.rbc_spec.specs.Message.{TrainMessage, TrainBody, TrainData, Request, Report, ShorteningGranted, ShorteningRejected, EndOfMission, InitiationOfSession, TerminationOfSession, StartOfMission, SessionEstablished, Authority, DataAcknowledged, SystemVersion, TerminationAcknowledged, TrainRejected, TrainAccepted, unknown_group}
+use Rattle.std.specs.Prelude.{[], if◌then◌else◌, ◌&&◌, ◌*◌, ◌+◌, ◌-◌, ◌==◌, ◌||◌, ◌∷◌, Bool, false, is_none, nat_le}
+use Rattle.std.specs.Prelude.{nat_lt, None, not, option_map, Some, true, ℕ}
+use Rattle.rbc_spec.specs.Acts.{◌>>◌, Act, announce, ask_route, become, begun, booked, cancel, change_mission, close}
+use Rattle.rbc_spec.specs.Acts.{freed, leave, part_at, rest, return_pool, say, send, set_mission, where_so}
+use Rattle.rbc_spec.specs.Acts.{with_mission, with_some}
+use Rattle.rbc_spec.specs.Centre.{Centre, Closed, Expectation, is_free, is_open, is_registrar_of, is_taken_for, Mission}
+use Rattle.rbc_spec.specs.Centre.{Opened, Phase, Proposal, Taken, Up}
 use Rattle.rbc_spec.specs.Frame.{AskRight, TakingOver}
+use Rattle.rbc_spec.specs.Line.{end, is_centre, is_home, Line, next_centre, registrar, start}
+use Rattle.rbc_spec.specs.Maps.{has, put}
+use Rattle.rbc_spec.specs.Message.{Authority, DataAcknowledged, EndOfMission, InitiationOfSession, Report, Request}
+use Rattle.rbc_spec.specs.Message.{SessionEstablished, ShorteningGranted, ShorteningRejected, StartOfMission}
+use Rattle.rbc_spec.specs.Message.{SystemVersion, TerminationAcknowledged, TerminationOfSession, TrainAccepted}
+use Rattle.rbc_spec.specs.Message.{TrainBody, TrainData, TrainMessage, TrainRejected, unknown_group}
 use Rattle.rbc_spec.specs.Outcome.{Word}
-use Rattle.rbc_spec.specs.Centre.{Centre, Taken, Phase, Closed, Opened, Up, Mission, Proposal, Expectation, is_open, is_taken_for, is_free, is_registrar_of}
-use Rattle.rbc_spec.specs.Acts.{Act, become, rest, ◌>>◌, where_so, with_some, with_mission, send, say, booked, freed, leave, set_mission, change_mission, return_pool, cancel, close, begun, part_at, announce, ask_route}
+use Rattle.rbc_spec.specs.Place.{covered, fit_place, group_start, has_room, is_cleared, Place, place_on, Position}
+use Rattle.rbc_spec.specs.SectionRuns.{all_of, is_empty, joined, longest, most_in_hand, next_after, no_run, part_before}
+use Rattle.rbc_spec.specs.SectionRuns.{part_from, passing, SectionRun, within}
+use Rattle.rbc_spec.specs.Sections.{is_on}
 
 -- a reply to the interlocking
 abbrev pub tell : Word → Act

@@ -1,18 +1,22 @@
 -- The runs of the one line centre.
-use Rattle.std.specs.Prelude.{◌≡◌, ◌⊎◌, ◌<◌, ℕ, List, [], ◌∷◌, slice_get, Bool, true, false, Option, Some, None, is_none, is_some, Ok, Err, ◌&&◌, ◌||◌, not, ◌==◌, ◌+◌, ◌*◌, nat_le}
-use Rattle.std.specs.Option.{option_map_or}
 use Rattle.std.specs.List.{find, list_all, list_any, range_with_len}
+use Rattle.std.specs.Option.{option_map_or}
+use Rattle.std.specs.Prelude.{[], ◌&&◌, ◌*◌, ◌+◌, ◌<◌, ◌==◌, ◌||◌, ◌∷◌, ◌≡◌, ◌⊎◌, Bool, Err, false, is_none, is_some}
+use Rattle.std.specs.Prelude.{List, nat_le, None, not, Ok, Option, slice_get, Some, true, ℕ}
+use Rattle.rbc_spec.specs.Centre.{is_closed, is_up}
+use Rattle.rbc_spec.specs.Line.{end, is_centre, is_home, Line, train_number}
+use Rattle.rbc_spec.specs.LineCentre.{hears, is_at, is_given_to, LineMission, LineState, nothing, Said}
 use Rattle.rbc_spec.specs.Maps.{has}
-use Rattle.rbc_spec.specs.Line.{Line, is_centre, train_number, is_home, end}
-use Rattle.rbc_spec.specs.Sections.{section_count}
-use Rattle.rbc_spec.specs.Place.{Position, extent, has_front, has_room, place_on}
-use Rattle.rbc_spec.specs.Message.{TrainMessage, TrainBody, Request, Report, ShorteningGranted, ShorteningRejected, StartOfMission, SessionEstablished, is_stale}
-use Rattle.rbc_spec.specs.Outcome.{Outcome, Word, Told, Reason, StaleStamp, NoSession, ForeignEngine, NoPlace, NotSupervised, NoTrainData, ProposalPending, Unasked, MissionEnded, WrongPhase, reasons_of}
-use Rattle.rbc_spec.specs.Centre.{is_up, is_closed}
-use Rattle.rbc_spec.specs.LineCentre.{LineState, LineMission, is_at, is_given_to, hears, Said, nothing}
+use Rattle.rbc_spec.specs.Message.{is_stale, Report, Request, SessionEstablished, ShorteningGranted, ShorteningRejected}
+use Rattle.rbc_spec.specs.Message.{StartOfMission, TrainBody, TrainMessage}
+use Rattle.rbc_spec.specs.Outcome.{ForeignEngine, MissionEnded, NoPlace, NoSession, NoTrainData, NotSupervised, Outcome}
+use Rattle.rbc_spec.specs.Outcome.{ProposalPending, Reason, reasons_of, StaleStamp, Told, Unasked, Word, WrongPhase}
 use Rattle.rbc_spec.specs.OwnSteps.{Own, Sets, Unsets}
-use Rattle.rbc_spec.specs.Quiet.{Quiet, is_of_centre, TakesAll, both}
-use Rattle.rbc_spec.specs.World.{Event, Bytes, Set, Unset, Delivery, centre_of, Answer, Answered, NoCentre, NotSent, Fault}
+use Rattle.rbc_spec.specs.Place.{extent, has_front, has_room, place_on, Position}
+use Rattle.rbc_spec.specs.Quiet.{both, is_of_centre, Quiet, TakesAll}
+use Rattle.rbc_spec.specs.Sections.{section_count}
+use Rattle.rbc_spec.specs.World.{Answer, Answered, Bytes, centre_of, Delivery, Event, Fault, NoCentre, NotSent, Set}
+use Rattle.rbc_spec.specs.World.{Unset}
 
 -- ## Reasons of silence, as the line's state has them
 

@@ -1,7 +1,8 @@
 -- Runs of consecutive sections. A hand, a pool, and the sections that a frame names are each a run: the number of the
 -- first section, and their count.
-use Rattle.std.specs.Prelude.{ℕ, zero, suc, ◌+◌, ◌-◌, ◌==◌, Bool, ◌&&◌, List, [], ◌∷◌, length, if◌then◌else◌, min, max, nat_lt, nat_le}
 use Rattle.std.specs.List.{list_all, range_with_len}
+use Rattle.std.specs.Prelude.{[], if◌then◌else◌, ◌&&◌, ◌+◌, ◌-◌, ◌==◌, ◌∷◌, Bool, length, List, max, min, nat_le}
+use Rattle.std.specs.Prelude.{nat_lt, suc, zero, ℕ}
 
 pub record SectionRun : Type 0 where
   pub first : ℕ

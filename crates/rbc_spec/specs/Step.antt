@@ -1,19 +1,24 @@
 -- The step of a centre: its event, its stamp, its refusals, the answer of a link, and the numbers of the frames.
-use Rattle.std.specs.Prelude.{ℕ, ◌+◌, ◌-◌, ◌*◌, ◌==◌, Bool, true, false, ◌&&◌, ◌||◌, not, if◌then◌else◌, List, [], ◌∷◌, ◌++◌, length, max, Option, Some, None, is_some, is_none, nat_lt, nat_le, Result, Ok, Err}
-use Rattle.std.specs.Option.{option_map_or}
 use Rattle.std.specs.List.{find, list_any, range_with_len}
-use Rattle.rbc_spec.specs.Maps.{has, put}
-use Rattle.rbc_spec.specs.SectionRuns.{next_after}
-use Rattle.rbc_spec.specs.Line.{Line, is_home, is_linked, end, train_number}
-use Rattle.rbc_spec.specs.Sections.{section_count}
-use Rattle.rbc_spec.specs.Place.{Position, extent, has_front, has_room, place_on}
-use Rattle.rbc_spec.specs.Message.{TrainMessage, TrainBody, Request, Report, ShorteningGranted, ShorteningRejected, StartOfMission, SessionEstablished, is_stale}
-use Rattle.rbc_spec.specs.Frame.{Frame, Body, RouteWithdraw, last_stamp}
-use Rattle.rbc_spec.specs.Outcome.{Reason, reasons_of, StaleStamp, NoSession, ForeignEngine, NoPlace, NotSupervised, NoTrainData, ProposalPending, Unasked, MissionEnded, WrongPhase, Outcome, Done, Asked, NotHome, Taken as LinkAnswer, Next, Old, Early, NoLink}
-use Rattle.rbc_spec.specs.Centre.{Centre, Entry, Shut, Open, Taken, Out, Mission, is_closed, is_up, is_unused, is_expected}
-use Rattle.rbc_spec.specs.Acts.{Act, Reply, become, rest, ◌>>◌, hear, propose_if_so}
-use Rattle.rbc_spec.specs.Rules.{tell, answered}
+use Rattle.std.specs.Option.{option_map_or}
+use Rattle.std.specs.Prelude.{[], if◌then◌else◌, ◌&&◌, ◌*◌, ◌++◌, ◌+◌, ◌-◌, ◌==◌, ◌||◌, ◌∷◌, Bool, Err, false, is_none}
+use Rattle.std.specs.Prelude.{is_some, length, List, max, nat_le, nat_lt, None, not, Ok, Option, Result, Some, true, ℕ}
+use Rattle.rbc_spec.specs.Acts.{◌>>◌, Act, become, hear, propose_if_so, Reply, rest}
+use Rattle.rbc_spec.specs.Centre.{Centre, Entry, is_closed, is_expected, is_unused, is_up, Mission, Open, Out, Shut}
+use Rattle.rbc_spec.specs.Centre.{Taken}
+use Rattle.rbc_spec.specs.Frame.{Body, Frame, last_stamp, RouteWithdraw}
+use Rattle.rbc_spec.specs.Line.{end, is_home, is_linked, Line, train_number}
 use Rattle.rbc_spec.specs.Links.{received}
+use Rattle.rbc_spec.specs.Maps.{has, put}
+use Rattle.rbc_spec.specs.Message.{is_stale, Report, Request, SessionEstablished, ShorteningGranted, ShorteningRejected}
+use Rattle.rbc_spec.specs.Message.{StartOfMission, TrainBody, TrainMessage}
+use Rattle.rbc_spec.specs.Outcome.{Asked, Done, Early, ForeignEngine, MissionEnded, Next, NoLink, NoPlace, NoSession}
+use Rattle.rbc_spec.specs.Outcome.{NotHome, NoTrainData, NotSupervised, Old, Outcome, ProposalPending, Reason}
+use Rattle.rbc_spec.specs.Outcome.{reasons_of, StaleStamp, Taken as LinkAnswer, Unasked, WrongPhase}
+use Rattle.rbc_spec.specs.Place.{extent, has_front, has_room, place_on, Position}
+use Rattle.rbc_spec.specs.Rules.{answered, tell}
+use Rattle.rbc_spec.specs.SectionRuns.{next_after}
+use Rattle.rbc_spec.specs.Sections.{section_count}
 
 -- an event of a centre: a message of a train, a set or an unset of the interlocking, or a frame from another centre
 pub data Event : Type 0 where

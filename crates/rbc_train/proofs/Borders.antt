@@ -1,5 +1,5 @@
 -- The acts after a request at a border.
-use Rattle.std.proofs.Common.{[], ◌++◌, ◌+◌, ◌-◌, ◌<◌, ◌==◌, ◌∙◌, ◌∷◌, ◌≡◌, ◌≤◌, ap, arith, if◌then◌else◌, inl, inr}
+use Rattle.std.proofs.Common.{[], if◌then◌else◌, ◌++◌, ◌+◌, ◌-◌, ◌<◌, ◌==◌, ◌∙◌, ◌∷◌, ◌≡◌, ◌≤◌, ap, arith, inl, inr}
 use Rattle.std.proofs.Common.{Option, Some, subst, sym, true, ℕ}
 use Rattle.std.proofs.lemmas.Bool.{cases_lt}
 use Rattle.std.proofs.lemmas.List.{append-nil}
@@ -38,14 +38,19 @@ starts_before line track s on =
 
 -- if the end of a longer hand is in range, so is the start of each of its sections
 pub near_enough : (line : Line) (m : Mission) (place : Place) (count metres : ℕ) → 1 ≤ m.hand.count
-    → ((s : ℕ) → within m.hand s ≡ true → is_on line m.place.track s ≡ true) → ((j : ℕ) → j < count → is_on line m.place.track (next_after m.hand + j) ≡ true)
+    → ((s : ℕ) → within m.hand s ≡ true → is_on line m.place.track s ≡ true)
+    → ((j : ℕ) → j < count → is_on line m.place.track (next_after m.hand + j) ≡ true)
     → metres ≡ end line (next_after m.hand + count - 1) - group_start line place → metres ≤ 32767
     → (s : ℕ) → within (with_next place count m).hand s ≡ true → start line s - group_start line place ≤ 32767
 near_enough line m place count metres some on follow is fits s here =
-    let ends = within_true (record { first = m.hand.first; count = m.hand.count + count }) s (ap (λ (r : SectionRun). within r s) (sym (joined_is m.hand count some)) ∙ here) in
+    let ends =
+    within_true (record { first = m.hand.first; count = m.hand.count + count }) s
+    (ap (λ (r : SectionRun). within r s) (sym (joined_is m.hand count some)) ∙ here) in
     let last = next_after m.hand + count - 1 in
     let here_on = on_each s ends.0 (omega (arith, ends.1)) in
-    let rises = ends_rise line m.place.track s last here_on (on_each last (omega (arith, some)) (omega (arith, some))) (omega (arith, ends.1)) in
+    let rises =
+    ends_rise line m.place.track s last here_on (on_each last (omega (arith, some)) (omega (arith, some)))
+    (omega (arith, ends.1)) in
     let starts = starts_before line m.place.track s here_on in
     omega (arith, is, fits, rises, starts)
   where
@@ -59,35 +64,49 @@ near_enough line m place count metres some on follow is fits s here =
 -- ## The messages and frames
 
 -- a handover is announced, and the train gets the distance to the border
-module _ (line : Line) (t to : ℕ) (k : Centre) (said number announced : ℕ) (m : Mission) (new : SupervisionState) (order : Saying) (counts : k.said t ≡ said)
-    (due : announce_if_due line t to k ≡ announcing line t to m (Some number) (with_supervision new (with_count announced k)))
+module _ (line : Line) (t to : ℕ) (k : Centre) (said number announced : ℕ) (m : Mission) (new : SupervisionState)
+    (order : Saying) (counts : k.said t ≡ said)
+    (due : announce_if_due line t to k
+    ≡ announcing line t to m (Some number) (with_supervision new (with_count announced k)))
     (orders : saying_of order ≡ record {
       nid_engine = t;
       message = record {
         t_train = said + 1;
         nid_lrbg = m.place.group;
-        body = Transition (start line (part_at line to m.place.track m.hand).first - group_start line m.place) line.nid_c (nid_rbc line to);
+        body =
+            Transition (start line (part_at line to m.place.track m.hand).first - group_start line m.place) line.nid_c
+            (nid_rbc line to);
       };
     }) where
   pub announces : (e : ℕ → Option Expectation) → announce_if_due line t to k
-      ≡ posted (notices t e (notice.Announce (record { number = number; to = to }) m.place.track)) (replied (with_count announced (counted_to t (said + 1) (with_supervision new k))) (sayings_of (Some order)) [])
+      ≡ posted (notices t e (notice.Announce (record { number = number; to = to }) m.place.track))
+      (replied (with_count announced (counted_to t (said + 1) (with_supervision new k))) (sayings_of (Some order)) [])
   announces e =
       due
-      ∙ (λ i. posted (λ d. if d == to then Announce number t m.place.track ∷ [] else []) (replied (with_count announced (counted_to t (counts i + 1) (with_supervision new k)))
+      ∙ (λ i. posted (λ d. if d == to then Announce number t m.place.track ∷ [] else [])
+      (replied (with_count announced (counted_to t (counts i + 1) (with_supervision new k)))
       (record {
         nid_engine = t;
         message = record {
           t_train = counts i + 1;
           nid_lrbg = m.place.group;
-          body = Transition (start line (part_at line to m.place.track m.hand).first - group_start line m.place) line.nid_c (nid_rbc line to);
+          body =
+              Transition (start line (part_at line to m.place.track m.hand).first - group_start line m.place) line.nid_c
+              (nid_rbc line to);
         };
       } ∷ []) []))
-      ∙ (λ i. posted (λ d. if d == to then Announce number t m.place.track ∷ [] else []) (replied (with_count announced (counted_to t (said + 1) (with_supervision new k))) (sym orders i ∷ []) []))
+      ∙ (λ i. posted (λ d. if d == to then Announce number t m.place.track ∷ [] else [])
+      (replied (with_count announced (counted_to t (said + 1) (with_supervision new k))) (sym orders i ∷ []) []))
 
 -- then the next centre is asked for sections
-module _ (line : Line) (c t next : ℕ) (k : Centre) (e : ℕ → Option Expectation) (one : Notice) (order : Option Saying) (letter : Option Letter) (said announced : ℕ) (mid : SupervisionState) (asked : Option ℕ) (engine : mid.engine ≡ t)
-    (tells : announce_if_due line t next k ≡ posted (notices t e one) (replied (with_count announced (counted_to t said (with_supervision mid k))) (sayings_of order) []))
-    (asks : (j : Centre) → HasSupervision j mid → ask_route_if_due line mid.engine next j ≡ posted (letters letter) (replied (with_supervision (record mid { asked = asked }) j) [] [])) where
+module _ (line : Line) (c t next : ℕ) (k : Centre) (e : ℕ → Option Expectation) (one : Notice) (order : Option Saying)
+    (letter : Option Letter) (said announced : ℕ) (mid : SupervisionState) (asked : Option ℕ) (engine : mid.engine ≡ t)
+    (tells : announce_if_due line t next k
+    ≡ posted (notices t e one)
+    (replied (with_count announced (counted_to t said (with_supervision mid k))) (sayings_of order) []))
+    (asks : (j : Centre) → HasSupervision j mid
+    → ask_route_if_due line mid.engine next j
+    ≡ posted (letters letter) (replied (with_supervision (record mid { asked = asked }) j) [] [])) where
   abbrev at : Centre
   at = with_count announced (counted_to t said (with_supervision mid k))
 
@@ -95,14 +114,27 @@ module _ (line : Line) (c t next : ℕ) (k : Centre) (e : ℕ → Option Expecta
   left = record mid { asked = asked }
 
   asks_there : ask_route_if_due line t next at ≡ posted (letters letter) (replied (with_supervision left at) [] [])
-  asks_there = subst (λ (u : ℕ). ask_route_if_due line u next at ≡ posted (letters letter) (replied (with_supervision left at) [] [])) engine
-      (asks at (record { has_mission = put_there k.mission mid.engine mid.mission; has_question = put_there k.route_ask mid.engine mid.asked }))
+  asks_there =
+      subst (λ (u : ℕ). ask_route_if_due line u next at
+      ≡ posted (letters letter) (replied (with_supervision left at) [] [])) engine
+      (asks at (record {
+        has_mission = put_there k.mission mid.engine mid.mission;
+        has_question = put_there k.route_ask mid.engine mid.asked;
+      }))
 
   over : with_supervision left at ≡ with_count announced (counted_to t said (with_supervision left k))
-  over = λ i. record at { mission = λ u. put_over mid.engine mid.mission mid.mission k.mission u i; route_ask = λ u. put_over mid.engine asked mid.asked k.route_ask u i }
+  over =
+      λ i. record at {
+        mission = λ u. put_over mid.engine mid.mission mid.mission k.mission u i;
+        route_ask = λ u. put_over mid.engine asked mid.asked k.route_ask u i;
+      }
 
   pub borders : at_border line c t next k
-      ≡ posted (λ d. notices t e one d ++ letters letter d) (replied (with_count announced (counted_to t said (with_supervision left k))) (sayings_of order) [])
+      ≡ posted (λ d. notices t e one d ++ letters letter d)
+      (replied (with_count announced (counted_to t said (with_supervision left k))) (sayings_of order) [])
   borders =
-      in_turn (announce_if_due line t next) (ask_route_if_due line t next) k (posted (notices t e one) (replied at (sayings_of order) [])) (posted (letters letter) (replied (with_supervision left at) [] [])) tells asks_there
-      ∙ (λ i. posted (λ d. notices t e one d ++ letters letter d) (replied (over i) (append-nil (sayings_of order) i) []))
+      in_turn (announce_if_due line t next) (ask_route_if_due line t next) k
+      (posted (notices t e one) (replied at (sayings_of order) []))
+      (posted (letters letter) (replied (with_supervision left at) [] [])) tells asks_there
+      ∙ (λ i. posted (λ d. notices t e one d ++ letters letter d)
+      (replied (over i) (append-nil (sayings_of order) i) []))

@@ -28,17 +28,23 @@ or_left_only true b h none = refl
 or_left_only false b h none = sym none ∙ h
 
 -- a section that may follow and is not of the pool is open
-opened_after : (line : Line) (book : Pages) (p : place.Place) (m : spec.Mission) (count : ℕ) → ((k : ℕ) → k < count → grants.may_follow line book m.pool p (next_after m.hand + k) ≡ true)
-    → (s : ℕ) → within (record { first = next_after m.hand; count = count }) s ≡ true → within m.pool s ≡ false → is_open (entry_at book s) ≡ true
+opened_after : (line : Line) (book : Pages) (p : place.Place) (m : spec.Mission) (count : ℕ)
+    → ((k : ℕ) → k < count → grants.may_follow line book m.pool p (next_after m.hand + k) ≡ true)
+    → (s : ℕ) → within (record { first = next_after m.hand; count = count }) s ≡ true → within m.pool s ≡ false
+    → is_open (entry_at book s) ≡ true
 opened_after line book p m count each s here other =
     let ends = within_true (record { first = next_after m.hand; count = count }) s here in
     let same : next_after m.hand + (s - next_after m.hand) ≡ s = omega (arith, ends) in
     or_left_only (is_open (entry_at book s)) (within m.pool s)
-    (ap (λ x. is_open (entry_at book x) || within m.pool x) (sym same) ∙ and_right _ _ (and_left _ _ (each (s - next_after m.hand) (omega (arith, ends))))) other
+    (ap (λ x. is_open (entry_at book x) || within m.pool x) (sym same)
+    ∙ and_right _ _ (and_left _ _ (each (s - next_after m.hand) (omega (arith, ends))))) other
 
 -- this many sections that may follow the hand can be taken into it
-pub grows : (line : Line) (book : Pages) (p : place.Place) (m : spec.Mission) (count : ℕ) → IsLine line → HasRouteForm m → (is_empty m.pool ≡ false → m.pool.first ≡ next_after m.hand) → ((s : ℕ) → within m.pool s ≡ true → is_own book s ≡ false)
-    → count ≤ 32 - m.hand.count → ((k : ℕ) → k < count → grants.may_follow line book m.pool p (next_after m.hand + k) ≡ true) → MayGrow m count book
+pub grows : (line : Line) (book : Pages) (p : place.Place) (m : spec.Mission) (count : ℕ) → IsLine line → HasRouteForm m
+    → (is_empty m.pool ≡ false → m.pool.first ≡ next_after m.hand)
+    → ((s : ℕ) → within m.pool s ≡ true → is_own book s ≡ false)
+    → count ≤ 32 - m.hand.count
+    → ((k : ℕ) → k < count → grants.may_follow line book m.pool p (next_after m.hand + k) ≡ true) → MayGrow m count book
 grows line book p m count of_line form follows away room each = record {
   most = let a = form.most in omega (arith, room, a);
   numbers = by_count count refl;
@@ -57,8 +63,10 @@ grows line book p m count of_line form follows away room each = record {
         omega (arith, few, most, e)
 
 -- each section of a run of free ones is open
-pub all_open : (line : Line) (c : ℕ) (k : spec.Centre) (book : Pages) (run : SectionRun) → HasBook k book → all_of (is_free line c k) run ≡ true → IsAllOpen run book
-all_open line c k book run pages h s w = ap is_open (sym (pages s)) ∙ and_right _ _ (each_within (is_free line c k) run h s w)
+pub all_open : (line : Line) (c : ℕ) (k : spec.Centre) (book : Pages) (run : SectionRun) → HasBook k book
+    → all_of (is_free line c k) run ≡ true → IsAllOpen run book
+all_open line c k book run pages h s w =
+    ap is_open (sym (pages s)) ∙ and_right _ _ (each_within (is_free line c k) run h s w)
 
 -- some centre with this book
 abbrev pub a_centre_of : Line → ℕ → Pages → spec.Centre

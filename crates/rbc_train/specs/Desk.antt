@@ -1,32 +1,33 @@
 -- A centre seen from one of its trains: the parts of its state that a message of the train finds, and those that it
 -- leaves.
-use Rattle.std.specs.Prelude.{◌≡◌, ◌+◌, ◌≤◌, ◌<◌, ℕ, Bool, List, [], Some, None, Option, Result, Ok, Err, map, is_none, true, false, length}
-use Rattle.rbc_spec.specs.Maps.{put}
-use Rattle.rbc_spec.specs.SectionRuns.{within, next_after, is_empty}
-use Rattle.rbc_spec.specs.Line.{Line, is_home, train_number}
-use Rattle.rbc_spec.specs.Sections.{is_on}
-use Rattle.rbc_spec.specs.Message.{TrainBody, is_stale}
-use Rattle.rbc_spec.specs.Frame.{Body}
-use Rattle.rbc_spec.specs.Outcome.{Saying, Told}
-use Rattle.rbc_spec.specs.Centre.{Centre, Mission}
-use Rattle.rbc_spec.specs.Acts.{Act, Reply}
-use Rattle.rbc_spec.specs.Step.{Effect, Train, effect}
+use Rattle.std.specs.Prelude.{[], ◌+◌, ◌<◌, ◌≡◌, ◌≤◌, Bool, Err, false, is_none, length, List, map, None, Ok, Option}
+use Rattle.std.specs.Prelude.{Result, Some, true, ℕ}
 use Rattle.law_base.specs.Local.Local.{IsOrdered}
-use Rattle.rbc_book.specs.Book.{Pages, is_own, entry_at, wish_at}
-use Rattle.rbc_right.specs.Rights.{Rights, is_here}
-use Rattle.rbc_pending_start.specs.Waits.{IsCovered}
 use Rattle.rbc_allocation.specs.Sections.{IsHeldAt}
-use Rattle.rbc_mission.specs.Supervisions.{HasRouteForm}
+use Rattle.rbc_book.specs.Book.{entry_at, is_own, Pages, wish_at}
 use Rattle.rbc_handover.specs.Expectations.{expected_from}
+use Rattle.rbc_mission.specs.Supervisions.{HasRouteForm}
+use Rattle.rbc_pending_start.specs.Waits.{IsCovered}
+use Rattle.rbc_right.specs.Rights.{is_here, Rights}
 use Rattle.rbc_session.specs.SessionStates.{session_phase}
-use Rattle.rbc_train.specs.Desks.{IsBookOf, HasBook}
-use Rattle.rbc_train.specs.Reasons.{reason_of}
-use Rattle.rbc_train.specs.Letters.{mail_of, mail_to}
-use Rattle.rbc_train.specs.Sayings.{told_train}
+use Rattle.rbc_spec.specs.Acts.{Act, Reply}
+use Rattle.rbc_spec.specs.Centre.{Centre, Mission}
+use Rattle.rbc_spec.specs.Frame.{Body}
+use Rattle.rbc_spec.specs.Line.{is_home, Line, train_number}
+use Rattle.rbc_spec.specs.Maps.{put}
+use Rattle.rbc_spec.specs.Message.{is_stale, TrainBody}
+use Rattle.rbc_spec.specs.Outcome.{Saying, Told}
+use Rattle.rbc_spec.specs.SectionRuns.{is_empty, next_after, within}
+use Rattle.rbc_spec.specs.Sections.{is_on}
+use Rattle.rbc_spec.specs.Step.{Effect, effect, Train}
 use Rattle.rbc_train.specs.declared.heard.Heard.{Heard}
 use Rattle.rbc_train.specs.declared.mail.Mail.{Mail}
 use Rattle.rbc_train.specs.declared.reason.Reason.{Reason}
 use Rattle.rbc_train.specs.declared.train.TrainState.{TrainState}
+use Rattle.rbc_train.specs.Desks.{HasBook, IsBookOf}
+use Rattle.rbc_train.specs.Letters.{mail_of, mail_to}
+use Rattle.rbc_train.specs.Reasons.{reason_of}
+use Rattle.rbc_train.specs.Sayings.{told_train}
 
 -- the pool of the mission, if there is one, follows its hand, and no section of it is of home c
 pub record HasPoolAt (line : Line) (c : ℕ) (mission : Option Mission) : Type 0 where

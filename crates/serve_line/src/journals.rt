@@ -1,12 +1,11 @@
-use crate::journaling::{JournalFile, JournalWriter, ResumeFault, keep_journal, resume};
+use crate::journaling::{JournalWriter, ResumeFault, keep_journal, resume};
 use crate::state::Server;
 use crate::status::Notes;
 use rbc_line::Line;
 use rbc_node::{Node, Share};
 use serve_control::ServeFault;
+use serve_journal::{DurableFile, JournalFile};
 use std::alloc::{AllocError, Global};
-use std::fs::OpenFile;
-use std::io::{Seek, Write};
 use std::sync::Wait;
 use std::time::Clock;
 use text_journal::Entry;
@@ -14,14 +13,14 @@ use text_script::print::name_of;
 
 /// The journals that the centres write, and the events that they resume from.
 #[derive(Drop)]
-pub struct Record<F: Drop> {
+pub struct Record<F: DurableFile + Drop> {
     /// The journals, in the order of the centres' numbers; empty if the centres keep none.
     pub files: Vec<JournalFile<F>>,
     /// The events of the journals that the centres resume from, in the order in which they happened.
     pub entries: Vec<Entry>,
 }
 
-impl<F: Drop> Record<F> {
+impl<F: DurableFile + Drop> Record<F> {
     /// No journal is written, and the line begins again.
     pub fn none(alloc: Global) -> Record<F> {
         Record {
@@ -61,7 +60,7 @@ pub(crate) fn resume_noted<R: Wait, N: Notes>(
 }
 
 /// Writes the journal of a centre until no further event can be committed.
-pub(crate) fn keep<R: Wait + Clock, N: Notes, F: Write + Seek + OpenFile + Drop>(
+pub(crate) fn keep<R: Wait + Clock, N: Notes, F: DurableFile + Drop>(
     rt: &R,
     server: &Server<'_>,
     notes: &N,

@@ -17,7 +17,6 @@ pub mod state;
 pub mod status;
 mod tally;
 
-pub use crate::journaling::JournalFile;
 pub use crate::state::{Endpoints, ServeOptions, SocketFault, free_path};
 pub use crate::status::{Kind, NoNotes, Notes, StderrNotes};
 pub use journals::Record;

@@ -1,6 +1,5 @@
 use crate::browsers::PageEndpoint;
 use crate::clients::run_endpoint;
-use crate::journaling::JournalFile;
 use crate::journals::{Record, keep, resume_noted};
 use crate::links::carry;
 use crate::pages::run_pages;
@@ -14,9 +13,9 @@ use crossbeam_channel::bounded;
 use rbc_line::Line;
 use rbc_node::{Family, Node, Share, gather};
 use serve_control::{ServeFault, print_family};
+use serve_journal::{DurableFile, JournalFile};
 use std::alloc::{AllocError, Global};
-use std::fs::OpenFile;
-use std::io::{Seek, Write};
+use std::io::Write;
 use std::sync::{Mutex, Wait};
 use std::thread;
 use std::thread::Threads;
@@ -31,7 +30,7 @@ const NOTES: usize = 1_024;
 pub fn serve<
     R: Threads + Wait + Sync + Clock,
     N: Notes + Sync,
-    F: Write + Seek + OpenFile + Drop + Send,
+    F: DurableFile + Drop + Send,
     O: Write,
 >(
     rt: &R,
@@ -67,7 +66,7 @@ pub fn serve<
 fn serve_noted<
     R: Threads + Wait + Sync + Clock,
     N: Notes + Sync,
-    F: Write + Seek + OpenFile + Drop + Send,
+    F: DurableFile + Drop + Send,
     O: Write,
 >(
     rt: &R,
@@ -142,11 +141,7 @@ fn print_noted<N: Notes, O: Write>(
 }
 
 // Runs all workers to their ends. The result is whether the journals have all committed events.
-fn run_centres<
-    R: Threads + Wait + Sync + Clock,
-    N: Notes + Sync,
-    F: Write + Seek + OpenFile + Drop + Send,
->(
+fn run_centres<R: Threads + Wait + Sync + Clock, N: Notes + Sync, F: DurableFile + Drop + Send>(
     rt: &R,
     alloc: Global,
     line: &Line,
@@ -189,11 +184,13 @@ fn run_centres<
 }
 
 // Runs the links and the endpoints, and concurrently the page and the journals.
-fn run_beside<
-    R: Threads + Wait + Sync + Clock,
-    N: Notes + Sync,
-    F: Write + Seek + OpenFile + Drop + Send,
->(rt: &R, server: &Server<'_>, page: Option<&PageEndpoint>, files: Vec<JournalFile<F>>, notes: &N) {
+fn run_beside<R: Threads + Wait + Sync + Clock, N: Notes + Sync, F: DurableFile + Drop + Send>(
+    rt: &R,
+    server: &Server<'_>,
+    page: Option<&PageEndpoint>,
+    files: Vec<JournalFile<F>>,
+    notes: &N,
+) {
     thread::scope(thread::scope_env(), rt, |scope| {
         if let Some(page) = page {
             if scope

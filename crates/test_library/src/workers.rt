@@ -1,7 +1,6 @@
 //! Tests of the workers of running centres, over carriers and bytes in memory: which frames the two of a link put and
 //! commit, in any order that is asked for; how sessions end whose reads fail, and writers whose writes fail; and of a
-//! log and a link that are full. What a carrier takes and gives is tested in `test_codec`, and running centres in
-//! `test_serve`.
+//! log and a link that are full. Carriers are tested in `codec`, and running centres in `test_serve`.
 //!
 //! What is expected comes from the standard or from the rules in words, never from the program's own output.
 #[cfg(test)]

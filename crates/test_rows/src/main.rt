@@ -1,25 +1,41 @@
-//! Plays the rows of the folder `rows`: each names a command of `rbcline` with its files, and what it must write and
-//! end with. It prints where a row differs, and at last how many passed.
+//! Plays the rows of the folder `rows`. Each row is a command of `rbcline` with its files, the expected print and the
+//! exit status. It prints each difference, and at last the number of rows that passed. Before the rows it plays a
+//! train's start over two nodes (`refusals`); with the argument `nodes` it plays only that.
 //!
-//! What is expected comes from the standard or from the rules in words, never from the program's own output.
+//! Expected values come from the standard or from the rules in words, never from the program's own output.
 #![tactic(auto)]
 
 mod folder;
 mod page;
+mod refusals;
 mod row;
 
 use crate::folder::Folder;
+use crate::refusals::play_scene;
 use crate::row::passes;
 use std::io::Write;
 use std::process::ExitCode;
-use std::{fs, io, rt};
+use std::{env, fs, io, rt};
 
 fn main(rt: HostRuntime) -> ExitCode {
     let mut out = io::writer(&rt);
+    let status = play_scene(&rt, rt.alloc(), &mut out);
+    if status != 0 || has_argument(&rt) {
+        return ExitCode::from(status);
+    }
     match play_all(&rt, &mut out) {
         Ok(true) => ExitCode::from(0),
         _ => ExitCode::from(1),
     }
+}
+
+// Whether there is an argument. If memory is refused, it looks once more.
+fn has_argument(rt: &HostRuntime) -> bool {
+    let mut args = env::args(rt);
+    if args.is_err() {
+        args = env::args(rt);
+    }
+    args.is_ok_and(|args| args.len() > 1)
 }
 
 /// Plays each row in the order of their names. Says whether all passed.

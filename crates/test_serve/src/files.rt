@@ -1,7 +1,7 @@
 //! Journals as files: the lock on them, what is written between the lock and the reading, and what is done to a file
 //! while it is written.
 
-use serve_line::journaling::{JournalFile, OpenFault, make_journal, open_journal, read_whole};
+use serve_journal::{JournalFile, OpenFault, SystemFile, make_journal, open_journal, read_whole};
 use std::fs::OpenOptions;
 use std::io::Write;
 use std::os::unix::fs::PermissionsExt;
@@ -46,7 +46,7 @@ fn a_line_that_comes_after_the_lock_is_kept(rt: HostRuntime) -> Result<(), Fail>
     write_after(&rt, name.as_str(), LATE)?;
     let bytes = read_whole(&rt, &file)?;
     assert!(rt; bytes.as_slice() == whole.as_bytes());
-    let mut journal = JournalFile::new(file, bytes.len() as u64, true);
+    let mut journal = JournalFile::open(SystemFile::new(file, true), bytes.len() as u64)?;
     journal.add(b"next\n")?;
     let text = fs::read_to_string(&rt, name.as_str())?;
     fs::remove_file(&rt, name.as_str())?;
@@ -83,7 +83,8 @@ fn a_journal_is_a_plain_file(rt: HostRuntime) -> Result<(), Fail> {
 #[test]
 fn a_file_that_is_removed_takes_nothing_more(rt: HostRuntime) -> Result<(), Fail> {
     let name = name_of(&rt, "removed")?;
-    let mut journal = JournalFile::new(make_journal(&rt, name.as_str())?, 0, true);
+    let file = make_journal(&rt, name.as_str())?;
+    let mut journal = JournalFile::open(SystemFile::new(file, true), 0)?;
     let before = journal.add(b"a\n").is_ok();
     fs::remove_file(&rt, name.as_str())?;
     let after = (journal.add(b"b\n").is_ok(), journal.add(b"c\n").is_ok());
@@ -94,7 +95,8 @@ fn a_file_that_is_removed_takes_nothing_more(rt: HostRuntime) -> Result<(), Fail
 #[test]
 fn a_file_that_is_cut_takes_nothing_more(rt: HostRuntime) -> Result<(), Fail> {
     let name = name_of(&rt, "cut")?;
-    let mut journal = JournalFile::new(make_journal(&rt, name.as_str())?, 0, true);
+    let file = make_journal(&rt, name.as_str())?;
+    let mut journal = JournalFile::open(SystemFile::new(file, true), 0)?;
     let before = journal.add(b"abc\n").is_ok();
     fs::write(&rt, name.as_str(), "")?;
     let after = (journal.add(b"d\n").is_ok(), journal.add(b"e\n").is_ok());

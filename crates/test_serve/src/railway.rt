@@ -8,7 +8,8 @@ use crate::sheet::Sheet;
 use cli_commands::auditing::{Audit, Verdict};
 use rbc_line::Line;
 use rbc_world::WorldEvent;
-use serve_line::{Endpoints, JournalFile, NoNotes, Record, ServeOptions, serve};
+use serve_journal::JournalFile;
+use serve_line::{Endpoints, NoNotes, Record, ServeOptions, serve};
 use serve_workers::reading::Rate;
 use std::alloc::Global;
 use std::net::{Net, SocketAddr, TcpListener, TcpStream};
@@ -140,10 +141,10 @@ fn record_of<'a>(alloc: Global, play: &Play<'_>, papers: Papers<'a>) -> Done<Rec
 fn files_of<'a>(alloc: Global, papers: Papers<'a>) -> Done<Vec<JournalFile<Sheet<'a>>>> {
     let mut files = Vec::new(alloc);
     for paper in [papers.a, papers.b] {
-        files
-            .push(JournalFile::new(paper.open(), 0, true))
+        let file = JournalFile::open(paper.open(), 0)
             .ok()
-            .ok_or(Missed::Memory)?;
+            .ok_or(Missed::Print)?;
+        files.push(file).ok().ok_or(Missed::Memory)?;
     }
     Ok(files)
 }

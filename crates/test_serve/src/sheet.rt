@@ -1,9 +1,9 @@
-//! A file of a journal, in memory.
+//! The file of a journal, in memory.
 
 use crate::client::{Done, Missed, TURNS};
+use serve_journal::DurableFile;
 use std::alloc::{AllocError, Global};
-use std::fs::{Metadata, OpenFile};
-use std::io::{ErrorKind, Seek, SeekFrom, Write};
+use std::io::ErrorKind;
 use std::sync::atomic::{AtomicU8, AtomicUsize, Ordering};
 use std::time::{Clock, Duration};
 use std::{io, thread};
@@ -72,54 +72,31 @@ pub struct Sheet<'a> {
     at: usize,
 }
 
-impl Write for Sheet<'_> {
-    fn write(&mut self, bytes: &[u8]) -> io::Result<usize> {
+impl DurableFile for Sheet<'_> {
+    fn append(&mut self, bytes: &[u8]) -> io::Result<()> {
         let room = self.paper.room.load(Ordering::SeqCst);
         let count = bytes.len().min(room.saturating_sub(self.at));
-        if count == 0 && !bytes.is_empty() {
-            return Err(io::Error::from(ErrorKind::StorageFull));
-        }
         for byte in bytes.iter().take(count) {
             if let Some(cell) = self.paper.cells.get(self.at) {
                 cell.store(*byte, Ordering::SeqCst);
             }
             self.at = self.at.saturating_add(1);
         }
-        Ok(count)
-    }
-
-    fn flush(&mut self) -> io::Result<()> {
-        Ok(())
-    }
-}
-
-impl Seek for Sheet<'_> {
-    fn seek(&mut self, place: SeekFrom) -> io::Result<u64> {
-        let SeekFrom::Start(at) = place else {
-            return Err(io::Error::from(ErrorKind::Unsupported));
-        };
-        self.at = at as usize;
-        Ok(at)
-    }
-}
-
-impl OpenFile for Sheet<'_> {
-    fn metadata(&self) -> io::Result<Metadata> {
-        Err(io::Error::from(ErrorKind::Unsupported))
-    }
-
-    fn set_len(&self, size: u64) -> io::Result<()> {
-        for cell in self.paper.cells.iter().skip(size as usize) {
-            cell.store(0, Ordering::SeqCst);
+        if count < bytes.len() {
+            return Err(io::Error::from(ErrorKind::StorageFull));
         }
         Ok(())
     }
 
-    fn sync_all(&self) -> io::Result<()> {
+    fn sync(&mut self) -> io::Result<()> {
         Ok(())
     }
 
-    fn sync_data(&self) -> io::Result<()> {
+    fn cut(&mut self, length: u64) -> io::Result<()> {
+        for cell in self.paper.cells.iter().skip(length as usize) {
+            cell.store(0, Ordering::SeqCst);
+        }
+        self.at = length as usize;
         Ok(())
     }
 }

@@ -1,7 +1,7 @@
 //! A journal's file of which a write failed.
 
 use crate::sheet::{Paper, cells};
-use serve_line::JournalFile;
+use serve_journal::JournalFile;
 use std::sync::atomic::{AtomicUsize, Ordering};
 use std::test::*;
 
@@ -10,7 +10,7 @@ fn what_a_failed_write_left_is_taken_off(rt: HostRuntime) -> Result<(), Fail> {
     let first = cells(rt.alloc())?;
     let room = AtomicUsize::new(5);
     let paper = Paper::new(&first, &room);
-    let mut file = JournalFile::new(paper.open(), 0, true);
+    let mut file = JournalFile::open(paper.open(), 0)?;
     let short = (
         file.add(b"abc").is_ok(),
         file.add(b"defgh").is_ok(),
@@ -19,7 +19,7 @@ fn what_a_failed_write_left_is_taken_off(rt: HostRuntime) -> Result<(), Fail> {
     room.store(256, Ordering::SeqCst);
     let long = (file.add(b"xy").is_ok(), paper.has(b"abcxy"));
     assert!(rt; (short, long) == ((true, false, true), (true, true)));
-    let mut again = JournalFile::new(paper.open(), 2, false);
+    let mut again = JournalFile::open(paper.open(), 2)?;
     assert!(rt; (again.add(b"z").is_ok(), paper.has(b"abz")) == (true, true));
     Ok(())
 }

@@ -1,9 +1,9 @@
 -- Notes of consecutive entries.
-use Rattle.std.proofs.Common.{◌≡◌, ◌∙◌, ℕ, ◌+◌, ◌<◌, List, [], ◌∷◌, ◌++◌, length, take, get_or, subst, sym, ap}
+use Rattle.std.proofs.Common.{[], ◌++◌, ◌+◌, ◌<◌, ◌∙◌, ◌∷◌, ◌≡◌, ap, get_or, length, List, subst, sym, take, ℕ}
 use Rattle.std.proofs.lemmas.List.{take_more}
 use Rattle.rbc_log.specs.declared.entry.Entry as log
+use Rattle.serve_line.specs.Journaling.Noting.{AreNotesOf, IsNoteOf}
 use Rattle.text_journal.specs.declared.entry.Entry as journal
-use Rattle.serve_line.specs.Journaling.Noting.{IsNoteOf, AreNotesOf}
 
 notes_after :
     (es : List log.Entry) (ns : List journal.Entry) (e : log.Entry) (n : journal.Entry)
@@ -23,4 +23,5 @@ notes_next es i ns ms e n low is put are note =
     take_more es i e low ∙ ap (λ (x : log.Entry). take i es ++ x ∷ []) (sym is)
     in
     subst (λ (xs : List journal.Entry). AreNotesOf (take (i + 1) es) xs) (sym put)
-    (subst (λ (xs : List log.Entry). AreNotesOf xs (ns ++ n ∷ [])) (sym front) (notes_after (take i es) ns e n are note))
+    (subst (λ (xs : List log.Entry). AreNotesOf xs (ns ++ n ∷ [])) (sym front)
+    (notes_after (take i es) ns e n are note))

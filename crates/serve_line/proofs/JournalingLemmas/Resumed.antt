@@ -1,14 +1,15 @@
 -- Entries that are committed again, in order.
-use Rattle.std.proofs.Common.{◌≡◌, ◌∙◌, ℕ, ◌+◌, ◌<◌, List, [], ◌∷◌, ◌++◌, length, take, get_or, slice_get, slice_set, Some, Result, Ok, Err, OnOk, subst, refl, sym, ap}
+use Rattle.std.proofs.Common.{[], ◌++◌, ◌+◌, ◌<◌, ◌∙◌, ◌∷◌, ◌≡◌, ap, Err, get_or, length, List, Ok, OnOk, refl, Result}
+use Rattle.std.proofs.Common.{slice_get, slice_set, Some, subst, sym, take, ℕ}
 use Rattle.std.proofs.lemmas.List.{take_more}
-use Rattle.text_script.specs.rbc_centre.declared.event.Event.{Event}
+use Rattle.rbc_node.specs.declared.node.Node.{Node}
 use Rattle.rbc_node.specs.Node.{centre_of}
 use Rattle.rbc_node.specs.Receipts.{ShareValue}
-use Rattle.rbc_node.specs.declared.node.Node.{Node}
-use Rattle.text_journal.specs.Order.{taken_at}
-use Rattle.text_journal.specs.declared.entry.Entry.{Entry}
 use Rattle.serve_control.specs.Events.{IsCommitted}
-use Rattle.serve_line.specs.Journaling.Resuming.{CommitsAgain, IsResumed, AreResumed}
+use Rattle.serve_line.specs.Journaling.Resuming.{AreResumed, CommitsAgain, IsResumed}
+use Rattle.text_journal.specs.declared.entry.Entry.{Entry}
+use Rattle.text_journal.specs.Order.{taken_at}
+use Rattle.text_script.specs.rbc_centre.declared.event.Event.{Event}
 
 module _ (nodes : List Node) where
   resumed_after :
@@ -31,12 +32,15 @@ module _ (nodes : List Node) where
 
   -- one entry, if the commit through the share in its place succeeds
   pub resumes :
-      {F : Type 0} (e : Entry) (at : ℕ) (old : List ShareValue) (node : Node) (before after : ShareValue) (event : Event) (r : Result (Unit {0}) F)
-      → at ≡ taken_at e → slice_get nodes at ≡ Some node → slice_get old at ≡ Some before → IsCommitted (taken_at e) event e.event
+      {F : Type 0} (e : Entry) (at : ℕ) (old : List ShareValue) (node : Node) (before after : ShareValue)
+      (event : Event) (r : Result (Unit {0}) F)
+      → at ≡ taken_at e → slice_get nodes at ≡ Some node → slice_get old at ≡ Some before
+      → IsCommitted (taken_at e) event e.event
       → OnOk r (CommitsAgain (centre_of node) before after event e.stamp)
       → OnOk r (IsResumed nodes e old (slice_set old at after))
   resumes e at old node before after event (Ok done) same there share its committed =
-      subst (λ k. slice_get nodes k ≡ Some node → slice_get old k ≡ Some before → IsResumed nodes e old (slice_set old k after)) (sym same)
+      subst (λ k. slice_get nodes k ≡ Some node → slice_get old k ≡ Some before
+      → IsResumed nodes e old (slice_set old k after)) (sym same)
       (λ n s. record {
         node = node;
         before = before;

@@ -1,17 +1,14 @@
 ghost use Rattle.std.specs.Prelude.{◌≡◌, take, drop, IfOk};
-ghost use Rattle.std.specs.List.{flat_map};
-ghost use Rattle.text_journal.specs.Journal.{entry_line};
 ghost use Rattle.rbc_log.specs.Log.{LogValue};
 ghost use Rattle.rbc_node.specs.Node.{centre_of, IsLogOf};
 ghost use Rattle.serve_line.specs.Journaling.Noting.{AreNotesOf};
 
-use rbc_line::Line;
 use rbc_log::{CentreLog, Entry as Committed};
 use rbc_node::Node;
 use serve_control::world_event;
 use std::alloc::{AllocError, Global};
 use std::sync::Wait;
-use text_journal::{Entry, add_entry};
+use text_journal::Entry;
 
 /// The most events of one write. The centre takes no step while they are copied.
 const MOST_AT_ONCE: usize = 256;
@@ -58,15 +55,4 @@ fn entries_from(alloc: Global, log: &CentreLog, written: usize) -> Result<Vec<En
         })?;
     }
     Ok(next)
-}
-
-/// The lines of entries, each ended by a line feed.
-pub(crate) fn lines_of(alloc: Global, line: &Line, entries: &[Entry]) -> Result<Vec<u8>, AllocError>
-    ensures { IfOk result (λ text. text.items ≡ flat_map (entry_line line.now) entries.now) }
-{
-    let mut text = Vec::new(alloc);
-    for entry in entries {
-        add_entry(alloc, line, entry, &mut text)?;
-    }
-    Ok(text)
 }

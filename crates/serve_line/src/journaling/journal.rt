@@ -1,3 +1,4 @@
+use serve_journal::Kept;
 use std::sync::{Condvar, Mutex, MutexGuard, Wait};
 use std::thread::Parker;
 use std::time::Duration;
@@ -115,10 +116,10 @@ impl Journal {
         self.waker.park_timeout(rt, Duration::from_millis(REST_MS));
     }
 
-    /// Reports that all events up to this stamp are written.
-    pub(crate) fn reached<R: Wait>(&self, rt: &R, stamp: u32) {
+    /// Reports that the journal has all events up to the stamp of `kept`.
+    pub(crate) fn reached<R: Wait>(&self, rt: &R, kept: &Kept) {
         let mut reach = self.reach.lock(rt);
-        reach.stamp = stamp;
+        reach.stamp = kept.stamp();
         reach.is_stuck = false;
         self.tell(reach);
     }

@@ -1,12 +1,11 @@
-use crate::journaling::batch::{lines_of, next_entries};
-use crate::journaling::file::JournalFile;
+use crate::journaling::batch::next_entries;
 use crate::journaling::journal::Journal;
 use crate::status::Notes;
 use rbc_line::Line;
 use rbc_node::Node;
+use serve_journal::{DurableFile, JournalFile};
 use std::alloc::Global;
-use std::fs::OpenFile;
-use std::io::{ErrorKind, Seek, Write};
+use std::io::ErrorKind;
 use std::sync::Wait;
 use std::sync::atomic::{AtomicBool, Ordering};
 use std::time::{Clock, Duration};
@@ -33,7 +32,7 @@ pub struct JournalWriter<'a, N> {
 
 /// Writes the centre's events after those at the start of the journal, in the order of its log. It returns true when
 /// nothing more is committed and all events are written. It returns false when the journal is given up before that.
-pub fn keep_journal<R: Wait + Clock, N: Notes, F: Write + Seek + OpenFile>(
+pub fn keep_journal<R: Wait + Clock, N: Notes, F: DurableFile + Drop>(
     rt: &R,
     writer: &JournalWriter<'_, N>,
     file: &mut JournalFile<F>,
@@ -65,7 +64,7 @@ pub fn keep_journal<R: Wait + Clock, N: Notes, F: Write + Seek + OpenFile>(
 
 impl<N: Notes> JournalWriter<'_, N> {
     // Writes the next events, and returns their count. After an error none of them counts as written.
-    fn write_next<R: Wait, F: Write + Seek + OpenFile>(
+    fn write_next<R: Wait, F: DurableFile + Drop>(
         &self,
         rt: &R,
         file: &mut JournalFile<F>,
@@ -74,14 +73,9 @@ impl<N: Notes> JournalWriter<'_, N> {
         let Ok(entries) = next_entries(rt, self.alloc, self.node, written) else {
             return Err(io::Error::from(ErrorKind::OutOfMemory));
         };
-        let Some(last) = entries.last() else {
-            return Ok(0);
-        };
-        let Ok(text) = lines_of(self.alloc, self.line, &entries) else {
-            return Err(io::Error::from(ErrorKind::OutOfMemory));
-        };
-        file.add(&text)?;
-        self.journal.reached(rt, last.stamp);
+        if let Some(kept) = file.keep(self.alloc, self.line, &entries)? {
+            self.journal.reached(rt, &kept);
+        }
         Ok(entries.len())
     }
 

@@ -1,11 +1,11 @@
 ghost use Rattle.std.specs.Prelude.{◌<◌};
 
+use crate::codec::bytes::bytes_of;
 use crate::line::{A, B, START, two_centres};
 use rbc_msgs::decode_train;
 use rbc_world::{Body, Centre, Event, Frame, LinkAnswer, Outcome};
 use std::alloc::Global;
 use std::test::*;
-use test_codec::bytes::bytes_of;
 
 /// Section 1 is set, and a train that centre B registers starts there, at A.
 pub fn start(alloc: Global) -> Result<Vec<Event>, Fail> {

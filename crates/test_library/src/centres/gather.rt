@@ -4,6 +4,7 @@ use crate::centres::centre::start;
 use crate::centres::held::Held;
 use crate::centres::logs::stamps_of;
 use crate::centres::world::run;
+use crate::codec::bytes::bytes_of;
 use crate::line::{A, B, START};
 use crate::nodes::{both, node_of};
 use rbc_log::{Entry, merge};
@@ -15,7 +16,6 @@ use std::sync::atomic::Ordering;
 use std::test::*;
 use std::thread;
 use std::thread::Threads;
-use test_codec::bytes::bytes_of;
 
 // Gathers the logs of two nodes, and merges them.
 fn merged(alloc: Global, a: (Node, Share), b: (Node, Share)) -> Result<Vec<Entry>, Fail> {

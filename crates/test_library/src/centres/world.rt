@@ -1,8 +1,8 @@
+use crate::codec::bytes::bytes_of;
 use crate::line::{START, two_centres};
 use rbc_world::{Answer, Body, Frame, LinkAnswer, Outcome, Outputs, StepFault, World, WorldEvent};
 use std::alloc::Global;
 use std::test::*;
-use test_codec::bytes::bytes_of;
 
 fn initiation(alloc: Global, centre: u8) -> Result<WorldEvent, Fail> {
     let bytes = Vec::from_slice(

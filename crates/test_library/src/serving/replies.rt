@@ -1,5 +1,6 @@
 //! The shared writer of a connection, over bytes in memory.
 
+use crate::codec::bytes::bytes_of;
 use crate::line::{ACCEPTED, VERSION};
 use crossbeam_channel::{Receiver, Sender, bounded};
 use rbc_msgs::decode_track;
@@ -9,7 +10,6 @@ use std::io;
 use std::io::{ErrorKind, Write};
 use std::sync::{Mutex, Wait};
 use std::test::*;
-use test_codec::bytes::bytes_of;
 
 /// Keeps what is written, five bytes a time. Where it is faulty, its second write fails, and no other.
 #[derive(Drop)]

@@ -1,5 +1,6 @@
 //! The session of a connection, over bytes in memory.
 
+use crate::codec::bytes::bytes_of;
 use crate::line::{HALF_AN_INITIATION, INITIATION};
 use crate::nodes::node_of_a;
 use rbc_node::{Open, Share};
@@ -10,7 +11,6 @@ use std::io;
 use std::io::{ErrorKind, Read};
 use std::sync::Wait;
 use std::test::*;
-use test_codec::bytes::bytes_of;
 
 /// Bytes in memory, and after them a read that fails.
 #[derive(Drop)]

@@ -1,11 +1,11 @@
 //! What a train of the trial says next: it begins missions, runs, asks for more, answers, and speaks to the next centre
 //! where its front is there.
 
+use crate::codec::chance::Chance;
 use crate::trial::line::home_of;
 use crate::trial::traveller::{Traveller, Words};
 use rbc_line::Line;
 use rbc_world::{MissionView, Phase, TrainView};
-use test_codec::chance::Chance;
 
 /// How many sections the trial's line has.
 pub const SECTIONS: u16 = 18;

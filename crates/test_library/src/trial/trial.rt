@@ -2,6 +2,7 @@
 //! sections, and each frame comes late, out of turn and again. After each event the view is held against what was
 //! answered.
 
+use crate::codec::chance::Chance;
 use crate::trial::choices::{SECTIONS, next_words, some_centre};
 use crate::trial::line::three_centres;
 use crate::trial::promises::{Step, is_kept};
@@ -12,7 +13,6 @@ use rbc_msgs::TrackBody;
 use rbc_world::{Answer, LineView, LinkAnswer, Outcome, World, WorldEvent};
 use std::alloc::Global;
 use std::test::*;
-use test_codec::chance::Chance;
 
 const TURNS: u32 = 10_000;
 

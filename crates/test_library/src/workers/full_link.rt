@@ -1,10 +1,10 @@
 //! A link that is full.
 
+use crate::codec::bytes::bytes_of;
 use crate::line::{A, B, two_centres};
 use rbc_world::{Answer, StepFault, World, WorldEvent};
 use std::alloc::Global;
 use std::test::*;
-use test_codec::bytes::bytes_of;
 
 // With section 1 set, the train opens its session at A, starts in section 1, and tells its data. Its T_TRAIN goes from
 // 1 to 4.

@@ -1,5 +1,6 @@
 //! How a session ends with what it reads, and what it leaves at the centre.
 
+use crate::codec::bytes::bytes_of;
 use crate::line::{ENGINE, ESTABLISHED, INITIATION};
 use crate::nodes::node_of_a;
 use rbc_node::{Node, Open, Share};
@@ -11,7 +12,6 @@ use std::io;
 use std::io::{ErrorKind, Read};
 use std::sync::Wait;
 use std::test::*;
-use test_codec::bytes::bytes_of;
 
 /// Bytes in memory, and after them the end, or a read that fails.
 #[derive(Drop)]

@@ -1,4 +1,4 @@
-use Rattle.rbc_allocation.proofs.Runs.{HasFreedBack}
+use Rattle.rbc_allocation.proofs.Freed.{HasFreedBack}
 use Rattle.rbc_allocation.proofs.sections.free_back.Given as goal
 
 abbrev pub invariant-loop : goal.invariant-loop

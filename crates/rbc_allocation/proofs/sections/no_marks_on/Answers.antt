@@ -1,4 +1,4 @@
-use Rattle.std.proofs.Common.{refl, ◌∙◌, arith}
+use Rattle.std.proofs.Common.{◌∙◌, arith, refl}
 use Rattle.rbc_allocation.proofs.Marks.{mark_fits, no_mark}
 use Rattle.rbc_allocation.proofs.sections.no_marks_on.Goals as goal
 

@@ -1,6 +1,6 @@
-use Rattle.std.proofs.Common.{◌≡◌, ◌<◌, ◌≤◌, ◌^◌}
-use Rattle.rbc_allocation.specs.Marks.{marked}
+use Rattle.std.proofs.Common.{◌<◌, ◌^◌, ◌≡◌, ◌≤◌}
 use Rattle.rbc_allocation.proofs.sections.no_marks_on.Given as goal
+use Rattle.rbc_allocation.specs.Marks.{marked}
 
 abbrev pub invariant-loop-k : goal.invariant-loop-k
 invariant-loop-k l = record {

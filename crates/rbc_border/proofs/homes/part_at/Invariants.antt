@@ -1,8 +1,8 @@
 use Rattle.std.proofs.Common.{◌<◌, not}
-use Rattle.rbc_spec.specs.Line.{IsLine}
-use Rattle.rbc_border.specs.Homes.{is_of}
-use Rattle.rbc_border.proofs.Longest.{HasPassed}
 use Rattle.rbc_border.proofs.homes.part_at.Given as goal
+use Rattle.rbc_border.proofs.Lists.{HasPassed}
+use Rattle.rbc_border.specs.Homes.{is_of}
+use Rattle.rbc_spec.specs.Line.{IsLine}
 
 abbrev pub invariant-loop-k : goal.invariant-loop-k
 invariant-loop-k l = record {

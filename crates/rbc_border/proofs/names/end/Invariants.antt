@@ -1,6 +1,6 @@
 use Rattle.std.proofs.Common.{length}
-use Rattle.rbc_border.specs.Names.{IsAllNames}
 use Rattle.rbc_border.proofs.names.end.Given as goal
+use Rattle.rbc_border.specs.Names.{IsAllNames}
 
 abbrev pub invariant-loop-token : goal.invariant-loop-token
 invariant-loop-token l = IsAllNames l.names

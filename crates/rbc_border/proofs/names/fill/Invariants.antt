@@ -1,4 +1,4 @@
-use Rattle.rbc_border.proofs.NameSteps.{HasNames}
+use Rattle.rbc_border.proofs.Hands.{HasNames}
 use Rattle.rbc_border.proofs.names.fill.Given as goal
 
 abbrev pub invariant-loop-k : goal.invariant-loop-k

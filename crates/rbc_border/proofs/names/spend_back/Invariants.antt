@@ -1,5 +1,5 @@
 use Rattle.std.proofs.Common.{◌≡◌}
-use Rattle.rbc_border.proofs.NameSteps.{cut_by}
+use Rattle.rbc_border.proofs.Hands.{cut_by}
 use Rattle.rbc_border.proofs.names.spend_back.Given as goal
 
 abbrev pub invariant-loop : goal.invariant-loop

@@ -1,7 +1,7 @@
 use Rattle.std.proofs.Common.{◌≡◌, length}
+use Rattle.rbc_handover.proofs.expectations.take_over_each.Given as goal
 use Rattle.rbc_handover.proofs.Expects.{by_states}
 use Rattle.rbc_handover.proofs.TakesOver.{HasTold}
-use Rattle.rbc_handover.proofs.expectations.take_over_each.Given as goal
 
 abbrev pub invariant-loop-i : goal.invariant-loop-i
 invariant-loop-i l = record {

@@ -1,4 +1,4 @@
-use Rattle.std.proofs.Common.{◌≡◌, map, take, string_bytes}
+use Rattle.std.proofs.Common.{◌≡◌, map, string_bytes, take}
 use Rattle.rbc_line.proofs.build.track_rows.Given as goal
 
 abbrev pub invariant-loop-name : goal.invariant-loop-name

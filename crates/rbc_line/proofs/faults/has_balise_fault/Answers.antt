@@ -1,12 +1,13 @@
-use Rattle.std.proofs.Common.{sym, ◌∙◌, rules, tests}
+use Rattle.std.proofs.Common.{◌∙◌, rules, sym, tests}
 use Rattle.std.proofs.lemmas.Iterator.{YieldsList-from_slice}
 use Rattle.std.proofs.lemmas.Iterator.Search.{any_from_yields_List}
+use Rattle.rbc_line.proofs.faults.has_balise_fault.Goals as goal
+use Rattle.rbc_line.proofs.Lists.{list_any-map}
 use Rattle.rbc_line.specs.DraftViews.{section_view}
 use Rattle.rbc_line.specs.Faults.{is_outside}
-use Rattle.rbc_line.proofs.Lists.{list_any-map}
-use Rattle.rbc_line.proofs.faults.has_balise_fault.Goals as goal
 
 pub returns : goal.returns
 returns c =
-    any_from_yields_List (λ row. is_outside 0 16382 row.balise) _ _ _ c.any.ensures.ran (YieldsList-from_slice c.args.sections.now cc) (λ x b q k. search (rules, tests))
+    any_from_yields_List (λ row. is_outside 0 16382 row.balise) _ _ _ c.any.ensures.ran
+    (YieldsList-from_slice c.args.sections.now cc) (λ x b q k. search (rules, tests))
     ∙ sym (list_any-map (λ v. is_outside 0 16382 v.balise) section_view c.args.sections.now)

@@ -1,12 +1,13 @@
-use Rattle.std.proofs.Common.{sym, ◌∙◌, rules, tests}
+use Rattle.std.proofs.Common.{◌∙◌, rules, sym, tests}
 use Rattle.std.proofs.lemmas.Iterator.{YieldsList-from_slice}
 use Rattle.std.proofs.lemmas.Iterator.Search.{any_from_yields_List}
-use Rattle.rbc_line.specs.DraftViews.{centre_view}
 use Rattle.std.specs.Str.{bytes_eq}
-use Rattle.rbc_line.proofs.Lists.{list_any-map}
 use Rattle.rbc_line.proofs.faults.is_centre_name.Goals as goal
+use Rattle.rbc_line.proofs.Lists.{list_any-map}
+use Rattle.rbc_line.specs.DraftViews.{centre_view}
 
 pub returns : goal.returns
 returns c =
-    any_from_yields_List (λ row. bytes_eq row.name.now c.args.name.now) _ _ _ c.any.ensures.ran (YieldsList-from_slice c.args.centres.now cc) (λ x b q k. search (rules, tests))
+    any_from_yields_List (λ row. bytes_eq row.name.now c.args.name.now) _ _ _ c.any.ensures.ran
+    (YieldsList-from_slice c.args.centres.now cc) (λ x b q k. search (rules, tests))
     ∙ sym (list_any-map (λ v. bytes_eq v.name c.args.name.now) centre_view c.args.centres.now)

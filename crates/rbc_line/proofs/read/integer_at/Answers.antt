@@ -1,6 +1,6 @@
 use Rattle.std.proofs.Common.{◌∙◌}
-use Rattle.toml.proofs.Views.{table_get}
 use Rattle.rbc_line.proofs.read.integer_at.Goals as goal
+use Rattle.toml.proofs.Views.{table_get}
 
 pub returns-in-Some : goal.returns-in-Some
 returns-in-Some c =

@@ -1,6 +1,6 @@
-use Rattle.std.proofs.Common.{◌≡◌, ◌≢◌, length, arith}
-use Rattle.rbc_line.proofs.ReadSteps.{with_keys-found, with_keys-other}
+use Rattle.std.proofs.Common.{◌≡◌, ◌≢◌, arith, length}
 use Rattle.rbc_line.proofs.read.with_keys.Goals as goal
+use Rattle.rbc_line.proofs.ReadSteps.{with_keys-found, with_keys-other}
 
 pub returns-then-len-keys : goal.returns-then-len-keys
 returns-then-len-keys c =

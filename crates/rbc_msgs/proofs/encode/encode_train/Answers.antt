@@ -1,7 +1,7 @@
 use Rattle.std.proofs.Common.{◌≡◌, arith}
 use Rattle.std.proofs.lemmas.Result.{IfErr-at_err}
-use Rattle.rbc_msgs.specs.declared.fault.EncodeFault.TheVariants.{Memory, TooLong}
 use Rattle.rbc_msgs.proofs.encode.encode_train.Goals as goal
+use Rattle.rbc_msgs.specs.declared.fault.EncodeFault.TheVariants.{Memory, TooLong}
 
 pub returns-clause-too_long : goal.returns-clause-too_long
 returns-clause-too_long c = (

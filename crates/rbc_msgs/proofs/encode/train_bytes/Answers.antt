@@ -1,11 +1,11 @@
-use Rattle.std.proofs.Common.{◌++◌, Result, Ok, Err, refl}
+use Rattle.std.proofs.Common.{◌++◌, Err, Ok, refl, Result}
+use Rattle.std.proofs.lemmas.Result.{IfOk-weaker}
 use Rattle.std.specs.List.{flat_map}
 use Rattle.std.specs.Prelude.{IfOk, OnOk}
-use Rattle.std.proofs.lemmas.Result.{IfOk-weaker}
-use Rattle.rbc_packets.specs.Layout.{joined}
-use Rattle.rbc_msgs.specs.TrainSpelling.{train_header, train_body_bits, packet_bits, SpellsTrain}
-use Rattle.rbc_msgs.proofs.TrainLaws.{written, written-parts}
 use Rattle.rbc_msgs.proofs.encode.train_bytes.Goals as goal
+use Rattle.rbc_msgs.proofs.TrainLaws.{written, written-parts}
+use Rattle.rbc_msgs.specs.TrainSpelling.{packet_bits, SpellsTrain, train_body_bits, train_header}
+use Rattle.rbc_packets.specs.Layout.{joined}
 
 both : {T E : Type 0} (r : Result T E) (P : T → Type 0) (F : Type 0) → IfOk r P → OnOk r F → IfOk r (λ x. P x × F)
 both (Ok x) P F p f = (p, f)

@@ -1,6 +1,6 @@
-use Rattle.rbc_msgs.proofs.TrainLaws.{one_train_spelling}
-use Rattle.rbc_msgs.proofs.TrackLaws.{one_track_spelling}
 use Rattle.rbc_msgs.proofs.laws.one_spelling.Goals as goal
+use Rattle.rbc_msgs.proofs.TrackLaws.{one_track_spelling}
+use Rattle.rbc_msgs.proofs.TrainLaws.{one_train_spelling}
 
 pub returns-clause-train : goal.returns-clause-train
 returns-clause-train c = one_train_spelling

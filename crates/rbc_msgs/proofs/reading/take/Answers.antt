@@ -7,8 +7,10 @@ use Rattle.rbc_msgs.specs.declared.fault.MsgFault.TheVariants.{Short}
 
 pub returns-in-Ok-clause-exact : goal.returns-in-Ok-clause-exact
 returns-in-Ok-clause-exact c =
-    ap (field_at Short c.args.n) c.in-Ok.ensures.field ∙ field_at-field Short c.args.n c.in-Ok.value c.take.new.self c.in-Ok.ensures.fits
+    ap (field_at Short c.args.n) c.in-Ok.ensures.field
+    ∙ field_at-field Short c.args.n c.in-Ok.value c.take.new.self c.in-Ok.ensures.fits
 
 pub returns-in-Err-clause-exact : goal.returns-in-Err-clause-exact
 returns-in-Err-clause-exact c =
-    field_at-few Short c.args.n c.args.reader.now (field_at_err bits.Short _ c.args.n c.args.reader.now c.in-Err.ensures.next)
+    field_at-few Short c.args.n c.args.reader.now
+    (field_at_err bits.Short _ c.args.n c.args.reader.now c.in-Err.ensures.next)

@@ -7,7 +7,8 @@ use Rattle.rbc_msgs.specs.declared.fault.MsgFault.TheVariants.{Missing}
 
 pub returns-in-Ok-clause-exact : goal.returns-in-Ok-clause-exact
 returns-in-Ok-clause-exact c =
-    ap (field_at Missing 8) c.in-Ok.ensures.field ∙ field_at-field Missing 8 c.in-Ok.value c.take.new.self c.in-Ok.ensures.fits
+    ap (field_at Missing 8) c.in-Ok.ensures.field
+    ∙ field_at-field Missing 8 c.in-Ok.value c.take.new.self c.in-Ok.ensures.fits
 
 pub returns-in-Err-clause-exact : goal.returns-in-Err-clause-exact
 returns-in-Err-clause-exact c =

@@ -1,6 +1,6 @@
+use Rattle.rbc_msgs.proofs.FirstFault.{read-rest, rest-read}
 use Rattle.rbc_msgs.proofs.Needed.{rest-short}
 use Rattle.rbc_msgs.proofs.OneReading.{rest-no-message}
-use Rattle.rbc_msgs.proofs.FirstFault.{rest-read, read-rest}
 use Rattle.rbc_msgs.proofs.stream_laws.a_rest_is_short.Goals as goal
 
 pub returns-clause-no_message : goal.returns-clause-no_message

@@ -1,4 +1,4 @@
-use Rattle.rbc_msgs.proofs.OneReading.{one-row, rest-no-fault, one-fault}
+use Rattle.rbc_msgs.proofs.OneReading.{one-fault, one-row, rest-no-fault}
 use Rattle.rbc_msgs.proofs.stream_laws.one_reading.Goals as goal
 
 pub returns-clause-messages : goal.returns-clause-messages

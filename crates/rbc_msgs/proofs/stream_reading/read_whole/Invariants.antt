@@ -1,6 +1,6 @@
-use Rattle.std.proofs.Common.{◌≤◌, ◌-◌, length, drop}
-use Rattle.rbc_msgs.specs.Streams.{Adds}
+use Rattle.std.proofs.Common.{◌-◌, ◌≤◌, drop, length}
 use Rattle.rbc_msgs.proofs.stream_reading.read_whole.Given as goal
+use Rattle.rbc_msgs.specs.Streams.{Adds}
 
 abbrev pub invariant-loop-needed : goal.invariant-loop-needed
 invariant-loop-needed l = record {

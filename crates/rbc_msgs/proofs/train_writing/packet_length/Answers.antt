@@ -1,6 +1,6 @@
-use Rattle.std.proofs.Common.{length, ap, arith}
-use Rattle.rbc_msgs.proofs.TrainLaws.{length-packet}
+use Rattle.std.proofs.Common.{ap, arith, length}
 use Rattle.rbc_msgs.proofs.train_writing.packet_length.Goals as goal
+use Rattle.rbc_msgs.proofs.TrainParts.{length-packet}
 
 pub returns-clause-value : goal.returns-clause-value
 returns-clause-value c =

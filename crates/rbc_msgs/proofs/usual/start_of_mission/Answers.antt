@@ -1,9 +1,9 @@
-use Rattle.std.proofs.Common.{◌++◌, refl, sym, ap, ◌∙◌}
+use Rattle.std.proofs.Common.{◌++◌, ◌∙◌, ap, refl, sym}
 use Rattle.rbc_bits.specs.Bits.{field}
-use Rattle.rbc_vars.specs.Values.{q_status_value}
 use Rattle.rbc_msgs.proofs.Placed.{field-spelled}
-use Rattle.rbc_msgs.proofs.TrainLaws.{spells-alone, read_train-again}
+use Rattle.rbc_msgs.proofs.TrainLaws.{read_train-again, spells-alone}
 use Rattle.rbc_msgs.proofs.usual.start_of_mission.Goals as goal
+use Rattle.rbc_vars.specs.Values.{q_status_value}
 
 pub returns-clause-found : goal.returns-clause-found
 returns-clause-found c =
@@ -11,7 +11,8 @@ returns-clause-found c =
     let p = c.in_ok-position.ensures in
     let mid = c.take.new.reader in
     rw c.new.ensures (spells-alone c.args.bytes.now _ 157 h.header.rest p.taken.0 refl h.ensures.taken
-    (field-spelled h.header.rest mid p.taken.0 2 (q_status_value c.in_ok-q_status.q_status) c.in_ok-position.position (c.in-Ok.ensures.taken ∙ ap (λ v. field 2 v ++ mid) (sym c.in_ok-q_status.ensures.value)) p.taken.1)
+    (field-spelled h.header.rest mid p.taken.0 2 (q_status_value c.in_ok-q_status.q_status) c.in_ok-position.position
+    (c.in-Ok.ensures.taken ∙ ap (λ v. field 2 v ++ mid) (sym c.in_ok-q_status.ensures.value)) p.taken.1)
     c.none.ensures p.taken.2 h.ensures.length h.ensures.time h.ensures.engine p.fits)
 
 pub returns-clause-exact : goal.returns-clause-exact

@@ -6,7 +6,8 @@ pub returns-clause-found : goal.returns-clause-found
 returns-clause-found c =
     let h = c.in_ok-header in
     let authority = c.in_ok-authority.ensures.found in
-    put-together c.args.bytes.now c.message.result 3 h.header.t_train h.header.nid_lrbg _ h.header.rest c.usual.new.reader refl h.ensures.taken authority.0
+    put-together c.args.bytes.now c.message.result 3 h.header.t_train h.header.nid_lrbg _ h.header.rest
+    c.usual.new.reader refl h.ensures.taken authority.0
     h.ensures.length h.ensures.time h.ensures.group authority.1 c.message.ensures.value c.message.ensures.filling
 
 pub returns-clause-exact : goal.returns-clause-exact

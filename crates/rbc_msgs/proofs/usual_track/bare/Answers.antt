@@ -10,7 +10,8 @@ returns-clause-found c =
     let h = c.in_ok-header in
     let body = c.in_ok-bare_body.ensures in
     let rest = h.header.rest in
-    put-together c.args.bytes.now c.message.result (track_number_value c.in-Ok.number) h.header.t_train h.header.nid_lrbg _ rest rest (sym body.number) h.ensures.taken
+    put-together c.args.bytes.now c.message.result (track_number_value c.in-Ok.number) h.header.t_train
+    h.header.nid_lrbg _ rest rest (sym body.number) h.ensures.taken
     (sym (ap (λ fields. joined fields ++ rest) body.fields ∙ ap (λ t. t ++ rest) joined-nil))
     h.ensures.length h.ensures.time h.ensures.group body.fits c.message.ensures.value c.message.ensures.filling
 

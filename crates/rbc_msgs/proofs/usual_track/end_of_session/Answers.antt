@@ -6,7 +6,8 @@ pub returns-clause-found : goal.returns-clause-found
 returns-clause-found c =
     let h = c.in_ok-header in
     let order = c.in_ok-order.ensures.found in
-    put-together c.args.bytes.now c.message.result 24 h.header.t_train h.header.nid_lrbg _ h.header.rest c.usual.new.reader refl h.ensures.taken order.0
+    put-together c.args.bytes.now c.message.result 24 h.header.t_train h.header.nid_lrbg _ h.header.rest
+    c.usual.new.reader refl h.ensures.taken order.0
     h.ensures.length h.ensures.time h.ensures.group order.1 c.message.ensures.value c.message.ensures.filling
 
 pub returns-clause-exact : goal.returns-clause-exact

@@ -1,6 +1,6 @@
-use Rattle.std.proofs.Common.{◌+◌, ◌-◌, ◌/◌, sym, ◌∙◌, arith}
-use Rattle.rbc_place.proofs.InRear.{in_rear_before, ahead_after, ahead_past}
+use Rattle.std.proofs.Common.{◌+◌, ◌-◌, ◌/◌, ◌∙◌, arith, sym}
 use Rattle.rbc_place.proofs.ahead.first_ahead.Goals as goal
+use Rattle.rbc_place.proofs.CoveredSections.{ahead_after, ahead_past, in_rear_before}
 
 pub loop-low-init : goal.loop-low-init
 loop-low-init c =
@@ -8,7 +8,9 @@ loop-low-init c =
       order = omega arith;
       bound = omega (arith, c.section_count-high.ensures.value);
       in_rear = λ s lt. absurd (omega arith);
-      ahead = λ s le. ahead_past c.args.line.now c.args.track c.args.rear s (omega (arith, c.section_count-high.ensures.value));
+      ahead =
+          λ s le. ahead_past c.args.line.now c.args.track c.args.rear s
+          (omega (arith, c.section_count-high.ensures.value));
     }
 
 -- the middle section is in rear, and so are those before it
@@ -18,7 +20,9 @@ loop-low-preserved-then-is_in_rear c =
     record {
       order = omega (arith, c.loop-low-test.true);
       bound = c.loop-low.invariant.bound;
-      in_rear = λ s lt. in_rear_before c.args.line.now c.section_count-high.ensures.line c.args.track c.args.rear s middle (omega arith) (sym c.is_in_rear.ensures ∙ c.if-is_in_rear.true);
+      in_rear =
+          λ s lt. in_rear_before c.args.line.now c.section_count-high.ensures.line c.args.track c.args.rear s middle
+          (omega arith) (sym c.is_in_rear.ensures ∙ c.if-is_in_rear.true);
       ahead = c.loop-low.invariant.ahead;
     }
 
@@ -30,7 +34,9 @@ loop-low-preserved c =
       order = omega (arith, c.loop-low-test.true);
       bound = omega (arith, c.loop-low-test.true, c.loop-low.invariant.bound);
       in_rear = c.loop-low.invariant.in_rear;
-      ahead = λ s le. ahead_after c.args.line.now c.section_count-high.ensures.line c.args.track c.args.rear middle s le (sym c.is_in_rear.ensures ∙ c.if-is_in_rear.false);
+      ahead =
+          λ s le. ahead_after c.args.line.now c.section_count-high.ensures.line c.args.track c.args.rear middle s le
+          (sym c.is_in_rear.ensures ∙ c.if-is_in_rear.false);
     }
 
 pub returns-clause-bound : goal.returns-clause-bound

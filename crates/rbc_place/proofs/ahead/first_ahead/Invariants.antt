@@ -1,6 +1,6 @@
-use Rattle.std.proofs.Common.{◌≡◌, ℕ, ◌-◌, ◌<◌, ◌≤◌, true, false, length}
-use Rattle.rbc_place.specs.Places.{is_in_rear}
+use Rattle.std.proofs.Common.{◌-◌, ◌<◌, ◌≡◌, ◌≤◌, false, length, true, ℕ}
 use Rattle.rbc_place.proofs.ahead.first_ahead.Given as goal
+use Rattle.rbc_place.specs.Places.{is_in_rear}
 
 abbrev pub invariant-loop-low : goal.invariant-loop-low
 invariant-loop-low l =

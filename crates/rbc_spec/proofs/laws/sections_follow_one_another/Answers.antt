@@ -1,5 +1,5 @@
-use Rattle.rbc_spec.proofs.Places.{ends_rise, ends_before}
 use Rattle.rbc_spec.proofs.laws.sections_follow_one_another.Goals as goal
+use Rattle.rbc_spec.proofs.Places.{ends_before, ends_rise}
 
 pub returns-clause-ends : goal.returns-clause-ends
 returns-clause-ends c = ends_rise

@@ -1,4 +1,4 @@
-use Rattle.std.proofs.Common.{◌≡◌, ◌+◌, ◌<◌, ℕ, true}
+use Rattle.std.proofs.Common.{◌+◌, ◌<◌, ◌≡◌, true, ℕ}
 use Rattle.rbc_spec.specs.Sections.{is_on}
 use Rattle.rbc_train.proofs.front.is_on_track.Given as goal
 

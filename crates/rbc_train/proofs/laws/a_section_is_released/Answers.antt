@@ -1,5 +1,5 @@
-use Rattle.rbc_train.proofs.Tellings.{opened_at_once, kept_in_use}
 use Rattle.rbc_train.proofs.laws.a_section_is_released.Goals as goal
+use Rattle.rbc_train.proofs.Tellings.{kept_in_use, opened_at_once}
 
 pub returns-clause-unused : goal.returns-clause-unused
 returns-clause-unused o line c s k home unused = opened_at_once line c s k home unused

@@ -1,5 +1,5 @@
-use Rattle.rbc_train.proofs.Tellings.{shut_at_once, asked_of_taken}
 use Rattle.rbc_train.proofs.laws.a_section_is_taken_back.Goals as goal
+use Rattle.rbc_train.proofs.Tellings.{asked_of_taken, shut_at_once}
 
 pub returns-clause-unused : goal.returns-clause-unused
 returns-clause-unused o line c s k home unused = shut_at_once line c s k home unused

@@ -1,10 +1,10 @@
-use Rattle.std.proofs.Common.{sym, subst}
-use Rattle.rbc_spec.specs.Centre.{Closed}
-use Rattle.rbc_session.specs.SessionStates.{StandsFor}
+use Rattle.std.proofs.Common.{subst, sym}
 use Rattle.rbc_session.specs.declared.session.SessionState.{SessionState}
-use Rattle.rbc_train.specs.SessionStates.{Enters}
-use Rattle.rbc_train.proofs.SessionStates.{enters_closed}
+use Rattle.rbc_session.specs.SessionStates.{StandsFor}
+use Rattle.rbc_spec.specs.Centre.{Closed}
 use Rattle.rbc_train.proofs.session_state.close.Goals as goal
+use Rattle.rbc_train.proofs.SessionStates.{enters_closed}
+use Rattle.rbc_train.specs.SessionStates.{Enters}
 
 pub returns : goal.returns
 returns c =

@@ -1,7 +1,7 @@
-use Rattle.std.proofs.Common.{◌≡◌, ◌-◌, ◌/◌, ◌^◌, ◌≤◌}
+use Rattle.std.proofs.Common.{◌-◌, ◌/◌, ◌^◌, ◌≡◌, ◌≤◌}
 use Rattle.arrayvec.specs.ArrayVec.{array_vec_len}
-use Rattle.rbc_allocation.specs.Marks.{marked}
 use Rattle.rbc_allocation.proofs.told.Told.sections.Given as goal
+use Rattle.rbc_allocation.specs.Marks.{marked}
 
 abbrev pub invariant-loop-k : goal.invariant-loop-k
 invariant-loop-k l = record {

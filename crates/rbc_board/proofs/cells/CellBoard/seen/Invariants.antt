@@ -1,7 +1,7 @@
 use Rattle.std.proofs.Common.{take}
-use Rattle.rbc_board.specs.Known.{AreNotesOf}
-use Rattle.rbc_board.proofs.Notes.{KnowNothing}
 use Rattle.rbc_board.proofs.cells.CellBoard.seen.Given as goal
+use Rattle.rbc_board.proofs.Steps.{KnowNothing}
+use Rattle.rbc_board.specs.Known.{AreNotesOf}
 
 abbrev pub invariant-loop-cell : goal.invariant-loop-cell
 invariant-loop-cell l = record {

@@ -1,8 +1,8 @@
-use Rattle.std.proofs.Common.{◌≡◌, ℕ, Some, None, false}
-use Rattle.rbc_linkmsg.specs.declared.frame.Frame.{Frame}
+use Rattle.std.proofs.Common.{◌≡◌, false, None, Some, ℕ}
+use Rattle.rbc_board.proofs.queue.QueueCarrierCarrier.get.Given as goal
 use Rattle.rbc_board.specs.InStep.{found}
 use Rattle.rbc_board.specs.Ties.{IsTied}
-use Rattle.rbc_board.proofs.queue.QueueCarrierCarrier.get.Given as goal
+use Rattle.rbc_linkmsg.specs.declared.frame.Frame.{Frame}
 
 abbrev pub invariant-loop : goal.invariant-loop
 invariant-loop g l =

@@ -1,9 +1,9 @@
-use Rattle.std.proofs.Common.{◌≡◌, is_some, sym, ap, ◌∙◌}
+use Rattle.std.proofs.Common.{◌∙◌, ◌≡◌, ap, is_some, sym}
 use Rattle.std.specs.List.{list_any}
-use Rattle.rbc_handover.specs.Acceptings.{expectation_of}
+use Rattle.rbc_handover.proofs.expectations.Expectations.is_expected.Goals as goal
 use Rattle.rbc_handover.proofs.Expects.{any_state}
 use Rattle.rbc_handover.proofs.TakesOver.{any_expected}
-use Rattle.rbc_handover.proofs.expectations.Expectations.is_expected.Goals as goal
+use Rattle.rbc_handover.specs.Acceptings.{expectation_of}
 
 expected : (c : goal.After-some_stands) → c.some_stands.result ≡ list_any is_some c.args.self.now
 expected c =

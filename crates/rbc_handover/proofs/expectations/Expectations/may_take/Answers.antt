@@ -1,14 +1,16 @@
-use Rattle.std.proofs.Common.{◌≡◌, slice_get, sym, ap, ◌∙◌}
+use Rattle.std.proofs.Common.{◌∙◌, ◌≡◌, ap, slice_get, sym}
 use Rattle.std.specs.Option.{option_and_then}
+use Rattle.rbc_handover.proofs.expectations.Expectations.may_take.Goals as goal
+use Rattle.rbc_handover.proofs.Expects.{looked_up}
 use Rattle.rbc_handover.specs.Acceptings.{expectation_of}
 use Rattle.rbc_handover.specs.Expectations.{expected_from, is_taking_under}
-use Rattle.rbc_handover.proofs.Expects.{looked_up}
-use Rattle.rbc_handover.proofs.expectations.Expectations.may_take.Goals as goal
 
-taking : (c : goal.After-may_take_at) → c.may_take_at.result ≡ is_taking_under c.args.number (expected_from c.args.self.now c.args.from)
+taking : (c : goal.After-may_take_at)
+    → c.may_take_at.result ≡ is_taking_under c.args.number (expected_from c.args.self.now c.args.from)
 taking c =
     c.may_take_at.ensures
-    ∙ ap (λ xs. is_taking_under c.args.number (option_and_then expectation_of (slice_get xs c.args.from))) c.as_slice.ensures.value
+    ∙ ap (λ xs. is_taking_under c.args.number (option_and_then expectation_of (slice_get xs c.args.from)))
+    c.as_slice.ensures.value
     ∙ ap (is_taking_under c.args.number) (looked_up c.self.inside.states.items c.args.from)
     ∙ ap (λ e. is_taking_under c.args.number (expected_from e c.args.from)) c.self.view_is
 

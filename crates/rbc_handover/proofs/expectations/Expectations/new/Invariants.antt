@@ -1,8 +1,8 @@
-use Rattle.std.proofs.Common.{◌≡◌, ℕ, None}
-use Rattle.std.specs.Vec.{vec_len, vec_capacity}
-use Rattle.rbc_handover.specs.Expectations.{expected_from}
-use Rattle.rbc_handover.proofs.Expects.{by_states}
+use Rattle.std.proofs.Common.{◌≡◌, None, ℕ}
+use Rattle.std.specs.Vec.{vec_capacity, vec_len}
 use Rattle.rbc_handover.proofs.expectations.Expectations.new.Given as goal
+use Rattle.rbc_handover.proofs.Expects.{by_states}
+use Rattle.rbc_handover.specs.Expectations.{expected_from}
 
 abbrev pub invariant-loop : goal.invariant-loop
 invariant-loop l = record {

@@ -1,10 +1,10 @@
-use Rattle.std.proofs.Common.{ap, ◌∙◌}
+use Rattle.std.proofs.Common.{◌∙◌, ap}
 use Rattle.std.specs.Prelude.{option_map}
-use Rattle.rbc_spec.specs.Rules.{taking}
-use Rattle.rbc_handover.specs.Expectations.{expected_from, is_to_be_told}
+use Rattle.rbc_handover.proofs.expectations.Expectations.take_over.Goals as goal
 use Rattle.rbc_handover.proofs.Expects.{by_states}
 use Rattle.rbc_handover.proofs.TakesOver.{takes_over}
-use Rattle.rbc_handover.proofs.expectations.Expectations.take_over.Goals as goal
+use Rattle.rbc_handover.specs.Expectations.{expected_from, is_to_be_told}
+use Rattle.rbc_spec.specs.Rules.{taking}
 
 pub returns-clause-exact : goal.returns-clause-exact
 returns-clause-exact c line t k has =

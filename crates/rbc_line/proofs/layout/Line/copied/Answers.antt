@@ -1,7 +1,7 @@
-use Rattle.std.proofs.Common.{Some, ap, sym, ◌∙◌}
+use Rattle.std.proofs.Common.{◌∙◌, ap, Some, sym}
 use Rattle.std.specs.List.{slice_get}
-use Rattle.rbc_spec.specs.Line.{start, next_centre}
 use Rattle.rbc_line.proofs.layout.Line.copied.Goals as goal
+use Rattle.rbc_spec.specs.Line.{next_centre, start}
 
 pub with_centre_tables-requires-clause-starts : goal.with_centre_tables-requires-clause-starts
 with_centre_tables-requires-clause-starts c = λ s row at.

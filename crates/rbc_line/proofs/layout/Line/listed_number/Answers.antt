@@ -1,19 +1,21 @@
-use Rattle.std.proofs.Common.{◌==◌, sym, ap, ◌∙◌, rules, tests}
-use Rattle.std.specs.List.{position}
+use Rattle.std.proofs.Common.{◌==◌, ◌∙◌, ap, rules, sym, tests}
 use Rattle.std.proofs.lemmas.Iterator.{YieldsList-from_slice}
 use Rattle.std.proofs.lemmas.Iterator.Search.{position_from_yields_List}
-use Rattle.rbc_line.specs.Views.{train_of}
-use Rattle.rbc_line.proofs.Lists.{position-map}
+use Rattle.std.specs.List.{position}
 use Rattle.rbc_line.proofs.layout.Line.listed_number.Goals as goal
+use Rattle.rbc_line.proofs.Lists.{position-map}
+use Rattle.rbc_line.specs.Views.{train_of}
 
 pub returns-in-Some : goal.returns-in-Some
 returns-in-Some c =
-    position_from_yields_List (λ train. train.nid_engine == c.args.nid_engine) _ _ _ c.in-Some.ensures.ran (YieldsList-from_slice c.self.inside.rows.trains.items cc) (λ x b q k. search (rules, tests))
+    position_from_yields_List (λ train. train.nid_engine == c.args.nid_engine) _ _ _ c.in-Some.ensures.ran
+    (YieldsList-from_slice c.self.inside.rows.trains.items cc) (λ x b q k. search (rules, tests))
     ∙ sym (position-map (λ p. p.nid_engine == c.args.nid_engine) train_of c.self.inside.rows.trains.items)
     ∙ ap (λ line. position (λ p. p.nid_engine == c.args.nid_engine) line.trains) c.self.view_is
 
 pub returns-in-None : goal.returns-in-None
 returns-in-None c =
-    position_from_yields_List (λ train. train.nid_engine == c.args.nid_engine) _ _ _ c.in-None.ensures.ran (YieldsList-from_slice c.self.inside.rows.trains.items cc) (λ x b q k. search (rules, tests))
+    position_from_yields_List (λ train. train.nid_engine == c.args.nid_engine) _ _ _ c.in-None.ensures.ran
+    (YieldsList-from_slice c.self.inside.rows.trains.items cc) (λ x b q k. search (rules, tests))
     ∙ sym (position-map (λ p. p.nid_engine == c.args.nid_engine) train_of c.self.inside.rows.trains.items)
     ∙ ap (λ line. position (λ p. p.nid_engine == c.args.nid_engine) line.trains) c.self.view_is

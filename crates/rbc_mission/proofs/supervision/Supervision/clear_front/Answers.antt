@@ -1,18 +1,22 @@
-use Rattle.std.proofs.Common.{◌≤◌, Option, sym, subst, arith}
+use Rattle.std.proofs.Common.{◌≤◌, arith, Option, subst, sym}
 use Rattle.std.specs.Option.{option_map_or}
-use Rattle.rbc_spec.specs.SectionRuns.{no_run}
-use Rattle.rbc_spec.specs.Centre.{Mission}
 use Rattle.rbc_allocation.specs.Sections.{IsHeldBy}
 use Rattle.rbc_handover.specs.Handings.{handing_of}
-use Rattle.rbc_mission.specs.Supervisions.{SupervisionState}
-use Rattle.rbc_mission.proofs.Missions.{none_stands, frees_nothing}
+use Rattle.rbc_mission.proofs.Missions.{frees_nothing, none_stands}
 use Rattle.rbc_mission.proofs.supervision.Supervision.clear_front.Goals as goal
+use Rattle.rbc_mission.specs.Supervisions.{SupervisionState}
+use Rattle.rbc_spec.specs.Centre.{Mission}
+use Rattle.rbc_spec.specs.SectionRuns.{no_run}
 
 pub returns-in_default-clause-book : goal.returns-in_default-clause-book
 returns-in_default-clause-book c =
-    let none = none_stands c.self.inside.number c.self.inside.nid_engine c.self.inside.mission c.self.inside.hand c.self.inside.border (handing_of c.self.inside.handover) c.args.self.now c.self.view_is c.in_default.is in
-    let few : c.args.count ≤ 0 = subst (λ (o : Option Mission). c.args.count ≤ (option_map_or (λ m. m.hand) o no_run).count) none c.requires.some in
+    let none =
+    none_stands c.self.inside.number c.self.inside.nid_engine c.self.inside.mission c.self.inside.hand
+    c.self.inside.border (handing_of c.self.inside.handover) c.args.self.now c.self.view_is c.in_default.is in
+    let few : c.args.count ≤ 0 =
+    subst (λ (o : Option Mission). c.args.count ≤ (option_map_or (λ m. m.hand) o no_run).count) none c.requires.some in
     frees_nothing _ _ _ (omega (arith, few))
 
 pub clear-told-requires-clause-held : goal.clear-told-requires-clause-held
-clear-told-requires-clause-held c = subst (λ (x : SupervisionState). IsHeldBy x.engine x.hand c.args.book.now) (sym c.self.view_is) c.requires.held
+clear-told-requires-clause-held c =
+    subst (λ (x : SupervisionState). IsHeldBy x.engine x.hand c.args.book.now) (sym c.self.view_is) c.requires.held

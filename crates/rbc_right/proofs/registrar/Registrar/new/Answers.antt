@@ -1,6 +1,6 @@
-use Rattle.std.proofs.Common.{◌≡◌, length, arith}
-use Rattle.rbc_right.proofs.Rights.{new_here, new_engines}
+use Rattle.std.proofs.Common.{◌≡◌, arith, length}
 use Rattle.rbc_right.proofs.registrar.Registrar.new.Goals as goal
+use Rattle.rbc_right.proofs.Rights.{new_engines, new_here}
 
 pub returns-clause-here : goal.returns-clause-here
 returns-clause-here c =

@@ -1,11 +1,11 @@
-use Rattle.std.proofs.Common.{◌≡◌, ◌∙◌, true, false, nat_lt, length, if◌then◌else◌, [], ap, arith}
+use Rattle.std.proofs.Common.{[], if◌then◌else◌, ◌∙◌, ◌≡◌, ap, arith, false, length, nat_lt, true}
 use Rattle.std.proofs.lemmas.Bool.Decides.{nat_tests}
-use Rattle.rbc_spec.specs.Centre.{Centre}
 use Rattle.rbc_spec.specs.Acts.{rest}
+use Rattle.rbc_spec.specs.Centre.{Centre}
 use Rattle.rbc_spec.specs.Links.{announced}
-use Rattle.rbc_train.specs.Desk.{replied}
-use Rattle.rbc_train.proofs.Desk.{same_parts, has_expectations, expects_left}
+use Rattle.rbc_train.proofs.Desk.{expects_left, has_expectations, same_parts}
 use Rattle.rbc_train.proofs.train.TrainState.announced.Goals as goal
+use Rattle.rbc_train.specs.Desk.{replied}
 
 pub returns-then-track-track_count-clause-exact : goal.returns-then-track-track_count-clause-exact
 returns-then-track-track_count-clause-exact c = λ n book rights k has.

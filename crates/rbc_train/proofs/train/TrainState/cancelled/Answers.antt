@@ -1,8 +1,8 @@
-use Rattle.std.proofs.Common.{◌∙◌, [], ap}
+use Rattle.std.proofs.Common.{[], ◌∙◌, ap}
 use Rattle.rbc_spec.specs.Centre.{Centre}
-use Rattle.rbc_train.specs.Desk.{replied}
-use Rattle.rbc_train.proofs.Desk.{has_expectations, expects_left}
+use Rattle.rbc_train.proofs.Desk.{expects_left, has_expectations}
 use Rattle.rbc_train.proofs.train.TrainState.cancelled.Goals as goal
+use Rattle.rbc_train.specs.Desk.{replied}
 
 pub returns-clause-exact : goal.returns-clause-exact
 returns-clause-exact c = λ line n book rights k has.

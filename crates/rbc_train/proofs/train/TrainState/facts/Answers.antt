@@ -1,4 +1,4 @@
-use Rattle.std.proofs.Common.{◌∙◌, ap, sym, refl}
+use Rattle.std.proofs.Common.{◌∙◌, ap, refl, sym}
 use Rattle.rbc_spec.specs.Centre.{is_up}
 use Rattle.rbc_train.proofs.train.TrainState.facts.Goals as goal
 

@@ -19,7 +19,8 @@ returns-then-ne-clause-exact c = λ book k has.
     let p = c.args.self.now in
     let t = p.supervision.engine in
     let away : is_registrar_of line c.args.centre t ≡ false =
-    not_registered line c.args.centre t c.registrar.result (c.registrar.ensures ∙ ap (registrar line) c.nid_engine-engine.ensures) (so_not _ c.if-ne.ensures) in
+    not_registered line c.args.centre t c.registrar.result
+    (c.registrar.ensures ∙ ap (registrar line) c.nid_engine-engine.ensures) (so_not _ c.if-ne.ensures) in
     rw away (same_parts line c.args.centre k p book c.args.registrar.now has)
     ∙ ap (reply_left line c.args.centre t (with_parts p book c.args.registrar.now k)) (sym c.requires.out)
 
@@ -31,15 +32,39 @@ returns-clause-exact c = λ book k has.
     let i = p.supervision.number in
     let t = p.supervision.engine in
     let here : is_registrar_of line c.args.centre t ≡ true =
-    is_registered line c.args.centre t c.registrar.result (c.registrar.ensures ∙ ap (registrar line) c.nid_engine-engine.ensures) (not_so _ c.if-ne.ensures) in
-    let gone : is_here c.ask.new.self i ≡ false = c.ask.ensures.here i ∙ ap (λ n. put (is_here rights) n false i) c.number.ensures ∙ put_there (is_here rights) i false in
+    is_registered line c.args.centre t c.registrar.result
+    (c.registrar.ensures ∙ ap (registrar line) c.nid_engine-engine.ensures) (not_so _ c.if-ne.ensures) in
+    let gone : is_here c.ask.new.self i ≡ false = c.ask.ensures.here i
+    ∙ ap (λ n. put (is_here rights) n false i) c.number.ensures ∙ put_there (is_here rights) i false in
     elim c.match-ask.branch [
       | in-Given w ↦
-          gives line c.args.centre k p book rights has c.args.from c.ask.new.self here (sym (ap (is_here rights) c.number.ensures) ∙ was_here _ _ _ w.in-Given.ensures.answer) gone
+          gives line c.args.centre k p book rights has c.args.from c.ask.new.self here
+          (sym (ap (is_here rights) c.number.ensures) ∙ was_here _ _ _ w.in-Given.ensures.answer) gone
           ∙ ap (λ (h : Heard). reply_left line c.args.centre t (with_parts p book c.ask.new.self k) h)
-          (sym (λ l. let x = c.requires.out l in record x { mail = record x.mail { letter = Some (record { to = c.args.from; body = (w.body-is ∙ ap (λ (u : ℕ). GiveRight u) c.nid_engine-engine.ensures) l }) } }))
+          (sym (λ l. let x = c.requires.out l in
+          record x {
+            mail =
+                record x.mail {
+                  letter =
+                      Some (record {
+                        to = c.args.from;
+                        body = (w.body-is ∙ ap (λ (u : ℕ). GiveRight u) c.nid_engine-engine.ensures) l;
+                      });
+                };
+          }))
       | in-NotHere w ↦
-          refuses line c.args.centre k p book rights has c.args.from c.ask.new.self here (sym (ap (is_here rights) c.number.ensures) ∙ was_gone _ _ w.in-NotHere.ensures.answer) gone
+          refuses line c.args.centre k p book rights has c.args.from c.ask.new.self here
+          (sym (ap (is_here rights) c.number.ensures) ∙ was_gone _ _ w.in-NotHere.ensures.answer) gone
           ∙ ap (λ (h : Heard). reply_left line c.args.centre t (with_parts p book c.ask.new.self k) h)
-          (sym (λ l. let x = c.requires.out l in record x { mail = record x.mail { letter = Some (record { to = c.args.from; body = (w.body-is ∙ ap (λ (u : ℕ). RefuseRight u) c.nid_engine-engine.ensures) l }) } }))
+          (sym (λ l. let x = c.requires.out l in
+          record x {
+            mail =
+                record x.mail {
+                  letter =
+                      Some (record {
+                        to = c.args.from;
+                        body = (w.body-is ∙ ap (λ (u : ℕ). RefuseRight u) c.nid_engine-engine.ensures) l;
+                      });
+                };
+          }))
     ]

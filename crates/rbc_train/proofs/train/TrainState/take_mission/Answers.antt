@@ -1,8 +1,8 @@
-use Rattle.std.proofs.Common.{◌∙◌, None, Some, ap, arith}
-use Rattle.rbc_spec.specs.SectionRuns.{no_run}
-use Rattle.rbc_right.specs.Rights.{right_of}
+use Rattle.std.proofs.Common.{◌∙◌, ap, arith, None, Some}
 use Rattle.rbc_line.specs.SectionRuns.{run_of}
 use Rattle.rbc_mission.specs.Supervisions.{mission_of}
+use Rattle.rbc_right.specs.Rights.{right_of}
+use Rattle.rbc_spec.specs.SectionRuns.{no_run}
 use Rattle.rbc_train.proofs.train.TrainState.take_mission.Goals as goal
 
 pub take_up-requires-clause-some : goal.take_up-requires-clause-some
@@ -24,6 +24,11 @@ returns-clause-left c =
     λ i. record old {
       heard = Some (c.later.ensures i);
       supervision = (c.take_up.ensures.supervision
-          ∙ (λ j. record old.supervision { mission = Some (mission_of (run_of y.hand) no_run None (record (c.at.ensures j) { has_data = y.has_data; is_ended = y.is_ended })); hand = c.take_up.new.self.hand })) i;
+          ∙ (λ j. record old.supervision {
+            mission =
+                Some (mission_of (run_of y.hand) no_run None
+                (record (c.at.ensures j) { has_data = y.has_data; is_ended = y.is_ended }));
+            hand = c.take_up.new.self.hand;
+          })) i;
       expectations = c.taken.new.self;
     }

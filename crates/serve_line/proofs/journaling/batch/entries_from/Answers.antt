@@ -1,9 +1,9 @@
-use Rattle.std.proofs.Common.{◌∙◌, List, take, drop, subst, refl, ap, arith}
+use Rattle.std.proofs.Common.{◌∙◌, ap, arith, drop, List, refl, subst, take}
 use Rattle.std.proofs.lemmas.List.{take_all}
 use Rattle.rbc_log.specs.declared.entry.Entry as log
-use Rattle.serve_line.specs.Journaling.Noting.{AreNotesOf}
-use Rattle.serve_line.proofs.JournalingLemmas.Notes.{notes_next}
 use Rattle.serve_line.proofs.journaling.batch.entries_from.Goals as goal
+use Rattle.serve_line.proofs.JournalingLemmas.Notes.{notes_next}
+use Rattle.serve_line.specs.Journaling.Noting.{AreNotesOf}
 
 pub loop-entry-preserved : goal.loop-entry-preserved
 loop-entry-preserved c =
@@ -15,5 +15,6 @@ pub returns : goal.returns
 returns c =
     subst (λ (es : List log.Entry). AreNotesOf es c.loop-entry.next.items)
     (take_all c.loop-entry.entry-index c.next_of-entries.result.now (omega arith)
-    ∙ c.next_of-entries.ensures ∙ ap (λ (es : List log.Entry). take 256 (drop c.args.written es)) c.entries.ensures.value)
+    ∙ c.next_of-entries.ensures
+    ∙ ap (λ (es : List log.Entry). take 256 (drop c.args.written es)) c.entries.ensures.value)
     c.loop-entry.invariant

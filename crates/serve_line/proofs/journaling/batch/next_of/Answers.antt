@@ -1,5 +1,5 @@
-use Rattle.std.proofs.Common.{◌≡◌, ◌∙◌, ◌-◌, ◌≤◌, List, length, take, drop, sym, ap, arith}
-use Rattle.std.proofs.lemmas.List.{take_all, length-drop}
+use Rattle.std.proofs.Common.{◌-◌, ◌∙◌, ◌≡◌, ◌≤◌, ap, arith, drop, length, List, sym, take}
+use Rattle.std.proofs.lemmas.List.{length-drop, take_all}
 use Rattle.rbc_log.specs.declared.entry.Entry as log
 use Rattle.serve_line.proofs.journaling.batch.next_of.Goals as goal
 

@@ -1,0 +1,31 @@
+# Completion of rbcline in bash: source this file. Made by `.ci/names --write` from crates/cli_commands/src/forms.rt
+_rbcline() {
+    local word="${COMP_WORDS[COMP_CWORD]}" options="--help"
+    local commands="check explain run storm serve drive print audit words decode picture help --help --version"
+    if [ "$COMP_CWORD" = 1 ]; then
+        mapfile -t COMPREPLY < <(compgen -W "$commands" -- "$word")
+        return
+    fi
+    case "${COMP_WORDS[COMP_CWORD - 1]}" in
+    --journal | --resume)
+        compopt -o filenames
+        mapfile -t COMPREPLY < <(compgen -d -- "$word")
+        return
+        ;;
+    --page | --rate | --burst | --timeout | --message | --from | --to | --train) return ;;
+    esac
+    if [[ "$word" == --* ]]; then
+        case "${COMP_WORDS[1]}" in
+        serve) options+=" --quiet --tell --life --bind --no-sync --page --control --rate --burst --journal --resume" ;;
+        drive) options+=" --timeout" ;;
+        words) options+=" --message" ;;
+        decode) options+=" --frame --json" ;;
+        picture) options+=" --html --from --to --train" ;;
+        esac
+        mapfile -t COMPREPLY < <(compgen -W "$options" -- "$word")
+        return
+    fi
+    compopt -o filenames
+    mapfile -t COMPREPLY < <(compgen -f -- "$word")
+}
+complete -F _rbcline rbcline ./rbcline

@@ -1,0 +1,84 @@
+//! Shows bytes as messages or as a frame, field by field.
+
+use crate::files::Files;
+use std::alloc::{AllocError, Global};
+use std::convert::AsStr;
+use std::io::{BufWriter, Write};
+use text_fields::{Form, PrintFault, bytes_in, print_frame, print_messages};
+use text_script::status::Fault;
+
+/// The kind of the bytes, and the form of the print.
+#[derive(Clone, Copy)]
+pub struct Decoding {
+    pub is_frame: bool,
+    pub is_json: bool,
+}
+
+/// Prints the messages, or the frame, of bytes in hexadecimal. They are the words of the command besides its options.
+/// A single other word names a file with them, and `-` is standard input. If a decoder refuses some of the bytes, all
+/// of them are printed, and the fault is `Differs`.
+pub fn decode<'a, S: AsStr, F: Files, O: Write>(
+    alloc: Global,
+    words: &'a [S],
+    decoding: Decoding,
+    files: &F,
+    out: &mut O,
+) -> Result<(), Fault<'a>> {
+    let bytes = given_bytes(alloc, words, files)?;
+    let Ok(mut out) = BufWriter::new(alloc, out) else {
+        return Err(AllocError.into());
+    };
+    let form = if decoding.is_json {
+        Form::Json
+    } else {
+        Form::Text
+    };
+    let done = if decoding.is_frame {
+        print_frame(alloc, &bytes, form, &mut out)
+    } else {
+        print_messages(alloc, &bytes, form, &mut out)
+    };
+    match done {
+        Ok(true) => Ok(()),
+        Ok(false) => Err(Fault::Differs),
+        Err(PrintFault::Memory) => Err(AllocError.into()),
+        Err(PrintFault::Write) => Err(Fault::Write),
+    }
+}
+
+// The bytes that the words are, or that are in the file which the only word names.
+fn given_bytes<'a, S: AsStr, F: Files>(
+    alloc: Global,
+    words: &'a [S],
+    files: &F,
+) -> Result<Vec<u8>, Fault<'a>> {
+    let mut text = String::new(alloc);
+    let mut last = "";
+    let mut count = 0u32;
+    for word in words.iter().skip(1) {
+        let word = word.as_str();
+        if !word.starts_with("--") {
+            text.push_str(word)?;
+            text.push_str(" ")?;
+            last = word;
+            count = count.saturating_add(1);
+        }
+    }
+    match bytes_in(alloc, text.as_str())? {
+        Some(bytes) => Ok(bytes),
+        None if count == 1 => bytes_of_file(alloc, last, files),
+        None => Err(Fault::Words),
+    }
+}
+
+fn bytes_of_file<'a, F: Files>(
+    alloc: Global,
+    file: &'a str,
+    files: &F,
+) -> Result<Vec<u8>, Fault<'a>> {
+    let text = files.text(file).ok_or(Fault::CannotRead(file))?;
+    match bytes_in(alloc, text.as_str())? {
+        Some(bytes) => Ok(bytes),
+        None => Err(Fault::CannotRead(file)),
+    }
+}

@@ -1,0 +1,2 @@
+pub mod Trains
+pub mod Scenes

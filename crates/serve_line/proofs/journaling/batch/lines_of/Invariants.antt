@@ -1,7 +1,0 @@
-use Rattle.std.proofs.Common.{◌≡◌, take}
-use Rattle.std.specs.List.{flat_map}
-use Rattle.text_journal.specs.Journal.{entry_line}
-use Rattle.serve_line.proofs.journaling.batch.lines_of.Given as goal
-
-abbrev pub invariant-loop-entry : goal.invariant-loop-entry
-invariant-loop-entry l = l.text.items ≡ flat_map (entry_line l.line) (take l.entry-index l.entries)

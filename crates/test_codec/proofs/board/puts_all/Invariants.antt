@@ -1,4 +1,0 @@
-use Rattle.test_codec.proofs.board.puts_all.Given as goal
-
-abbrev pub invariant-loop-k : goal.invariant-loop-k
-invariant-loop-k g l = g.C.Carrier.is_of l.carrier l.seen

@@ -1,0 +1,13 @@
+//! Tests of bytes: streams in pieces, random bytes, frames between two centres, and a board that keeps them.
+#[cfg(test)]
+mod board;
+pub mod bytes;
+pub mod chance;
+#[cfg(test)]
+mod frame;
+#[cfg(test)]
+mod frame_bytes;
+#[cfg(test)]
+mod hostile;
+#[cfg(test)]
+mod stream;

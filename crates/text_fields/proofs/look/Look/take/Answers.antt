@@ -1,0 +1,17 @@
+use Rattle.std.proofs.Common.{◌≡◌, ◌+◌, ◌∙◌, ap, sym, length, length-append, arith}
+use Rattle.rbc_bits.specs.Bits.{field}
+use Rattle.rbc_bits.proofs.Fields.{length-field, field_at_err}
+use Rattle.rbc_bits.specs.declared.fault.BitFault.TheVariants.{Short}
+use Rattle.text_fields.proofs.look.Look.take.Goals as goal
+
+pub returns-in_ok-push-in-Ok-clause-there : goal.returns-in_ok-push-in-Ok-clause-there
+returns-in_ok-push-in-Ok-clause-there c = λ _.
+    ap (λ p. length p.1) (sym c.self.view_is)
+    ∙ ap length c.in-Ok.ensures.field
+    ∙ length-append (field c.args.width c.in-Ok.value) c.take.new.self
+    ∙ ap (λ n. n + length c.take.new.self) (length-field c.args.width c.in-Ok.value)
+
+pub returns-in-Err-clause-there : goal.returns-in-Err-clause-there
+returns-in-Err-clause-there c = λ there.
+    let left : length c.self.inside.left ≡ length c.args.self.now.1 = ap (λ p. length p.1) c.self.view_is in
+    absurd (omega (arith, left, there, field_at_err Short _ c.args.width _ c.in-Err.ensures.next))

@@ -1,0 +1,20 @@
+//! Bytes in hexadecimal, as people write them.
+
+use hex::FromHexError;
+use std::alloc::{AllocError, Global};
+
+/// The bytes of a text in hexadecimal. Blanks, line ends, colons, and `0x` at the start of a word are left out. None
+/// for any other text, and for an odd number of digits.
+pub fn bytes_in(alloc: Global, text: &str) -> Result<Option<Vec<u8>>, AllocError> {
+    let mut digits = String::new(alloc);
+    for word in text.split_whitespace() {
+        for part in word.split(':') {
+            digits.push_str(part.strip_prefix("0x").unwrap_or(part))?;
+        }
+    }
+    match hex::decode(alloc, digits.as_str()) {
+        Ok(bytes) => Ok(Some(bytes)),
+        Err(FromHexError::OutOfMemory) => Err(AllocError),
+        Err(_) => Ok(None),
+    }
+}

@@ -1,0 +1,102 @@
+//! The bits of a message: those that are shown, and those that are not yet.
+
+ghost use Rattle.std.specs.Prelude.{◌≡◌, ◌+◌, ◌^◌, ◌≤◌, [], length, All, IfOk, OnOk};
+ghost use Rattle.rbc_bits.specs.Bits.{bits_of};
+ghost use Rattle.text_fields.specs.Shown.{bits_shown, all_bits, Fits};
+
+use crate::kind::Kind;
+use crate::layout::Field;
+use crate::shown::Shown;
+use rbc_bits::BitReader;
+use std::alloc::{AllocError, Global};
+use std::marker::Model;
+
+/// The fields shown so far, and the bits after them.
+#[derive(Drop)]
+pub(crate) struct Look<'a> {
+    shown: Vec<Shown>,
+    left: BitReader<'a>,
+}
+
+impl<'a> Model for Look<'a> {
+    ghost use Rattle.std.specs.Prelude.{All, Bool, List};
+    ghost use Rattle.text_fields.specs.Shown.{Fits};
+    ghost use Rattle.text_fields.specs.declared.shown.Shown.{Shown};
+
+    ghost Value = { List Shown × List Bool };
+
+    ghost view = { λ l. (l.shown.items, l.left) };
+
+    ghost invariant = { λ l. All Fits l.shown.items };
+}
+
+impl<'a> Look<'a> {
+    /// No field is shown yet.
+    pub fn new(alloc: Global, bytes: &'a [u8]) -> Look<'a>
+        requires { length bytes.now ≤ 2 ^ 28 }
+        ensures { result ≡ ([], bits_of bytes.now) }
+    {
+        Look {
+            shown: Vec::new(alloc),
+            left: BitReader::new(bytes),
+        }
+    }
+
+    /// How many bits are left.
+    pub fn left(&self) -> u32
+        ensures { result ≡ length self.now.1 }
+    {
+        self.left.remaining()
+    }
+
+    /// How many fields are shown.
+    pub fn count(&self) -> usize
+        ensures { result ≡ length self.now.0 }
+    {
+        self.shown.len()
+    }
+
+    /// Shows the next bits as this field, if as many are left. It returns their value.
+    pub fn take(
+        &mut self,
+        field: Field,
+        width: u32,
+        packet: Option<u64>,
+        scale: u64,
+    ) -> Result<Option<u64>, AllocError>
+        requires { width ≤ 64 }
+        ensures bits { OnOk result (all_bits self.new ≡ all_bits self.old) }
+        ensures there { OnOk result (width ≤ length self.old.1 → length self.old.1 ≡ width + length self.new.1) }
+    {
+        match self.left.take(width) {
+            Ok(value) => {
+                let packet = match field.kind {
+                    Kind::Packet => Some(value),
+                    _ => packet,
+                };
+                self.shown.push(Shown {
+                    field,
+                    width,
+                    value,
+                    packet,
+                    scale,
+                })?;
+                Ok(Some(value))
+            }
+            Err(_) => Ok(None),
+        }
+    }
+
+    /// The shown fields, with the bits that are left as this field.
+    pub fn finish(self, unread: Field) -> Result<Vec<Shown>, AllocError>
+        ensures bits { IfOk result (λ shown. bits_shown shown.items ≡ all_bits self.entry) }
+        ensures fits { IfOk result (λ shown. All Fits shown.items) }
+    {
+        let mut look = self;
+        while look.left() > 0 {
+            let width = look.left().min(64);
+            look.take(unread, width, None, 0)?;
+        }
+        Ok(look.shown)
+    }
+}
