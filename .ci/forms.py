@@ -240,7 +240,11 @@ def faults():
     for path, text in pages().items():
         if not os.path.isfile(f"{tables.TOP}/{path}") or read(path) != text:
             yield f"{path}: {FORMS} makes another text (.ci/names --write makes it again)"
-    commands, _, _ = forms()
+    commands, _, version = forms()
+    newest = re.search(r"(?m)^## ([\d.]+), ", read("CHANGELOG.md"))
+    cited = re.search(r'(?m)^version: "(.*)"$', read("CITATION.cff"))
+    if {newest[1], cited[1]} != {version}:
+        yield f"the version: {FORMS} has {version}, CHANGELOG.md {newest[1]}, CITATION.cff {cited[1]}"
     options = {of.name for it in commands for of in it.options} | set(re.findall(rf"\.long\({TEXT}\)", read(FORMS)))
     man, bash = man_page().replace("\\-", "-"), completion()
     for it in sorted(options):

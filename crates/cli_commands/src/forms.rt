@@ -1,6 +1,7 @@
 //! The commands of `rbcline`, and the arguments of each.
 
-use clap::{Arg, ArgAction, Command};
+use clap::builder::ValueParser;
+use clap::{Arg, ArgAction, ArgGroup, Command};
 use std::alloc::{AllocError, Global};
 
 /// A command: its name, its purpose, and its arguments with the meaning of each.
@@ -106,7 +107,7 @@ pub fn rbcline<'a>(alloc: Global) -> Result<Command<'a>, AllocError> {
 }
 
 /// The version of the program.
-pub(crate) const VERSION: &str = "0.1.0";
+pub(crate) const VERSION: &str = "0.2.0";
 
 // The exit statuses, and a first command to try.
 const ENDS: &str =
@@ -133,15 +134,54 @@ fn command_of<'a>(alloc: Global, form: &Form) -> Result<Command<'a>, AllocError>
         command = command.arg(bytes(alloc))?;
     }
     for (name, help) in flags_of(form.name) {
-        command = command.arg(flag(alloc, name, help))?;
+        command = command.arg(flag(alloc, name, help)?)?;
     }
     for (name, value, help) in parts_of(form.name) {
         command = command.arg(part(alloc, name, value, help))?;
     }
     for (name, help) in form.words {
-        command = command.arg(Arg::new(alloc, name).required(true).help(help))?;
+        let word = Arg::new(alloc, name).required(true).help(help);
+        command = command.arg(bounded(word, name))?;
+    }
+    if form.name == "serve" {
+        command = command.group(journals(alloc)?)?;
     }
     Ok(command)
+}
+
+/// The bounds of a port.
+const PORTS: (u64, u64) = (1, 65_535);
+
+/// The bounds of a count, of seconds, and of the number of an event.
+const COUNTS: (u64, u64) = (1, 4_294_967_295);
+
+/// The arguments that are numbers, each with its bounds.
+pub(crate) static NUMBERS: [(&str, (u64, u64)); 9] = [
+    ("PORT", PORTS),
+    ("page", PORTS),
+    ("SEED", (0, u64::MAX)),
+    ("rate", COUNTS),
+    ("burst", COUNTS),
+    ("timeout", COUNTS),
+    ("from", COUNTS),
+    ("to", COUNTS),
+    ("train", (0, 16_777_215)),
+];
+
+// An argument that takes only numbers within its bounds, if it is a number.
+fn bounded<'a>(argument: Arg<'a>, name: &str) -> Arg<'a> {
+    match NUMBERS.iter().find(|(number, _)| *number == name) {
+        Some((_, (least, most))) => argument.value_parser(ValueParser::unsigned(*least, *most)),
+        None => argument,
+    }
+}
+
+/// The name of the two options for the folder of the journals.
+const JOURNALS: &str = "journals";
+
+// At most one of the two is given.
+fn journals<'a>(alloc: Global) -> Result<ArgGroup<'a>, AllocError> {
+    ArgGroup::new(alloc, JOURNALS).arg("journal")?.arg("resume")
 }
 
 // The options of `picture`: the part of the run that is drawn.
@@ -156,10 +196,11 @@ static CUT: [(&str, &str, &str); 3] = [
 ];
 
 fn part<'a>(alloc: Global, name: &'static str, value: &'static str, help: &'static str) -> Arg<'a> {
-    Arg::new(alloc, name)
+    let part = Arg::new(alloc, name)
         .long(name)
         .value_name(value)
-        .help(help)
+        .help(help);
+    bounded(part, name)
 }
 
 // The options of `serve` with a value: the page's port, the socket of the interlocking, the rates of messages, and the
@@ -178,9 +219,13 @@ static DOORS: [(&str, &str, &str); 6] = [
     (
         "rate",
         "N",
-        "How many messages of a train each centre takes in a second",
+        "How many messages of a train each centre takes in a second [default: 50]",
     ),
-    ("burst", "N", "How many of them it takes at once"),
+    (
+        "burst",
+        "N",
+        "How many of them it takes at once [default: 100]",
+    ),
     (
         "journal",
         "FOLDER",
@@ -253,11 +298,15 @@ fn flags_of(command: &str) -> &'static [(&'static str, &'static str)] {
     }
 }
 
-fn flag<'a>(alloc: Global, name: &'static str, help: &'static str) -> Arg<'a> {
-    Arg::new(alloc, name)
+fn flag<'a>(alloc: Global, name: &'static str, help: &'static str) -> Result<Arg<'a>, AllocError> {
+    let flag = Arg::new(alloc, name)
         .long(name)
         .action(ArgAction::SetTrue)
-        .help(help)
+        .help(help);
+    if name == "no-sync" {
+        return flag.requires_arg(JOURNALS);
+    }
+    Ok(flag)
 }
 
 fn bytes<'a>(alloc: Global) -> Arg<'a> {

@@ -1,5 +1,5 @@
 use crate::decode::Decoding;
-use crate::forms::rbcline;
+use crate::forms::{NUMBERS, rbcline};
 use clap::error::ErrorKind;
 use clap::{ArgMatches, Error};
 use std::alloc::{AllocError, Global};
@@ -108,7 +108,7 @@ pub struct JournalWords<'a> {
     pub is_synced: bool,
 }
 
-/// Reads the arguments after the program's name.
+/// Reads the arguments after the program's name. If they are refused, the fault has the reason, or help.
 pub fn requested<'a, S: AsStr>(alloc: Global, words: &'a [S]) -> Result<Request<'a>, Fault<'a>> {
     let matches = match matched(alloc, words) {
         Ok(matches) => matches,
@@ -119,6 +119,32 @@ pub fn requested<'a, S: AsStr>(alloc: Global, words: &'a [S]) -> Result<Request<
     named(&matches).ok_or(Fault::Words)
 }
 
+// The arguments, by the table of the commands. A number with a plus sign is refused.
+fn matched<'a, S: AsStr>(alloc: Global, words: &'a [S]) -> Result<ArgMatches<'a>, Error> {
+    let matches = rbcline(alloc)?.try_get_matches_from(words)?;
+    if let Some((name, word)) = signed_number(&matches) {
+        let reason = format!(in alloc;
+            "invalid value '{word}' for '{name}': a number has no sign"
+        )?;
+        return Err(rbcline(alloc)?.error(ErrorKind::ValueValidation, reason.as_str())?);
+    }
+    Ok(matches)
+}
+
+// The first number that has a plus sign, after the name of its argument.
+fn signed_number<'a>(matches: &ArgMatches<'a>) -> Option<(&'static str, &'a str)> {
+    let (_, words) = matches.subcommand()?;
+    for (name, _) in &NUMBERS {
+        if let Some(word) = words.get_str(name)
+            && word.starts_with('+')
+        {
+            return Some((name, word));
+        }
+    }
+    None
+}
+
+// The request of matched arguments. It is there: each required argument has a value, and each number is in its range.
 fn named<'a>(matches: &ArgMatches<'a>) -> Option<Request<'a>> {
     let (command, words) = matches.subcommand()?;
     match command {
@@ -149,7 +175,7 @@ fn named_run<'a>(file: &'a str, words: &ArgMatches<'a>) -> Option<Request<'a>> {
 
 fn named_storm<'a>(file: &'a str, words: &ArgMatches<'a>) -> Option<Request<'a>> {
     let script = words.get_str("SCRIPT")?;
-    let seed = seed_of(words.get_str("SEED")?)?;
+    let seed = words.get_one("SEED")?;
     Some(Request::Storm { file, script, seed })
 }
 
@@ -165,7 +191,7 @@ fn named_of_print<'a>(command: &str, file: &'a str, words: &ArgMatches<'a>) -> O
         "picture" => Some(Request::Picture {
             file,
             printed,
-            cut: cut_of(words)?,
+            cut: cut_of(words),
             is_html: words.get_flag("html"),
         }),
         _ => None,
@@ -191,98 +217,48 @@ fn named_decode<'a>(words: &ArgMatches<'a>) -> Request<'a> {
 fn named_serve<'a>(words: &ArgMatches<'a>) -> Option<Request<'a>> {
     Some(Request::Serve {
         file: words.get_str("FILE")?,
-        port: port_of(words.get_str("PORT")?)?,
-        words: serve_words(words)?,
+        port: words.get_one("PORT")?,
+        words: serve_words(words),
     })
 }
 
-fn serve_words<'a>(words: &ArgMatches<'a>) -> Option<ServeWords<'a>> {
-    Some(ServeWords {
+fn serve_words<'a>(words: &ArgMatches<'a>) -> ServeWords<'a> {
+    ServeWords {
         is_quiet: words.get_flag("quiet"),
-        page: match words.get_str("page") {
-            Some(word) => Some(port_of(word)?),
-            None => None,
-        },
+        page: words.get_one("page"),
         control: words.get_str("control"),
         is_bound: words.get_flag("bind"),
         is_telling: words.get_flag("tell"),
         shows_life: words.get_flag("life"),
-        per_second: named_count(words, "rate")?,
-        burst: named_count(words, "burst")?,
-        journal: journal_words(words)?,
-    })
-}
-
-// The options of journals. None if both folders are named, or if none is named and `--no-sync` is given.
-fn journal_words<'a>(words: &ArgMatches<'a>) -> Option<Option<JournalWords<'a>>> {
-    let is_synced = !words.get_flag("no-sync");
-    let (folder, is_resumed) = match (words.get_str("journal"), words.get_str("resume")) {
-        (Some(folder), None) => (folder, false),
-        (None, Some(folder)) => (folder, true),
-        (None, None) if is_synced => return Some(None),
-        _ => return None,
-    };
-    Some(Some(JournalWords {
-        folder,
-        is_resumed,
-        is_synced,
-    }))
-}
-
-// Like `named_number`, but 0 is refused.
-fn named_count(words: &ArgMatches<'_>, option: &str) -> Option<Option<u32>> {
-    match named_number(words, option)? {
-        Some(0) => None,
-        number => Some(number),
+        per_second: words.get_one("rate"),
+        burst: words.get_one("burst"),
+        journal: journal_words(words),
     }
+}
+
+// The options of journals. Only one of the two folders is given, and only with it `--no-sync`.
+fn journal_words<'a>(words: &ArgMatches<'a>) -> Option<JournalWords<'a>> {
+    let resumed = words.get_str("resume");
+    Some(JournalWords {
+        folder: resumed.or(words.get_str("journal"))?,
+        is_resumed: resumed.is_some(),
+        is_synced: !words.get_flag("no-sync"),
+    })
 }
 
 fn named_drive<'a>(words: &ArgMatches<'a>) -> Option<Request<'a>> {
     Some(Request::Drive {
-        port: port_of(words.get_str("PORT")?)?,
+        port: words.get_one("PORT")?,
         file: words.get_str("FILE")?,
-        timeout_s: named_count(words, "timeout")?,
+        timeout_s: words.get_one("timeout"),
     })
 }
 
 // The part of a run that `picture` draws.
-fn cut_of(words: &ArgMatches<'_>) -> Option<Cut> {
-    Some(Cut {
-        from: named_number(words, "from")?,
-        to: named_number(words, "to")?,
-        train: named_number(words, "train")?,
-    })
-}
-
-// The number of an option, if the option is given. None if the value has a sign or does not fit in 32 bits.
-fn named_number(words: &ArgMatches<'_>, option: &str) -> Option<Option<u32>> {
-    match words.get_str(option) {
-        Some(word) if word.starts_with('+') => None,
-        Some(word) => Some(Some(word.parse().ok()?)),
-        None => Some(None),
+fn cut_of(words: &ArgMatches<'_>) -> Cut {
+    Cut {
+        from: words.get_one("from"),
+        to: words.get_one("to"),
+        train: words.get_one("train"),
     }
-}
-
-// Reads a port: a number from 1 to 65 535, without a sign.
-fn port_of(word: &str) -> Option<u16> {
-    if word.starts_with('+') {
-        return None;
-    }
-    match word.parse() {
-        Ok(0) => None,
-        Ok(port) => Some(port),
-        Err(_) => None,
-    }
-}
-
-// Reads a seed: a number of at most 64 bits, without a sign.
-fn seed_of(word: &str) -> Option<u64> {
-    if word.starts_with('+') {
-        return None;
-    }
-    word.parse().ok()
-}
-
-fn matched<'a, S: AsStr>(alloc: Global, words: &'a [S]) -> Result<ArgMatches<'a>, Error> {
-    rbcline(alloc)?.try_get_matches_from(words)
 }
