@@ -1,6 +1,6 @@
 //! The commands of `rbcline`, and the arguments of each.
 
-use clap::builder::ValueParser;
+use crate::numbers::bounded;
 use clap::{Arg, ArgAction, ArgGroup, Command};
 use std::alloc::{AllocError, Global};
 
@@ -11,14 +11,17 @@ struct Form {
     words: &'static [(&'static str, &'static str)],
 }
 
-const FILE: (&str, &str) = ("FILE", "The line file");
+const FILE: (&str, &str) = ("FILE", "The line file; `-` is standard input");
 
 const PRINTED: (&str, &str) = (
     "PRINTED",
     "What `run` or `serve` printed, or the folder of the line's journals",
 );
 
-const SCRIPT: (&str, &str) = ("SCRIPT", "The script, one event a line");
+const SCRIPT: (&str, &str) = (
+    "SCRIPT",
+    "The script, one event a line; `-` is standard input",
+);
 
 static FORMS: [Form; 11] = [
     Form {
@@ -28,17 +31,17 @@ static FORMS: [Form; 11] = [
     },
     Form {
         name: "explain",
-        about: "Say in plain words all that is wrong in a line file, or show the line",
+        about: "Print each fault of a line file in words, or show the line",
         words: &[FILE],
     },
     Form {
         name: "run",
-        about: "Run a script of events, and print each event, what it leads to, and the line at the end",
+        about: "Run a script of events, and print each event, its answers, and the line at the end",
         words: &[FILE, SCRIPT],
     },
     Form {
         name: "storm",
-        about: "Run a script with four deliveries drawn by lot behind each event, and print as `run` does",
+        about: "Run a script with four deliveries drawn by lot after each event, and print as `run` does",
         words: &[
             FILE,
             SCRIPT,
@@ -50,18 +53,18 @@ static FORMS: [Form; 11] = [
     },
     Form {
         name: "serve",
-        about: "Let the centres of a line run on this host, where trains and the interlocking connect to them; print what happened after `stop`",
+        about: "Run the centres of a line on this host for trains and the interlocking, and print the run after `stop`",
         words: &[
             FILE,
             (
                 "PORT",
-                "The port of the first centre; the others follow, and after them the interlocking, unless --control is given",
+                "The port of the first centre; those after it are of the others, and of the interlocking",
             ),
         ],
     },
     Form {
         name: "drive",
-        about: "Send messages to a centre as a train does, and print what it answers",
+        about: "Send messages to a centre as a train does, and print its answers",
         words: &[
             ("PORT", "The port of the centre"),
             (
@@ -72,34 +75,34 @@ static FORMS: [Form; 11] = [
     },
     Form {
         name: "print",
-        about: "Print the run whose journals lie in a folder, as `serve` does after `stop`",
+        about: "Print the run of the journals in a folder, as `serve` does after `stop`",
         words: &[FILE, ("FOLDER", "The folder of the line's journals")],
     },
     Form {
         name: "audit",
-        about: "Run the events of a print again, and say whether all its lines are equal, or which differs first",
+        about: "Run the events of a print again, and compare its lines",
         words: &[FILE, PRINTED],
     },
     Form {
         name: "words",
-        about: "Say in words what a run printed, line by line, or show one message field by field",
+        about: "Put a print of `run` into words, or show one message field by field",
         words: &[FILE, PRINTED],
     },
     Form {
         name: "decode",
-        about: "Show bytes as radio messages, field by field, also where they are refused",
+        about: "Show bytes as radio messages, field by field, also refused ones",
         words: &[],
     },
     Form {
         name: "picture",
-        about: "Draw what a run printed as a time-distance diagram, in SVG",
+        about: "Draw a print of `run` as a time-distance diagram, in SVG",
         words: &[FILE, PRINTED],
     },
 ];
 
 /// The program, with its commands.
 pub fn rbcline<'a>(alloc: Global) -> Result<Command<'a>, AllocError> {
-    let mut rbcline = program(alloc);
+    let mut rbcline = program(alloc).bin_name("rbcline")?;
     for form in &FORMS {
         rbcline = rbcline.subcommand(command_of(alloc, form)?)?;
     }
@@ -111,8 +114,9 @@ pub(crate) const VERSION: &str = "0.2.0";
 
 // The exit statuses, and a first command to try.
 const ENDS: &str =
-    "Exit status: 0 done, 1 a print differs or bytes are refused, 2 these words, 3 a file or script, 4 the line file, 5 a refused step, \
-6 a socket or the output, 7 bytes that spell no message\n\nTo begin: rbcline run line.toml script.txt";
+    "Exit status: 0 done, 1 a print differs or bytes are refused, 2 these words, 3 a file or script, 4 the line file, \
+5 a refused step, 6 a socket or the output, 7 bytes that are not a message\n\n\
+To begin: rbcline run crates/rbc_cli/data/line.toml crates/rbc_cli/data/script";
 
 // The program without its commands.
 fn program<'a>(alloc: Global) -> Command<'a> {
@@ -149,37 +153,9 @@ fn command_of<'a>(alloc: Global, form: &Form) -> Result<Command<'a>, AllocError>
     Ok(command)
 }
 
-/// The bounds of a port.
-const PORTS: (u64, u64) = (1, 65_535);
-
-/// The bounds of a count, of seconds, and of the number of an event.
-const COUNTS: (u64, u64) = (1, 4_294_967_295);
-
-/// The arguments that are numbers, each with its bounds.
-pub(crate) static NUMBERS: [(&str, (u64, u64)); 9] = [
-    ("PORT", PORTS),
-    ("page", PORTS),
-    ("SEED", (0, u64::MAX)),
-    ("rate", COUNTS),
-    ("burst", COUNTS),
-    ("timeout", COUNTS),
-    ("from", COUNTS),
-    ("to", COUNTS),
-    ("train", (0, 16_777_215)),
-];
-
-// An argument that takes only numbers within its bounds, if it is a number.
-fn bounded<'a>(argument: Arg<'a>, name: &str) -> Arg<'a> {
-    match NUMBERS.iter().find(|(number, _)| *number == name) {
-        Some((_, (least, most))) => argument.value_parser(ValueParser::unsigned(*least, *most)),
-        None => argument,
-    }
-}
-
-/// The name of the two options for the folder of the journals.
+/// The name of the two options for the folder of the journals. At most one of them is given.
 const JOURNALS: &str = "journals";
 
-// At most one of the two is given.
 fn journals<'a>(alloc: Global) -> Result<ArgGroup<'a>, AllocError> {
     ArgGroup::new(alloc, JOURNALS).arg("journal")?.arg("resume")
 }
@@ -203,8 +179,7 @@ fn part<'a>(alloc: Global, name: &'static str, value: &'static str, help: &'stat
     bounded(part, name)
 }
 
-// The options of `serve` with a value: the page's port, the socket of the interlocking, the rates of messages, and the
-// folders of the journals.
+// The options of `serve` with a value.
 static DOORS: [(&str, &str, &str); 6] = [
     (
         "page",
@@ -229,12 +204,12 @@ static DOORS: [(&str, &str, &str); 6] = [
     (
         "journal",
         "FOLDER",
-        "Begin a journal of each centre in this folder, and write each event there that it takes",
+        "Begin a journal of each centre in this folder",
     ),
     (
         "resume",
         "FOLDER",
-        "Go on from the journals in this folder, and write on in them",
+        "Continue from the journals in this folder",
     ),
 ];
 
@@ -245,7 +220,7 @@ static DRIVE: [(&str, &str, &str); 1] = [(
     "How long to wait for the centre at most [default: no limit]",
 )];
 
-// The options of a command with a value, and the meaning of each.
+// The options of a command with a value.
 fn parts_of(command: &str) -> &'static [(&'static str, &'static str, &'static str)] {
     match command {
         "picture" => &CUT,
@@ -266,17 +241,14 @@ static DECODE: [(&str, &str); 2] = [
 ];
 
 static SERVE: [(&str, &str); 5] = [
-    (
-        "quiet",
-        "Say nothing on standard error while the centres run",
-    ),
+    ("quiet", "Write no notes on standard error"),
     (
         "tell",
-        "Tell the interlocking of each section that it wished back, once it is shut",
+        "Notify the interlocking when a section that it asked back is shut",
     ),
     (
         "life",
-        "Show how much of each log, clock and link is used up, behind the lines of `show`",
+        "Print the used part of each log, clock and link, after the lines of `show`",
     ),
     (
         "bind",
@@ -284,7 +256,7 @@ static SERVE: [(&str, &str); 5] = [
     ),
     (
         "no-sync",
-        "Write journals without waiting until the disk has what is written",
+        "Do not wait until the disk has each write of a journal",
     ),
 ];
 

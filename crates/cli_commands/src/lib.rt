@@ -19,6 +19,7 @@ mod in_words;
 pub mod inspecting;
 pub mod journal;
 pub mod line_file;
+mod numbers;
 mod picture;
 mod printed;
 pub mod rerunning;

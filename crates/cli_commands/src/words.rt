@@ -1,5 +1,6 @@
 use crate::decode::Decoding;
-use crate::forms::{NUMBERS, rbcline};
+use crate::forms::rbcline;
+use crate::numbers::signed_number;
 use clap::error::ErrorKind;
 use clap::{ArgMatches, Error};
 use std::alloc::{AllocError, Global};
@@ -129,19 +130,6 @@ fn matched<'a, S: AsStr>(alloc: Global, words: &'a [S]) -> Result<ArgMatches<'a>
         return Err(rbcline(alloc)?.error(ErrorKind::ValueValidation, reason.as_str())?);
     }
     Ok(matches)
-}
-
-// The first number that has a plus sign, after the name of its argument.
-fn signed_number<'a>(matches: &ArgMatches<'a>) -> Option<(&'static str, &'a str)> {
-    let (_, words) = matches.subcommand()?;
-    for (name, _) in &NUMBERS {
-        if let Some(word) = words.get_str(name)
-            && word.starts_with('+')
-        {
-            return Some((name, word));
-        }
-    }
-    None
 }
 
 // The request of matched arguments. It is there: each required argument has a value, and each number is in its range.

@@ -47,6 +47,8 @@ fn run_text<R: Net<Stream = TcpStream> + AllocGlobal, O: Write>(
     let steps = steps_of(rt.alloc(), text)?;
     let address = SocketAddr::new(IpAddr::V4(Ipv4Addr::LOCALHOST), port);
     let mut stream = TcpStream::connect(rt, address)?;
+    // A message leaves at once, also before the one before it is acknowledged.
+    stream.set_nodelay(true)?;
     if let Some(seconds) = timeout_s {
         let timeout = Some(Duration::from_secs(u64::from(seconds)));
         stream.set_read_timeout(timeout)?;

@@ -1,0 +1,43 @@
+//! The arguments that are numbers, and the bounds of each.
+
+use clap::builder::ValueParser;
+use clap::{Arg, ArgMatches};
+
+/// The bounds of a port.
+const PORTS: (u64, u64) = (1, 65_535);
+
+/// The bounds of a rate, of seconds, and of the number of an event.
+const COUNTS: (u64, u64) = (1, 4_294_967_295);
+
+static NUMBERS: [(&str, (u64, u64)); 9] = [
+    ("PORT", PORTS),
+    ("page", PORTS),
+    ("SEED", (0, u64::MAX)),
+    ("rate", COUNTS),
+    ("burst", COUNTS),
+    ("timeout", COUNTS),
+    ("from", COUNTS),
+    ("to", COUNTS),
+    ("train", (0, 16_777_215)),
+];
+
+/// The argument. If it is a number, it takes only numbers within its bounds.
+pub fn bounded<'a>(argument: Arg<'a>, name: &str) -> Arg<'a> {
+    match NUMBERS.iter().find(|(number, _)| *number == name) {
+        Some((_, (least, most))) => argument.value_parser(ValueParser::unsigned(*least, *most)),
+        None => argument,
+    }
+}
+
+/// The first number with a plus sign, after the name of its argument.
+pub fn signed_number<'a>(matches: &ArgMatches<'a>) -> Option<(&'static str, &'a str)> {
+    let (_, words) = matches.subcommand()?;
+    for (name, _) in &NUMBERS {
+        if let Some(word) = words.get_str(name)
+            && word.starts_with('+')
+        {
+            return Some((name, word));
+        }
+    }
+    None
+}
