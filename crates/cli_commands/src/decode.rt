@@ -53,22 +53,45 @@ fn given_bytes<'a, S: AsStr, F: Files>(
     files: &F,
 ) -> Result<Vec<u8>, Fault<'a>> {
     let mut text = String::new(alloc);
-    let mut last = "";
     let mut count = 0u32;
     for word in words.iter().skip(1) {
         let word = word.as_str();
         if !word.starts_with("--") {
             text.push_str(word)?;
             text.push_str(" ")?;
-            last = word;
             count = count.saturating_add(1);
         }
     }
     match bytes_in(alloc, text.as_str())? {
         Some(bytes) => Ok(bytes),
-        None if count == 1 => bytes_of_file(alloc, last, files),
-        None => Err(Fault::Words),
+        None if count == 1 => bytes_of_file(alloc, faulty_word(words), files),
+        None => Err(Fault::NotHexadecimal(faulty_word(words))),
     }
+}
+
+// The first word that has another character than digits, or else the last word: then the number of digits is odd.
+fn faulty_word<S: AsStr>(words: &[S]) -> &str {
+    let mut last = "";
+    for word in words.iter().skip(1) {
+        let word = word.as_str();
+        if !word.starts_with("--") {
+            last = word;
+            if !is_hexadecimal(word) {
+                break;
+            }
+        }
+    }
+    last
+}
+
+fn is_hexadecimal(word: &str) -> bool {
+    for part in word.split(':') {
+        let digits = part.strip_prefix("0x").unwrap_or(part);
+        if !digits.bytes().all(|byte| byte.is_ascii_hexdigit()) {
+            return false;
+        }
+    }
+    true
 }
 
 fn bytes_of_file<'a, F: Files>(

@@ -12,15 +12,15 @@ use text_script::status::Fault;
 use text_words::{Field, fields_of, line_in_words, name_of, words_of_fault};
 
 /// Prints a message field by field, or its first fault.
-pub fn show_message<O: Write>(
+pub fn show_message<'a, O: Write>(
     alloc: Global,
-    digits: &str,
+    digits: &'a str,
     out: &mut O,
-) -> Result<(), Fault<'static>> {
+) -> Result<(), Fault<'a>> {
     let bytes = match hex::decode(alloc, digits) {
         Ok(bytes) => bytes,
         Err(FromHexError::OutOfMemory) => return Err(AllocError.into()),
-        Err(_) => return Err(Fault::Words),
+        Err(_) => return Err(Fault::NotHexadecimal(digits)),
     };
     match fields_of(alloc, &bytes) {
         Ok(fields) => Ok(print_fields(out, &fields)?),

@@ -17,7 +17,9 @@ pub fn played<'a>(
 ) -> Result<Run<'a>, Fault<'static>> {
     let only = train_in(line, cut)?;
     let events = events_in(alloc, line, printed)?;
-    let (first, after) = cut.places(events.len()).ok_or(Fault::Words)?;
+    let (first, after) = cut
+        .places(events.len())
+        .ok_or(Fault::NoEvents(events.len()))?;
     part_of(alloc, line, &events, (first, after), only)
 }
 

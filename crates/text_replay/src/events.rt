@@ -21,7 +21,7 @@ pub fn train_in(line: &Line, cut: Cut) -> Result<Option<u8>, Fault<'static>> {
     };
     match line.train_number(nid_engine) {
         Some(train) => Ok(Some(train)),
-        None => Err(Fault::Words),
+        None => Err(Fault::NoTrain(nid_engine)),
     }
 }
 

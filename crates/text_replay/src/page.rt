@@ -29,7 +29,9 @@ pub fn page_of(
 ) -> Result<String, Fault<'static>> {
     train_in(line, cut)?;
     let events = events_in(alloc, line, printed)?;
-    let (first, after) = cut.places(events.len()).ok_or(Fault::Words)?;
+    let (first, after) = cut
+        .places(events.len())
+        .ok_or(Fault::NoEvents(events.len()))?;
     let after = after.min(first.saturating_add(MOST_EVENTS));
     let part = Part {
         first: (first as u64).saturating_add(1),

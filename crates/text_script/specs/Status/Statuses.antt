@@ -1,13 +1,18 @@
 -- The exit statuses of the program.
 use Rattle.std.specs.Prelude.{◌≡◌, ℕ, ◌⊎◌, Result, Ok, Err}
 use Rattle.text_script.specs.declared.status.fault.Fault.{Fault}
-use Rattle.text_script.specs.declared.status.fault.Fault.TheVariants.{Words, Usage, CannotRead, NoJournal, Foreign, Damaged, Unfit, Line, Script, Step, Message, Differs, Socket, Write}
+use Rattle.text_script.specs.declared.status.fault.Fault.TheVariants.{Words, Usage, NotHexadecimal, NoTrain, NoEvents}
+use Rattle.text_script.specs.declared.status.fault.Fault.TheVariants.{CannotRead, NoJournal, Foreign, Damaged, Unfit}
+use Rattle.text_script.specs.declared.status.fault.Fault.TheVariants.{Line, Script, Step, Message, Differs, Socket, Write}
 
 -- the exit status of a fault
 abbrev pub status_of : Fault → ℕ
 status_of Differs = 1
 status_of Words = 2
 status_of (Usage usage) = 2
+status_of (NotHexadecimal word) = 2
+status_of (NoTrain engine) = 2
+status_of (NoEvents count) = 2
 status_of (CannotRead name) = 3
 status_of (Script row) = 3
 status_of (NoJournal name) = 3

@@ -16,6 +16,15 @@ pub enum Fault<'a> {
     /// The arguments name no command, or ask for help. The error contains the text to show.
     #[error(transparent)]
     Usage(clap::Error),
+    /// This argument is neither bytes in hexadecimal nor a file.
+    #[error("rbcline: {0} is not hexadecimal")]
+    NotHexadecimal(&'a str),
+    /// `--train` names no train of the line: its NID_ENGINE.
+    #[error("rbcline: --train {0}: the line has no such train")]
+    NoTrain(u32),
+    /// `--from` and `--to` name no event of the print: the number of its events.
+    #[error("rbcline: --from and --to name no event of the print: it has {0}")]
+    NoEvents(usize),
     #[error("rbcline: cannot read {0}")]
     CannotRead(&'a str),
     /// The journal of a centre can't be read: its name, with its folder.
@@ -60,7 +69,8 @@ impl Fault<'_> {
     {
         match self {
             Fault::Differs => 1,
-            Fault::Words | Fault::Usage(_) => 2,
+            Fault::Words | Fault::Usage(_) | Fault::NotHexadecimal(_) => 2,
+            Fault::NoTrain(_) | Fault::NoEvents(_) => 2,
             Fault::CannotRead(_) | Fault::Script(_) => 3,
             Fault::NoJournal(_) | Fault::Foreign(_) => 3,
             Fault::Damaged { .. } | Fault::Unfit { .. } => 3,

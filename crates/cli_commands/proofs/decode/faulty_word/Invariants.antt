@@ -1,7 +1,7 @@
 use denote.Text.{Utf8}
 use denote.Shadow.{shadow}
-use Rattle.cli_commands.proofs.decode.given_bytes.Given as goal
+use Rattle.cli_commands.proofs.decode.faulty_word.Given as goal
 
--- the last word of the command is text
+-- the last word is text
 abbrev pub invariant-loop-word : goal.invariant-loop-word
 invariant-loop-word g l = shadow (Utf8 l.last)
