@@ -1,7 +1,7 @@
 """contrib/rbcline.1 and contrib/rbcline.bash: the man page and the completion of rbcline.
 
-Both are made from the tables of crates/cli_commands/src/forms.rt, from which the program has its help: each command,
-its arguments and options, and their meaning. Each table has to have as many entries as its type names, and each command
+Both are made from the tables of forms.rt and options.rt in crates/cli_commands/src, from which the program has its
+help: each command, its arguments and options, and their meaning. Each table has to have as many entries as its type names, and each command
 and option of the file has to be in both. If forms.rt gets another form, this stops.
 """
 
@@ -14,6 +14,7 @@ import tables
 from tables import read
 
 FORMS = "crates/cli_commands/src/forms.rt"
+OPTIONS = "crates/cli_commands/src/options.rt"
 MAN, BASH = "contrib/rbcline.1", "contrib/rbcline.bash"
 TEXT = r'"((?:[^"\\]|\\.)*)"'
 PAIR = re.compile(rf"\(\s*{TEXT},\s*{TEXT},?\s*\)|\b([A-Z]+)\b")
@@ -55,7 +56,7 @@ class Form:
     """A command: its purpose, its options, and its arguments as pairs of name and meaning."""
 
     def __init__(self, name, about, words):
-        self.name, self.about, self.words, self.options = name, about, words, []
+        self.name, self.about, self.words, self.options, self.optional = name, about, words, [], set()
 
 
 def unescaped(text):
@@ -64,7 +65,7 @@ def unescaped(text):
 
 def function(text, name):
     """The body of a function."""
-    return re.search(rf"(?ms)^fn {name}\b.*?^}}$", text)[0]
+    return re.search(rf"(?ms)^(?:pub )?fn {name}\b.*?^}}$", text)[0]
 
 
 def static_tables(text):
@@ -92,12 +93,14 @@ def single(text, command, form):
         form.options.append(Option(option[1], value[1] if value else "", about, ".exclusive(true)" in body))
     else:
         more = " .." if ".num_args(1..)" in body else ""
-        form.words.append((re.search(rf"Arg::new\(alloc, {TEXT}\)", body)[1] + more, about))
+        name = re.search(rf"Arg::new\(alloc, {TEXT}\)", body)[1] + more
+        form.words.append((name, about))
+        form.optional |= set() if ".required(true)" in body else {name}
 
 
 def forms():
     """The commands of forms.rt, and the program's purpose and version."""
-    text = read(FORMS)
+    text = read(FORMS) + read(OPTIONS)
     made = static_tables(text)
     shared = {name: (it, about) for name, it, about in re.findall(
         rf"const (\w+): \(&str, &str\) = \(\s*{TEXT},\s*{TEXT},?\s*\);", text)}
@@ -129,7 +132,7 @@ def sentence(text):
 
 def synopsis(form):
     options = [f".Op {it.macro}" for it in form.options if not it.is_exclusive]
-    words = [f".Ar {name}" for name, _ in form.words]
+    words = [f".Op Ar {name}" if name in form.optional else f".Ar {name}" for name, _ in form.words]
     lines = [".Nm", f".Cm {form.name}", *options, *words]
     for it in form.options:
         lines += [".Nm", f".Cm {form.name}", f".{it.macro}"] if it.is_exclusive else []
@@ -245,7 +248,7 @@ def faults():
     cited = re.search(r'(?m)^version: "(.*)"$', read("CITATION.cff"))
     if {newest[1], cited[1]} != {version}:
         yield f"the version: {FORMS} has {version}, CHANGELOG.md {newest[1]}, CITATION.cff {cited[1]}"
-    options = {of.name for it in commands for of in it.options} | set(re.findall(rf"\.long\({TEXT}\)", read(FORMS)))
+    options = {of.name for it in commands for of in it.options} | set(re.findall(rf"\.long\({TEXT}\)", read(FORMS) + read(OPTIONS)))
     man, bash = man_page().replace("\\-", "-"), completion()
     for it in sorted(options):
         if f"Fl -{it}" not in man or not re.search(rf"--{it}\b", bash):

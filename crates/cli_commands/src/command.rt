@@ -44,7 +44,7 @@ fn obey<'a, S: AsStr, F: Files, O: Write, E: Write>(
     match requested(alloc, words)? {
         Request::Version => print_version(out),
         Request::Check { file } => check(alloc, file, files, out),
-        Request::Explain { file } => explain(alloc, file, files, out),
+        Request::Explain { file, script } => explain(alloc, file, script, files, out),
         Request::Run { file, script } => run(alloc, file, script, files, out),
         Request::Storm { file, script, seed } => {
             run_storm(alloc, file, script, seed, files, out)

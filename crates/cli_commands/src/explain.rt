@@ -2,16 +2,20 @@ use crate::explaining::LineText;
 use crate::files::Files;
 use crate::inspecting::Finding;
 use crate::picture::print_picture;
+use crate::script_faults::row_fault;
 use rbc_line::{Line, LineFault};
 use std::alloc::{AllocError, Global};
 use std::io;
 use std::io::{BufWriter, Write};
+use text_script::script::is_kept;
 use text_script::status::Fault;
 
-/// Reads a line file, and prints a picture of the line. For a file with faults it prints each case on a line.
+/// Reads a line file, and prints a picture of the line; or, with a script, each faulty line of the script. For a line
+/// file with faults it prints each case on a line.
 pub fn explain<'a, F: Files, O: Write>(
     alloc: Global,
     file: &'a str,
+    script: Option<&'a str>,
     files: &F,
     out: &mut O,
 ) -> Result<(), Fault<'a>> {
@@ -21,34 +25,81 @@ pub fn explain<'a, F: Files, O: Write>(
     let Ok(mut out) = BufWriter::new(alloc, out) else {
         return Err(AllocError.into());
     };
-    let done = print_explained(alloc, &mut out, text.as_str());
+    let done = match Line::from_toml(alloc, text.as_str()) {
+        Ok(line) => explain_good(alloc, &line, script, files, &mut out),
+        Err(fault) => print_findings(alloc, &mut out, text.as_str(), fault),
+    };
     out.flush()?;
     done
 }
 
-fn print_explained<W: Write>(alloc: Global, out: &mut W, text: &str) -> Result<(), Fault<'static>> {
-    match Line::from_toml(alloc, text) {
-        Ok(line) => Ok(print_picture(out, &line)?),
-        Err(fault) => {
-            print_findings(alloc, out, text)?;
-            Err(Fault::Line(fault))
-        }
+// Prints the picture of the line, or the faults of the script.
+fn explain_good<'a, F: Files, W: Write>(
+    alloc: Global,
+    line: &Line,
+    script: Option<&'a str>,
+    files: &F,
+    out: &mut W,
+) -> Result<(), Fault<'a>> {
+    let Some(script) = script else {
+        return Ok(print_picture(out, line)?);
+    };
+    let Some(text) = files.text(script) else {
+        return Err(Fault::CannotRead(script));
+    };
+    match print_row_faults(alloc, out, line, text.as_str())? {
+        Some(row) => Err(Fault::Script(row)),
+        None => Ok(()),
     }
 }
 
-fn print_findings<W: Write>(alloc: Global, out: &mut W, text: &str) -> Result<(), Fault<'static>> {
+// Prints the fault of each line of a script, or the number of its events. The result is the first faulty line.
+fn print_row_faults<W: Write>(
+    alloc: Global,
+    out: &mut W,
+    line: &Line,
+    text: &str,
+) -> Result<Option<usize>, Fault<'static>> {
+    let mut first = None;
+    let mut good = 0usize;
+    for (k, row) in text.split('\n').enumerate() {
+        if !is_kept(row) {
+            continue;
+        }
+        let number = k.saturating_add(1);
+        match row_fault(alloc, line, row)? {
+            Some(fault) => {
+                writeln!(out, "line {number}: {fault}")?;
+                first = first.or(Some(number));
+            }
+            None => good = good.saturating_add(1),
+        }
+    }
+    if first.is_none() {
+        writeln!(out, "ok: {good} lines")?;
+    }
+    Ok(first)
+}
+
+fn print_findings<'a, W: Write>(
+    alloc: Global,
+    out: &mut W,
+    text: &str,
+    fault: LineFault,
+) -> Result<(), Fault<'a>> {
     let text = match LineText::new(alloc, text) {
         Ok(text) => text,
         Err(error) if error.is_memory() => return Err(Fault::Line(LineFault::Memory)),
         Err(error) => {
             write!(out, "fault {}: {error}", LineFault::Text.number())?;
-            return Ok(());
+            return Err(Fault::Line(fault));
         }
     };
     let Ok(findings) = text.findings(alloc) else {
         return Err(Fault::Line(LineFault::Memory));
     };
-    Ok(print_each(out, &findings)?)
+    print_each(out, &findings)?;
+    Err(Fault::Line(fault))
 }
 
 fn print_each<W: Write>(out: &mut W, findings: &[Finding]) -> io::Result<()> {

@@ -17,9 +17,10 @@ pub enum Request<'a> {
     Check {
         file: &'a str,
     },
-    /// Print all faults of the line file, or show the line.
+    /// Print all faults of the line file, or show the line; or print all faults of a script.
     Explain {
         file: &'a str,
+        script: Option<&'a str>,
     },
     /// Run the script on the line.
     Run {
@@ -148,7 +149,10 @@ fn named_of_file<'a>(command: &str, words: &ArgMatches<'a>) -> Option<Request<'a
     let file = words.get_str("FILE")?;
     match command {
         "check" => Some(Request::Check { file }),
-        "explain" => Some(Request::Explain { file }),
+        "explain" => Some(Request::Explain {
+            file,
+            script: words.get_str("SCRIPT"),
+        }),
         "run" => named_run(file, words),
         "storm" => named_storm(file, words),
         "print" => named_print(file, words),

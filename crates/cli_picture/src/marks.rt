@@ -144,7 +144,7 @@ fn draw_request(
     draw_sign(svg, scale, sign, point)
 }
 
-/// Draws a square where a train's mission ends.
+/// Draws a square at the end of a train's mission.
 fn draw_end(
     svg: &mut String,
     scale: &Scale<'_>,

@@ -104,9 +104,9 @@ fn entries_of(alloc: Global, line: &Line, rows: &[&str]) -> Result<Vec<Entry>, S
     Ok(entries)
 }
 
-/// Whether a line is not skipped.
+/// Whether a line is not skipped: it is not empty, and does not begin with `#`.
 #[tactic(auto, unfolding(crate::specs::Script::is_kept))]
-fn is_kept(row: &str) -> bool
+pub fn is_kept(row: &str) -> bool
     ensures { result ≡ is_kept row.now }
 {
     !row.is_empty() && !row.starts_with('#')

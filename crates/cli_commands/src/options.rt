@@ -1,0 +1,145 @@
+//! The options of the commands.
+
+use crate::numbers::bounded;
+use clap::{Arg, ArgAction, ArgGroup};
+use std::alloc::{AllocError, Global};
+
+/// The name of the two options for the folder of the journals. At most one of them is given.
+const JOURNALS: &str = "journals";
+
+/// The options for the folder of the journals.
+pub fn journals<'a>(alloc: Global) -> Result<ArgGroup<'a>, AllocError> {
+    ArgGroup::new(alloc, JOURNALS).arg("journal")?.arg("resume")
+}
+
+// The options of `picture`: the part of the run that is drawn.
+static CUT: [(&str, &str, &str); 3] = [
+    ("from", "N", "The first event that is drawn, from 1"),
+    ("to", "N", "The last event that is drawn"),
+    (
+        "train",
+        "ENGINE",
+        "The one train that is drawn, by its NID_ENGINE",
+    ),
+];
+
+/// An option with a value.
+pub fn part<'a>(
+    alloc: Global,
+    name: &'static str,
+    value: &'static str,
+    help: &'static str,
+) -> Arg<'a> {
+    let part = Arg::new(alloc, name)
+        .long(name)
+        .value_name(value)
+        .help(help);
+    bounded(part, name)
+}
+
+// The options of `serve` with a value.
+static DOORS: [(&str, &str, &str); 6] = [
+    (
+        "page",
+        "PORT",
+        "Show the line to browsers on this host, at http://127.0.0.1:PORT/",
+    ),
+    (
+        "control",
+        "PATH",
+        "Let the interlocking connect to a Unix socket at PATH, in place of a port; only its owner may [mode 0600]",
+    ),
+    (
+        "rate",
+        "N",
+        "How many messages of a train each centre takes in a second [default: 50]",
+    ),
+    (
+        "burst",
+        "N",
+        "How many of them it takes at once [default: 100]",
+    ),
+    (
+        "journal",
+        "FOLDER",
+        "Begin a journal of each centre in this folder",
+    ),
+    (
+        "resume",
+        "FOLDER",
+        "Continue from the journals in this folder",
+    ),
+];
+
+// The options of `drive`.
+static DRIVE: [(&str, &str, &str); 1] = [(
+    "timeout",
+    "SECONDS",
+    "How long to wait for the centre at most [default: no limit]",
+)];
+
+/// The options of a command with a value: the name, the name of the value, and the meaning.
+pub fn parts_of(command: &str) -> &'static [(&'static str, &'static str, &'static str)] {
+    match command {
+        "picture" => &CUT,
+        "serve" => &DOORS,
+        "drive" => &DRIVE,
+        _ => &[],
+    }
+}
+
+static PICTURE: [(&str, &str); 1] = [(
+    "html",
+    "Draw it in an HTML page with a slider over the events",
+)];
+
+static DECODE: [(&str, &str); 2] = [
+    ("frame", "The bytes are a frame between centres"),
+    ("json", "Print a JSON object for each field, one a line"),
+];
+
+static SERVE: [(&str, &str); 5] = [
+    ("quiet", "Write no notes on standard error"),
+    (
+        "tell",
+        "Notify the interlocking when a section that it asked back is shut",
+    ),
+    (
+        "life",
+        "Print the used part of each log, clock and link, after the lines of `show`",
+    ),
+    (
+        "bind",
+        "Take a train's messages only over the connection that opened its session last; others end their connection",
+    ),
+    (
+        "no-sync",
+        "Do not wait until the disk has each write of a journal",
+    ),
+];
+
+/// The options of a command without a value: the name, and the meaning.
+pub fn flags_of(command: &str) -> &'static [(&'static str, &'static str)] {
+    match command {
+        "picture" => &PICTURE,
+        "serve" => &SERVE,
+        "decode" => &DECODE,
+        _ => &[],
+    }
+}
+
+/// An option without a value.
+pub fn flag<'a>(
+    alloc: Global,
+    name: &'static str,
+    help: &'static str,
+) -> Result<Arg<'a>, AllocError> {
+    let flag = Arg::new(alloc, name)
+        .long(name)
+        .action(ArgAction::SetTrue)
+        .help(help);
+    if name == "no-sync" {
+        return flag.requires_arg(JOURNALS);
+    }
+    Ok(flag)
+}

@@ -1,0 +1,144 @@
+//! The reason why a line of a script is refused.
+
+ghost use Rattle.std.specs.Prelude.{◌≡◌, ◌↔◌, IfOk, IsSome, None};
+ghost use Rattle.text_script.specs.Script.{row_asks};
+
+use crate::nearest::{Nearest, nearest_centre, nearest_of};
+use rbc_line::Line;
+use std::alloc::{AllocError, Global};
+use text_script::script::{EntryFault, entry_of};
+use thiserror::Error;
+
+/// The reason why a line of a script is refused.
+#[derive(Clone, Copy, Debug, Error)]
+pub enum RowFault<'a> {
+    #[error("a carriage return: each line ends with a line feed alone")]
+    CarriageReturn,
+    #[error("a tab: one blank is between two words")]
+    Tab,
+    #[error("a blank too many: one is between two words, and none before the first or after the last")]
+    Blank,
+    #[error("this is a line of a print: a script has its events without `> `")]
+    Printed,
+    #[error("a comment has a line of its own, which begins with `#`")]
+    Comment,
+    #[error("no event is named `{0}`{1}")]
+    Verb(&'a str, Nearest<'static>),
+    #[error("the form is `{0}`")]
+    Form(&'static str),
+    #[error("no centre is named `{0}`{1}")]
+    Centre(&'a str, Nearest<'a>),
+    #[error("`{0}` is not hexadecimal: two digits a byte, without blanks and without `0x`")]
+    Bytes(&'a str),
+    #[error("the number of hexadecimal digits is odd: {0}")]
+    OddDigits(usize),
+    #[error("`{0}` is not the number of a section: a decimal number up to 65535, without a sign")]
+    Section(&'a str),
+    #[error("`{0}` is not the number of a frame: a decimal number up to 4294967295, without a sign")]
+    Frame(&'a str),
+}
+
+/// The names of the events of a script, and `show`.
+static VERBS: [&str; 5] = ["show", "train", "set", "unset", "deliver"];
+
+/// The reason why a line that is not skipped is refused. None if it is not refused.
+pub fn row_fault<'a>(
+    alloc: Global,
+    line: &'a Line,
+    row: &'a str,
+) -> Result<Option<RowFault<'a>>, AllocError>
+    ensures { IfOk result (λ fault. (fault ≡ None) ↔ IsSome (row_asks line.now row.now)) }
+{
+    match entry_of(alloc, line, row) {
+        Ok(_) => Ok(None),
+        Err(EntryFault::Memory) => Err(AllocError),
+        Err(EntryFault::Form) => Ok(Some(fault_of(alloc, line, row)?)),
+    }
+}
+
+// The reason why this refused line is refused.
+fn fault_of<'a>(alloc: Global, line: &'a Line, row: &'a str) -> Result<RowFault<'a>, AllocError> {
+    match fault_of_blanks(row) {
+        Some(fault) => Ok(fault),
+        None => fault_of_words(alloc, line, row),
+    }
+}
+
+// The first character that no line of a script has, or the blanks that none has.
+fn fault_of_blanks<'a>(row: &str) -> Option<RowFault<'a>> {
+    if row.contains('\r') {
+        Some(RowFault::CarriageReturn)
+    } else if row.contains('\t') {
+        Some(RowFault::Tab)
+    } else if row.starts_with("> ") {
+        Some(RowFault::Printed)
+    } else if row.contains(" #") {
+        Some(RowFault::Comment)
+    } else if row.starts_with(' ') || row.ends_with(' ') || row.contains("  ") {
+        Some(RowFault::Blank)
+    } else {
+        None
+    }
+}
+
+fn fault_of_words<'a>(
+    alloc: Global,
+    line: &'a Line,
+    row: &'a str,
+) -> Result<RowFault<'a>, AllocError> {
+    let words: Vec<&str> = row.split(' ').collect(alloc)?;
+    match words.as_slice() {
+        ["train", centre, bytes] => fault_at_centre(alloc, line, centre, fault_of_bytes(bytes)),
+        ["set" | "unset", centre, section] => {
+            fault_at_centre(alloc, line, centre, RowFault::Section(section))
+        }
+        ["deliver", from, to, number] => fault_of_delivery(alloc, line, from, to, number),
+        [verb, ..] => fault_of_form(alloc, verb),
+        [] => Ok(RowFault::Blank),
+    }
+}
+
+// The fault of a line with another form than its event has.
+fn fault_of_form<'a>(alloc: Global, verb: &'a str) -> Result<RowFault<'a>, AllocError> {
+    let form = match verb {
+        "show" => "show",
+        "train" => "train CENTRE BYTES",
+        "set" => "set CENTRE SECTION",
+        "unset" => "unset CENTRE SECTION",
+        "deliver" => "deliver CENTRE CENTRE FRAME",
+        _ => return Ok(RowFault::Verb(verb, nearest_of(alloc, verb, &VERBS)?)),
+    };
+    Ok(RowFault::Form(form))
+}
+
+// The fault of a centre's name. If the line has the centre, it is the other fault.
+fn fault_at_centre<'a>(
+    alloc: Global,
+    line: &'a Line,
+    centre: &'a str,
+    other: RowFault<'a>,
+) -> Result<RowFault<'a>, AllocError> {
+    if line.centre_named(centre).is_some() {
+        return Ok(other);
+    }
+    Ok(RowFault::Centre(centre, nearest_centre(alloc, line, centre)?))
+}
+
+fn fault_of_bytes(digits: &str) -> RowFault<'_> {
+    if digits.bytes().all(|digit| digit.is_ascii_hexdigit()) {
+        RowFault::OddDigits(digits.len())
+    } else {
+        RowFault::Bytes(digits)
+    }
+}
+
+fn fault_of_delivery<'a>(
+    alloc: Global,
+    line: &'a Line,
+    from: &'a str,
+    to: &'a str,
+    number: &'a str,
+) -> Result<RowFault<'a>, AllocError> {
+    let second = fault_at_centre(alloc, line, to, RowFault::Frame(number))?;
+    fault_at_centre(alloc, line, from, second)
+}
