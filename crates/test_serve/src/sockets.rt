@@ -3,10 +3,10 @@
 use crate::client::{Done, Missed};
 use crate::line::two_centres;
 use rbc_line::Line;
+use serve_journal::SystemFile;
 use serve_line::state::listen_at_path;
 use serve_line::{Endpoints, NoNotes, Record, ServeOptions, SocketFault, free_path, serve};
 use std::alloc::Global;
-use std::fs::File;
 use std::io::{Read, Write};
 use std::net::{Net, TcpListener, TcpStream};
 use std::os::unix::fs::MetadataExt;
@@ -126,7 +126,7 @@ fn printed<R: Threads + Wait + Sync + Clock>(
     line: &Line,
     endpoints: Endpoints,
 ) -> Done<Vec<u8>> {
-    let none: Record<File> = Record::none(alloc);
+    let none: Record<SystemFile> = Record::none(alloc);
     let mut out = Vec::new(alloc);
     serve(
         rt,
