@@ -1,13 +1,14 @@
 -- The sent frames of a line's links, and the delivery that is drawn by them.
-use Rattle.std.specs.Prelude.{ℕ, ◌+◌, ◌*◌, ◌/◌, ◌%◌, ◌==◌, Bool, List, [], ◌∷◌, length, map, if◌then◌else◌, nat_lt, slice_get, Option, None, option_map}
 use Rattle.std.specs.List.{filter, range_with_len}
-use Rattle.rbc_spec.specs.Line.{Line}
+use Rattle.std.specs.Prelude.{[], ◌%◌, ◌*◌, ◌+◌, ◌/◌, ◌==◌, ◌∷◌, Bool, if◌then◌else◌, length, List, map, nat_lt, None}
+use Rattle.std.specs.Prelude.{Option, option_map, slice_get, ℕ}
+use Rattle.cli_storm.specs.declared.links.Link.{Link}
+use Rattle.cli_storm.specs.Draws.{drawn, next}
 use Rattle.rbc_spec.specs.Frame.{Frame}
-use Rattle.rbc_spec.specs.World.{World, Answer, Answered, NoCentre, NotSent, Fault}
+use Rattle.rbc_spec.specs.Line.{Line}
+use Rattle.rbc_spec.specs.World.{Answer, Answered, Fault, NoCentre, NotSent, World}
 use Rattle.text_script.specs.rbc_world.declared.event.WorldEvent.{WorldEvent}
 use Rattle.text_script.specs.rbc_world.declared.event.WorldEvent.TheVariants.{Deliver}
-use Rattle.cli_storm.specs.declared.links.Link.{Link}
-use Rattle.cli_storm.specs.Draws.{next, drawn}
 
 -- the link at a place, for this many centres
 abbrev pub link_at : ℕ → World → ℕ → Link

@@ -1,15 +1,16 @@
 -- Two outcomes that are the same.
-use Rattle.std.proofs.Common.{◌≡◌, Bool, List, [], ◌∷◌, map, ap, refl}
+use Rattle.std.proofs.Common.{[], ◌∷◌, ◌≡◌, ap, Bool, List, map, refl}
+use Rattle.std.proofs.lemmas.Slice.Eq.{slice_eq-Decides}
 use Rattle.std.specs.Bool.{Decides}
 use Rattle.std.specs.Cmp.Lexicographic.{pointwise}
-use Rattle.std.proofs.lemmas.Slice.Eq.{slice_eq-Decides}
-use Rattle.rbc_train.specs.Sayings.{saying_of}
+use Rattle.rbc_centre.specs.declared.outcome.Word.{Word}
+use Rattle.rbc_centre.specs.declared.outcome.Word.TheVariants.{Asked, Done, NotHome, Told}
 use Rattle.rbc_centre.specs.Views.{word_of}
 use Rattle.rbc_train.specs.declared.saying.Saying.{Saying}
-use Rattle.rbc_centre.specs.declared.outcome.Word.{Word}
-use Rattle.rbc_centre.specs.declared.outcome.Word.TheVariants.{Done, Asked, NotHome, Told}
+use Rattle.rbc_train.specs.Sayings.{saying_of}
 
-map_apart : {A B : Type 0} (f : A → B) → ((a b : A) → f a ≡ f b → a ≡ b) → (xs ys : List A) → map f xs ≡ map f ys → xs ≡ ys
+map_apart : {A B : Type 0} (f : A → B) → ((a b : A) → f a ≡ f b → a ≡ b) → (xs ys : List A)
+    → map f xs ≡ map f ys → xs ≡ ys
 map_apart f apart [] [] e = refl
 map_apart f apart [] (y ∷ ys) e = cc
 map_apart f apart (x ∷ xs) [] e = cc
@@ -21,7 +22,8 @@ map_apart f apart (x ∷ xs) (y ∷ ys) e =
 
 -- the elements' `==` decides whether they are one, and a view keeps them apart: then `==` of the lists decides whether
 -- they look alike
-pub alike : {A B : Type 0} (f : A → B) (E : A → A → Bool) → ((a b : A) → Decides (E a b) (a ≡ b)) → ((a b : A) → f a ≡ f b → a ≡ b)
+pub alike : {A B : Type 0} (f : A → B) (E : A → A → Bool) → ((a b : A) → Decides (E a b) (a ≡ b))
+    → ((a b : A) → f a ≡ f b → a ≡ b)
     → (xs ys : List A) (r : Bool) → r ≡ pointwise E xs ys → Decides r (map f xs ≡ map f ys)
 alike f E decides apart xs ys r h =
     let d = slice_eq-Decides decides xs ys r h in (λ t. ap (map f) (d.0 t), λ e. d.1 (map_apart f apart xs ys e))

@@ -6,8 +6,7 @@ pub mod Rows
 pub mod Homes
 pub mod Posts
 pub mod SentFrames
-pub mod Silent
-pub mod Messages
+pub mod HeardFrames
 pub mod Steps
 pub mod Turns
 pub mod Deliveries

@@ -1,43 +1,45 @@
 -- The frames of a step: frames on the links, and the list of them.
-use Rattle.std.proofs.Common.{◌≡◌, ◌⊎◌, ℕ, ◌+◌, ◌<◌, ◌≤◌, ◌==◌, ◌&&◌, ◌||◌, not, if◌then◌else◌, nat_lt, Bool, true, false, List, [], ◌∷◌, ◌++◌, length, length-append, append-nil, append_assoc, Option, Some, None, refl, sym, ap, ◌∙◌, subst, arith, inl, inr, ⊎_elim, All, ltb-true}
-use Rattle.std.proofs.lemmas.Bool.{and_parts, and_from, both_ways, cases_Bool, cases_lt, ltb-false}
+use Rattle.std.proofs.Common.{[], ◌&&◌, ◌++◌, ◌+◌, ◌<◌, ◌==◌, ◌||◌, ◌∙◌, ◌∷◌, ◌≡◌, ◌≤◌, ◌⊎◌, All, ap, append-nil, arith}
+use Rattle.std.proofs.Common.{Bool, false, if◌then◌else◌, inl, inr, length, length-append, List, ltb-true, nat_lt, None}
+use Rattle.std.proofs.Common.{not, Option, refl, Some, sym, true, ℕ, ⊎_elim}
+use Rattle.std.proofs.lemmas.Bool.{and_from, and_parts, both_ways, cases_Bool, cases_lt, ltb-false}
 use Rattle.std.proofs.lemmas.Bool.Decides.{eqb_tells, nat_tests}
 use Rattle.std.proofs.lemmas.List.{length-map}
 use Rattle.std.proofs.lemmas.List.Elements.{All-head, All-weaker}
-use Rattle.rbc_spec.specs.SectionRuns.{is_empty, shared}
-use Rattle.rbc_spec.specs.Sections.{home_run}
-use Rattle.rbc_spec.specs.Line.{Line, is_centre, is_linked}
-use Rattle.rbc_spec.specs.Frame as spec
-use Rattle.rbc_spec.specs.Frame.{RouteReturn}
-use Rattle.rbc_spec.specs.Centre as centre
-use Rattle.rbc_spec.specs.Step.{has_full_link, numbered}
+use Rattle.std.specs.Option.{option_map_or}
 use Rattle.law_base.proofs.Lists.{any-range}
+use Rattle.law_invariants.specs.Ranges.Ranges.{IsSentInRange}
 use Rattle.rbc_book.specs.Book.{Pages}
+use Rattle.rbc_centre.proofs.Rows.{all_first, all_rest}
+use Rattle.rbc_centre.proofs.SentFrames.{none_sent, sent_as, sent_join}
+use Rattle.rbc_centre.specs.declared.desk.Desk.{Desk}
+use Rattle.rbc_centre.specs.declared.sent_frame.SentFrame.{SentFrame}
+use Rattle.rbc_centre.specs.Posts.{HasSent, IsFit, MayPost, only}
+use Rattle.rbc_centre.specs.State.{stands_for}
+use Rattle.rbc_handover.specs.Expectations.{is_told}
+use Rattle.rbc_line.specs.declared.section_run.SectionRun.{SectionRun as SectionRunCode}
+use Rattle.rbc_line.specs.SectionRuns.{run_of}
+use Rattle.rbc_link.proofs.Posted.{posted_count}
 use Rattle.rbc_link.specs.declared.link.Link.{Link}
-use Rattle.rbc_link.specs.Links.{has_link, sent_to, room_to}
+use Rattle.rbc_link.specs.Links.{has_link, room_to, sent_to}
 use Rattle.rbc_link.specs.Outgoing.{frame_by, frames_by}
 use Rattle.rbc_link.specs.Posted.{HasPosted}
-use Rattle.rbc_link.proofs.Posted.{posted_none, posted_count, posted_join, numbered_append}
 use Rattle.rbc_linkmsg.specs.Bodies.{body_of}
 use Rattle.rbc_linkmsg.specs.declared.body.Body.{Body}
-use Rattle.law_invariants.specs.Ranges.Ranges.{IsSentInRange}
-use Rattle.rbc_centre.specs.declared.desk.Desk.{Desk}
-use Rattle.rbc_line.specs.SectionRuns.{run_of}
-use Rattle.rbc_line.specs.declared.section_run.SectionRun.{SectionRun as SectionRunCode}
+use Rattle.rbc_spec.specs.Centre as centre
 use Rattle.rbc_spec.specs.Centre.{Expectation}
-use Rattle.std.specs.Option.{option_map_or}
-use Rattle.rbc_handover.specs.Expectations.{is_told}
-use Rattle.rbc_train.specs.Letters.{letters, notices, going_home, mail_to}
-use Rattle.rbc_train.specs.declared.mail.Notice.{Notice}
-use Rattle.rbc_train.specs.declared.mail.Notice.TheVariants as notice
+use Rattle.rbc_spec.specs.Frame as spec
+use Rattle.rbc_spec.specs.Frame.{RouteReturn}
+use Rattle.rbc_spec.specs.Line.{is_centre, is_linked, Line}
+use Rattle.rbc_spec.specs.SectionRuns.{is_empty, shared}
+use Rattle.rbc_spec.specs.Sections.{home_run}
+use Rattle.rbc_spec.specs.Step.{has_full_link}
 use Rattle.rbc_train.specs.declared.letter.Letter.{Letter}
 use Rattle.rbc_train.specs.declared.mail.Mail.{Mail}
+use Rattle.rbc_train.specs.declared.mail.Notice.{Notice}
+use Rattle.rbc_train.specs.declared.mail.Notice.TheVariants as notice
 use Rattle.rbc_train.specs.declared.train.TrainState.{TrainState}
-use Rattle.rbc_centre.specs.Posts.{MayPost, IsFit, HasSent, only}
-use Rattle.rbc_centre.specs.Listed.{frames_in}
-use Rattle.rbc_centre.specs.State.{stands_for}
-use Rattle.rbc_centre.specs.declared.sent_frame.SentFrame.{SentFrame}
-use Rattle.rbc_centre.proofs.Rows.{all_first, all_rest, frames_more}
+use Rattle.rbc_train.specs.Letters.{going_home, letters, mail_to, notices}
 
 -- ## Whether it may be sent
 
@@ -48,19 +50,24 @@ linked_below line c d linked =
     ltb-true d (length line.centres) (and_parts (is_centre line c) (is_centre line d) both).1
 
 pub linked_centre : (line : Line) (c d : ℕ) → is_linked line c d ≡ true → is_centre line d ≡ true
-linked_centre line c d linked = (and_parts (is_centre line c) (is_centre line d) (and_parts (is_centre line c && is_centre line d) (not (c == d)) linked).0).1
+linked_centre line c d linked =
+    (and_parts (is_centre line c) (is_centre line d)
+    (and_parts (is_centre line c && is_centre line d) (not (c == d)) linked).0).1
 
 -- if no link is full, each has numbers left
-has_numbers : (line : Line) (c d : ℕ) (k : centre.Centre) → is_linked line c d ≡ true → has_full_link line c k ≡ false → length (k.sent d) ≤ 65532
+has_numbers : (line : Line) (c d : ℕ) (k : centre.Centre) → is_linked line c d ≡ true → has_full_link line c k ≡ false
+    → length (k.sent d) ≤ 65532
 has_numbers line c d k linked none = elim (cases_Bool (nat_lt 65532 (length (k.sent d)))) [
   | inl full ↦ absurd (both_ways (has_full_link line c k) none
-      (any-range (λ e. is_linked line c e && nat_lt 65532 (length (k.sent e))) 0 (length line.centres) d (omega arith) (omega (arith, linked_below line c d linked))
+      (any-range (λ e. is_linked line c e && nat_lt 65532 (length (k.sent e))) 0 (length line.centres) d (omega arith)
+      (omega (arith, linked_below line c d linked))
       (and_from (is_linked line c d) (nat_lt 65532 (length (k.sent d))) linked full)))
   | inr room ↦ ltb-false 65532 (length (k.sent d)) room
 ]
 
 -- no mail has more than four bodies for a centre
-pub mail_few : (line : Line) (c t : ℕ) (e : ℕ → Option Expectation) (mail : Mail) (d : ℕ) → length (mail_to line c t e mail d) ≤ 4
+pub mail_few : (line : Line) (c t : ℕ) (e : ℕ → Option Expectation) (mail : Mail) (d : ℕ)
+    → length (mail_to line c t e mail d) ≤ 4
 mail_few line c t e mail d =
     let first = going_home line c t mail.track (run_of mail.first) d in
     let second = going_home line c t mail.track (run_of mail.second) d in
@@ -84,9 +91,12 @@ mail_few line c t e mail d =
     one_or_none false body = omega arith
 
     home_few : (r : SectionRunCode) → length (going_home line c t mail.track (run_of r) d) ≤ 1
-    home_few r = one_at_most (is_empty (run_of r)) ((d == c) || is_empty (shared (run_of r) (home_run line d mail.track))) (RouteReturn t (shared (run_of r) (home_run line d mail.track)))
+    home_few r =
+        one_at_most (is_empty (run_of r)) ((d == c) || is_empty (shared (run_of r) (home_run line d mail.track)))
+        (RouteReturn t (shared (run_of r) (home_run line d mail.track)))
 
-    claim_few : (a : Bool) (o : Option Expectation) → length (if a then option_map_or (λ (x : Expectation). spec.TakingOver x.number t ∷ []) o [] else []) ≤ 1
+    claim_few : (a : Bool) (o : Option Expectation)
+        → length (if a then option_map_or (λ (x : Expectation). spec.TakingOver x.number t ∷ []) o [] else []) ≤ 1
     claim_few true (Some x) = omega arith
     claim_few true None = omega arith
     claim_few false o = omega arith
@@ -102,23 +112,31 @@ mail_few line c t e mail d =
     letter_few (Some l) = one_or_none (d == l.to) (body_of l.body)
 
 -- bodies to linked centres, each in its ranges, may be sent if no link is full and each has room for them
-pub may_post : (line : Line) (c clock : ℕ) (pages : Pages) (desk : Desk) (old links : List (Link Body)) (states : List TrainState) (d : ℕ) (bodies : List spec.Body)
-    → has_full_link line c (stands_for line c clock pages desk old states) ≡ false → has_link links d ≡ is_linked line c d → sent_to links d ≡ sent_to old d
-    → All (IsSentInRange line c d) bodies → length bodies ≤ 4 → (has_link links d ≡ true → length bodies ≤ room_to links d) → MayPost links d bodies
+pub may_post : (line : Line) (c clock : ℕ) (pages : Pages) (desk : Desk) (old links : List (Link Body))
+    (states : List TrainState) (d : ℕ) (bodies : List spec.Body)
+    → has_full_link line c (stands_for line c clock pages desk old states) ≡ false
+    → has_link links d ≡ is_linked line c d → sent_to links d ≡ sent_to old d
+    → All (IsSentInRange line c d) bodies → length bodies ≤ 4
+    → (has_link links d ≡ true → length bodies ≤ room_to links d) → MayPost links d bodies
 unfolding stands_for
 may_post line c clock pages desk old links states d bodies none linked same sent few room = record {
-  each = All-weaker (IsSentInRange line c d) (IsFit links d) (λ b is. record { linked = linked ∙ is.linked; range = is.body }) bodies sent;
+  each =
+      All-weaker (IsSentInRange line c d) (IsFit links d)
+      (λ b is. record { linked = linked ∙ is.linked; range = is.body }) bodies sent;
   room = room;
   numbers = λ has.
-      let numbers : length (frames_by body_of (sent_to old d)) ≤ 65532 = has_numbers line c d (stands_for line c clock pages desk old states) (sym linked ∙ has) none in
-      let count : length (frames_by body_of (sent_to old d)) ≡ length (sent_to old d) = length-map (sent_to old d) (frame_by body_of) in
+      let numbers : length (frames_by body_of (sent_to old d)) ≤ 65532 =
+      has_numbers line c d (stands_for line c clock pages desk old states) (sym linked ∙ has) none in
+      let count : length (frames_by body_of (sent_to old d)) ≡ length (sent_to old d) =
+      length-map (sent_to old d) (frame_by body_of) in
       let now : length (sent_to links d) ≡ length (sent_to old d) = ap length same in
       omega (arith, numbers, count, now, few);
 }
 
 -- ## One part and then another
 
-pub may_first : (links : List (Link Body)) (d : ℕ) (xs ys : List spec.Body) → MayPost links d (xs ++ ys) → MayPost links d xs
+pub may_first : (links : List (Link Body)) (d : ℕ) (xs ys : List spec.Body) → MayPost links d (xs ++ ys)
+    → MayPost links d xs
 may_first links d xs ys may =
     let sum = length-append xs ys in
     record {
@@ -128,7 +146,8 @@ may_first links d xs ys may =
     }
 
 -- the rest, after a first part
-pub may_after : (stamp : ℕ) (sent : ℕ → List spec.Body) (old new : List (Link Body)) (d : ℕ) (xs ys : List spec.Body) → HasPosted body_of stamp sent old new → sent d ≡ xs
+pub may_after : (stamp : ℕ) (sent : ℕ → List spec.Body) (old new : List (Link Body)) (d : ℕ) (xs ys : List spec.Body)
+    → HasPosted body_of stamp sent old new → sent d ≡ xs
     → MayPost old d (xs ++ ys) → MayPost new d ys
 may_after stamp sent old new d xs ys posted is may =
     let sum = length-append xs ys in
@@ -136,16 +155,22 @@ may_after stamp sent old new d xs ys posted is may =
     let more = posted_count body_of stamp sent old new posted d in
     let left = posted.room d in
     record {
-      each = All-weaker (IsFit old d) (IsFit new d) (λ b fit. record { linked = posted.linked d ∙ fit.linked; range = fit.range }) ys (all_rest (IsFit old d) xs ys may.each);
+      each =
+          All-weaker (IsFit old d) (IsFit new d)
+          (λ b fit. record { linked = posted.linked d ∙ fit.linked; range = fit.range }) ys
+          (all_rest (IsFit old d) xs ys may.each);
       room = λ has. let room = may.room (sym (posted.linked d) ∙ has) in omega (arith, room, sum, count, left);
-      numbers = λ has. let numbers = may.numbers (sym (posted.linked d) ∙ has) in omega (arith, numbers, sum, count, more);
+      numbers = λ has. let numbers = may.numbers (sym (posted.linked d) ∙ has) in
+          omega (arith, numbers, sum, count, more);
     }
 
 pub only_here : (to : ℕ) (bodies : List spec.Body) → only to bodies to ≡ bodies
-only_here to bodies = elim (eqb_tells to to) as (λ _. only to bodies to ≡ bodies) [ inl e ↦ rw (e.0) refl | inr e ↦ absurd (e.1 refl) ]
+only_here to bodies =
+    elim (eqb_tells to to) as (λ _. only to bodies to ≡ bodies) [ inl e ↦ rw (e.0) refl | inr e ↦ absurd (e.1 refl) ]
 
 -- if one of four parts has a body, all four together have one
-pub some_of : {R : Type 0} (xs ys zs us : List spec.Body) → 1 ≤ length xs + (length ys + (length zs + length us)) → (xs ++ (ys ++ (zs ++ us)) ≡ []) ⊎ R → R
+pub some_of : {R : Type 0} (xs ys zs us : List spec.Body) → 1 ≤ length xs + (length ys + (length zs + length us))
+    → (xs ++ (ys ++ (zs ++ us)) ≡ []) ⊎ R → R
 some_of xs ys zs us some (inr r) = r
 some_of xs ys zs us some (inl none) =
     let outer = length-append xs (ys ++ (zs ++ us)) in
@@ -154,67 +179,6 @@ some_of xs ys zs us some (inl none) =
     let all = ap length none in
     absurd (omega (arith, outer, inner, inmost, all, some))
 
--- ## The frames that were sent
-
-module _ (stamp : ℕ) where
-  -- the same for equal bodies
-  pub sent_as : (xs ys : ℕ → List spec.Body) (old new : List (Link Body)) (before after : List SentFrame) → ((d : ℕ) → xs d ≡ ys d) → HasSent stamp xs old new before after → HasSent stamp ys old new before after
-  sent_as xs ys old new before after same sent = subst (λ (bodies : ℕ → List spec.Body). HasSent stamp bodies old new before after) (λ i d. same d i) sent
-
-  pub none_sent : (links : List (Link Body)) (list : List SentFrame) → HasSent stamp (λ d. []) links links list list
-  none_sent links list = record { posted = posted_none body_of stamp links; frames = λ d. sym (append-nil (frames_in list d)) }
-
-  -- some frames, and then others
-  pub sent_join : (xs ys : ℕ → List spec.Body) (old mid new : List (Link Body)) (a b c : List SentFrame) → HasSent stamp xs old mid a b → HasSent stamp ys mid new b c → HasSent stamp (λ d. xs d ++ ys d) old new a c
-  sent_join xs ys old mid new a b c first second = record {
-    posted = posted_join body_of stamp xs ys old mid new first.posted second.posted;
-    frames = λ d.
-        let count = posted_count body_of stamp xs old mid first.posted d in
-        let n = length (sent_to old d) in
-        second.frames d
-        ∙ (λ i. first.frames d i ++ numbered stamp (count i) (ys d))
-        ∙ append_assoc (frames_in a d) (numbered stamp n (xs d)) (numbered stamp (n + length (xs d)) (ys d))
-        ∙ ap (λ fs. frames_in a d ++ fs) (sym (numbered_append stamp n (xs d) (ys d)));
-  }
-
-  none_only : (to d : ℕ) → [] ≡ only to [] d
-  none_only to d = by (d == to) []
-    where
-      by : (b : Bool) (xs : List spec.Body) → xs ≡ (if b then xs else xs)
-      by true xs = refl
-      by false xs = refl
-
-  -- no body for a centre
-  pub none_sent_to : (to : ℕ) (links : List (Link Body)) (list : List SentFrame) → HasSent stamp (only to []) links links list list
-  none_sent_to to links list = sent_as (λ d. []) (only to []) links links list list (none_only to) (none_sent links list)
-
-  only_joined : (to : ℕ) (xs ys : List spec.Body) (d : ℕ) → only to xs d ++ only to ys d ≡ only to (xs ++ ys) d
-  only_joined to xs ys d = by (d == to)
-    where
-      by : (b : Bool) → (if b then xs else []) ++ (if b then ys else []) ≡ (if b then xs ++ ys else [])
-      by true = refl
-      by false = refl
-
-  -- two parts for one centre
-  pub sent_more : (to : ℕ) (xs ys : List spec.Body) (old mid new : List (Link Body)) (a b c : List SentFrame) → HasSent stamp (only to xs) old mid a b → HasSent stamp (only to ys) mid new b c
-      → HasSent stamp (only to (xs ++ ys)) old new a c
-  sent_more to xs ys old mid new a b c first second =
-      sent_as (λ d. only to xs d ++ only to ys d) (only to (xs ++ ys)) old new a c (only_joined to xs ys) (sent_join (only to xs) (only to ys) old mid new a b c first second)
-
-  -- one frame
-  pub sent_one : (to : ℕ) (b : Body) (old new : List (Link Body)) (list more : List SentFrame) (f : SentFrame) → HasPosted body_of stamp (only to (body_of b ∷ [])) old new → more ≡ list ++ f ∷ [] → f.to ≡ to
-      → f.frame ≡ record { number = length (sent_to old to) + 1; stamp = stamp; body = body_of b } → HasSent stamp (only to (body_of b ∷ [])) old new list more
-  sent_one to b old new list more f posted is goes frame = record {
-    posted = posted;
-    frames = λ d. ap (λ fs. frames_in fs d) is ∙ frames_more list f d ∙ ap (λ fs. frames_in list d ++ fs) (ap (λ (n : ℕ). if d == n then f.frame ∷ [] else []) goes ∙ here d);
-  }
-    where
-      here : (d : ℕ) → (if d == to then f.frame ∷ [] else []) ≡ numbered stamp (length (sent_to old d)) (only to (body_of b ∷ []) d)
-      here d = elim (eqb_tells d to) as (λ _. (if d == to then f.frame ∷ [] else []) ≡ numbered stamp (length (sent_to old d)) (only to (body_of b ∷ []) d)) [
-        | inl e ↦ rw (e.0) (ap (λ x. x ∷ []) (frame ∙ ap (λ (n : ℕ). record { number = length (sent_to old n) + 1; stamp = stamp; body = body_of b }) (sym (e.1))))
-        | inr e ↦ rw (e.0) refl
-      ]
-
 -- ## One centre after another
 
 -- the bodies for the centres below a number
@@ -222,8 +186,10 @@ abbrev pub below : (ℕ → List spec.Body) → ℕ → ℕ → List spec.Body
 below bodies n d = if nat_lt d n then bodies d else []
 
 -- if those below it get nothing
-pub none_below : (stamp : ℕ) (bodies : ℕ → List spec.Body) (n : ℕ) (links : List (Link Body)) (list : List SentFrame) → ((d : ℕ) → d < n → bodies d ≡ []) → HasSent stamp (below bodies n) links links list list
-none_below stamp bodies n links list none = sent_as stamp (λ d. []) (below bodies n) links links list list before (none_sent stamp links list)
+pub none_below : (stamp : ℕ) (bodies : ℕ → List spec.Body) (n : ℕ) (links : List (Link Body)) (list : List SentFrame)
+    → ((d : ℕ) → d < n → bodies d ≡ []) → HasSent stamp (below bodies n) links links list list
+none_below stamp bodies n links list none =
+    sent_as stamp (λ d. []) (below bodies n) links links list list before (none_sent stamp links list)
   where
     before : (d : ℕ) → [] ≡ below bodies n d
     before d = ⊎_elim
@@ -248,10 +214,13 @@ module _ (bodies : ℕ → List spec.Body) (n d : ℕ) where
     | inr e ↦ let apart = e.1 in high (omega (arith, not, apart))
   ]) (cases_lt d n)
 
-pub one_more : (stamp : ℕ) (bodies : ℕ → List spec.Body) (n : ℕ) (old mid new : List (Link Body)) (a b c : List SentFrame) → HasSent stamp (below bodies n) old mid a b → HasSent stamp (only n (bodies n)) mid new b c
+pub one_more : (stamp : ℕ) (bodies : ℕ → List spec.Body) (n : ℕ) (old mid new : List (Link Body))
+    (a b c : List SentFrame) → HasSent stamp (below bodies n) old mid a b
+    → HasSent stamp (only n (bodies n)) mid new b c
     → HasSent stamp (below bodies (n + 1)) old new a c
 one_more stamp bodies n old mid new a b c first second =
-    sent_as stamp (λ d. below bodies n d ++ only n (bodies n) d) (below bodies (n + 1)) old new a c same (sent_join stamp (below bodies n) (only n (bodies n)) old mid new a b c first second)
+    sent_as stamp (λ d. below bodies n d ++ only n (bodies n) d) (below bodies (n + 1)) old new a c same
+    (sent_join stamp (below bodies n) (only n (bodies n)) old mid new a b c first second)
   where
     same : (d : ℕ) → below bodies n d ++ only n (bodies n) d ≡ below bodies (n + 1) d
     same d = elim (eqb_tells d n) as (λ _. below bodies n d ++ only n (bodies n) d ≡ below bodies (n + 1) d) [
@@ -263,14 +232,16 @@ one_more stamp bodies n old mid new a b c first second =
     ]
 
 -- if no centre from a number on gets anything
-pub all_below : (bodies : ℕ → List spec.Body) (n : ℕ) → ((d : ℕ) → n ≤ d → bodies d ≡ []) → (d : ℕ) → below bodies n d ≡ bodies d
+pub all_below : (bodies : ℕ → List spec.Body) (n : ℕ) → ((d : ℕ) → n ≤ d → bodies d ≡ []) → (d : ℕ)
+    → below bodies n d ≡ bodies d
 all_below bodies n none d = ⊎_elim
     (λ (low : d < n). let is : nat_lt d n ≡ true = grind (arith, nat_tests, low) in rw is refl)
     (λ (high : n ≤ d). let not : nat_lt d n ≡ false = grind (arith, nat_tests, high) in rw not (sym (none d high)))
     (cases_lt d n)
 
 -- no centre past the last is sent anything
-pub none_past : (line : Line) (c : ℕ) (bodies : ℕ → List spec.Body) (links : List (Link Body)) → ((d : ℕ) → has_link links d ≡ is_linked line c d)
+pub none_past : (line : Line) (c : ℕ) (bodies : ℕ → List spec.Body) (links : List (Link Body))
+    → ((d : ℕ) → has_link links d ≡ is_linked line c d)
     → ((d : ℕ) → MayPost links d (bodies d)) → (d : ℕ) → length line.centres ≤ d → bodies d ≡ []
 none_past line c bodies links linked may d past = nothing (bodies d) (may d).each
   where

@@ -1,20 +1,22 @@
 -- Two frames are equal if and only if `==` gives true.
-use Rattle.std.proofs.Common.{◌≡◌, true, refl, sym, ap, ◌∙◌, subst, rules, eq-eqb}
+use Rattle.std.proofs.Common.{◌∙◌, ◌≡◌, ap, eq-eqb, refl, rules, subst, sym, true}
+use Rattle.std.proofs.lemmas.Bool.{and_from, and_parts, eqb-true}
 use Rattle.std.specs.Bool.{Decides}
 use Rattle.std.specs.Cmp.{booleans_Decides}
-use Rattle.std.proofs.lemmas.Bool.{and_parts, and_from, eqb-true}
-use Rattle.rbc_spec.specs.Frame as spec
-use Rattle.rbc_line.specs.declared.section_run.SectionRun.{SectionRun}
 use Rattle.rbc_line.specs.contracts.section_run.SectionRunPartialEq.TheImpl as runs
-use Rattle.rbc_linkmsg.specs.Bodies.{body_of, body_back}
-use Rattle.rbc_linkmsg.specs.declared.body.Body.{Body}
-use Rattle.rbc_linkmsg.specs.declared.body.Body.TheVariants.{AskRight, GiveRight, RefuseRight, ReturnRight, RouteAsk, RouteInfo, RouteWithdraw, RouteReturn, Announce, Cancel, TakingOver, Yield}
-use Rattle.rbc_linkmsg.specs.declared.body.YieldedPlace.{YieldedPlace}
-use Rattle.rbc_linkmsg.specs.declared.body.Yielding.{Yielding}
+use Rattle.rbc_line.specs.declared.section_run.SectionRun.{SectionRun}
+use Rattle.rbc_linkmsg.specs.Bodies.{body_back, body_of}
+use Rattle.rbc_linkmsg.specs.contracts.body.BodyPartialEq.TheImpl as bodies
 use Rattle.rbc_linkmsg.specs.contracts.body.YieldedPlacePartialEq.TheImpl as places
 use Rattle.rbc_linkmsg.specs.contracts.body.YieldingPartialEq.TheImpl as yieldings
-use Rattle.rbc_linkmsg.specs.contracts.body.BodyPartialEq.TheImpl as bodies
 use Rattle.rbc_linkmsg.specs.contracts.frame.FramePartialEq.TheImpl as frames
+use Rattle.rbc_linkmsg.specs.declared.body.Body.{Body}
+use Rattle.rbc_linkmsg.specs.declared.body.Body.TheVariants.{Announce, AskRight, Cancel, GiveRight, RefuseRight}
+use Rattle.rbc_linkmsg.specs.declared.body.Body.TheVariants.{ReturnRight, RouteAsk, RouteInfo, RouteReturn}
+use Rattle.rbc_linkmsg.specs.declared.body.Body.TheVariants.{RouteWithdraw, TakingOver, Yield}
+use Rattle.rbc_linkmsg.specs.declared.body.YieldedPlace.{YieldedPlace}
+use Rattle.rbc_linkmsg.specs.declared.body.Yielding.{Yielding}
+use Rattle.rbc_spec.specs.Frame as spec
 
 pub same_places : (a b : YieldedPlace) → Decides (places.eq-value.it a b) (a ≡ b)
 same_places a b = search rules
@@ -105,11 +107,14 @@ one_frame a b e =
     let two = and_parts _ _ one.1 in
     let number : a.number ≡ b.number = eqb-true a.number b.number one.0 in
     let stamp : a.stamp ≡ b.stamp = eqb-true a.stamp b.stamp two.0 in
-    let body : a.body ≡ b.body = sym (body_there a.body) ∙ ap body_of (one_body (body_back a.body) (body_back b.body) two.1) ∙ body_there b.body in
+    let body : a.body ≡ b.body = sym (body_there a.body)
+    ∙ ap body_of (one_body (body_back a.body) (body_back b.body) two.1) ∙ body_there b.body in
     λ i. record { number = number i; stamp = stamp i; body = body i }
 
 frame_itself : (a : spec.Frame) → frames.eq-value.it a a ≡ true
-frame_itself a = and_from _ _ (eq-eqb a.number a.number refl) (and_from _ _ (eq-eqb a.stamp a.stamp refl) (itself (body_back a.body)))
+frame_itself a =
+    and_from _ _ (eq-eqb a.number a.number refl)
+    (and_from _ _ (eq-eqb a.stamp a.stamp refl) (itself (body_back a.body)))
 
 pub same_frames : (a b : spec.Frame) → Decides (frames.eq-value.it a b) (a ≡ b)
 same_frames a b = (one_frame a b, λ e. subst (λ (x : spec.Frame). frames.eq-value.it a x ≡ true) e (frame_itself a))

@@ -57,16 +57,19 @@ shown_out entries.Open apart t is = cc
 shown_out (entries.Taken u) apart t is = cc
 shown_out (entries.Out u) apart t is = apart u refl
 
-module _ (line : Line) (c clock : ℕ) (old new : Pages) (desk : Desk) (links : List (Link Body)) (states : List TrainState) (s : ℕ) (home : is_own old s ≡ is_home line c s) where
+module _ (line : Line) (c clock : ℕ) (old new : Pages) (desk : Desk) (links : List (Link Body))
+    (states : List TrainState) (s : ℕ) (home : is_own old s ≡ is_home line c s) where
   abbrev k : centre.Centre
   k = stands_for line c clock old desk links states
 
   abbrev left : centre.Centre
   left = stands_for line c clock new desk links states
 
-  pub set_turns : ((n : ℕ) → entry_at new n ≡ (if (is_own old s && is_unused (entry_at old s)) && (n == s) then Open else entry_at old n))
+  pub set_turns : ((n : ℕ)
+      → entry_at new n ≡ (if (is_own old s && is_unused (entry_at old s)) && (n == s) then Open else entry_at old n))
       → ((n : ℕ) → wish_at new n ≡ (if is_own old s && (n == s) then false else wish_at old n))
-      → (own unused : Bool) → is_own old s ≡ own → is_unused (entry_at old s) ≡ unused → replied left (λ d. []) [] ((if own then Done s else NotHome s) ∷ []) ≡ step.set line c s k
+      → (own unused : Bool) → is_own old s ≡ own → is_unused (entry_at old s) ≡ unused
+      → replied left (λ d. []) [] ((if own then Done s else NotHome s) ∷ []) ≡ step.set line c s k
   unfolding stands_for
   set_turns entry wish true true own unused =
       let entries : (n : ℕ) → entry_at new n ≡ put (entry_at old) s Open n = λ n. rw (own, unused) at (entry n) in
@@ -84,9 +87,12 @@ module _ (line : Line) (c clock : ℕ) (old new : Pages) (desk : Desk) (links : 
       (λ i. replied (record k { book = λ n. entries n i; wish = λ n. wishes n i }) (λ d. []) [] (NotHome s ∷ []))
       ∙ sym (left_at_set line c s k (sym home ∙ own))
 
-  module _ (entry : (n : ℕ) → entry_at new n ≡ (if (is_own old s && is_unused (entry_at old s)) && (n == s) then Shut else entry_at old n))
-      (wish : (n : ℕ) → wish_at new n ≡ (if is_own old s && (n == s) then not (is_unused (entry_at old s)) else wish_at old n)) where
-    pub unset_turns : (own : Bool) → is_own old s ≡ own → (own ≡ true → is_unused (entry_at old s) ≡ true) → replied left (λ d. []) [] ((if own then Done s else NotHome s) ∷ []) ≡ step.unset line c s k
+  module _ (entry : (n : ℕ)
+      → entry_at new n ≡ (if (is_own old s && is_unused (entry_at old s)) && (n == s) then Shut else entry_at old n))
+      (wish : (n : ℕ)
+      → wish_at new n ≡ (if is_own old s && (n == s) then not (is_unused (entry_at old s)) else wish_at old n)) where
+    pub unset_turns : (own : Bool) → is_own old s ≡ own → (own ≡ true → is_unused (entry_at old s) ≡ true)
+        → replied left (λ d. []) [] ((if own then Done s else NotHome s) ∷ []) ≡ step.unset line c s k
     unfolding stands_for
     unset_turns true own never =
         let unused : is_unused (entry_at old s) ≡ true = never refl in
@@ -108,30 +114,37 @@ module _ (line : Line) (c clock : ℕ) (old new : Pages) (desk : Desk) (links : 
         let used : is_unused (entry_at old s) ≡ false = ap is_unused out in
         let entries : (n : ℕ) → entry_at new n ≡ entry_at old n = λ n. rw (own, used) at (entry n) in
         let wishes : (n : ℕ) → wish_at new n ≡ put (wish_at old) s true n = λ n. rw (own, used) at (wish n) in
-        (λ j. replied (record k { book = λ n. entries n j; wish = λ n. wishes n j }) (to_others line c (RouteWithdraw t s)) [] (Asked s ∷ []))
+        (λ j. replied (record k { book = λ n. entries n j; wish = λ n. wishes n j })
+        (to_others line c (RouteWithdraw t s)) [] (Asked s ∷ []))
         ∙ sym (withdrawn line c s t k (sym home ∙ own) out)
 
     -- a section that is in use for a train
-    module _ (t i : ℕ) (before after : TrainState) (sayings : List Saying) (own : is_own old s ≡ true) (taken : entry_at old s ≡ Taken t)
+    module _ (t i : ℕ) (before after : TrainState) (sayings : List Saying) (own : is_own old s ≡ true)
+        (taken : entry_at old s ≡ Taken t)
         (number : train_number line t ≡ Some i) (at : slice_get states i ≡ Some before) (within : i < length states)
-        (session_state : after.session_state ≡ before.session_state) (heard : after.heard ≡ before.heard) (question : after.supervision.asked ≡ before.supervision.asked)
+        (session_state : after.session_state ≡ before.session_state) (heard : after.heard ≡ before.heard)
+        (question : after.supervision.asked ≡ before.supervision.asked)
         (waiting : after.waiting ≡ before.waiting) (expects : after.expectations ≡ before.expectations)
         (asks : (j : centre.Centre) → HasTrain j t before → propose_if_so line t s j ≡ asked t after sayings j) where
       wishing_is : HasTrain (wishing s k) t before
       unfolding stands_for
       wishing_is = record {
-        phase_is = sym (part_of_train (λ p. session_phase p.session_state) centre.Closed line states t i before number at);
+        phase_is =
+            sym (part_of_train (λ p. session_phase p.session_state) centre.Closed line states t i before number at);
         mission_is = sym (part_of_train (λ p. p.supervision.mission) None line states t i before number at);
         said_is = sym (part_of_train (λ p. p.said) 0 line states t i before number at);
       }
 
       -- a part that is as before is so for each train
-      same_part : {X : Type 0} (part : TrainState → X) (none : X) → part after ≡ part before → (u : ℕ) → of_trains part none line (set states i after) u ≡ of_trains part none line states u
+      same_part : {X : Type 0} (part : TrainState → X) (none : X) → part after ≡ part before → (u : ℕ)
+          → of_trains part none line (set states i after) u ≡ of_trains part none line states u
       same_part part none same u =
           of_trains-set part none line states t i after number within u
-          ∙ put_same t (part after) (of_trains part none line states) (sym (part_of_train part none line states t i before number at) ∙ sym same) u
+          ∙ put_same t (part after) (of_trains part none line states)
+          (sym (part_of_train part none line states t i before number at) ∙ sym same) u
 
-      pub asked_turns : replied (stands_for line c clock new desk links (set states i after)) (λ d. []) sayings (Asked s ∷ []) ≡ step.unset line c s k
+      pub asked_turns : replied (stands_for line c clock new desk links (set states i after)) (λ d. []) sayings
+          (Asked s ∷ []) ≡ step.unset line c s k
       unfolding stands_for
       asked_turns =
           let used : is_unused (entry_at old s) ≡ false = ap is_unused taken in
@@ -140,16 +153,19 @@ module _ (line : Line) (c clock : ℕ) (old new : Pages) (desk : Desk) (links : 
           (λ j. replied (record k {
             book = λ n. entries n j;
             wish = λ n. wishes n j;
-            phase = λ u. same_part (λ p. session_phase p.session_state) centre.Closed (ap session_phase session_state) u j;
+            phase =
+                λ u. same_part (λ p. session_phase p.session_state) centre.Closed (ap session_phase session_state) u j;
             heard = λ u. same_part (λ p. p.heard) None heard u j;
             said = λ u. of_trains-set (λ p. p.said) 0 line states t i after number within u j;
             mission = λ u. of_trains-set (λ p. p.supervision.mission) None line states t i after number within u j;
             route_ask = λ u. same_part (λ p. p.supervision.asked) None question u j;
             wait = λ u. same_part (λ p. p.waiting.wait) None (λ l. (waiting l).wait) u j;
             has_asked = λ u. same_part (λ p. p.waiting.has_asked) false (λ l. (waiting l).has_asked) u j;
-            expects = λ d u. same_part (λ p. expected_from p.expectations d) None (λ l. expected_from (expects l) d) u j;
+            expects =
+                λ d u. same_part (λ p. expected_from p.expectations d) None (λ l. expected_from (expects l) d) u j;
           }) (λ d. []) sayings (Asked s ∷ []))
-          ∙ sym (asked_of_taken line c s t k (asked t after sayings (wishing s k)) (sym home ∙ own) taken (asks (wishing s k) wishing_is))
+          ∙ sym (asked_of_taken line c s t k (asked t after sayings (wishing s k)) (sym home ∙ own) taken
+          (asks (wishing s k) wishing_is))
 
   -- if the centre is sound, a section is in use only for a train of the line
   pub user_number : IsCentreSound line c k → (t : ℕ) → entry_at old s ≡ Taken t → train_number line t ≡ None → ⊥
@@ -157,8 +173,10 @@ module _ (line : Line) (c clock : ℕ) (old new : Pages) (desk : Desk) (links : 
   user_number sound t taken foreign = elim (cases_Bool (is_home line c s)) [
     | inl at_home ↦
         let here : is_taken_for t (entry_at old s) ≡ true = ap (is_taken_for t) taken ∙ eq-eqb t t refl in
-        let no_wait : wait_has line (k.wait t) s ≡ false = ap (λ o. wait_has line o s) (sym (part_of_foreign (λ p. p.waiting.wait) None line states t foreign)) in
-        let no_hand : hand_has (k.mission t) s ≡ false = ap (λ o. hand_has o s) (sym (part_of_foreign (λ p. p.supervision.mission) None line states t foreign)) in
+        let no_wait : wait_has line (k.wait t) s ≡ false =
+        ap (λ o. wait_has line o s) (sym (part_of_foreign (λ p. p.waiting.wait) None line states t foreign)) in
+        let no_hand : hand_has (k.mission t) s ≡ false =
+        ap (λ o. hand_has o s) (sym (part_of_foreign (λ p. p.supervision.mission) None line states t foreign)) in
         let claims = rw (here, no_wait, no_hand) at (sound.claims s t at_home) in
         omega (arith, claims)
     | inr away ↦ let no : Shut ≡ Taken t = sym (sound.foreign s away) ∙ taken in cc
@@ -194,18 +212,31 @@ pub record IsUser (k : CentreCode) (s i : ℕ) (before : TrainState) (t : ℕ) :
   pub at : slice_get k.trains.items i ≡ Some before
   pub engine : before.supervision.engine ≡ t
 
-pub user_of : (k : CentreCode) (s : ℕ) → ((t : ℕ) → entry_at k.book s ≡ Out t → ⊥) → Unset.Asked ≡ unset_answer (entry_at k.book s) → (t : ℕ) × (entry_at k.book s ≡ Taken t)
+pub user_of : (k : CentreCode) (s : ℕ) → ((t : ℕ) → entry_at k.book s ≡ Out t → ⊥)
+    → Unset.Asked ≡ unset_answer (entry_at k.book s) → (t : ℕ) × (entry_at k.book s ≡ Taken t)
 user_of k s here asked = user_stands (entry_at k.book s) here (asked_used (entry_at k.book s) asked)
 
-pub user_at : (k : CentreCode) (s i : ℕ) (before : TrainState) (here : (t : ℕ) → entry_at k.book s ≡ Out t → ⊥) (asked : Unset.Asked ≡ unset_answer (entry_at k.book s)) → ((t : ℕ) → entry_at k.book s ≡ Taken t → train_number k.line t ≡ Some i)
-    → (i < length k.trains.items → slice_get k.trains.items i ≡ Some before) → IsUser k s i before (user_of k s here asked).0
+pub user_at : (k : CentreCode) (s i : ℕ) (before : TrainState) (here : (t : ℕ) → entry_at k.book s ≡ Out t → ⊥)
+    (asked : Unset.Asked ≡ unset_answer (entry_at k.book s))
+    → ((t : ℕ) → entry_at k.book s ≡ Taken t → train_number k.line t ≡ Some i)
+    → (i < length k.trains.items → slice_get k.trains.items i ≡ Some before)
+    → IsUser k s i before (user_of k s here asked).0
 user_at k s i before here asked found read =
     let u = user_of k s here asked in
     let number = found u.0 u.1 in
     let within = number_within k.line k.trains.items u.0 i number k.rules.all_trains.count in
-    record { taken = u.1; number = number; within = within; at = read within; engine = (k.rules.all_trains.each u.0 i before number (read within)).engine }
+    record {
+      taken = u.1;
+      number = number;
+      within = within;
+      at = read within;
+      engine = (k.rules.all_trains.each u.0 i before number (read within)).engine;
+    }
 
-pub no_user : (k : CentreCode) (s : ℕ) (here : (t : ℕ) → entry_at k.book s ≡ Out t → ⊥) (asked : Unset.Asked ≡ unset_answer (entry_at k.book s)) → ((t : ℕ) → entry_at k.book s ≡ Taken t → train_number k.line t ≡ None) → ⊥
+pub no_user : (k : CentreCode) (s : ℕ) (here : (t : ℕ) → entry_at k.book s ≡ Out t → ⊥)
+    (asked : Unset.Asked ≡ unset_answer (entry_at k.book s))
+    → ((t : ℕ) → entry_at k.book s ≡ Taken t → train_number k.line t ≡ None) → ⊥
 no_user k s here asked none =
     let u = user_of k s here asked in
-    user_number k.line k.number k.clock k.book k.book k.desk k.links k.trains.items s (k.rules.own_sections s) k.rules.sound u.0 u.1 (none u.0 u.1)
+    user_number k.line k.number k.clock k.book k.book k.desk k.links k.trains.items s (k.rules.own_sections s)
+    k.rules.sound u.0 u.1 (none u.0 u.1)

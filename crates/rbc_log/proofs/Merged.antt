@@ -32,7 +32,9 @@ abbrev pub entry_before : Entry → Entry → Bool
 entry_before a b = earlier a.outcome.stamp a.centre b.outcome.stamp b.centre
 
 entries_order : IsStrictWeakOrder entry_before
-entries_order = ranks_by (then_total (on_total (λ (e : Entry). e.outcome.stamp) nat_cmp_total) (on_total (λ (e : Entry). e.centre) nat_cmp_total)) (λ (e : Entry). e)
+entries_order =
+    ranks_by (then_total (on_total (λ (e : Entry). e.outcome.stamp) nat_cmp_total)
+    (on_total (λ (e : Entry). e.centre) nat_cmp_total)) (λ (e : Entry). e)
 
 pub ordered : (es : List Entry) → IsSortedBy entry_before es → IsInOrder (map entry_of es)
 ordered [] up i j d under within = absurd (let wrong : ⊥ = omega (arith, within) in wrong)
@@ -42,15 +44,19 @@ ordered (e ∷ es) up i j d under within =
     let at_i = get_or-map entry_of all i e d (omega (arith, under, within, long)) in
     let at_j = get_or-map entry_of all j e d (omega (arith, within, long)) in
     let before : ComesBefore (entry_of (slice_index_or all i e)) (entry_of (slice_index_or all j e)) =
-    not_earlier _ _ _ _ (sorted_far entry_before entries_order all up i j e (omega (arith, under)) (omega (arith, within, long))) in
-    subst (λ (a : LogEntry). ComesBefore a (slice_index_or (map entry_of all) j d)) (sym at_i) (subst (λ (b : LogEntry). ComesBefore (entry_of (slice_index_or all i e)) b) (sym at_j) before)
+    not_earlier _ _ _ _ (sorted_far entry_before entries_order all up i j e (omega (arith, under))
+    (omega (arith, within, long))) in
+    subst (λ (a : LogEntry). ComesBefore a (slice_index_or (map entry_of all) j d)) (sym at_i)
+    (subst (λ (b : LogEntry). ComesBefore (entry_of (slice_index_or all i e)) b) (sym at_j) before)
 
 -- ## The result of a merge
 
-pub merged : (logs : List LogValue) (es : List Entry) → AreOfCentres logs → AreOfOneLine logs → All IsReplaying logs → IsPermutation (map written_of (all_entries logs)) (map written_of es)
+pub merged : (logs : List LogValue) (es : List Entry) → AreOfCentres logs → AreOfOneLine logs → All IsReplaying logs
+    → IsPermutation (map written_of (all_entries logs)) (map written_of es)
     → IsInOrder (map entry_of es) → IsMerged logs es
 merged logs es centres one r once up =
-    let is : IsMerge (logs_by logs) (map entry_of es) = merges one.0 (logs_by logs) (ends_by one.0 logs) (are_logs one.0 logs one.1 r) (map entry_of (all_entries logs)) (map entry_of es)
+    let is : IsMerge (logs_by logs) (map entry_of es) = merges one.0 (logs_by logs) (ends_by one.0 logs)
+    (are_logs one.0 logs one.1 r) (map entry_of (all_entries logs)) (map entry_of es)
     (by_centre logs centres r) (moved (all_entries logs) es once) up in
     record { centres = centres; line = one; once = once; merge = is }
 

@@ -15,20 +15,26 @@ use Rattle.rbc_spec.specs.Frame.{Frame}
 
 pub sent_is : (l : LogValue) → IsReplaying l → (d : ℕ) → (state_of l.core).sent d ≡ sent_to d (map entry_of l.entries)
 unfolding beginning
-sent_is l r d = sent_replayed (line_of l.core) (number_of l.core) d (beginning (line_of l.core) (number_of l.core)) (map entry_of l.entries) (state_of l.core) r
+sent_is l r d =
+    sent_replayed (line_of l.core) (number_of l.core) d (beginning (line_of l.core) (number_of l.core))
+    (map entry_of l.entries) (state_of l.core) r
 
 -- a frame of the log is found under its number
-pub sent_number : (l : LogValue) → IsReplaying l → (d : ℕ) (f : Frame) → Contains (sent_to d (map entry_of l.entries)) f → frame_number (sent_to d (map entry_of l.entries)) f.number ≡ Some f
+pub sent_number : (l : LogValue) → IsReplaying l → (d : ℕ) (f : Frame) → Contains (sent_to d (map entry_of l.entries)) f
+    → frame_number (sent_to d (map entry_of l.entries)) f.number ≡ Some f
 sent_number l r d f there =
     let frames : List Frame = sent_to d (map entry_of l.entries) in
     let it = sent_under (line_of l.core) (number_of l.core) d (map entry_of l.entries) (state_of l.core) f r there in
-    cond-false (f.number == 0) None (slice_get frames (f.number - 1)) (ne_eqb f.number 0 (λ (h : f.number ≡ 0). absurd (omega (arith, h, it.0))))
+    cond-false (f.number == 0) None (slice_get frames (f.number - 1))
+    (ne_eqb f.number 0 (λ (h : f.number ≡ 0). absurd (omega (arith, h, it.0))))
     ∙ subst (λ (xs : List Frame). slice_get xs (f.number - 1) ≡ Some f) (sent_is l r d) it.1
 
 pub is_contained : (frames : List Frame) (n : ℕ) (f : Frame) → frame_number frames n ≡ Some f → Contains frames f
 is_contained frames n f is = elim (eqb_tells n 0) [
-  | inl t ↦ let none : ◌≡◌ {A = Option Frame} None (Some f) = subst (λ b. (if b then None else slice_get frames (n - 1)) ≡ Some f) t.0 is in absurd cc
+  | inl t ↦ let none : ◌≡◌ {A = Option Frame} None (Some f) =
+      subst (λ b. (if b then None else slice_get frames (n - 1)) ≡ Some f) t.0 is in absurd cc
   | inr h ↦
-      let at : slice_get frames (n - 1) ≡ Some f = subst (λ b. (if b then None else slice_get frames (n - 1)) ≡ Some f) h.0 is in
+      let at : slice_get frames (n - 1) ≡ Some f =
+      subst (λ b. (if b then None else slice_get frames (n - 1)) ≡ Some f) h.0 is in
       (n - 1, slice_get_within frames (n - 1) f at, get_or_from_slice_get frames (n - 1) f f at)
 ]

@@ -1,17 +1,18 @@
 -- The gathering of logs, and of the receipts of the commits to them.
-use Rattle.std.specs.Prelude.{◌≡◌, ◌⊎◌, ℕ, ◌<◌, ◌==◌, List, [], map, length, Option, Some, None, Result, Ok, Err, if◌then◌else◌, slice_get, All}
-use Rattle.std.specs.List.{flat_map, count_by, AllAdjacentBelow}
-use Rattle.std.specs.List.Sorted.{IsPermutation, IsNonDecreasingBy}
-use Rattle.rbc_spec.specs.Line.{Line, IsLine}
+use Rattle.std.specs.List.{AllAdjacentBelow, count_by, flat_map}
+use Rattle.std.specs.List.Sorted.{IsNonDecreasingBy, IsPermutation}
+use Rattle.std.specs.Prelude.{[], ◌<◌, ◌==◌, ◌≡◌, ◌⊎◌, All, Err, if◌then◌else◌, length, List, map, None, Ok, Option}
+use Rattle.std.specs.Prelude.{Result, slice_get, Some, ℕ}
 use Rattle.law_logs.specs.Logs.{AreLogs, IsLegal}
 use Rattle.rbc_centre.specs.States.{number_of}
-use Rattle.rbc_log.specs.Log.{LogValue, IsReplaying}
-use Rattle.rbc_log.specs.Merge.{AreOfLine, logs_by, ends_by, all_entries}
 use Rattle.rbc_log.specs.declared.entry.Entry.{Entry}
-use Rattle.rbc_node.specs.Receipts.{ShareValue, Has}
-use Rattle.rbc_node.specs.declared.receipt.Receipt.{Receipt}
+use Rattle.rbc_log.specs.Log.{IsReplaying, LogValue}
+use Rattle.rbc_log.specs.Merge.{all_entries, AreOfLine, ends_by, logs_by}
 use Rattle.rbc_node.specs.declared.gather_fault.GatherFault.{GatherFault}
-use Rattle.rbc_node.specs.declared.gather_fault.GatherFault.TheVariants.{Memory, Shares, Foreign, Centres}
+use Rattle.rbc_node.specs.declared.gather_fault.GatherFault.TheVariants.{Centres, Foreign, Memory, Shares}
+use Rattle.rbc_node.specs.declared.receipt.Receipt.{Receipt}
+use Rattle.rbc_node.specs.Receipts.{Has, ShareValue}
+use Rattle.rbc_spec.specs.Line.{IsLine, Line}
 
 -- ## One log for each centre
 

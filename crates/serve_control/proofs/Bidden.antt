@@ -1,14 +1,15 @@
 -- The command of a line at the control endpoint is the command of its script's entries.
-use Rattle.std.proofs.Common.{◌≡◌, ◌≢◌, Bool, true, false, ℕ, List, [], ◌∷◌, map, codes, Option, Some, None, IfOk, IfErr, ok_or, refl, ap, sym, ◌∙◌, inr}
+use Rattle.std.proofs.Common.{[], ◌∙◌, ◌∷◌, ◌≡◌, ◌≢◌, ap, Bool, codes, false, IfErr, IfOk, inr, List, map, None, ok_or}
+use Rattle.std.proofs.Common.{Option, refl, Some, sym, true, ℕ}
 use Rattle.rbc_spec.specs.Line.{Line}
-use Rattle.text_script.specs.Script as script
-use Rattle.text_script.specs.Script.{Asked, rows}
-use Rattle.text_script.specs.Entries.{AreAsked, asked_of}
-use Rattle.text_script.specs.declared.script.Entry.{Entry}
 use Rattle.serve_control.specs.Commands.{AskFor, bidden, bidden_once, Bids, IsNoCommand}
 use Rattle.serve_control.specs.declared.command.Command.{Command}
 use Rattle.serve_control.specs.declared.command.Command.TheVariants as command
 use Rattle.serve_control.specs.declared.command.CommandFault.TheVariants as fault
+use Rattle.text_script.specs.declared.script.Entry.{Entry}
+use Rattle.text_script.specs.Entries.{AreAsked, asked_of}
+use Rattle.text_script.specs.Script as script
+use Rattle.text_script.specs.Script.{Asked, rows}
 
 some_asked : (entries : List Entry) → map Some (map asked_of entries) ≡ map (λ e. Some (asked_of e)) entries
 some_asked [] = refl
@@ -31,21 +32,26 @@ no_stop [] = refl
 no_stop (one ∷ []) = no_stop_once one
 no_stop (one ∷ next ∷ others) = refl
 
-ask_for : (line : Line) (text : List ℕ) (entries : List Entry) → AreAsked line (rows text) entries → AskFor line text (map asked_of entries)
+ask_for : (line : Line) (text : List ℕ) (entries : List Entry) → AreAsked line (rows text) entries
+    → AskFor line text (map asked_of entries)
 ask_for line text entries asked = some_asked entries ∙ asked
 
 pub bids : (line : Line) (text : List ℕ) (entries : List Entry) (found : Option Command) →
-    found ≡ bidden (map asked_of entries) → AreAsked line (rows text) entries → IfOk (ok_or found fault.Form) (Bids line text)
+    found ≡ bidden (map asked_of entries) → AreAsked line (rows text) entries
+    → IfOk (ok_or found fault.Form) (Bids line text)
 bids line text entries None is asked = tt
 bids line text entries (Some command.Stop) is asked =
     absurd (let wrong : true ≡ false = ap is_stop is ∙ no_stop (map asked_of entries) in cc)
 bids line text entries (Some command.Nothing) is asked = (map asked_of entries, ask_for line text entries asked, sym is)
-bids line text entries (Some (command.Set centre section)) is asked = (map asked_of entries, ask_for line text entries asked, sym is)
-bids line text entries (Some (command.Unset centre section)) is asked = (map asked_of entries, ask_for line text entries asked, sym is)
+bids line text entries (Some (command.Set centre section)) is asked =
+    (map asked_of entries, ask_for line text entries asked, sym is)
+bids line text entries (Some (command.Unset centre section)) is asked =
+    (map asked_of entries, ask_for line text entries asked, sym is)
 bids line text entries (Some command.Show) is asked = (map asked_of entries, ask_for line text entries asked, sym is)
 
 pub bids_nothing : (line : Line) (text : List ℕ) (entries : List Entry) (found : Option Command) →
     text ≢ codes "stop" → found ≡ bidden (map asked_of entries) → AreAsked line (rows text) entries →
     IfErr (ok_or found fault.Form) (IsNoCommand line text)
-bids_nothing line text entries None other is asked = (other, inr (map asked_of entries, ask_for line text entries asked, sym is))
+bids_nothing line text entries None other is asked =
+    (other, inr (map asked_of entries, ask_for line text entries asked, sym is))
 bids_nothing line text entries (Some c) other is asked = tt

@@ -1,3 +1,2 @@
 mod Bidden
-mod Committed
 mod Printed

@@ -1,10 +1,13 @@
 -- The frames that a link carries, frame by frame and turn by turn.
-use Rattle.std.proofs.Common.{◌≡◌, ℕ, ◌+◌, List, [], ◌∷◌, ◌++◌, Bool, true, false, Option, Some, None, refl, sym, subst, arith, ⊎_elim}
+use Rattle.std.proofs.Common.{[], ◌++◌, ◌+◌, ◌-◌, ◌^◌, ◌∷◌, ◌≡◌, arith, Bool, false, List, min, None, Option, refl}
+use Rattle.std.proofs.Common.{Some, subst, sym, true, ℕ, ⊎_elim}
 use Rattle.std.proofs.Math.Nat.{eq-or-lt_of_le}
-use Rattle.rbc_spec.specs.Frame.{Frame}
-use Rattle.rbc_node.specs.Receipts.{ShareValue}
+use Rattle.std.specs.Prelude.{MatchBool}
 use Rattle.rbc_node.specs.Node.{IsFrameOf}
-use Rattle.serve_workers.specs.Carried.{IsPut, PutsInOrder, TakesTurn, TakesTurns}
+use Rattle.rbc_node.specs.Receipts.{ShareValue}
+use Rattle.rbc_spec.specs.Frame.{Frame}
+use Rattle.serve_workers.specs.Carried.{Delivers, IsPut, PutsInOrder, TakesTurn, TakesTurns}
+use Rattle.serve_workers.specs.declared.order.InOrder.{InOrder}
 
 -- the second notes know each frame that the first knew
 abbrev pub Keeps : (ℕ → Option Frame) → (ℕ → Option Frame) → Type 0
@@ -12,11 +15,14 @@ Keeps old new = (n : ℕ) (f : Frame) → old n ≡ Some f → new n ≡ Some f
 
 -- ## Sent frames
 
-pub puts-keeps : (old new : ℕ → Option Frame) (c to count : ℕ) → PutsInOrder old c to count → Keeps old new → PutsInOrder new c to count
-puts-keeps old new c to count before keeps = record { each = λ n least most. let it = before.each n least most in (it.0, keeps n it.0 it.1, it.2) }
+pub puts-keeps : (old new : ℕ → Option Frame) (c to count : ℕ) → PutsInOrder old c to count → Keeps old new
+    → PutsInOrder new c to count
+puts-keeps old new c to count before keeps =
+    record { each = λ n least most. let it = before.each n least most in (it.0, keeps n it.0 it.1, it.2) }
 
 -- one more frame is put, under the next number
-pub puts-one : (old new : ℕ → Option Frame) (c to count number : ℕ) (f : Frame) → number ≡ count + 1 → PutsInOrder old c to count → Keeps old new
+pub puts-one : (old new : ℕ → Option Frame) (c to count number : ℕ) (f : Frame) → number ≡ count + 1
+    → PutsInOrder old c to count → Keeps old new
     → new number ≡ Some f → IsFrameOf c to number (Some f) → PutsInOrder new c to number
 puts-one old new c to count number f next before keeps known sent = record {
   each = λ n least most. ⊎_elim
@@ -31,15 +37,62 @@ module _ {N : Type 0} (asks : N → ℕ) (follows : N → Bool → ℕ → Type 
   -- a turn under notes that know more
   pub turn-keeps : (old new : ℕ → Option Frame) (o p : N) (s t : ShareValue) (came : Option Bool) → Keeps old new
       → TakesTurn asks follows old c from o p s t came → TakesTurn asks follows new c from o p s t came
-  turn-keeps old new o p s t (Some true) keeps (f, outcome, known, commits, goes) = (f, outcome, keeps (asks o) f known, commits, goes)
+  turn-keeps old new o p s t (Some true) keeps (f, outcome, known, commits, goes) =
+      (f, outcome, keeps (asks o) f known, commits, goes)
   turn-keeps old new o p s t (Some false) keeps h = h
   turn-keeps old new o p s t None keeps h = h
 
   -- a further turn, after which the notes know more
-  pub turns-one : (old new : ℕ → Option Frame) (o p q : N) (r s t : ShareValue) (turns : List (Option Bool)) (came : Option Bool) → Keeps old new
+  pub turns-one : (old new : ℕ → Option Frame) (o p q : N) (r s t : ShareValue) (turns : List (Option Bool))
+      (came : Option Bool) → Keeps old new
       → TakesTurns asks follows old c from o p r s turns → TakesTurn asks follows new c from p q s t came
       → TakesTurns asks follows new c from o q r t (turns ++ came ∷ [])
-  turns-one old new o p q r s t [] came keeps (same, stays) turn =
-      (q, t, subst (λ (v : ShareValue). TakesTurn asks follows new c from o q v t came) stays (subst (λ (n : N). TakesTurn asks follows new c from n q s t came) same turn), (refl, refl))
+  turns-one old new o p q r s t [] came keeps (same, stays) turn = (
+    q,
+    t,
+    subst (λ (v : ShareValue). TakesTurn asks follows new c from o q v t came) stays
+        (subst (λ (n : N). TakesTurn asks follows new c from n q s t came) same turn),
+    (refl, refl),
+  )
   turns-one old new o p q r s t (first ∷ turns) came keeps (n, mid, one, rest) turn =
       (n, mid, turn-keeps old new o n r mid first keeps one, turns-one old new n p q mid s t turns came keeps rest turn)
+
+-- ## Turns that ask for the numbers in their order
+
+-- the number that the order asks for, and the next number
+abbrev asks : InOrder → ℕ
+asks o = o.number
+
+abbrev follows : InOrder → Bool → ℕ → Type 0
+follows o is_committed n = MatchBool is_committed (n ≡ min (o.number + 1) (2 ^ 32 - 1)) (n ≡ o.number)
+
+module _ (known : ℕ → Option Frame) (c from : ℕ) where
+  -- nothing was committed in a turn
+  quiet : (o q : InOrder) (old mid new : ShareValue) → mid ≡ old → q.number ≡ o.number
+      → (frames : List Frame) × Delivers known c from q.number mid new frames
+      → (frames : List Frame) × Delivers known c from o.number old new frames
+  quiet o q old mid new stays same rest = (
+    rest.0,
+    subst (λ (n : ℕ). Delivers known c from n old new rest.0) same
+        (subst (λ (s : ShareValue). Delivers known c from q.number s new rest.0) stays rest.1),
+  )
+
+  pub delivers : (o p : InOrder) (old new : ShareValue) (turns : List (Option Bool))
+      → TakesTurns asks follows known c from o p old new turns
+      → (frames : List Frame) × Delivers known c from o.number old new frames
+  delivers o p old new [] (same, stays) = ([], stays)
+  delivers o p old new (Some true ∷ turns) (q, mid, (f, outcome, knows, commits, goes), rest) =
+      let after = delivers q p mid new turns rest in (
+        f ∷ after.0,
+        (
+          mid,
+          outcome,
+          knows,
+          commits,
+          subst (λ (n : ℕ). Delivers known c from n mid new after.0) goes after.1,
+        ),
+      )
+  delivers o p old new (Some false ∷ turns) (q, mid, (stays, goes), rest) =
+      quiet o q old mid new stays goes (delivers q p mid new turns rest)
+  delivers o p old new (None ∷ turns) (q, mid, (stays, goes), rest) =
+      quiet o q old mid new stays goes (delivers q p mid new turns rest)

@@ -1,6 +1,4 @@
-mod Joins
 mod Turns
 mod Carried
-mod Delivers
 pub mod ReadingLemmas
 pub mod WritingLemmas

@@ -1,5 +1,2 @@
-pub mod Beginning
-pub mod LetOut
-pub mod Rising
-pub mod Spelled
+pub mod Order
 pub mod Written

@@ -1,15 +1,17 @@
 -- The steps of Limits, computed.
-use Rattle.std.proofs.Common.{◌≡◌, [], ◌∷◌, Ok, Err, None, refl}
-use Rattle.rbc_spec.specs.SectionRuns.{within, longest}
-use Rattle.rbc_spec.specs.Line.{start, end}
-use Rattle.rbc_spec.specs.Place.{extent}
-use Rattle.rbc_spec.specs.Frame.{RouteAsk}
-use Rattle.rbc_spec.specs.Centre.{beginning}
+use Rattle.std.proofs.Common.{[], ◌∷◌, ◌≡◌, Err, None, Ok, refl}
 use Rattle.rbc_spec.specs.Acts.{◌>>◌}
-use Rattle.rbc_spec.specs.Step.{step, Set, LinkFull}
+use Rattle.rbc_spec.specs.Centre.{beginning}
+use Rattle.rbc_spec.specs.Frame.{RouteAsk}
+use Rattle.rbc_spec.specs.Line.{end, start}
+use Rattle.rbc_spec.specs.Place.{extent}
+use Rattle.rbc_spec.specs.SectionRuns.{longest, within}
+use Rattle.rbc_spec.specs.Step.{LinkFull, Set, step}
+use Rattle.rbc_spec.specs.World.{new_world, world_run, world_step}
+use Rattle.test_scenes.specs.Limits.{asks_ahead, frame_without_a_link, frame_without_a_link_shows, having_sent}
+use Rattle.test_scenes.specs.Limits.{last_stamp_is_taken, last_stamp_is_taken_shows, run_items, set_and_session}
+use Rattle.test_scenes.specs.Limits.{set_and_session_shows, stamp_past_the_last, stamp_past_the_last_shows, stamps}
 use Rattle.test_scenes.specs.Scene.{line, line_of_three}
-use Rattle.rbc_spec.specs.World.{new_world, world_step, world_run}
-use Rattle.test_scenes.specs.Limits.{asks_ahead, run_items, set_and_session, set_and_session_shows, stamps, having_sent, last_stamp_is_taken, last_stamp_is_taken_shows, stamp_past_the_last, stamp_past_the_last_shows, frame_without_a_link, frame_without_a_link_shows}
 
 pub last_stamp_is_taken_comes_out : stamps line last_stamp_is_taken (beginning line 0) ≡ last_stamp_is_taken_shows
 unfolding within longest start end extent beginning ◌>>◌ step stamps
@@ -19,7 +21,8 @@ pub stamp_past_the_last_comes_out : stamps line stamp_past_the_last (beginning l
 unfolding within longest start end extent beginning ◌>>◌ step stamps
 stamp_past_the_last_comes_out = refl
 
-pub frame_without_a_link_comes_out : stamps (line_of_three 1) frame_without_a_link (beginning (line_of_three 1) 0) ≡ frame_without_a_link_shows
+pub frame_without_a_link_comes_out : stamps (line_of_three 1) frame_without_a_link (beginning (line_of_three 1) 0)
+    ≡ frame_without_a_link_shows
 unfolding within longest start end extent beginning ◌>>◌ step stamps
 frame_without_a_link_comes_out = refl
 

@@ -1,14 +1,18 @@
 -- What is seen of the scenes of Places, computed.
 use Rattle.std.proofs.Common.{◌≡◌, refl}
-use Rattle.rbc_spec.specs.SectionRuns.{within, longest}
-use Rattle.rbc_spec.specs.Line.{start as line_start, end}
-use Rattle.rbc_spec.specs.Place.{extent}
-use Rattle.rbc_spec.specs.Centre.{beginning}
 use Rattle.rbc_spec.specs.Acts.{◌>>◌}
+use Rattle.rbc_spec.specs.Centre.{beginning}
+use Rattle.rbc_spec.specs.Line.{end, start as line_start}
+use Rattle.rbc_spec.specs.Place.{extent}
+use Rattle.rbc_spec.specs.SectionRuns.{longest, within}
 use Rattle.rbc_spec.specs.Step.{step}
 use Rattle.rbc_spec.specs.World.{new_world, world_step}
+use Rattle.test_scenes.specs.Places.{hand_out_of_reach, hand_out_of_reach_shows, longest_train, longest_train_shows}
+use Rattle.test_scenes.specs.Places.{other_scale, other_scale_shows, own_stamp_after_a_yield}
+use Rattle.test_scenes.specs.Places.{own_stamp_after_a_yield_shows, reports_without_place, reports_without_place_shows}
+use Rattle.test_scenes.specs.Places.{requests_without_place, requests_without_place_show, starts_that_are_not_fit}
+use Rattle.test_scenes.specs.Places.{starts_that_are_not_fit_show}
 use Rattle.test_scenes.specs.Scene.{line, line_of_one, seen, seen_from}
-use Rattle.test_scenes.specs.Places.{reports_without_place, reports_without_place_shows, requests_without_place, requests_without_place_show, hand_out_of_reach, hand_out_of_reach_shows, starts_that_are_not_fit, starts_that_are_not_fit_show, longest_train, longest_train_shows, other_scale, other_scale_shows, own_stamp_after_a_yield, own_stamp_after_a_yield_shows}
 
 pub reports_without_place_comes_out : seen line reports_without_place ≡ reports_without_place_shows
 unfolding within longest line_start end extent beginning ◌>>◌ step new_world world_step seen seen_from

@@ -1,21 +1,24 @@
 -- What comes of quiet steps in Moves is what the one line centre may take.
-use Rattle.std.proofs.Common.{◌≡◌, ℕ, ◌+◌, ◌*◌, ◌==◌, true, false, ◌&&◌, not, List, [], ◌∷◌, Some, refl, sym, ap, ◌∙◌, true≢false, eq-eqb, arith, ⊎_elim}
-use Rattle.std.specs.Option.{option_map_or}
-use Rattle.std.specs.List.{list_all, range_with_len, find}
-use Rattle.std.proofs.lemmas.Bool.{and_parts, leb-true, ltb-true, cases_Bool, eqb-true, not-true}
+use Rattle.std.proofs.Common.{[], ◌&&◌, ◌*◌, ◌+◌, ◌==◌, ◌∙◌, ◌∷◌, ◌≡◌, ap, arith, eq-eqb, false, List, not, refl, Some}
+use Rattle.std.proofs.Common.{sym, true, true≢false, ℕ, ⊎_elim}
+use Rattle.std.proofs.lemmas.Bool.{and_parts, cases_Bool, eqb-true, leb-true, ltb-true, not-true}
 use Rattle.std.proofs.lemmas.Option.{none-some, same_Some}
-use Rattle.rbc_spec.specs.Line.{Line, is_home, start, next_centre}
-use Rattle.rbc_spec.specs.Sections.{section_count}
-use Rattle.rbc_spec.specs.SectionRuns.{within}
+use Rattle.std.specs.List.{find, list_all, range_with_len}
+use Rattle.std.specs.Option.{option_map_or}
+use Rattle.law_base.proofs.Lists.{each_of, none_is}
+use Rattle.rbc_spec.specs.Centre.{Closed, is_up, Opened, Phase, Up}
+use Rattle.rbc_spec.specs.Line.{is_home, Line, next_centre, start}
+use Rattle.rbc_spec.specs.LineCentre.{At, Given, is_at, is_given_to, is_kept_for, is_mark_open, is_waiting_at, Kept}
+use Rattle.rbc_spec.specs.LineCentre.{LineMission, LineState, Mark, Open, Parted, Shut, supervises, Supervisor}
 use Rattle.rbc_spec.specs.Place.{covered, group_start}
-use Rattle.rbc_spec.specs.Centre.{Phase, Closed, Opened, Up, is_up}
-use Rattle.rbc_spec.specs.LineCentre.{LineState, Mark, Shut, Open, Kept, Given, LineMission, Supervisor, At, Parted, is_given_to, is_kept_for, is_mark_open, is_at, supervises, is_waiting_at}
-use Rattle.rbc_spec.specs.Quiet.{Quiet, Keep, Unkeep, Admit, Dismiss, LayDown, TakeUp, Propose, Order, EndOrder, TakesQuiet, TakesAll}
-use Rattle.law_base.proofs.Lists.{none_is, each_of}
-use Rattle.test_scenes.specs.Turns.{Turn, hand_of, parted_at, is_over_border, quiet_turn, quiet_turns}
-use Rattle.test_scenes.proofs.Valid.{Valid, valid_allowed, valid_some, valid_then}
-use Rattle.test_scenes.proofs.Bounds.{IsWithinLine, home_within, covered_within, within_free, within_given, within_put}
+use Rattle.rbc_spec.specs.Quiet.{Admit, Dismiss, EndOrder, Keep, LayDown, Order, Propose, Quiet, TakesAll, TakesQuiet}
+use Rattle.rbc_spec.specs.Quiet.{TakeUp, Unkeep}
+use Rattle.rbc_spec.specs.SectionRuns.{within}
+use Rattle.rbc_spec.specs.Sections.{section_count}
+use Rattle.test_scenes.proofs.Bounds.{covered_within, home_within, IsWithinLine, within_free, within_given, within_put}
 use Rattle.test_scenes.proofs.OwnTurns.{Does, hand_is}
+use Rattle.test_scenes.proofs.Valid.{Valid, valid_allowed, valid_some, valid_then}
+use Rattle.test_scenes.specs.Turns.{hand_of, is_over_border, parted_at, quiet_turn, quiet_turns, Turn}
 
 -- ## What tests tell
 
@@ -53,9 +56,11 @@ abbrev pub IsQuiet : Line → LineState → Quiet → Turn → Type 0
 IsQuiet line v q = Does line (TakesQuiet line v q)
 
 -- a mission that is supervised at c is supervised there
-not_there : (v : LineState) (t c : ℕ) → supervises v c t ≡ false → (m : LineMission) → v.mission t ≡ Some m → m.supervisor ≡ At c → ⊥
+not_there : (v : LineState) (t c : ℕ) → supervises v c t ≡ false → (m : LineMission) → v.mission t ≡ Some m
+    → m.supervisor ≡ At c → ⊥
 not_there v t c not_so m of_train by = absurd (true≢false
-    (sym (at_itself c m.supervisor by) ∙ sym (ap (λ o. option_map_or (λ n. is_at c n.supervisor) o false) of_train) ∙ not_so))
+    (sym (at_itself c m.supervisor by) ∙ sym
+    (ap (λ o. option_map_or (λ n. is_at c n.supervisor) o false) of_train) ∙ not_so))
 
 -- no section of c is given, where none of the line is
 none_at : (line : Line) (v : LineState) (t c : ℕ)
@@ -63,13 +68,17 @@ none_at : (line : Line) (v : LineState) (t c : ℕ)
     → (s : ℕ) → (is_home line c s && is_given_to t (v.mark s)) ≡ false
 none_at line v t c none s = ⊎_elim
     (λ (both_so : (is_home line c s && is_given_to t (v.mark s)) ≡ true).
-    not-true _ (each_of _ 0 (section_count line) none s (omega arith) (omega (arith, home_within line c s (and_parts _ _ both_so).0))))
+    not-true _ (each_of _ 0 (section_count line) none s (omega arith)
+    (omega (arith, home_within line c s (and_parts _ _ both_so).0))))
     (λ (not_so : (is_home line c s && is_given_to t (v.mark s)) ≡ false). not_so)
     (cases_Bool (is_home line c s && is_given_to t (v.mark s)))
 
-quiet_is : (line : Line) (v : LineState) (q : Quiet) → IsWithinLine line v.mark → Valid (IsQuiet line v q) (quiet_turn line v q)
-quiet_is line v (Keep t s) bound = valid_allowed (IsQuiet line v (Keep t s)) _ _ (λ so.
-    (record { is_open = open_is (v.mark s) so; leaves = record { said_is = refl; new_is = refl } }, within_put line s (Kept t) v (λ u. refl) bound))
+quiet_is : (line : Line) (v : LineState) (q : Quiet) → IsWithinLine line v.mark
+    → Valid (IsQuiet line v q) (quiet_turn line v q)
+quiet_is line v (Keep t s) bound = valid_allowed (IsQuiet line v (Keep t s)) _ _ (λ so. (
+  record { is_open = open_is (v.mark s) so; leaves = record { said_is = refl; new_is = refl } },
+  within_put line s (Kept t) v (λ u. refl) bound,
+))
 quiet_is line v (Unkeep t s) bound = valid_allowed (IsQuiet line v (Unkeep t s)) _ _ (λ so.
     let parts = and_parts _ _ so in (
       record {
@@ -81,18 +90,42 @@ quiet_is line v (Unkeep t s) bound = valid_allowed (IsQuiet line v (Unkeep t s))
     ))
 quiet_is line v (Admit t c) bound = valid_some (IsQuiet line v (Admit t c)) _ (v.wait t c) (λ place is.
     valid_allowed (IsQuiet line v (Admit t c)) _ _ (λ so. (
-      record { place = place; waits = is; no_mission = none_is (v.mission t) so; says = record { said_is = refl; new_is = refl } },
+      record {
+        place = place;
+        waits = is;
+        no_mission = none_is (v.mission t) so;
+        says = record { said_is = refl; new_is = refl };
+      },
       within_given line (within (covered line place)) t v (covered_within line place) bound,
     )))
-quiet_is line v (Dismiss t c) bound = valid_some (IsQuiet line v (Dismiss t c)) _ (v.wait t c) (λ place is.
-    (record { place = place; waits = is; says = record { said_is = refl; new_is = refl } }, within_free line (is_waiting_at line v t c) v bound))
+quiet_is line v (Dismiss t c) bound = valid_some (IsQuiet line v (Dismiss t c)) _ (v.wait t c) (λ place is. (
+  record { place = place; waits = is; says = record { said_is = refl; new_is = refl } },
+  within_free line (is_waiting_at line v t c) v bound,
+))
 quiet_is line v (LayDown t c) bound = valid_some (IsQuiet line v (LayDown t c)) _ (v.mission t) (λ m of_train.
     valid_some (IsQuiet line v (LayDown t c)) _ (v.heard t c) (λ stamp heard.
-    valid_allowed (IsQuiet line v (LayDown t c)) _ _ (λ so.
-    (record { mission = m; stamp = stamp; of_train = of_train; supervises = at_is c m.supervisor so; heard = heard; leaves = record { said_is = refl; new_is = refl } }, bound))))
+    valid_allowed (IsQuiet line v (LayDown t c)) _ _ (λ so. (
+      record {
+        mission = m;
+        stamp = stamp;
+        of_train = of_train;
+        supervises = at_is c m.supervisor so;
+        heard = heard;
+        leaves = record { said_is = refl; new_is = refl };
+      },
+      bound,
+    ))))
 quiet_is line v (TakeUp t c) bound = valid_some (IsQuiet line v (TakeUp t c)) _ (v.mission t) (λ m of_train.
-    valid_some (IsQuiet line v (TakeUp t c)) _ (parted_at m.supervisor) (λ stamp parted.
-    (record { mission = m; stamp = stamp; of_train = of_train; parted = parted_is m.supervisor stamp parted; leaves = record { said_is = refl; new_is = refl } }, bound)))
+    valid_some (IsQuiet line v (TakeUp t c)) _ (parted_at m.supervisor) (λ stamp parted. (
+      record {
+        mission = m;
+        stamp = stamp;
+        of_train = of_train;
+        parted = parted_is m.supervisor stamp parted;
+        leaves = record { said_is = refl; new_is = refl };
+      },
+      bound,
+    )))
 quiet_is line v (Propose t c s) bound = valid_some (IsQuiet line v (Propose t c s)) _ (v.mission t) (λ m of_train.
     valid_allowed (IsQuiet line v (Propose t c s)) _ _ (λ so.
     let parts = and_parts _ _ so in
@@ -122,7 +155,8 @@ quiet_is line v (Propose t c s) bound = valid_some (IsQuiet line v (Propose t c 
     )))
 quiet_is line v (Order t c) bound = valid_some (IsQuiet line v (Order t c)) _ (v.mission t) (λ m of_train.
     valid_some (IsQuiet line v (Order t c)) _ (next_centre line c m.place.track) (λ next next_is.
-    valid_some (IsQuiet line v (Order t c)) _ (find (is_over_border line v t next) (range_with_len 0 (section_count line))) (λ border is_border.
+    valid_some (IsQuiet line v (Order t c)) _
+    (find (is_over_border line v t next) (range_with_len 0 (section_count line))) (λ border is_border.
     valid_allowed (IsQuiet line v (Order t c)) _ _ (λ so.
     let halves = and_parts _ _ so in
     let here = and_parts _ _ halves.0 in
@@ -159,10 +193,13 @@ quiet_is line v (EndOrder t c) bound = valid_allowed (IsQuiet line v (EndOrder t
 abbrev pub AreQuiet : Line → LineState → List Quiet → Turn → Type 0
 AreQuiet line v qs = Does line (TakesAll line v qs)
 
-pub quiets_are : (line : Line) (v : LineState) (qs : List Quiet) → IsWithinLine line v.mark → Valid (AreQuiet line v qs) (quiet_turns line v qs)
+pub quiets_are : (line : Line) (v : LineState) (qs : List Quiet) → IsWithinLine line v.mark
+    → Valid (AreQuiet line v qs) (quiet_turns line v qs)
 unfolding quiet_turns
 quiets_are line v [] bound = ((refl, refl), bound)
 quiets_are line v (q ∷ qs) bound =
-    valid_then (IsQuiet line v q) (AreQuiet line v (q ∷ qs)) _ (quiet_turn line v q) (quiet_is line v q bound) (λ a first.
-    valid_then (AreQuiet line a.state qs) (AreQuiet line v (q ∷ qs)) _ (quiet_turns line a.state qs) (quiets_are line a.state qs first.1) (λ b others.
+    valid_then (IsQuiet line v q) (AreQuiet line v (q ∷ qs)) _ (quiet_turn line v q)
+    (quiet_is line v q bound) (λ a first.
+    valid_then (AreQuiet line a.state qs) (AreQuiet line v (q ∷ qs)) _ (quiet_turns line a.state qs)
+    (quiets_are line a.state qs first.1) (λ b others.
     ((a.said, b.said, a.state, first.0, others.0, refl), others.1)))

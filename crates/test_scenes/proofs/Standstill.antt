@@ -1,7 +1,6 @@
 -- Ends of missions at standstill, computed: the views of them, and the sections that may leave the hand.
-use Rattle.std.proofs.Common.{◌≡◌, ◌≤◌, ◌<◌, ◌*◌, ◌∙◌, ◌⊎◌, ap, arith, false, inl, inr, ℕ, None, Option}
-use Rattle.std.proofs.Common.{option_map, refl}
-use Rattle.std.proofs.Common.{pos, Some, subst, suc, sym, true, true≢false, zero}
+use Rattle.std.proofs.Common.{◌*◌, ◌<◌, ◌∙◌, ◌≡◌, ◌≤◌, ◌⊎◌, ap, arith, false, inl, inr, None, Option, option_map, pos}
+use Rattle.std.proofs.Common.{refl, Some, subst, suc, sym, true, true≢false, zero, ℕ}
 use Rattle.std.proofs.lemmas.Option.{same_Some}
 use Rattle.std.specs.Prelude.{is_some}
 use Rattle.law_base.proofs.Runs.{within_true}
@@ -20,9 +19,9 @@ use Rattle.test_scenes.proofs.Pieces.{met_by_run}
 use Rattle.test_scenes.specs.Moves.{play}
 use Rattle.test_scenes.specs.Pieces.{centres_show, IsMetByRun, line_shows}
 use Rattle.test_scenes.specs.Scene.{line, seen, seen_from}
-use Rattle.test_scenes.specs.Standstill.{end_at_the_start, end_at_the_start_moves, end_at_the_start_shows}
+use Rattle.test_scenes.specs.Standstill.{end_at_the_start, end_at_the_start_moves, end_at_the_start_shows, end_message}
 use Rattle.test_scenes.specs.Standstill.{end_past_the_start, end_past_the_start_moves, end_past_the_start_shows}
-use Rattle.test_scenes.specs.Standstill.{end_message, ends_at, in_section_2, six_given}
+use Rattle.test_scenes.specs.Standstill.{ends_at, in_section_2, six_given}
 use Rattle.test_scenes.specs.Turns.{quiet_turns}
 
 -- ## Views

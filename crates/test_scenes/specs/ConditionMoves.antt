@@ -1,13 +1,15 @@
 -- Scenes of single conditions as moves of the one line centre.
-use Rattle.std.specs.Prelude.{map, List, [], ◌∷◌, ◌++◌, Some, None}
 use Rattle.std.specs.List.{range_with_len}
-use Rattle.rbc_spec.specs.Message.{ShorteningGranted, InitiationOfSession, SessionEstablished, TerminationOfSession, Request, EndOfMission, Report}
-use Rattle.rbc_spec.specs.Quiet.{Keep, Unkeep, LayDown, TakeUp, Propose, Order}
-use Rattle.rbc_spec.specs.World.{Set, Unset, Delivery}
-use Rattle.test_scenes.specs.Moves.{Move}
-use Rattle.test_scenes.specs.Scene.{Happens, train, session, sets, at, in_section_1, moving}
+use Rattle.std.specs.Prelude.{[], ◌++◌, ◌∷◌, List, map, None, Some}
+use Rattle.rbc_spec.specs.Message.{EndOfMission, InitiationOfSession, Report, Request, SessionEstablished}
+use Rattle.rbc_spec.specs.Message.{ShorteningGranted, TerminationOfSession}
+use Rattle.rbc_spec.specs.Quiet.{Keep, LayDown, Order, Propose, TakeUp, Unkeep}
+use Rattle.rbc_spec.specs.World.{Delivery, Set, Unset}
 use Rattle.test_scenes.specs.Conditions.{two_sections}
-use Rattle.test_scenes.specs.SceneMoves.{plain, followed, extends, first_authority, to_the_border_moves, route_moves, over_the_border_moves, announced_moves, reports_to_b, asks_before_3}
+use Rattle.test_scenes.specs.Moves.{Move}
+use Rattle.test_scenes.specs.Scene.{at, Happens, in_section_1, moving, session, sets, train}
+use Rattle.test_scenes.specs.SceneMoves.{announced_moves, asks_before_3, extends, first_authority, followed}
+use Rattle.test_scenes.specs.SceneMoves.{over_the_border_moves, plain, reports_to_b, route_moves, to_the_border_moves}
 
 -- section 2 is wished back, and the train is asked to shorten its authority before it
 abbrev pub asks_before_2 : List Move

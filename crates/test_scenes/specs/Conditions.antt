@@ -1,14 +1,21 @@
 -- What a single condition decides: each of those of a request to shorten, and others.
-use Rattle.std.specs.Prelude.{ℕ, true, List, [], ◌∷◌, ◌++◌, Some, None}
-use Rattle.rbc_spec.specs.Message.{InitiationOfSession, SessionEstablished, TerminationOfSession, StartOfMission, Request, Report, EndOfMission, ShorteningGranted, ShorteningRequest, Authority, Transition, SystemVersion, TerminationAcknowledged, TrainAccepted, TrainRejected, unknown_group}
-use Rattle.rbc_spec.specs.Frame.{RouteAsk, Announce, RouteInfo, RouteReturn, RouteWithdraw, TakingOver}
-use Rattle.rbc_spec.specs.Outcome.{Asked, Told, Unasked, Next}
-use Rattle.rbc_spec.specs.World.{Set, Unset, Delivery}
-use Rattle.test_scenes.specs.Scene.{Scene, Happens, Look, Item, Says, Sends, Tells, Link, IsShut, IsOpen, Given, train, session, sets, at, in_section_1, group_1, nothing, done, all_done, times, shows, moving}
-use Rattle.test_scenes.specs.Starts.{opened, silent}
-use Rattle.test_scenes.specs.Requests.{asks_for_more, start_and_request, start_and_request_shows, request_to_the_border, request_to_the_border_shows, route_on_the_way, route_on_the_way_shows, over_the_border, over_the_border_shows}
+use Rattle.std.specs.Prelude.{[], ◌++◌, ◌∷◌, List, None, Some, true, ℕ}
+use Rattle.rbc_spec.specs.Frame.{Announce, RouteAsk, RouteInfo, RouteReturn, RouteWithdraw, TakingOver}
+use Rattle.rbc_spec.specs.Message.{Authority, EndOfMission, InitiationOfSession, Report, Request, SessionEstablished}
+use Rattle.rbc_spec.specs.Message.{ShorteningGranted, ShorteningRequest, StartOfMission, SystemVersion}
+use Rattle.rbc_spec.specs.Message.{TerminationAcknowledged, TerminationOfSession, TrainAccepted, TrainRejected}
+use Rattle.rbc_spec.specs.Message.{Transition, unknown_group}
+use Rattle.rbc_spec.specs.Outcome.{Asked, Next, Told, Unasked}
+use Rattle.rbc_spec.specs.World.{Delivery, Set, Unset}
 use Rattle.test_scenes.specs.Handover.{announced, announced_shows, the_yield}
+use Rattle.test_scenes.specs.Requests.{asks_for_more, over_the_border, over_the_border_shows, request_to_the_border}
+use Rattle.test_scenes.specs.Requests.{request_to_the_border_shows, route_on_the_way, route_on_the_way_shows}
+use Rattle.test_scenes.specs.Requests.{start_and_request, start_and_request_shows}
+use Rattle.test_scenes.specs.Scene.{all_done, at, done, Given, group_1, Happens, in_section_1, IsOpen, IsShut, Item}
+use Rattle.test_scenes.specs.Scene.{Link, Look, moving, nothing, Says, Scene, Sends, session, sets, shows, Tells, times}
+use Rattle.test_scenes.specs.Scene.{train}
 use Rattle.test_scenes.specs.Shortening.{asks_to_shorten}
+use Rattle.test_scenes.specs.Starts.{opened, silent}
 
 -- ## When a train is asked to shorten its authority
 

@@ -1,12 +1,13 @@
 -- A train is handed over from A to B, or its handover is cancelled.
-use Rattle.std.specs.Prelude.{ℕ, ◌+◌, true, false, List, [], ◌∷◌, ◌++◌, Some, pos}
-use Rattle.rbc_spec.specs.Message.{Report, ShorteningGranted, ShorteningRequest, EndSession, unknown_group}
-use Rattle.rbc_spec.specs.Frame.{Body, RouteInfo, RouteReturn, RouteWithdraw, Cancel, TakingOver, Yield}
-use Rattle.rbc_spec.specs.Outcome.{Asked, StaleStamp, Next, Old}
-use Rattle.rbc_spec.specs.World.{Unset, Delivery}
-use Rattle.test_scenes.specs.Scene.{Scene, Happens, Look, LookAtFrame, Item, Says, Sends, Tells, Link, ShowsFrame, IsShut, IsOpen, Given, Kept, train, session, at, in_section_1, group_1, times, shows}
-use Rattle.test_scenes.specs.Starts.{opened, silent}
+use Rattle.std.specs.Prelude.{[], ◌++◌, ◌+◌, ◌∷◌, false, List, pos, Some, true, ℕ}
+use Rattle.rbc_spec.specs.Frame.{Body, Cancel, RouteInfo, RouteReturn, RouteWithdraw, TakingOver, Yield}
+use Rattle.rbc_spec.specs.Message.{EndSession, Report, ShorteningGranted, ShorteningRequest, unknown_group}
+use Rattle.rbc_spec.specs.Outcome.{Asked, Next, Old, StaleStamp}
+use Rattle.rbc_spec.specs.World.{Delivery, Unset}
 use Rattle.test_scenes.specs.Requests.{over_the_border, over_the_border_shows, shows_six_given}
+use Rattle.test_scenes.specs.Scene.{at, Given, group_1, Happens, in_section_1, IsOpen, IsShut, Item, Kept, Link, Look}
+use Rattle.test_scenes.specs.Scene.{LookAtFrame, Says, Scene, Sends, session, shows, ShowsFrame, Tells, times, train}
+use Rattle.test_scenes.specs.Starts.{opened, silent}
 
 -- the announcement and the question for more sections come to B, which has none to lend
 abbrev pub announced : List Scene

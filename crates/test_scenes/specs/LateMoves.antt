@@ -1,12 +1,14 @@
 -- Scenes of late frames and of three centres as moves of the one line centre.
-use Rattle.std.specs.Prelude.{true, List, [], ◌∷◌, ◌++◌, Some}
-use Rattle.rbc_spec.specs.Message.{StartOfMission, TrainData, Request, Report, ShorteningGranted, EndOfMission}
-use Rattle.rbc_spec.specs.Quiet.{Keep, Unkeep, Admit, LayDown, TakeUp, Propose, Order, EndOrder}
-use Rattle.rbc_spec.specs.World.{Set, Unset, Delivery}
+use Rattle.std.specs.Prelude.{[], ◌++◌, ◌∷◌, List, Some, true}
+use Rattle.rbc_spec.specs.Message.{EndOfMission, Report, Request, ShorteningGranted, StartOfMission, TrainData}
+use Rattle.rbc_spec.specs.Quiet.{Admit, EndOrder, Keep, LayDown, Order, Propose, TakeUp, Unkeep}
+use Rattle.rbc_spec.specs.World.{Delivery, Set, Unset}
 use Rattle.test_scenes.specs.Moves.{Move}
-use Rattle.test_scenes.specs.Scene.{Happens, train, session, at, in_section_1, moving}
+use Rattle.test_scenes.specs.Scene.{at, Happens, in_section_1, moving, session, train}
+use Rattle.test_scenes.specs.SceneMoves.{announced_moves, asks_before_3, extends, first_authority, followed, heard}
+use Rattle.test_scenes.specs.SceneMoves.{over_the_border_moves, plain, rejected, reports_to_b, right_comes_moves}
+use Rattle.test_scenes.specs.SceneMoves.{route_moves, to_the_border_moves}
 use Rattle.test_scenes.specs.ThreeCentres.{in_section_2, in_section_3}
-use Rattle.test_scenes.specs.SceneMoves.{plain, followed, extends, heard, rejected, right_comes_moves, first_authority, to_the_border_moves, route_moves, over_the_border_moves, announced_moves, reports_to_b, asks_before_3}
 
 -- ## Late frames
 

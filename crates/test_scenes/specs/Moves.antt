@@ -1,14 +1,15 @@
 -- A move of the one line centre: an event, how the line centre takes it where the rules leave that open, and the quiet
 -- steps that it takes then. What comes of it is computed; that it is a piece of the line centre is proved once.
-use Rattle.std.specs.Prelude.{ℕ, nat_lt, Bool, true, false, ◌&&◌, ◌||◌, not, if◌then◌else◌, List, [], ◌∷◌, Option, Some, None, is_none, Ok, Err}
 use Rattle.std.specs.List.{list_all}
 use Rattle.std.specs.Option.{option_map_or}
-use Rattle.rbc_spec.specs.Line.{Line, is_centre}
-use Rattle.rbc_spec.specs.Outcome.{Outcome, Reason, Word, Told}
+use Rattle.std.specs.Prelude.{[], ◌&&◌, ◌||◌, ◌∷◌, Bool, Err, false, if◌then◌else◌, is_none, List, nat_lt, None, not}
+use Rattle.std.specs.Prelude.{Ok, Option, Some, true, ℕ}
+use Rattle.rbc_spec.specs.Line.{is_centre, Line}
 use Rattle.rbc_spec.specs.LineCentre.{LineState, Said}
-use Rattle.rbc_spec.specs.Quiet.{Quiet, is_of_centre, both}
-use Rattle.rbc_spec.specs.World.{Event, Bytes, Set, Unset, Delivery, centre_of}
-use Rattle.test_scenes.specs.Turns.{Choice, Unanswered, Turn, allowed, Step, own_step, quiet_turns}
+use Rattle.rbc_spec.specs.Outcome.{Outcome, Reason, Told, Word}
+use Rattle.rbc_spec.specs.Quiet.{both, is_of_centre, Quiet}
+use Rattle.rbc_spec.specs.World.{Bytes, centre_of, Delivery, Event, Set, Unset}
+use Rattle.test_scenes.specs.Turns.{allowed, Choice, own_step, quiet_turns, Step, Turn, Unanswered}
 
 -- an event, how it is taken, and the quiet steps after it
 pub record Move : Type 0 where

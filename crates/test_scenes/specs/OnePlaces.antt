@@ -1,13 +1,14 @@
 -- Scenes in which each thing stays in one place: what `HasOnePlace` says of a world is computed after each event.
-use Rattle.std.specs.Prelude.{ℕ, ◌+◌, ◌==◌, ◌&&◌, Bool, true, false, List, [], ◌∷◌, length, map, is_some, nat_le, Result, Ok, Err}
-use Rattle.std.specs.List.{list_all, range_with_len, count_by}
+use Rattle.std.specs.List.{count_by, list_all, range_with_len}
+use Rattle.std.specs.Prelude.{[], ◌&&◌, ◌+◌, ◌==◌, ◌∷◌, Bool, Err, false, is_some, length, List, map, nat_le, Ok}
+use Rattle.std.specs.Prelude.{Result, true, ℕ}
 use Rattle.rbc_spec.specs.Line.{Line}
+use Rattle.rbc_spec.specs.Promises.{carries_right, holders, user}
+use Rattle.rbc_spec.specs.ReadOff.{all_held, centres_of, frames_on_way}
 use Rattle.rbc_spec.specs.Sections.{section_count}
 use Rattle.rbc_spec.specs.Step.{Refusal}
-use Rattle.rbc_spec.specs.World.{World, Answer, new_world, world_step}
-use Rattle.rbc_spec.specs.ReadOff.{centres_of, frames_on_way, all_held}
-use Rattle.rbc_spec.specs.Promises.{holders, user, carries_right}
-use Rattle.test_scenes.specs.Scene.{Scene, Happens, at_home}
+use Rattle.rbc_spec.specs.World.{Answer, new_world, World, world_step}
+use Rattle.test_scenes.specs.Scene.{at_home, Happens, Scene}
 
 -- the same trains in the same order
 abbrev pub are_same : List ℕ → List ℕ → Bool

@@ -1,19 +1,20 @@
 -- Centres and the one line centre side by side: event by event a piece of the one line centre meets what the centres
 -- answer, and the state that it leaves is the one that is read off the centres.
-use Rattle.std.specs.Prelude.{◌≡◌, ℕ, List, [], ◌∷◌, map, Option, Some, None, Result, Ok, Err, length}
 use Rattle.std.specs.List.{filter, filter_map, range_with_len}
-use Rattle.rbc_spec.specs.Line.{Line}
-use Rattle.rbc_spec.specs.Sections.{section_count}
-use Rattle.rbc_spec.specs.Place.{Place}
+use Rattle.std.specs.Prelude.{[], ◌∷◌, ◌≡◌, Err, length, List, map, None, Ok, Option, Result, Some, ℕ}
 use Rattle.rbc_spec.specs.Centre.{Phase}
-use Rattle.rbc_spec.specs.Step.{Refusal}
-use Rattle.rbc_spec.specs.World.{World, Event, Answer, Answered, NoCentre, NotSent, Fault, new_world, world_step, world_run}
-use Rattle.rbc_spec.specs.LineCentre.{LineState, Mark, LineMission, line_beginning}
+use Rattle.rbc_spec.specs.Line.{Line}
+use Rattle.rbc_spec.specs.LineCentre.{line_beginning, LineMission, LineState, Mark}
+use Rattle.rbc_spec.specs.Place.{Place}
+use Rattle.rbc_spec.specs.ReadOff.{IsLineRun, read_off}
 use Rattle.rbc_spec.specs.Run as run
-use Rattle.rbc_spec.specs.ReadOff.{read_off, IsLineRun}
-use Rattle.rbc_spec.specs.Theorems.{IsOneCentreLine, ForcedRun}
-use Rattle.test_scenes.specs.Scene.{Scene, Happens}
-use Rattle.test_scenes.specs.Moves.{Move, spoken_in, Shown, Speaks, Nowhere, NeverSent, BadBytes, Played, play}
+use Rattle.rbc_spec.specs.Sections.{section_count}
+use Rattle.rbc_spec.specs.Step.{Refusal}
+use Rattle.rbc_spec.specs.Theorems.{ForcedRun, IsOneCentreLine}
+use Rattle.rbc_spec.specs.World.{Answer, Answered, Event, Fault, new_world, NoCentre, NotSent, World, world_run}
+use Rattle.rbc_spec.specs.World.{world_step}
+use Rattle.test_scenes.specs.Moves.{BadBytes, Move, NeverSent, Nowhere, play, Played, Shown, Speaks, spoken_in}
+use Rattle.test_scenes.specs.Scene.{Happens, Scene}
 
 -- ## A state on its line
 

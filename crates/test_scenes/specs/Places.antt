@@ -1,12 +1,15 @@
 -- Where a position packet places a train, and what has no place.
-use Rattle.std.specs.Prelude.{ℕ, true, false, List, [], ◌∷◌, ◌++◌, map, Some, None}
-use Rattle.rbc_spec.specs.Message.{StartOfMission, TrainData, Request, Report, TrainAccepted, TrainRejected, DataAcknowledged, Authority, unknown_group}
+use Rattle.std.specs.Prelude.{[], ◌++◌, ◌∷◌, false, List, map, None, Some, true, ℕ}
+use Rattle.rbc_spec.specs.Message.{Authority, DataAcknowledged, Report, Request, StartOfMission, TrainAccepted}
+use Rattle.rbc_spec.specs.Message.{TrainData, TrainRejected, unknown_group}
 use Rattle.rbc_spec.specs.Outcome.{NoPlace, StaleStamp}
 use Rattle.rbc_spec.specs.Place.{Position}
-use Rattle.test_scenes.specs.Scene.{Scene, Look, Item, Says, IsShut, IsOpen, Given, train, session, sets, at, in_section_1, group_1, nothing, all_done, times, shows}
-use Rattle.test_scenes.specs.Starts.{start, start_shows, opened, silent}
-use Rattle.test_scenes.specs.Requests.{start_and_request, start_and_request_shows, request_to_the_border, request_to_the_border_shows}
 use Rattle.test_scenes.specs.Handover.{handed_over, handed_over_shows}
+use Rattle.test_scenes.specs.Requests.{request_to_the_border, request_to_the_border_shows, start_and_request}
+use Rattle.test_scenes.specs.Requests.{start_and_request_shows}
+use Rattle.test_scenes.specs.Scene.{all_done, at, Given, group_1, in_section_1, IsOpen, IsShut, Item, Look, nothing}
+use Rattle.test_scenes.specs.Scene.{Says, Scene, session, sets, shows, times, train}
+use Rattle.test_scenes.specs.Starts.{opened, silent, start, start_shows}
 
 -- ## No place
 

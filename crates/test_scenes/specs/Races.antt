@@ -1,14 +1,21 @@
 -- Frames that come late, and what is wished, asked for or ended while they are on the way.
-use Rattle.std.specs.Prelude.{ℕ, true, List, [], ◌∷◌, ◌++◌, Some}
-use Rattle.rbc_spec.specs.Message.{InitiationOfSession, StartOfMission, Request, Report, ShorteningGranted, EndOfMission, Authority, ShorteningRequest, Transition, SystemVersion, TrainAccepted, TrainRejected, unknown_group}
-use Rattle.rbc_spec.specs.Frame.{RouteAsk, RouteInfo, RouteReturn, RouteWithdraw, ReturnRight, Announce, Cancel, TakingOver}
-use Rattle.rbc_spec.specs.Outcome.{Asked, Told, StaleStamp, NotSupervised, WrongPhase, Next}
-use Rattle.rbc_spec.specs.World.{Set, Unset, Delivery}
-use Rattle.test_scenes.specs.Scene.{Scene, Happens, Look, Item, Says, Sends, Tells, Link, Mark, IsShut, IsOpen, Given, Kept, train, session, at, in_section_1, group_1, nothing, done, times, shows, moving}
-use Rattle.test_scenes.specs.Starts.{opened, silent, start_elsewhere, start_elsewhere_shows, right_comes, right_comes_shows, shows_section_1}
-use Rattle.test_scenes.specs.Requests.{request_to_the_border, request_to_the_border_shows, route_on_the_way, route_on_the_way_shows, over_the_border, over_the_border_shows}
-use Rattle.test_scenes.specs.Shortening.{asks_to_shorten}
+use Rattle.std.specs.Prelude.{[], ◌++◌, ◌∷◌, List, Some, true, ℕ}
+use Rattle.rbc_spec.specs.Frame.{Announce, Cancel, ReturnRight, RouteAsk, RouteInfo, RouteReturn, RouteWithdraw}
+use Rattle.rbc_spec.specs.Frame.{TakingOver}
+use Rattle.rbc_spec.specs.Message.{Authority, EndOfMission, InitiationOfSession, Report, Request, ShorteningGranted}
+use Rattle.rbc_spec.specs.Message.{ShorteningRequest, StartOfMission, SystemVersion, TrainAccepted, TrainRejected}
+use Rattle.rbc_spec.specs.Message.{Transition, unknown_group}
+use Rattle.rbc_spec.specs.Outcome.{Asked, Next, NotSupervised, StaleStamp, Told, WrongPhase}
+use Rattle.rbc_spec.specs.World.{Delivery, Set, Unset}
 use Rattle.test_scenes.specs.Handover.{announced, announced_shows, the_yield}
+use Rattle.test_scenes.specs.Requests.{over_the_border, over_the_border_shows, request_to_the_border}
+use Rattle.test_scenes.specs.Requests.{request_to_the_border_shows, route_on_the_way, route_on_the_way_shows}
+use Rattle.test_scenes.specs.Scene.{at, done, Given, group_1, Happens, in_section_1, IsOpen, IsShut, Item, Kept, Link}
+use Rattle.test_scenes.specs.Scene.{Look, Mark, moving, nothing, Says, Scene, Sends, session, shows, Tells, times}
+use Rattle.test_scenes.specs.Scene.{train}
+use Rattle.test_scenes.specs.Shortening.{asks_to_shorten}
+use Rattle.test_scenes.specs.Starts.{opened, right_comes, right_comes_shows, shows_section_1, silent, start_elsewhere}
+use Rattle.test_scenes.specs.Starts.{start_elsewhere_shows}
 
 -- the section before B's, those of B, and who supervises train 1
 abbrev pub shows_b : List Mark → List ℕ → List ℕ → List Item

@@ -1,11 +1,14 @@
 -- Requests and reports: a hand is extended up to the border and over it, and cleared in rear of the train.
-use Rattle.std.specs.Prelude.{ℕ, ◌+◌, true, List, [], ◌∷◌, ◌++◌, Some, None}
-use Rattle.rbc_spec.specs.Message.{StartOfMission, TrainData, Request, Report, EndOfMission, TrainAccepted, DataAcknowledged, Authority, Transition, unknown_group}
-use Rattle.rbc_spec.specs.Frame.{RouteAsk, RouteInfo, RouteWithdraw, RouteReturn, Announce, Cancel}
-use Rattle.rbc_spec.specs.Outcome.{Next, Old, Early, Told, Asked, NotSupervised}
+use Rattle.std.specs.Prelude.{[], ◌++◌, ◌+◌, ◌∷◌, List, None, Some, true, ℕ}
+use Rattle.rbc_spec.specs.Frame.{Announce, Cancel, RouteAsk, RouteInfo, RouteReturn, RouteWithdraw}
+use Rattle.rbc_spec.specs.Message.{Authority, DataAcknowledged, EndOfMission, Report, Request, StartOfMission}
+use Rattle.rbc_spec.specs.Message.{TrainAccepted, TrainData, Transition, unknown_group}
+use Rattle.rbc_spec.specs.Outcome.{Asked, Early, Next, NotSupervised, Old, Told}
 use Rattle.rbc_spec.specs.Place.{Position}
-use Rattle.rbc_spec.specs.World.{Unset, Delivery}
-use Rattle.test_scenes.specs.Scene.{Scene, Happens, Look, LookAtClock, Item, Says, Sends, Tells, Link, NeverSent, Mark, ShowsClock, IsShut, IsOpen, Given, Kept, train, session, sets, at, moving, in_section_1, group_1, nothing, all_done, times, shows}
+use Rattle.rbc_spec.specs.World.{Delivery, Unset}
+use Rattle.test_scenes.specs.Scene.{all_done, at, Given, group_1, Happens, in_section_1, IsOpen, IsShut, Item, Kept}
+use Rattle.test_scenes.specs.Scene.{Link, Look, LookAtClock, Mark, moving, NeverSent, nothing, Says, Scene, Sends}
+use Rattle.test_scenes.specs.Scene.{session, sets, shows, ShowsClock, Tells, times, train}
 use Rattle.test_scenes.specs.Starts.{opened, silent}
 
 -- ## Up to the border

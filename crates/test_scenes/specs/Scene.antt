@@ -1,17 +1,19 @@
 -- The line of the examples, the trains' messages on it, and what is seen of what happens there.
-use Rattle.std.specs.Prelude.{ℕ, zero, suc, ◌+◌, ◌==◌, ◌||◌, Bool, true, false, List, [], ◌∷◌, ◌++◌, map, length, Option, Some, is_some, Result, Ok, Err, if◌then◌else◌}
-use Rattle.std.specs.List.{range_with_len, list_any, filter, find, zip, flat_map}
+use Rattle.std.specs.List.{filter, find, flat_map, list_any, range_with_len, zip}
 use Rattle.std.specs.Option.{option_map_or}
-use Rattle.rbc_spec.specs.SectionRuns.{SectionRun, no_run, within}
-use Rattle.rbc_spec.specs.Line.{Line, Section, Centre as CentreOfLine, section}
-use Rattle.rbc_spec.specs.Sections.{section_count}
+use Rattle.std.specs.Prelude.{[], ◌++◌, ◌+◌, ◌==◌, ◌||◌, ◌∷◌, Bool, Err, false, if◌then◌else◌, is_some, length, List}
+use Rattle.std.specs.Prelude.{map, Ok, Option, Result, Some, suc, true, zero, ℕ}
+use Rattle.rbc_spec.specs.Centre.{Centre, Entry, is_used_for, Open, Out, Shut, Taken}
+use Rattle.rbc_spec.specs.Frame.{Body, Frame, Yield}
+use Rattle.rbc_spec.specs.Line.{Centre as CentreOfLine, Line, Section, section}
+use Rattle.rbc_spec.specs.Message.{InitiationOfSession, SessionEstablished, TrackBody, TrainBody}
+use Rattle.rbc_spec.specs.Outcome.{Done, Reason, Saying, Taken as LinkAnswer, Word}
 use Rattle.rbc_spec.specs.Place.{Position}
-use Rattle.rbc_spec.specs.Message.{TrainBody, InitiationOfSession, SessionEstablished, TrackBody}
-use Rattle.rbc_spec.specs.Frame.{Body, Yield, Frame}
-use Rattle.rbc_spec.specs.Outcome.{Saying, Word, Done, Reason, Taken as LinkAnswer}
-use Rattle.rbc_spec.specs.Centre.{Centre, Entry, Shut, Open, Taken, Out, is_used_for}
+use Rattle.rbc_spec.specs.SectionRuns.{no_run, SectionRun, within}
+use Rattle.rbc_spec.specs.Sections.{section_count}
 use Rattle.rbc_spec.specs.Step.{Refusal}
-use Rattle.rbc_spec.specs.World.{World, Event, Bytes, Set, Answer, Answered, NoCentre, NotSent, Fault, new_world, way, frame_sent, world_step}
+use Rattle.rbc_spec.specs.World.{Answer, Answered, Bytes, Event, Fault, frame_sent, new_world, NoCentre, NotSent, Set}
+use Rattle.rbc_spec.specs.World.{way, World, world_step}
 
 -- ## The line
 

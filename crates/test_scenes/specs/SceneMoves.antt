@@ -1,15 +1,17 @@
 -- Scenes of starts, requests, shortenings and handovers as moves of the one line centre: each event, and the quiet
 -- steps that the line centre takes after it.
-use Rattle.std.specs.Prelude.{ℕ, ◌+◌, true, List, [], ◌∷◌, ◌++◌, Some, None, Err}
 use Rattle.std.specs.List.{flat_map}
-use Rattle.rbc_spec.specs.Message.{InitiationOfSession, SessionEstablished, TerminationOfSession, StartOfMission, TrainData, Request, Report, ShorteningGranted, ShorteningRejected, EndOfMission}
+use Rattle.std.specs.Prelude.{[], ◌++◌, ◌+◌, ◌∷◌, Err, List, None, Some, true, ℕ}
+use Rattle.rbc_spec.specs.Message.{EndOfMission, InitiationOfSession, Report, Request, SessionEstablished}
+use Rattle.rbc_spec.specs.Message.{ShorteningGranted, ShorteningRejected, StartOfMission, TerminationOfSession}
+use Rattle.rbc_spec.specs.Message.{TrainData}
 use Rattle.rbc_spec.specs.Place.{Position}
-use Rattle.rbc_spec.specs.Quiet.{Quiet, Keep, Unkeep, Admit, Dismiss, LayDown, TakeUp, Propose, Order, EndOrder}
-use Rattle.rbc_spec.specs.World.{Bytes, Set, Unset, Delivery}
-use Rattle.test_scenes.specs.Turns.{Choice, Plainly, Rejecting, Listening, Extending, Unanswered}
+use Rattle.rbc_spec.specs.Quiet.{Admit, Dismiss, EndOrder, Keep, LayDown, Order, Propose, Quiet, TakeUp, Unkeep}
+use Rattle.rbc_spec.specs.World.{Bytes, Delivery, Set, Unset}
 use Rattle.test_scenes.specs.Moves.{Move}
-use Rattle.test_scenes.specs.Scene.{Scene, Happens, train, session, sets, at, in_section_1, moving}
+use Rattle.test_scenes.specs.Scene.{at, Happens, in_section_1, moving, Scene, session, sets, train}
 use Rattle.test_scenes.specs.Starts.{start, start_elsewhere}
+use Rattle.test_scenes.specs.Turns.{Choice, Extending, Listening, Plainly, Rejecting, Unanswered}
 
 -- the events of a scene, taken this way and followed by these quiet steps
 abbrev pub move : Choice → List Quiet → Scene → List Move

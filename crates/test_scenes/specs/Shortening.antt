@@ -1,12 +1,15 @@
 -- A section of a hand is wished back: the train is asked to shorten its authority.
-use Rattle.std.specs.Prelude.{ℕ, true, List, [], ◌∷◌, ◌++◌, Some}
-use Rattle.rbc_spec.specs.Message.{StartOfMission, TrainData, Request, Report, ShorteningGranted, ShorteningRejected, ShorteningRequest, Authority, DataAcknowledged, TrainAccepted, unknown_group}
+use Rattle.std.specs.Prelude.{[], ◌++◌, ◌∷◌, List, Some, true, ℕ}
 use Rattle.rbc_spec.specs.Frame.{RouteReturn, RouteWithdraw}
-use Rattle.rbc_spec.specs.Outcome.{Asked, Told, NoTrainData, ProposalPending, Unasked, Next}
-use Rattle.rbc_spec.specs.World.{Unset, Delivery}
-use Rattle.test_scenes.specs.Scene.{Scene, Happens, Look, Item, Says, Sends, Tells, Link, IsShut, IsOpen, Given, Kept, train, session, sets, at, in_section_1, group_1, nothing, all_done, times, shows}
+use Rattle.rbc_spec.specs.Message.{Authority, DataAcknowledged, Report, Request, ShorteningGranted, ShorteningRejected}
+use Rattle.rbc_spec.specs.Message.{ShorteningRequest, StartOfMission, TrainAccepted, TrainData, unknown_group}
+use Rattle.rbc_spec.specs.Outcome.{Asked, Next, NoTrainData, ProposalPending, Told, Unasked}
+use Rattle.rbc_spec.specs.World.{Delivery, Unset}
+use Rattle.test_scenes.specs.Requests.{request_to_the_border, request_to_the_border_shows, route_on_the_way}
+use Rattle.test_scenes.specs.Requests.{route_on_the_way_shows, start_and_request, start_and_request_shows}
+use Rattle.test_scenes.specs.Scene.{all_done, at, Given, group_1, Happens, in_section_1, IsOpen, IsShut, Item, Kept}
+use Rattle.test_scenes.specs.Scene.{Link, Look, nothing, Says, Scene, Sends, session, sets, shows, Tells, times, train}
 use Rattle.test_scenes.specs.Starts.{opened, silent}
-use Rattle.test_scenes.specs.Requests.{start_and_request, start_and_request_shows, request_to_the_border, request_to_the_border_shows, route_on_the_way, route_on_the_way_shows}
 
 -- the request to keep what is before section 3
 abbrev pub asks_to_shorten : ℕ → List Item

@@ -1,10 +1,16 @@
 -- The interlocking, sessions, and starts of mission at the registrar and elsewhere.
-use Rattle.std.specs.Prelude.{ℕ, true, List, [], ◌∷◌, ◌++◌, Some, Err}
-use Rattle.rbc_spec.specs.Message.{InitiationOfSession, SessionEstablished, TerminationOfSession, StartOfMission, TrainData, Request, Report, ShorteningGranted, ShorteningRejected, EndOfMission, SystemVersion, TrainAccepted, TrainRejected, TerminationAcknowledged, unknown_group}
+use Rattle.std.specs.Prelude.{[], ◌++◌, ◌∷◌, Err, List, Some, true, ℕ}
 use Rattle.rbc_spec.specs.Frame.{AskRight, GiveRight, RefuseRight, ReturnRight}
-use Rattle.rbc_spec.specs.Outcome.{Asked, NotHome, Reason, StaleStamp, NoSession, ForeignEngine, NotSupervised, NoTrainData, MissionEnded, WrongPhase, Next, Old}
-use Rattle.rbc_spec.specs.World.{Bytes, Set, Unset, Delivery}
-use Rattle.test_scenes.specs.Scene.{Scene, Happens, Look, LookAtFrame, LookAtTrains, Item, ShowsFrame, ShowsTrains, Nowhere, BadBytes, Says, Sends, Tells, Silence, Link, NeverSent, Mark, IsShut, IsOpen, Given, Kept, train, session, at, in_section_1, nothing, done, times, shows}
+use Rattle.rbc_spec.specs.Message.{EndOfMission, InitiationOfSession, Report, Request, SessionEstablished}
+use Rattle.rbc_spec.specs.Message.{ShorteningGranted, ShorteningRejected, StartOfMission, SystemVersion}
+use Rattle.rbc_spec.specs.Message.{TerminationAcknowledged, TerminationOfSession, TrainAccepted, TrainData}
+use Rattle.rbc_spec.specs.Message.{TrainRejected, unknown_group}
+use Rattle.rbc_spec.specs.Outcome.{Asked, ForeignEngine, MissionEnded, Next, NoSession, NotHome, NoTrainData}
+use Rattle.rbc_spec.specs.Outcome.{NotSupervised, Old, Reason, StaleStamp, WrongPhase}
+use Rattle.rbc_spec.specs.World.{Bytes, Delivery, Set, Unset}
+use Rattle.test_scenes.specs.Scene.{at, BadBytes, done, Given, Happens, in_section_1, IsOpen, IsShut, Item, Kept, Link}
+use Rattle.test_scenes.specs.Scene.{Look, LookAtFrame, LookAtTrains, Mark, NeverSent, nothing, Nowhere, Says, Scene}
+use Rattle.test_scenes.specs.Scene.{Sends, session, shows, ShowsFrame, ShowsTrains, Silence, Tells, times, train}
 
 -- every section is shut, and no train is supervised
 abbrev pub shows_a_new_line : List Item

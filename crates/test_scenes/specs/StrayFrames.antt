@@ -1,22 +1,24 @@
 -- Frames that no world sends: a centre takes them without effect.
-use Rattle.std.specs.Prelude.{ℕ, Bool, true, false, List, [], ◌∷◌, ◌++◌, map, Option, Some, None, Result, Ok, Err, ℤ, pos, ◌-ℤ◌}
 use Rattle.std.specs.List.{filter, filter_map, range_with_len}
-use Rattle.rbc_spec.specs.SectionRuns.{SectionRun, no_run}
-use Rattle.rbc_spec.specs.Line.{Line}
-use Rattle.rbc_spec.specs.Sections.{section_count}
-use Rattle.rbc_spec.specs.Place.{Place}
-use Rattle.rbc_spec.specs.Frame.{Body, AskRight, GiveRight, RefuseRight, ReturnRight, RouteAsk, RouteInfo, RouteWithdraw, RouteReturn, Announce, Cancel, TakingOver, Yield}
-use Rattle.rbc_spec.specs.Outcome.{Saying, Word, Outcome, Taken as LinkAnswer, Next}
-use Rattle.rbc_spec.specs.Message.{Report}
-use Rattle.rbc_spec.specs.Centre.{Centre, Entry, Shut, Taken, Out, Phase, Closed, Up, Mission, Handing, Expectation}
+use Rattle.std.specs.Prelude.{[], ◌++◌, ◌-ℤ◌, ◌∷◌, Bool, Err, false, List, map, None, Ok, Option, pos, Result, Some}
+use Rattle.std.specs.Prelude.{true, ℕ, ℤ}
 use Rattle.rbc_spec.specs.Acts.{Reply}
+use Rattle.rbc_spec.specs.Centre.{Centre, Closed, Entry, Expectation, Handing, Mission, Out, Phase, Shut, Taken, Up}
+use Rattle.rbc_spec.specs.Frame.{Announce, AskRight, Body, Cancel, GiveRight, RefuseRight, ReturnRight, RouteAsk}
+use Rattle.rbc_spec.specs.Frame.{RouteInfo, RouteReturn, RouteWithdraw, TakingOver, Yield}
+use Rattle.rbc_spec.specs.Line.{Line}
 use Rattle.rbc_spec.specs.Links.{received}
-use Rattle.rbc_spec.specs.Step.{Refusal, Deliver, step}
-use Rattle.rbc_spec.specs.World.{World, Answer, Delivery, new_world, world_run}
-use Rattle.test_scenes.specs.Scene.{Scene, Happens, line, train, session, at, group_1, all_centres}
+use Rattle.rbc_spec.specs.Message.{Report}
+use Rattle.rbc_spec.specs.Outcome.{Next, Outcome, Saying, Taken as LinkAnswer, Word}
+use Rattle.rbc_spec.specs.Place.{Place}
+use Rattle.rbc_spec.specs.SectionRuns.{no_run, SectionRun}
+use Rattle.rbc_spec.specs.Sections.{section_count}
+use Rattle.rbc_spec.specs.Step.{Deliver, Refusal, step}
+use Rattle.rbc_spec.specs.World.{Answer, Delivery, new_world, World, world_run}
+use Rattle.test_scenes.specs.Handover.{announced, the_yield}
 use Rattle.test_scenes.specs.Pieces.{event_of}
 use Rattle.test_scenes.specs.Requests.{route_on_the_way}
-use Rattle.test_scenes.specs.Handover.{announced, the_yield}
+use Rattle.test_scenes.specs.Scene.{all_centres, at, group_1, Happens, line, Scene, session, train}
 
 -- ## What a frame does
 

@@ -1,13 +1,16 @@
 -- A train goes over three centres, the second of which has one short section.
-use Rattle.std.specs.Prelude.{ℕ, true, false, List, [], ◌∷◌, ◌++◌, Some, pos}
-use Rattle.rbc_spec.specs.Message.{StartOfMission, TrainData, Request, Report, EndOfMission, TrainAccepted, DataAcknowledged, Authority, Transition, EndSession, unknown_group}
-use Rattle.rbc_spec.specs.Frame.{AskRight, GiveRight, RouteAsk, RouteInfo, RouteReturn, RouteWithdraw, Announce, Cancel, TakingOver, Yield, YieldedPlace}
-use Rattle.rbc_spec.specs.Outcome.{Asked, Told, StaleStamp, MissionEnded, Next}
+use Rattle.std.specs.Prelude.{[], ◌++◌, ◌∷◌, false, List, pos, Some, true, ℕ}
+use Rattle.rbc_spec.specs.Frame.{Announce, AskRight, Cancel, GiveRight, RouteAsk, RouteInfo, RouteReturn, RouteWithdraw}
+use Rattle.rbc_spec.specs.Frame.{TakingOver, Yield, YieldedPlace}
+use Rattle.rbc_spec.specs.Message.{Authority, DataAcknowledged, EndOfMission, EndSession, Report, Request}
+use Rattle.rbc_spec.specs.Message.{StartOfMission, TrainAccepted, TrainData, Transition, unknown_group}
+use Rattle.rbc_spec.specs.Outcome.{Asked, MissionEnded, Next, StaleStamp, Told}
 use Rattle.rbc_spec.specs.Place.{Position}
-use Rattle.rbc_spec.specs.World.{Set, Unset, Delivery}
-use Rattle.test_scenes.specs.Scene.{Scene, Happens, Look, Item, Says, Sends, Tells, Silence, Link, IsShut, IsOpen, Given, Kept, train, session, at, in_section_1, group_1, done, times, shows}
-use Rattle.test_scenes.specs.Starts.{opened}
+use Rattle.rbc_spec.specs.World.{Delivery, Set, Unset}
 use Rattle.test_scenes.specs.Requests.{start_and_request, start_and_request_shows}
+use Rattle.test_scenes.specs.Scene.{at, done, Given, group_1, Happens, in_section_1, IsOpen, IsShut, Item, Kept, Link}
+use Rattle.test_scenes.specs.Scene.{Look, Says, Scene, Sends, session, shows, Silence, Tells, times, train}
+use Rattle.test_scenes.specs.Starts.{opened}
 
 -- ## From A to B
 

@@ -1,21 +1,32 @@
 -- The one line centre, played by hand: what is said at an event or by quiet steps, and the state then, where the rules
 -- allow it. It is computed; that it is so by the relations of the one line centre is proved once.
-use Rattle.std.specs.Prelude.{ℕ, ◌+◌, ◌-◌, ◌*◌, ◌==◌, Bool, true, false, ◌&&◌, ◌||◌, not, if◌then◌else◌, List, [], ◌∷◌, max, Option, Some, None, is_none, nat_lt, nat_le, Ok, ◌++◌}
 use Rattle.std.specs.List.{find, list_all, range_with_len}
 use Rattle.std.specs.Option.{option_map_or}
+use Rattle.std.specs.Prelude.{[], ◌&&◌, ◌*◌, ◌++◌, ◌+◌, ◌-◌, ◌==◌, ◌||◌, ◌∷◌, Bool, false, if◌then◌else◌, is_none, List}
+use Rattle.std.specs.Prelude.{max, nat_le, nat_lt, None, not, Ok, Option, Some, true, ℕ}
+use Rattle.rbc_spec.specs.Centre.{Closed, is_registrar_of, is_up, Opened, Up}
+use Rattle.rbc_spec.specs.Line.{end, is_centre, is_home, Line, next_centre, start}
+use Rattle.rbc_spec.specs.LineCentre.{At, change_mission, free, Given, hears, is_at, is_given_to, is_kept_for}
+use Rattle.rbc_spec.specs.LineCentre.{is_mark_open, is_waiting, is_waiting_at, Kept, LineMission, LineState, mark_all}
+use Rattle.rbc_spec.specs.LineCentre.{Open, Parted, Said, saying_of, says, set_mission, Shut, supervises, Supervisor}
+use Rattle.rbc_spec.specs.LineCentre.{told}
 use Rattle.rbc_spec.specs.Maps.{put, put_pair}
-use Rattle.rbc_spec.specs.SectionRuns.{SectionRun, within, next_after, all_of}
-use Rattle.rbc_spec.specs.Line.{Line, is_centre, is_home, start, end, next_centre}
-use Rattle.rbc_spec.specs.Sections.{is_on, run_where, section_count, nid_rbc}
-use Rattle.rbc_spec.specs.Place.{Place, covered, group_start, fit_place, place_on}
-use Rattle.rbc_spec.specs.Message.{TrainMessage, TrainBody, TrainData, Request, Report, ShorteningGranted, ShorteningRejected, EndOfMission, InitiationOfSession, TerminationOfSession, StartOfMission, SessionEstablished, TrackBody, Authority, DataAcknowledged, SystemVersion, TerminationAcknowledged, TrainRejected, TrainAccepted, ShorteningRequest, Transition, EndSession, unknown_group}
-use Rattle.rbc_spec.specs.Outcome.{Word, Done, Asked, NotHome, Reason}
-use Rattle.rbc_spec.specs.Centre.{Opened, Up, Closed, is_up, is_registrar_of}
-use Rattle.rbc_spec.specs.LineCentre.{saying_of, LineState, Open, Shut, Kept, Given, LineMission, Supervisor, At, Parted, is_given_to, is_kept_for, is_mark_open, is_at, supervises, is_waiting_at, is_waiting, free, told, mark_all, set_mission, change_mission, hears, says, Said}
-use Rattle.rbc_spec.specs.OwnSteps.{session_ends, with_phase, may_start, begins, restarted, waits, may_be_given, is_cleared_of, reported, release_words, ended, without_ask, shortened, shortening_words, track_of, last_kept_of, is_unused_mark, set_mark, wished_back, stopped, stopping_words}
-use Rattle.rbc_spec.specs.Quiet.{Quiet, Keep, Unkeep, Admit, Dismiss, LayDown, TakeUp, Propose, Order, EndOrder, both}
-use Rattle.rbc_spec.specs.Run.{silence, may_listen}
-use Rattle.rbc_spec.specs.World.{Event, Bytes, Set, Unset, Delivery}
+use Rattle.rbc_spec.specs.Message.{Authority, DataAcknowledged, EndOfMission, EndSession, InitiationOfSession, Report}
+use Rattle.rbc_spec.specs.Message.{Request, SessionEstablished, ShorteningGranted, ShorteningRejected}
+use Rattle.rbc_spec.specs.Message.{ShorteningRequest, StartOfMission, SystemVersion, TerminationAcknowledged}
+use Rattle.rbc_spec.specs.Message.{TerminationOfSession, TrackBody, TrainAccepted, TrainBody, TrainData, TrainMessage}
+use Rattle.rbc_spec.specs.Message.{TrainRejected, Transition, unknown_group}
+use Rattle.rbc_spec.specs.Outcome.{Asked, Done, NotHome, Reason, Word}
+use Rattle.rbc_spec.specs.OwnSteps.{begins, ended, is_cleared_of, is_unused_mark, last_kept_of, may_be_given, may_start}
+use Rattle.rbc_spec.specs.OwnSteps.{release_words, reported, restarted, session_ends, set_mark, shortened}
+use Rattle.rbc_spec.specs.OwnSteps.{shortening_words, stopped, stopping_words, track_of, waits, wished_back, with_phase}
+use Rattle.rbc_spec.specs.OwnSteps.{without_ask}
+use Rattle.rbc_spec.specs.Place.{covered, fit_place, group_start, Place, place_on}
+use Rattle.rbc_spec.specs.Quiet.{Admit, both, Dismiss, EndOrder, Keep, LayDown, Order, Propose, Quiet, TakeUp, Unkeep}
+use Rattle.rbc_spec.specs.Run.{may_listen, silence}
+use Rattle.rbc_spec.specs.SectionRuns.{all_of, next_after, SectionRun, within}
+use Rattle.rbc_spec.specs.Sections.{is_on, nid_rbc, run_where, section_count}
+use Rattle.rbc_spec.specs.World.{Bytes, Delivery, Event, Set, Unset}
 
 -- how an event is taken where the rules leave it open
 pub data Choice : Type 0 where

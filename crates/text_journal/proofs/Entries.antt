@@ -1,39 +1,47 @@
 -- Properties of notes, for entries in memory.
-use Rattle.std.proofs.Common.{◌≡◌, ◌≢◌, true, ℕ, zero, suc, List, [], ◌∷◌, ◌++◌, inl, inr, length, refl, ap, sym, subst, ◌∙◌, arith, rules, map, take, append_assoc, Option, Some, None, Bor, Bool, false, Result, Ok, Err, Vec, Global}
-use Rattle.std.specs.Prelude.{codes, MatchOption, IfOk, IfErr, IsTrue}
-use Rattle.std.specs.Str.{bytes_eq}
-use Rattle.std.proofs.lemmas.Slice.Eq.{bytes_eq-Decides}
+use Rattle.std.proofs.Common.{[], ◌++◌, ◌∙◌, ◌∷◌, ◌≡◌, ◌≢◌, ap, append_assoc, arith, Bool, Bor, Err, false, Global, inl}
+use Rattle.std.proofs.Common.{inr, length, List, map, None, Ok, Option, refl, Result, rules, Some, subst, suc, sym}
+use Rattle.std.proofs.Common.{take, true, Vec, zero, ℕ}
 use Rattle.std.proofs.lemmas.Bool.{true≢false}
+use Rattle.std.proofs.lemmas.List.{append_cancel_right}
+use Rattle.std.proofs.lemmas.Slice.Eq.{bytes_eq-Decides}
 use Rattle.std.proofs.Math.Dec.{eqb}
+use Rattle.std.specs.Fmt.{decimal}
+use Rattle.std.specs.List.{AllByRecursion, flat_map, starts_with}
+use Rattle.std.specs.Prelude.{codes, IfErr, IfOk, IsTrue, MatchOption}
+use Rattle.std.specs.Str.{bytes_eq}
+use Rattle.hex.specs.Hex.{encode_upper}
+use Rattle.rbc_spec.specs.Line.{is_centre, IsLine, Line}
+use Rattle.text_journal.proofs.Asking.{name_is_word, three, words_of}
+use Rattle.text_journal.proofs.Letters.{lacks_append, word_of_number}
+use Rattle.text_journal.proofs.Lines.{checksum_is_word, cut_after, cut_lines, digest_is_word, lacks_take, line_of}
+use Rattle.text_journal.proofs.Lines.{lines_of, no_cut, no_reading, one_cut, one_reading, some_same, told_of}
+use Rattle.text_journal.proofs.Lines.{words_read}
+use Rattle.text_journal.specs.declared.entry.Entry.{Entry}
 use Rattle.text_journal.specs.declared.fault.JournalFault.{JournalFault}
 use Rattle.text_journal.specs.declared.fault.JournalFault.TheVariants.{Memory}
-use Rattle.std.proofs.lemmas.List.{append_cancel_right}
-use Rattle.text_script.specs.Script.{Show, row_asks}
-use Rattle.std.specs.List.{AllByRecursion, flat_map, starts_with}
-use Rattle.std.specs.Fmt.{decimal}
-use Rattle.hex.specs.Hex.{encode_upper}
-use Rattle.rbc_spec.specs.Line.{Line, IsLine, is_centre}
-use Rattle.text_script.specs.rbc_world.declared.event.WorldEvent.{WorldEvent}
-use Rattle.text_script.specs.rbc_world.declared.event.WorldEvent.TheVariants as event
+use Rattle.text_journal.specs.Journal.{checksum, digest, entry_line, first_line, journal, told}
+use Rattle.text_journal.specs.Reading.{ArePartsOf, Begins, early, Follows, IsAt, IsNote, Lacks, Noted, noted_of, torn}
 use Rattle.text_script.specs.Entries.{event_of}
 use Rattle.text_script.specs.Print.Rows.{event_row, name_at}
-use Rattle.text_journal.specs.Journal.{checksum, digest, entry_line, first_line, journal, told}
-use Rattle.text_journal.specs.Reading.{Lacks, Noted, noted_of, IsNote, Follows, Begins, torn, early, ArePartsOf, IsAt}
-use Rattle.text_journal.specs.declared.entry.Entry.{Entry}
-use Rattle.text_journal.proofs.Asking.{words_of, three, name_is_word}
-use Rattle.text_journal.proofs.Letters.{lacks_append, word_of_number}
-use Rattle.text_journal.proofs.Lines.{told_of, line_of, lines_of, one_reading, no_reading, cut_lines, cut_after, one_cut, no_cut, lacks_take, digest_is_word, checksum_is_word, words_read, some_same}
+use Rattle.text_script.specs.rbc_world.declared.event.WorldEvent.{WorldEvent}
+use Rattle.text_script.specs.rbc_world.declared.event.WorldEvent.TheVariants as event
+use Rattle.text_script.specs.Script.{row_asks, Show}
 
 -- three words, and a line feed
 three_ended : (a b r : List ℕ) → a ++ (codes " " ++ (b ++ (codes " " ++ (r ++ 10 ∷ [])))) ≡ three a b r ++ 10 ∷ []
 three_ended a b r =
-    sym (append_assoc a (32 ∷ (b ++ 32 ∷ r)) (10 ∷ []) ∙ ap (λ (t : List ℕ). a ++ 32 ∷ t) (append_assoc b (32 ∷ r) (10 ∷ [])))
+    sym (append_assoc a (32 ∷ (b ++ 32 ∷ r)) (10 ∷ [])
+    ∙ ap (λ (t : List ℕ). a ++ 32 ∷ t) (append_assoc b (32 ∷ r) (10 ∷ [])))
 
 pub row_is : (line : Line) (e : WorldEvent) → event_row line e ≡ 62 ∷ 32 ∷ (words_of line (event_of e) ++ 10 ∷ [])
-row_is line (event.Train c bytes) = ap (λ (t : List ℕ). 62 ∷ 32 ∷ t) (three_ended (codes "train") (name_at line c) (encode_upper bytes.items))
+row_is line (event.Train c bytes) =
+    ap (λ (t : List ℕ). 62 ∷ 32 ∷ t) (three_ended (codes "train") (name_at line c) (encode_upper bytes.items))
 row_is line (event.Set c s) = ap (λ (t : List ℕ). 62 ∷ 32 ∷ t) (three_ended (codes "set") (name_at line c) (decimal s))
-row_is line (event.Unset c s) = ap (λ (t : List ℕ). 62 ∷ 32 ∷ t) (three_ended (codes "unset") (name_at line c) (decimal s))
-row_is line (event.Deliver from to n) = ap (λ (t : List ℕ). codes "> deliver " ++ t) (three_ended (name_at line from) (name_at line to) (decimal n))
+row_is line (event.Unset c s) =
+    ap (λ (t : List ℕ). 62 ∷ 32 ∷ t) (three_ended (codes "unset") (name_at line c) (decimal s))
+row_is line (event.Deliver from to n) =
+    ap (λ (t : List ℕ). codes "> deliver " ++ t) (three_ended (name_at line from) (name_at line to) (decimal n))
 
 told_is : (line : Line) (e : Entry) → told line e ≡ told_of line (noted_of e) ++ 10 ∷ []
 told_is line e =
@@ -49,11 +57,13 @@ pub entry_lines_are : (line : Line) (es : List Entry) → flat_map (entry_line l
 entry_lines_are line [] = refl
 entry_lines_are line (e ∷ es) = λ i. entry_line_is line e i ++ entry_lines_are line es i
 
-noted_each : (line : Line) (c : ℕ) (es : List Entry) → AllByRecursion (λ e. IsNote line c (noted_of e)) es → AllByRecursion (IsNote line c) (map noted_of es)
+noted_each : (line : Line) (c : ℕ) (es : List Entry) → AllByRecursion (λ e. IsNote line c (noted_of e)) es
+    → AllByRecursion (IsNote line c) (map noted_of es)
 noted_each line c [] h = tt
 noted_each line c (e ∷ es) h = (h.0, noted_each line c es h.1)
 
-each_noted : (line : Line) (c : ℕ) (es : List Entry) (k : ℕ) → AllByRecursion (λ e. IsNote line c (noted_of e)) es → AllByRecursion (λ e. IsNote line c (noted_of e)) (take k es)
+each_noted : (line : Line) (c : ℕ) (es : List Entry) (k : ℕ) → AllByRecursion (λ e. IsNote line c (noted_of e)) es
+    → AllByRecursion (λ e. IsNote line c (noted_of e)) (take k es)
 each_noted line c es zero h = tt
 each_noted line c [] (suc k) h = tt
 each_noted line c (e ∷ es) (suc k) h = (h.0, each_noted line c es k h.1)
@@ -65,40 +75,67 @@ map_take (suc k) (e ∷ es) = ap (λ (xs : List Noted). noted_of e ∷ xs) (map_
 
 -- ## One reading
 
-pub one_following : (line : Line) → IsLine line → (c : ℕ) (text : List ℕ) (es fs : List Entry) → Follows line c text es → Follows line c text fs → map noted_of es ≡ map noted_of fs
+pub one_following : (line : Line) → IsLine line → (c : ℕ) (text : List ℕ) (es fs : List Entry) → Follows line c text es
+    → Follows line c text fs → map noted_of es ≡ map noted_of fs
 one_following line good c text es fs h k =
-    one_reading line good c (map noted_of es) (map noted_of fs) h.rest k.rest (noted_each line c es h.each) (noted_each line c fs k.each) h.unended k.unended
-    (ap (λ (t : List ℕ). t ++ h.rest) (sym (entry_lines_are line es)) ∙ sym h.whole ∙ k.whole ∙ ap (λ (t : List ℕ). t ++ k.rest) (entry_lines_are line fs))
+    one_reading line good c (map noted_of es) (map noted_of fs) h.rest k.rest (noted_each line c es h.each)
+    (noted_each line c fs k.each) h.unended k.unended
+    (ap (λ (t : List ℕ). t ++ h.rest) (sym (entry_lines_are line es)) ∙ sym h.whole ∙ k.whole
+    ∙ ap (λ (t : List ℕ). t ++ k.rest) (entry_lines_are line fs))
 
 start_feed : Lacks 10 (codes "journal 1 ")
-start_feed = (λ e. omega arith, (λ e. omega arith, (λ e. omega arith, (λ e. omega arith, (λ e. omega arith, (λ e. omega arith, (λ e. omega arith, (λ e. omega arith, (λ e. omega arith, (λ e. omega arith, tt))))))))))
+start_feed = (
+  λ e. omega arith,
+  (
+    λ e. omega arith,
+    (
+      λ e. omega arith,
+      (
+        λ e. omega arith,
+        (
+          λ e. omega arith,
+          (λ e. omega arith, (λ e. omega arith, (λ e. omega arith, (λ e. omega arith, (λ e. omega arith, tt))))),
+        ),
+      ),
+    ),
+  ),
+)
 
 -- the first line contains no line feed
-pub first_feed : (line : Line) → IsLine line → (c : ℕ) (file : List ℕ) → is_centre line c ≡ true → Lacks 10 (first_line line c file)
+pub first_feed : (line : Line) → IsLine line → (c : ℕ) (file : List ℕ) → is_centre line c ≡ true
+    → Lacks 10 (first_line line c file)
 first_feed line good c file it =
     lacks_append 10 (codes "journal 1 ") (name_at line c ++ 32 ∷ digest file) (start_feed)
-    (lacks_append 10 (name_at line c) (32 ∷ digest file) (name_is_word line good c it).feed (λ e. omega arith, (digest_is_word file).feed))
+    (lacks_append 10 (name_at line c) (32 ∷ digest file) (name_is_word line good c it).feed
+    (λ e. omega arith, (digest_is_word file).feed))
 
 unended : (line : Line) → IsLine line → (c : ℕ) (file rest : List ℕ) (n : ℕ) → is_centre line c ≡ true →
     take n (first_line line c file) ≡ first_line line c file ++ 10 ∷ rest → ⊥
-unended line good c file rest n it e = no_cut 10 (first_line line c file) rest (subst (Lacks 10) e (lacks_take 10 n _ (first_feed line good c file it)))
+unended line good c file rest n it e =
+    no_cut 10 (first_line line c file) rest (subst (Lacks 10) e (lacks_take 10 n _ (first_feed line good c file it)))
 
 same_rest : (line : Line) → IsLine line → (c : ℕ) (file rest other : List ℕ) → is_centre line c ≡ true →
     first_line line c file ++ 10 ∷ rest ≡ first_line line c file ++ 10 ∷ other → rest ≡ other
 same_rest line good c file rest other it e =
-    (one_cut 10 (first_line line c file) (first_line line c file) rest other (first_feed line good c file it) (first_feed line good c file it) e).1
+    (one_cut 10 (first_line line c file) (first_line line c file) rest other (first_feed line good c file it)
+    (first_feed line good c file it) e).1
 
-pub one_beginning : (line : Line) → IsLine line → (c : ℕ) (file text : List ℕ) (es fs : List Entry) → is_centre line c ≡ true →
+pub one_beginning : (line : Line) → IsLine line → (c : ℕ) (file text : List ℕ) (es fs : List Entry)
+    → is_centre line c ≡ true →
     Begins line c file text es → Begins line c file text fs → map noted_of es ≡ map noted_of fs
 one_beginning line good c file text es fs it (torn rest e h) (torn other f k) =
-    one_following line good c rest es fs h (subst (λ (t : List ℕ). Follows line c t fs) (sym (same_rest line good c file rest other it (sym e ∙ f))) k)
-one_beginning line good c file text es fs it (torn rest e h) (early n f none) = absurd (unended line good c file rest n it (sym f ∙ e))
-one_beginning line good c file text es fs it (early n e none) (torn rest f k) = absurd (unended line good c file rest n it (sym e ∙ f))
+    one_following line good c rest es fs h
+    (subst (λ (t : List ℕ). Follows line c t fs) (sym (same_rest line good c file rest other it (sym e ∙ f))) k)
+one_beginning line good c file text es fs it (torn rest e h) (early n f none) =
+    absurd (unended line good c file rest n it (sym f ∙ e))
+one_beginning line good c file text es fs it (early n e none) (torn rest f k) =
+    absurd (unended line good c file rest n it (sym e ∙ f))
 one_beginning line good c file text es fs it (early n e none) (early m f other) = ap (map noted_of) (none ∙ sym other)
 
 -- ## A cut
 
-pub cut_following : (line : Line) → IsLine line → (c : ℕ) (es : List Entry) (n : ℕ) → AllByRecursion (λ e. IsNote line c (noted_of e)) es →
+pub cut_following : (line : Line) → IsLine line → (c : ℕ) (es : List Entry) (n : ℕ)
+    → AllByRecursion (λ e. IsNote line c (noted_of e)) es →
     (k : ℕ) × Follows line c (take n (flat_map (entry_line line) es)) (take k es)
 cut_following line good c es n h =
     let cut = cut_lines line good c (map noted_of es) n (noted_each line c es h) in (
@@ -108,15 +145,18 @@ cut_following line good c es n h =
         each = each_noted line c es cut.0 h;
         unended = cut.2;
         whole = ap (take n) (entry_lines_are line es) ∙ cut.3
-            ∙ ap (λ (t : List ℕ). t ++ cut.1) (ap (lines_of line) (map_take cut.0 es) ∙ sym (entry_lines_are line (take cut.0 es)));
+            ∙ ap (λ (t : List ℕ). t ++ cut.1)
+            (ap (lines_of line) (map_take cut.0 es) ∙ sym (entry_lines_are line (take cut.0 es)));
       },
     )
 
-pub cut_journal : (line : Line) → IsLine line → (c : ℕ) (file : List ℕ) (es : List Entry) (n : ℕ) → AllByRecursion (λ e. IsNote line c (noted_of e)) es →
+pub cut_journal : (line : Line) → IsLine line → (c : ℕ) (file : List ℕ) (es : List Entry) (n : ℕ)
+    → AllByRecursion (λ e. IsNote line c (noted_of e)) es →
     (k : ℕ) × Begins line c file (take n (journal line c file es)) (take k es)
 cut_journal line good c file es n h = elim (cut_after (first_line line c file) (flat_map (entry_line line) es) n) [
   | inl e ↦ (0, early n e refl)
-  | inr d ↦ let cut = cut_following line good c es d.0 h in (cut.0, torn (take d.0 (flat_map (entry_line line) es)) d.1 cut.1)
+  | inr d ↦ let cut = cut_following line good c es d.0 h in
+      (cut.0, torn (take d.0 (flat_map (entry_line line) es)) d.1 cut.1)
 ]
 
 -- ## Reading on
@@ -126,36 +166,47 @@ pub record Reads (line : Line) (c : ℕ) (text : List ℕ) (es : List Entry) (re
   pub each : AllByRecursion (λ e. IsNote line c (noted_of e)) es
   pub whole : text ≡ flat_map (entry_line line) es ++ rest
 
-never : (line : Line) (c : ℕ) (row : List ℕ) (fs : List Entry) → ((e : Entry) → IsNote line c (noted_of e) → entry_line line e ≡ row ++ 10 ∷ [] → ⊥) →
-    AllByRecursion (λ e. IsNote line c (noted_of e)) fs → AllByRecursion (λ x. line_of line x ≡ row → ⊥) (map noted_of fs)
+never : (line : Line) (c : ℕ) (row : List ℕ) (fs : List Entry)
+    → ((e : Entry) → IsNote line c (noted_of e) → entry_line line e ≡ row ++ 10 ∷ [] → ⊥) →
+    AllByRecursion (λ e. IsNote line c (noted_of e)) fs
+    → AllByRecursion (λ x. line_of line x ≡ row → ⊥) (map noted_of fs)
 never line c row [] bad h = tt
-never line c row (e ∷ fs) bad h = (λ same. bad e h.0 (entry_line_is line e ∙ ap (λ (t : List ℕ). t ++ 10 ∷ []) same), never line c row fs bad h.1)
+never line c row (e ∷ fs) bad h =
+    (λ same. bad e h.0 (entry_line_is line e ∙ ap (λ (t : List ℕ). t ++ 10 ∷ []) same), never line c row fs bad h.1)
 
 -- if no entry has a line, the text has no entries
-pub stuck : (line : Line) → IsLine line → (c : ℕ) (text : List ℕ) (es : List Entry) (rest row others : List ℕ) → Reads line c text es rest →
-    rest ≡ row ++ 10 ∷ others → Lacks 10 row → ((e : Entry) → IsNote line c (noted_of e) → entry_line line e ≡ row ++ 10 ∷ [] → ⊥) →
+pub stuck : (line : Line) → IsLine line → (c : ℕ) (text : List ℕ) (es : List Entry) (rest row others : List ℕ)
+    → Reads line c text es rest →
+    rest ≡ row ++ 10 ∷ others → Lacks 10 row
+    → ((e : Entry) → IsNote line c (noted_of e) → entry_line line e ≡ row ++ 10 ∷ [] → ⊥) →
     (fs : List Entry) → Follows line c text fs → ⊥
 stuck line good c text es rest row others r cut clean bad fs h =
-    no_reading line good c (map noted_of fs) (map noted_of es) h.rest row others (noted_each line c fs h.each) (noted_each line c es r.each) h.unended clean
+    no_reading line good c (map noted_of fs) (map noted_of es) h.rest row others (noted_each line c fs h.each)
+    (noted_each line c es r.each) h.unended clean
     (never line c row fs bad h.each)
     (ap (λ (t : List ℕ). t ++ h.rest) (sym (entry_lines_are line fs)) ∙ sym h.whole ∙ r.whole
-    ∙ ap (λ (t : List ℕ). t ++ rest) (entry_lines_are line es) ∙ ap (λ (t : List ℕ). lines_of line (map noted_of es) ++ t) cut)
+    ∙ ap (λ (t : List ℕ). t ++ rest) (entry_lines_are line es)
+    ∙ ap (λ (t : List ℕ). lines_of line (map noted_of es) ++ t) cut)
 
 -- ## A line that is guessed
 
-pub row_of : (line : Line) (e : Entry) (row : List ℕ) → entry_line line e ≡ row ++ 10 ∷ [] → row ≡ line_of line (noted_of e)
+pub row_of : (line : Line) (e : Entry) (row : List ℕ) → entry_line line e ≡ row ++ 10 ∷ []
+    → row ≡ line_of line (noted_of e)
 row_of line e row h = append_cancel_right row (line_of line (noted_of e)) (10 ∷ []) (sym h ∙ entry_line_is line e)
 
-pub guess_parts : (line : Line) (c : ℕ) (e : Entry) (row : List ℕ) (found : Option (Bor (List ℕ) × Bor (List ℕ))) → ArePartsOf row found →
+pub guess_parts : (line : Line) (c : ℕ) (e : Entry) (row : List ℕ) (found : Option (Bor (List ℕ) × Bor (List ℕ)))
+    → ArePartsOf row found →
     IsNote line c (noted_of e) → entry_line line e ≡ row ++ 10 ∷ [] →
     MatchOption found ⊥ (λ x. (x.0.now ≡ decimal e.stamp) × (x.1.now ≡ words_of line (event_of e.event)))
 guess_parts line c e row found parts note h =
     parts (checksum (told_of line (noted_of e) ++ 10 ∷ [])) (decimal e.stamp) (words_of line (event_of e.event))
     (checksum_is_word _).blank (word_of_number e.stamp (omega (arith, note.stamp))).blank (row_of line e row h)
 
-pub guess_asks : (line : Line) → IsLine line → (c : ℕ) (e : Entry) (words : List ℕ) → IsNote line c (noted_of e) → words ≡ words_of line (event_of e.event) →
+pub guess_asks : (line : Line) → IsLine line → (c : ℕ) (e : Entry) (words : List ℕ) → IsNote line c (noted_of e)
+    → words ≡ words_of line (event_of e.event) →
     row_asks line words ≡ Some (event_of e.event)
-guess_asks line good c e words note same = ap (row_asks line) same ∙ words_read line good c (event_of e.event) note.centre note.at
+guess_asks line good c e words note same =
+    ap (row_asks line) same ∙ words_read line good c (event_of e.event) note.centre note.at
 
 pub no_show : (line : Line) (c : ℕ) (e : Entry) → IsNote line c (noted_of e) → Some Show ≡ Some (event_of e.event) → ⊥
 no_show line c e note same = subst (IsAt line c) (some_same _ _ (sym same)) note.at
@@ -168,33 +219,43 @@ ok_same x y r h k = cc
 
 -- ## The first line
 
-torn_text : (line : Line) (c : ℕ) (file text rest : List ℕ) (es : List Entry) → text ≡ first_line line c file ++ 10 ∷ rest → Follows line c rest es → Begins line c file text es
+torn_text : (line : Line) (c : ℕ) (file text rest : List ℕ) (es : List Entry)
+    → text ≡ first_line line c file ++ 10 ∷ rest → Follows line c rest es → Begins line c file text es
 torn_text line c file text rest es e h = torn rest e h
 
-torn_rest : (line : Line) → IsLine line → (c : ℕ) (file text rest : List ℕ) (es : List Entry) → is_centre line c ≡ true → text ≡ first_line line c file ++ 10 ∷ rest →
+torn_rest : (line : Line) → IsLine line → (c : ℕ) (file text rest : List ℕ) (es : List Entry) → is_centre line c ≡ true
+    → text ≡ first_line line c file ++ 10 ∷ rest →
     Begins line c file text es → Follows line c rest es
-torn_rest line good c file text rest es it e (torn other f k) = subst (λ (t : List ℕ). Follows line c t es) (same_rest line good c file other rest it (sym f ∙ e)) k
+torn_rest line good c file text rest es it e (torn other f k) =
+    subst (λ (t : List ℕ). Follows line c t es) (same_rest line good c file other rest it (sym f ∙ e)) k
 torn_rest line good c file text rest es it e (early n f none) = absurd (unended line good c file rest n it (sym f ∙ e))
 
-pub found_torn : (line : Line) (c : ℕ) (file text rest : List ℕ) (r : Result (Vec Entry Global) JournalFault) → text ≡ first_line line c file ++ 10 ∷ rest →
+pub found_torn : (line : Line) (c : ℕ) (file text rest : List ℕ) (r : Result (Vec Entry Global) JournalFault)
+    → text ≡ first_line line c file ++ 10 ∷ rest →
     IfOk r (λ read. Follows line c rest read.items) → IfOk r (λ read. Begins line c file text read.items)
 found_torn line c file text rest (Ok read) e h = torn_text line c file text rest read.items e h
 found_torn line c file text rest (Err why) e h = tt
 
-pub only_torn : (line : Line) → IsLine line → (c : ℕ) (file text rest : List ℕ) (r : Result (Vec Entry Global) JournalFault) → is_centre line c ≡ true →
+pub only_torn : (line : Line) → IsLine line
+    → (c : ℕ) (file text rest : List ℕ) (r : Result (Vec Entry Global) JournalFault) → is_centre line c ≡ true →
     text ≡ first_line line c file ++ 10 ∷ rest → IfOk r (λ read. Follows line c rest read.items) →
     IfOk r (λ read. (es : List Entry) → Begins line c file text es → map noted_of read.items ≡ map noted_of es)
-only_torn line good c file text rest (Ok read) it e h = λ es k. one_beginning line good c file text read.items es it (torn_text line c file text rest read.items e h) k
+only_torn line good c file text rest (Ok read) it e h =
+    λ es k. one_beginning line good c file text read.items es it (torn_text line c file text rest read.items e h) k
 only_torn line good c file text rest (Err why) it e h = tt
 
-pub refused_torn : (line : Line) → IsLine line → (c : ℕ) (file text rest : List ℕ) (r : Result (Vec Entry Global) JournalFault) → is_centre line c ≡ true →
-    text ≡ first_line line c file ++ 10 ∷ rest → IfErr r (λ why. why ≢ Memory → (es : List Entry) → Follows line c rest es → ⊥) →
+pub refused_torn : (line : Line) → IsLine line
+    → (c : ℕ) (file text rest : List ℕ) (r : Result (Vec Entry Global) JournalFault) → is_centre line c ≡ true →
+    text ≡ first_line line c file ++ 10 ∷ rest
+    → IfErr r (λ why. why ≢ Memory → (es : List Entry) → Follows line c rest es → ⊥) →
     IfErr r (λ why. why ≢ Memory → (es : List Entry) → Begins line c file text es → ⊥)
 refused_torn line good c file text rest (Ok read) it e h = tt
-refused_torn line good c file text rest (Err why) it e h = λ other es k. h other es (torn_rest line good c file text rest es it e k)
+refused_torn line good c file text rest (Err why) it e h =
+    λ other es k. h other es (torn_rest line good c file text rest es it e k)
 
 -- a different first line begins no journal of this centre
-pub foreign_row : (line : Line) → IsLine line → (c : ℕ) (file text row rest : List ℕ) → is_centre line c ≡ true → text ≡ row ++ 10 ∷ rest → Lacks 10 row →
+pub foreign_row : (line : Line) → IsLine line → (c : ℕ) (file text row rest : List ℕ) → is_centre line c ≡ true
+    → text ≡ row ++ 10 ∷ rest → Lacks 10 row →
     row ≢ first_line line c file → (es : List Entry) → Begins line c file text es → ⊥
 foreign_row line good c file text row rest it e clean other es (torn more f k) =
     other (one_cut 10 row (first_line line c file) rest more clean (first_feed line good c file it) (sym e ∙ f)).0
@@ -207,12 +268,16 @@ take_again (suc n) [] = refl
 take_again (suc n) (x ∷ xs) = ap (λ (t : List ℕ). x ∷ t) (take_again n xs)
 
 -- a text that ends within the first line is a front of it
-pub early_text : (line : Line) (c : ℕ) (file text : List ℕ) → starts_with eqb (first_line line c file) text ≡ true → Begins line c file text []
-early_text line c file text h = early (length text) ((bytes_eq-Decides text (take (length text) (first_line line c file))).0 h) refl
+pub early_text : (line : Line) (c : ℕ) (file text : List ℕ) → starts_with eqb (first_line line c file) text ≡ true
+    → Begins line c file text []
+early_text line c file text h =
+    early (length text) ((bytes_eq-Decides text (take (length text) (first_line line c file))).0 h) refl
 
-pub foreign_start : (line : Line) (c : ℕ) (file text : List ℕ) → Lacks 10 text → starts_with eqb (first_line line c file) text ≡ false →
+pub foreign_start : (line : Line) (c : ℕ) (file text : List ℕ) → Lacks 10 text
+    → starts_with eqb (first_line line c file) text ≡ false →
     (es : List Entry) → Begins line c file text es → ⊥
-foreign_start line c file text clean other es (torn rest e h) = no_cut 10 (first_line line c file) rest (subst (Lacks 10) e clean)
+foreign_start line c file text clean other es (torn rest e h) =
+    no_cut 10 (first_line line c file) rest (subst (Lacks 10) e clean)
 foreign_start line c file text clean other es (early n e none) =
     true≢false (sym (subst (λ (t : List ℕ). starts_with eqb (first_line line c file) t ≡ true) (sym e)
     ((bytes_eq-Decides _ _).1 (sym (take_again n (first_line line c file))))) ∙ other)
@@ -225,7 +290,8 @@ is_true b h = search rules
 true_is : (b : Bool) → b ≡ true → IsTrue b
 true_is b h = search rules
 
-pub ended : (text front row : List ℕ) (last : ℕ) (b : Bool) → text ≡ front ++ last ∷ [] → last ≡ 10 → b ≡ bytes_eq front row →
+pub ended : (text front row : List ℕ) (last : ℕ) (b : Bool) → text ≡ front ++ last ∷ [] → last ≡ 10
+    → b ≡ bytes_eq front row →
     (IsTrue b → text ≡ row ++ 10 ∷ []) × (text ≡ row ++ 10 ∷ [] → IsTrue b)
 ended text front row last b e feed told =
     let whole : text ≡ front ++ 10 ∷ [] = e ∙ ap (λ n. front ++ n ∷ []) feed in (

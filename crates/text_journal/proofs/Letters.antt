@@ -1,14 +1,15 @@
 -- The bytes that the parts of a line do not contain.
-use Rattle.std.proofs.Common.{◌≡◌, ◌≢◌, ℕ, zero, suc, ◌<◌, ◌/◌, ◌%◌, ◌^◌, Bool, true, false, cond, List, [], ◌∷◌, ◌++◌, inl, inr, length, get_or, refl, ap, sym, ◌∙◌, arith, rules}
-use Rattle.std.specs.List.{All, slice_split}
-use Rattle.std.specs.Prelude.{slice_index, ◌==◌, IsTrue}
-use Rattle.std.specs.Fmt.{decimal}
-use Rattle.std.specs.Char.{is_ascii_alphanumeric}
+use Rattle.std.proofs.Common.{[], ◌%◌, ◌++◌, ◌/◌, ◌<◌, ◌^◌, ◌∙◌, ◌∷◌, ◌≡◌, ◌≢◌, ap, arith, Bool, cond, false, get_or}
+use Rattle.std.proofs.Common.{inl, inr, length, List, refl, rules, suc, sym, true, zero, ℕ}
+use Rattle.std.proofs.lemmas.Bool.{cases_Bool, ne_eqb}
 use Rattle.std.proofs.lemmas.Fmt.{decimal_by_steps}
 use Rattle.std.proofs.lemmas.List.Splits.{slice_split_at, slice_split_none}
-use Rattle.std.proofs.lemmas.Bool.{ne_eqb, cases_Bool}
-use Rattle.text_journal.specs.Reading.{Lacks}
+use Rattle.std.specs.Char.{is_ascii_alphanumeric}
+use Rattle.std.specs.Fmt.{decimal}
+use Rattle.std.specs.List.{All, slice_split}
+use Rattle.std.specs.Prelude.{◌==◌, IsTrue, slice_index}
 use Rattle.hex.specs.Hex.{encode_with, lower_digits, upper_digits}
+use Rattle.text_journal.specs.Reading.{Lacks}
 
 pub lacks_append : (c : ℕ) (xs ys : List ℕ) → Lacks c xs → Lacks c ys → Lacks c (xs ++ ys)
 lacks_append c [] ys h k = k
@@ -33,7 +34,8 @@ none_passes c (x ∷ xs) h = λ k d l. first_or (λ b. (b == c) ≡ false) x xs 
 
 -- ## Blanks cut a text
 
-pub cut_once : (c : ℕ) (a r : List ℕ) → Lacks c a → slice_split (λ x. x == c) (a ++ c ∷ r) ≡ a ∷ slice_split (λ x. x == c) r
+pub cut_once : (c : ℕ) (a r : List ℕ) → Lacks c a
+    → slice_split (λ x. x == c) (a ++ c ∷ r) ≡ a ∷ slice_split (λ x. x == c) r
 cut_once c a r h = slice_split_at (λ x. x == c) a c r (none_passes c a h) (search rules)
 
 pub cut_last : (c : ℕ) (a : List ℕ) → Lacks c a → slice_split (λ x. x == c) a ≡ a ∷ []
@@ -50,7 +52,8 @@ pub record IsWord (text : List ℕ) : Type 0 where
   pub feed : Lacks 10 text
 
 pub word_append : (xs ys : List ℕ) → IsWord xs → IsWord ys → IsWord (xs ++ ys)
-word_append xs ys h k = record { blank = lacks_append 32 xs ys h.blank k.blank; feed = lacks_append 10 xs ys h.feed k.feed }
+word_append xs ys h k =
+    record { blank = lacks_append 32 xs ys h.blank k.blank; feed = lacks_append 10 xs ys h.feed k.feed }
 
 decimal_words : (n : ℕ) → n < 2 ^ 64 → IsWord (decimal n)
 decimal_words = decimal_by_steps (λ n ds. IsWord ds)
@@ -72,7 +75,8 @@ hex_lacks c t [] z h = tt
 hex_lacks c t (b ∷ bytes) z h = (looked_up c t (b / 16) z h, (looked_up c t (b % 16) z h, hex_lacks c t bytes z h))
 
 -- letters and digits
-pub name_lacks : (c : ℕ) (name : List ℕ) → is_ascii_alphanumeric c ≡ false → All (λ x. IsTrue (is_ascii_alphanumeric x)) name → Lacks c name
+pub name_lacks : (c : ℕ) (name : List ℕ) → is_ascii_alphanumeric c ≡ false
+    → All (λ x. IsTrue (is_ascii_alphanumeric x)) name → Lacks c name
 name_lacks c name other h = lacks_from c name (λ i l e. clash _ (h i 0 l) (ap is_ascii_alphanumeric e ∙ other))
 
 -- each byte is a letter or a digit
@@ -83,7 +87,10 @@ alphanumeric (x ∷ xs) = cond (is_ascii_alphanumeric x) (alphanumeric xs) false
 pub lacks_alphanumeric : (c : ℕ) (xs : List ℕ) → is_ascii_alphanumeric c ≡ false → alphanumeric xs ≡ true → Lacks c xs
 lacks_alphanumeric c [] bad h = tt
 lacks_alphanumeric c (x ∷ xs) bad h = elim (cases_Bool (is_ascii_alphanumeric x)) [
-  | inl found ↦ (λ e. cc (sym found ∙ ap is_ascii_alphanumeric e ∙ bad), lacks_alphanumeric c xs bad (sym (ap (λ b. cond b (alphanumeric xs) false) found) ∙ h))
+  | inl found ↦ (
+    λ e. cc (sym found ∙ ap is_ascii_alphanumeric e ∙ bad),
+    lacks_alphanumeric c xs bad (sym (ap (λ b. cond b (alphanumeric xs) false) found) ∙ h),
+  )
   | inr other ↦ cc (sym (ap (λ b. cond b (alphanumeric xs) false) other) ∙ h)
 ]
 

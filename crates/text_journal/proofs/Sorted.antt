@@ -1,15 +1,15 @@
 -- A list that is sorted by stamp and centre is in order. Rising stamps.
-use Rattle.std.proofs.Common.{◌≡◌, ℕ, ◌+◌, ◌-◌, ◌<◌, ◌≤◌, List, Bool, false, arith, inl, inr, subst}
-use Rattle.std.specs.Prelude.{slice_index}
+use Rattle.std.proofs.Common.{◌+◌, ◌-◌, ◌<◌, ◌≡◌, ◌≤◌, arith, Bool, false, inl, inr, List, subst, ℕ}
 use Rattle.std.proofs.lemmas.Bool.{cases_lt}
-use Rattle.std.specs.List.Sorted.{IsSortedBy}
-use Rattle.std.specs.Ordering.{nat_cmp, ordering_then, is_lt}
-use Rattle.std.specs.Cmp.{IsStrictWeakOrder}
-use Rattle.std.proofs.lemmas.Cmp.{then_total, on_total, nat_cmp_total}
-use Rattle.std.proofs.lemmas.List.Sorted.{ranks_by, sorted_far}
 use Rattle.std.proofs.lemmas.Bool.Decides.{nat_tests}
-use Rattle.text_journal.specs.Order.{AreInOrder, RiseTo, taken_at}
+use Rattle.std.proofs.lemmas.Cmp.{nat_cmp_total, on_total, then_total}
+use Rattle.std.proofs.lemmas.List.Sorted.{ranks_by, sorted_far}
+use Rattle.std.specs.Cmp.{IsStrictWeakOrder}
+use Rattle.std.specs.List.Sorted.{IsSortedBy}
+use Rattle.std.specs.Ordering.{is_lt, nat_cmp, ordering_then}
+use Rattle.std.specs.Prelude.{slice_index}
 use Rattle.text_journal.specs.declared.entry.Entry.{Entry}
+use Rattle.text_journal.specs.Order.{AreInOrder, RiseTo, taken_at}
 
 abbrev pub earlier : ℕ → ℕ → ℕ → ℕ → Bool
 earlier s c t d = is_lt (ordering_then (nat_cmp s t) (nat_cmp c d))
@@ -21,17 +21,22 @@ abbrev pub entry_before : Entry → Entry → Bool
 entry_before a b = earlier a.stamp (taken_at a) b.stamp (taken_at b)
 
 entries_order : IsStrictWeakOrder entry_before
-entries_order = ranks_by (then_total (on_total (λ (e : Entry). e.stamp) nat_cmp_total) (on_total taken_at nat_cmp_total)) (λ (e : Entry). e)
+entries_order =
+    ranks_by (then_total (on_total (λ (e : Entry). e.stamp) nat_cmp_total) (on_total taken_at nat_cmp_total))
+    (λ (e : Entry). e)
 
 pub ordered : (es : List Entry) → IsSortedBy entry_before es → AreInOrder es
-ordered es up i j d under within = not_earlier _ _ _ _ (sorted_far entry_before entries_order es up i j d (omega (arith, under)) within)
+ordered es up i j d under within =
+    not_earlier _ _ _ _ (sorted_far entry_before entries_order es up i j d (omega (arith, under)) within)
 
 -- one more stamp that is above the one before it
-pub rises_more : (stamps : List ℕ) (at : ℕ) → 1 ≤ at → slice_index stamps (at - 1) < slice_index stamps at → RiseTo at stamps → RiseTo (at + 1) stamps
+pub rises_more : (stamps : List ℕ) (at : ℕ) → 1 ≤ at → slice_index stamps (at - 1) < slice_index stamps at
+    → RiseTo at stamps → RiseTo (at + 1) stamps
 rises_more stamps at some last so_far i under = elim (cases_lt (i + 1) at) [
   | inl h ↦ so_far i h
   | inr h ↦
       let before : at - 1 ≡ i = omega (arith, some, h, under) in
       let now : at ≡ i + 1 = omega (arith, h, under) in
-      subst (λ (k : ℕ). slice_index stamps i < slice_index stamps k) now (subst (λ (k : ℕ). slice_index stamps k < slice_index stamps at) before last)
+      subst (λ (k : ℕ). slice_index stamps i < slice_index stamps k) now
+      (subst (λ (k : ℕ). slice_index stamps k < slice_index stamps at) before last)
 ]

@@ -1,14 +1,15 @@
 -- The reading of a journal that may end anywhere.
-use Rattle.std.specs.Prelude.{◌≡◌, ◌≢◌, ℕ, ◌<◌, ◌^◌, List, [], ◌∷◌, ◌++◌, length, take, true, slice_index, Option, MatchOption, Result, Ok, Err}
 use Rattle.std.specs.List.{AllByRecursion, flat_map}
+use Rattle.std.specs.Prelude.{[], ◌++◌, ◌<◌, ◌^◌, ◌∷◌, ◌≡◌, ◌≢◌, Err, length, List, MatchOption, Ok, Option, Result}
+use Rattle.std.specs.Prelude.{slice_index, take, true, ℕ}
 use denote.Ref.{Bor}
-use Rattle.rbc_spec.specs.Line.{Line, is_centre}
-use Rattle.text_script.specs.Script.{Asked, Show, Train, Set, Unset, Deliver}
-use Rattle.text_script.specs.Entries.{event_of}
+use Rattle.rbc_spec.specs.Line.{is_centre, Line}
+use Rattle.text_journal.specs.declared.entry.Entry.{Entry}
+use Rattle.text_journal.specs.Journal.{entry_line, first_line}
 use Rattle.text_script.specs.declared.script.EntryFault.{EntryFault}
 use Rattle.text_script.specs.declared.script.EntryFault.TheVariants as refused
-use Rattle.text_journal.specs.Journal.{first_line, entry_line}
-use Rattle.text_journal.specs.declared.entry.Entry.{Entry}
+use Rattle.text_script.specs.Entries.{event_of}
+use Rattle.text_script.specs.Script.{Asked, Deliver, Set, Show, Train, Unset}
 
 -- the text does not contain the byte
 abbrev pub Lacks : ℕ → List ℕ → Type 0

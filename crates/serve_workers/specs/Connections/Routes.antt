@@ -1,9 +1,10 @@
 -- The destination of a message to a train. It depends on the message, on the connection that it answers, and on the
 -- connection that serves each train.
-use Rattle.std.specs.Prelude.{ℕ, ◌==◌, Bool, true, false, List, Option, Some, None, if◌then◌else◌, slice_get, slice_set, option_map, option_and_then}
 use Rattle.std.specs.Option.{option_map_or}
+use Rattle.std.specs.Prelude.{◌==◌, Bool, false, if◌then◌else◌, List, None, Option, option_and_then, option_map}
+use Rattle.std.specs.Prelude.{slice_get, slice_set, Some, true, ℕ}
 use Rattle.rbc_spec.specs.Line.{Line, train_number}
-use Rattle.rbc_spec.specs.Message.{TrackBody, SystemVersion}
+use Rattle.rbc_spec.specs.Message.{SystemVersion, TrackBody}
 use Rattle.serve_workers.specs.Connections.Serving.{released}
 use Rattle.serve_workers.specs.declared.connections.route.Route.{Route}
 use Rattle.serve_workers.specs.declared.connections.routing_table.Directed.{Directed}

@@ -1,6 +1,7 @@
 -- The order in which a centre's replies to one train are sent: by T_TRAIN, which counts the centre's messages to the
 -- train.
-use Rattle.std.specs.Prelude.{◌≡◌, ◌⊎◌, ℕ, ◌+◌, ◌<◌, ◌≤◌, Bool, List, [], ◌∷◌, ◌++◌, Contains, filter, if◌then◌else◌, nat_lt, nat_le}
+use Rattle.std.specs.Prelude.{[], ◌++◌, ◌+◌, ◌<◌, ◌∷◌, ◌≡◌, ◌≤◌, ◌⊎◌, Bool, Contains, filter, if◌then◌else◌, List}
+use Rattle.std.specs.Prelude.{nat_le, nat_lt, ℕ}
 use Rattle.rbc_spec.specs.Message.{TrackMessage}
 use Rattle.serve_workers.specs.declared.writing.reply.Reply.{Reply}
 
@@ -85,7 +86,8 @@ abbrev pub Takes : List Call → ℕ → List TrackMessage → Type 0
 Takes [] next early = Unit {0}
 Takes (Begins t ∷ calls) next early = Takes calls (turn_from t next) (waits_from t next early)
 Takes (HandsIn m ∷ calls) next early = Takes calls next (kept next m early)
-Takes (LetsOut m ∷ calls) next early = (left : List TrackMessage) × IsTurn next m early left × Takes calls (next + 1) left
+Takes (LetsOut m ∷ calls) next early =
+    (left : List TrackMessage) × IsTurn next m early left × Takes calls (next + 1) left
 
 -- each T_TRAIN is at least this one, and greater than those before it
 abbrev pub Rises : ℕ → List TrackMessage → Type 0

@@ -1,5 +1,8 @@
-use Rattle.test_scenes.proofs.Shortening.{unset_in_a_hand_comes_out, start_drops_the_proposal_comes_out, shortening_in_one_centre_comes_out, shortening_and_a_late_route_comes_out, answer_to_another_proposal_comes_out, granted_past_the_proposed_end_comes_out, another_answer_at_the_border_comes_out, asking_again_tries_again_comes_out}
 use Rattle.test_scenes.proofs.authorities_shortened.Goals as goal
+use Rattle.test_scenes.proofs.Shortening.{another_answer_at_the_border_comes_out, answer_to_another_proposal_comes_out}
+use Rattle.test_scenes.proofs.Shortening.{asking_again_tries_again_comes_out, granted_past_the_proposed_end_comes_out}
+use Rattle.test_scenes.proofs.Shortening.{shortening_and_a_late_route_comes_out, shortening_in_one_centre_comes_out}
+use Rattle.test_scenes.proofs.Shortening.{start_drops_the_proposal_comes_out, unset_in_a_hand_comes_out}
 
 pub returns-clause-unset_in_a_hand : goal.returns-clause-unset_in_a_hand
 returns-clause-unset_in_a_hand c = unset_in_a_hand_comes_out

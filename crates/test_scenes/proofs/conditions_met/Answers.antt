@@ -1,5 +1,13 @@
-use Rattle.test_scenes.proofs.ConditionsMet.{unset_without_a_session_is_met, unset_after_the_end_is_met, unset_again_is_met, front_before_the_hand_is_met, front_in_the_section_is_met, section_out_of_reach_is_met, yield_with_a_pool_is_met, cut_with_a_pool_is_met, cut_beyond_the_border_is_met, proposal_ends_with_the_session_is_met, start_outside_the_hand_is_met, request_again_over_the_border_is_met, request_while_asked_is_met, full_hand_at_the_border_is_met, pool_out_of_reach_is_met, proposal_ends_with_the_mission_is_met}
 use Rattle.test_scenes.proofs.conditions_met.Goals as goal
+use Rattle.test_scenes.proofs.ConditionsMet.{cut_beyond_the_border_is_met, cut_with_a_pool_is_met}
+use Rattle.test_scenes.proofs.ConditionsMet.{front_before_the_hand_is_met, front_in_the_section_is_met}
+use Rattle.test_scenes.proofs.ConditionsMet.{full_hand_at_the_border_is_met, pool_out_of_reach_is_met}
+use Rattle.test_scenes.proofs.ConditionsMet.{proposal_ends_with_the_mission_is_met}
+use Rattle.test_scenes.proofs.ConditionsMet.{proposal_ends_with_the_session_is_met}
+use Rattle.test_scenes.proofs.ConditionsMet.{request_again_over_the_border_is_met, request_while_asked_is_met}
+use Rattle.test_scenes.proofs.ConditionsMet.{section_out_of_reach_is_met, start_outside_the_hand_is_met}
+use Rattle.test_scenes.proofs.ConditionsMet.{unset_after_the_end_is_met, unset_again_is_met}
+use Rattle.test_scenes.proofs.ConditionsMet.{unset_without_a_session_is_met, yield_with_a_pool_is_met}
 
 pub returns-clause-unset_without_a_session : goal.returns-clause-unset_without_a_session
 returns-clause-unset_without_a_session c = unset_without_a_session_is_met

@@ -1,4 +1,5 @@
-use Rattle.test_scenes.proofs.HandoverMet.{handover_is_met, return_after_handover_is_met, yield_carries_the_last_stamp_heard_is_met, cancelled_before_taking_over_is_met}
+use Rattle.test_scenes.proofs.HandoverMet.{cancelled_before_taking_over_is_met, handover_is_met}
+use Rattle.test_scenes.proofs.HandoverMet.{return_after_handover_is_met, yield_carries_the_last_stamp_heard_is_met}
 use Rattle.test_scenes.proofs.handovers_met.Goals as goal
 
 pub returns-clause-handover : goal.returns-clause-handover

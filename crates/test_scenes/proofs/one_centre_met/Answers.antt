@@ -1,4 +1,7 @@
-use Rattle.test_scenes.proofs.ForcedMet.{start_drops_the_proposal_is_met_by_forced_run, shortening_in_one_centre_is_met_by_forced_run, hand_of_32_sections_is_met_by_forced_run, section_out_of_reach_is_met_by_forced_run}
+use Rattle.test_scenes.proofs.ForcedMet.{hand_of_32_sections_is_met_by_forced_run}
+use Rattle.test_scenes.proofs.ForcedMet.{section_out_of_reach_is_met_by_forced_run}
+use Rattle.test_scenes.proofs.ForcedMet.{shortening_in_one_centre_is_met_by_forced_run}
+use Rattle.test_scenes.proofs.ForcedMet.{start_drops_the_proposal_is_met_by_forced_run}
 use Rattle.test_scenes.proofs.one_centre_met.Goals as goal
 
 pub returns-clause-start_drops_the_proposal : goal.returns-clause-start_drops_the_proposal

@@ -1,5 +1,9 @@
-use Rattle.test_scenes.proofs.ThreeCentres.{border_of_the_first_comes_out, second_takes_over_comes_out, yield_with_a_third_home_comes_out, wish_at_a_third_centre_comes_out, any_two_are_linked_comes_out, each_home_gets_its_section_back_comes_out, ended_mission_is_yielded_comes_out, stands_still_before_the_third_comes_out}
 use Rattle.test_scenes.proofs.over_three_centres.Goals as goal
+use Rattle.test_scenes.proofs.ThreeCentres.{any_two_are_linked_comes_out, border_of_the_first_comes_out}
+use Rattle.test_scenes.proofs.ThreeCentres.{each_home_gets_its_section_back_comes_out}
+use Rattle.test_scenes.proofs.ThreeCentres.{ended_mission_is_yielded_comes_out, second_takes_over_comes_out}
+use Rattle.test_scenes.proofs.ThreeCentres.{stands_still_before_the_third_comes_out, wish_at_a_third_centre_comes_out}
+use Rattle.test_scenes.proofs.ThreeCentres.{yield_with_a_third_home_comes_out}
 
 pub returns-clause-border_of_the_first : goal.returns-clause-border_of_the_first
 returns-clause-border_of_the_first c = border_of_the_first_comes_out

@@ -1,5 +1,7 @@
-use Rattle.test_scenes.proofs.Places.{reports_without_place_comes_out, requests_without_place_comes_out, hand_out_of_reach_comes_out, starts_that_are_not_fit_comes_out, longest_train_comes_out, other_scale_comes_out, own_stamp_after_a_yield_comes_out}
 use Rattle.test_scenes.proofs.placed.Goals as goal
+use Rattle.test_scenes.proofs.Places.{hand_out_of_reach_comes_out, longest_train_comes_out, other_scale_comes_out}
+use Rattle.test_scenes.proofs.Places.{own_stamp_after_a_yield_comes_out, reports_without_place_comes_out}
+use Rattle.test_scenes.proofs.Places.{requests_without_place_comes_out, starts_that_are_not_fit_comes_out}
 
 pub returns-clause-reports_without_place : goal.returns-clause-reports_without_place
 returns-clause-reports_without_place c = reports_without_place_comes_out

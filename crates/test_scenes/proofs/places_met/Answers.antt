@@ -1,5 +1,7 @@
-use Rattle.test_scenes.proofs.PlacesMet.{reports_without_place_is_met, requests_without_place_is_met, hand_out_of_reach_is_met, starts_that_are_not_fit_is_met, longest_train_is_met, other_scale_is_met, own_stamp_after_a_yield_is_met}
 use Rattle.test_scenes.proofs.places_met.Goals as goal
+use Rattle.test_scenes.proofs.PlacesMet.{hand_out_of_reach_is_met, longest_train_is_met, other_scale_is_met}
+use Rattle.test_scenes.proofs.PlacesMet.{own_stamp_after_a_yield_is_met, reports_without_place_is_met}
+use Rattle.test_scenes.proofs.PlacesMet.{requests_without_place_is_met, starts_that_are_not_fit_is_met}
 
 pub returns-clause-reports_without_place : goal.returns-clause-reports_without_place
 returns-clause-reports_without_place c = reports_without_place_is_met

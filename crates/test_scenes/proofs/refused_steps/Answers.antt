@@ -1,4 +1,6 @@
-use Rattle.test_scenes.proofs.Limits.{last_stamp_is_taken_comes_out, stamp_past_the_last_comes_out, frame_without_a_link_comes_out, three_numbers_left, four_numbers_left, set_and_session_comes_out, asks_for_a_full_hand, asks_for_no_513th_section}
+use Rattle.test_scenes.proofs.Limits.{asks_for_a_full_hand, asks_for_no_513th_section, four_numbers_left}
+use Rattle.test_scenes.proofs.Limits.{frame_without_a_link_comes_out, last_stamp_is_taken_comes_out}
+use Rattle.test_scenes.proofs.Limits.{set_and_session_comes_out, stamp_past_the_last_comes_out, three_numbers_left}
 use Rattle.test_scenes.proofs.refused_steps.Goals as goal
 
 pub returns-clause-last_stamp : goal.returns-clause-last_stamp

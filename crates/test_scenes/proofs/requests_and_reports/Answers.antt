@@ -1,4 +1,12 @@
-use Rattle.test_scenes.proofs.Requests.{request_asks_over_the_border_comes_out, asks_again_each_round_comes_out, end_of_the_track_comes_out, report_clears_comes_out, no_integrity_frees_nothing_comes_out, request_extends_over_the_border_comes_out, early_frame_comes_out, hand_of_32_sections_comes_out, end_within_reach_of_the_message_comes_out, longest_authority_comes_out, one_metre_too_far_comes_out, end_of_mission_comes_out, end_at_standstill_comes_out, end_at_standstill_with_a_wish_comes_out, end_before_the_hand_comes_out, end_at_the_end_of_the_hand_comes_out}
+use Rattle.test_scenes.proofs.Requests.{asks_again_each_round_comes_out, early_frame_comes_out}
+use Rattle.test_scenes.proofs.Requests.{end_at_standstill_comes_out, end_at_standstill_with_a_wish_comes_out}
+use Rattle.test_scenes.proofs.Requests.{end_at_the_end_of_the_hand_comes_out, end_before_the_hand_comes_out}
+use Rattle.test_scenes.proofs.Requests.{end_of_mission_comes_out, end_of_the_track_comes_out}
+use Rattle.test_scenes.proofs.Requests.{end_within_reach_of_the_message_comes_out, hand_of_32_sections_comes_out}
+use Rattle.test_scenes.proofs.Requests.{longest_authority_comes_out, no_integrity_frees_nothing_comes_out}
+use Rattle.test_scenes.proofs.Requests.{one_metre_too_far_comes_out, report_clears_comes_out}
+use Rattle.test_scenes.proofs.Requests.{request_asks_over_the_border_comes_out}
+use Rattle.test_scenes.proofs.Requests.{request_extends_over_the_border_comes_out}
 use Rattle.test_scenes.proofs.requests_and_reports.Goals as goal
 
 pub returns-clause-request_asks_over_the_border : goal.returns-clause-request_asks_over_the_border

@@ -1,5 +1,11 @@
-use Rattle.test_scenes.proofs.RequestsMet.{request_asks_over_the_border_is_met, asks_again_each_round_is_met, end_of_the_track_is_met, report_clears_is_met, no_integrity_frees_nothing_is_met, request_extends_over_the_border_is_met, early_frame_is_met, hand_of_32_sections_is_met, end_within_reach_of_the_message_is_met, longest_authority_is_met, one_metre_too_far_is_met, end_of_mission_is_met, end_at_standstill_is_met, end_at_standstill_with_a_wish_is_met, end_before_the_hand_is_met, end_at_the_end_of_the_hand_is_met}
 use Rattle.test_scenes.proofs.requests_met.Goals as goal
+use Rattle.test_scenes.proofs.RequestsMet.{asks_again_each_round_is_met, early_frame_is_met, end_at_standstill_is_met}
+use Rattle.test_scenes.proofs.RequestsMet.{end_at_standstill_with_a_wish_is_met, end_at_the_end_of_the_hand_is_met}
+use Rattle.test_scenes.proofs.RequestsMet.{end_before_the_hand_is_met, end_of_mission_is_met, end_of_the_track_is_met}
+use Rattle.test_scenes.proofs.RequestsMet.{end_within_reach_of_the_message_is_met, hand_of_32_sections_is_met}
+use Rattle.test_scenes.proofs.RequestsMet.{longest_authority_is_met, no_integrity_frees_nothing_is_met}
+use Rattle.test_scenes.proofs.RequestsMet.{one_metre_too_far_is_met, report_clears_is_met}
+use Rattle.test_scenes.proofs.RequestsMet.{request_asks_over_the_border_is_met, request_extends_over_the_border_is_met}
 
 pub returns-clause-request_asks_over_the_border : goal.returns-clause-request_asks_over_the_border
 returns-clause-request_asks_over_the_border c = request_asks_over_the_border_is_met

@@ -1,5 +1,15 @@
-use Rattle.test_scenes.proofs.Starts.{nothing_happens_comes_out, set_and_unset_comes_out, session_opens_comes_out, session_opens_again_comes_out, trains_are_named_comes_out, session_opens_over_a_session_comes_out, session_ends_comes_out, messages_without_a_session_comes_out, messages_before_the_session_is_up_comes_out, messages_without_a_mission_comes_out, first_reason_comes_out, start_at_the_registrar_comes_out, start_at_a_shut_section_comes_out, request_without_train_data_comes_out, hand_outlives_the_session_comes_out, start_after_the_end_of_mission_comes_out, unset_of_the_first_section_comes_out, right_comes_comes_out, right_goes_back_comes_out, right_serves_a_later_start_comes_out, ask_delivered_twice_comes_out, right_is_refused_comes_out}
 use Rattle.test_scenes.proofs.sessions_and_starts.Goals as goal
+use Rattle.test_scenes.proofs.Starts.{ask_delivered_twice_comes_out, first_reason_comes_out}
+use Rattle.test_scenes.proofs.Starts.{hand_outlives_the_session_comes_out, messages_before_the_session_is_up_comes_out}
+use Rattle.test_scenes.proofs.Starts.{messages_without_a_mission_comes_out, messages_without_a_session_comes_out}
+use Rattle.test_scenes.proofs.Starts.{nothing_happens_comes_out, request_without_train_data_comes_out}
+use Rattle.test_scenes.proofs.Starts.{right_comes_comes_out, right_goes_back_comes_out, right_is_refused_comes_out}
+use Rattle.test_scenes.proofs.Starts.{right_serves_a_later_start_comes_out, session_ends_comes_out}
+use Rattle.test_scenes.proofs.Starts.{session_opens_again_comes_out, session_opens_comes_out}
+use Rattle.test_scenes.proofs.Starts.{session_opens_over_a_session_comes_out, set_and_unset_comes_out}
+use Rattle.test_scenes.proofs.Starts.{start_after_the_end_of_mission_comes_out, start_at_a_shut_section_comes_out}
+use Rattle.test_scenes.proofs.Starts.{start_at_the_registrar_comes_out, trains_are_named_comes_out}
+use Rattle.test_scenes.proofs.Starts.{unset_of_the_first_section_comes_out}
 
 pub returns-clause-nothing_happens : goal.returns-clause-nothing_happens
 returns-clause-nothing_happens c = nothing_happens_comes_out

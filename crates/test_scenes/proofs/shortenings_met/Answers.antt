@@ -1,4 +1,7 @@
-use Rattle.test_scenes.proofs.ShorteningMet.{unset_in_a_hand_is_met, start_drops_the_proposal_is_met, shortening_in_one_centre_is_met, shortening_and_a_late_route_is_met, answer_to_another_proposal_is_met, granted_past_the_proposed_end_is_met, another_answer_at_the_border_is_met, asking_again_tries_again_is_met}
+use Rattle.test_scenes.proofs.ShorteningMet.{another_answer_at_the_border_is_met, answer_to_another_proposal_is_met}
+use Rattle.test_scenes.proofs.ShorteningMet.{asking_again_tries_again_is_met, granted_past_the_proposed_end_is_met}
+use Rattle.test_scenes.proofs.ShorteningMet.{shortening_and_a_late_route_is_met, shortening_in_one_centre_is_met}
+use Rattle.test_scenes.proofs.ShorteningMet.{start_drops_the_proposal_is_met, unset_in_a_hand_is_met}
 use Rattle.test_scenes.proofs.shortenings_met.Goals as goal
 
 pub returns-clause-unset_in_a_hand : goal.returns-clause-unset_in_a_hand

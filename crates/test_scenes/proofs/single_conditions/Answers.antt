@@ -1,4 +1,12 @@
-use Rattle.test_scenes.proofs.Conditions.{unset_without_a_session_comes_out, unset_after_the_end_comes_out, unset_again_comes_out, front_before_the_hand_comes_out, front_in_the_section_comes_out, section_out_of_reach_comes_out, yield_with_a_pool_comes_out, cut_with_a_pool_comes_out, cut_beyond_the_border_comes_out, proposal_ends_with_the_session_comes_out, start_outside_the_hand_comes_out, request_again_over_the_border_comes_out, request_while_asked_comes_out, full_hand_at_the_border_comes_out, pool_out_of_reach_comes_out, proposal_ends_with_the_mission_comes_out}
+use Rattle.test_scenes.proofs.Conditions.{cut_beyond_the_border_comes_out, cut_with_a_pool_comes_out}
+use Rattle.test_scenes.proofs.Conditions.{front_before_the_hand_comes_out, front_in_the_section_comes_out}
+use Rattle.test_scenes.proofs.Conditions.{full_hand_at_the_border_comes_out, pool_out_of_reach_comes_out}
+use Rattle.test_scenes.proofs.Conditions.{proposal_ends_with_the_mission_comes_out}
+use Rattle.test_scenes.proofs.Conditions.{proposal_ends_with_the_session_comes_out}
+use Rattle.test_scenes.proofs.Conditions.{request_again_over_the_border_comes_out, request_while_asked_comes_out}
+use Rattle.test_scenes.proofs.Conditions.{section_out_of_reach_comes_out, start_outside_the_hand_comes_out}
+use Rattle.test_scenes.proofs.Conditions.{unset_after_the_end_comes_out, unset_again_comes_out}
+use Rattle.test_scenes.proofs.Conditions.{unset_without_a_session_comes_out, yield_with_a_pool_comes_out}
 use Rattle.test_scenes.proofs.single_conditions.Goals as goal
 
 pub returns-clause-unset_without_a_session : goal.returns-clause-unset_without_a_session

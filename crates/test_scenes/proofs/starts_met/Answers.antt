@@ -1,6 +1,16 @@
-use Rattle.test_scenes.proofs.StartsMet.{nothing_happens_is_met, set_and_unset_is_met, session_opens_is_met, session_opens_again_is_met, trains_are_named_is_met, session_opens_over_a_session_is_met, session_ends_is_met, messages_without_a_session_is_met, messages_before_the_session_is_up_is_met, messages_without_a_mission_is_met, first_reason_is_met, start_at_the_registrar_is_met, start_at_a_shut_section_is_met, request_without_train_data_is_met, hand_outlives_the_session_is_met, start_after_the_end_of_mission_is_met, unset_of_the_first_section_is_met, right_comes_is_met, right_goes_back_is_met, right_serves_a_later_start_is_met, ask_delivered_twice_is_met, right_is_refused_is_met}
 use Rattle.test_scenes.proofs.Stands.{start_is_line_run}
 use Rattle.test_scenes.proofs.starts_met.Goals as goal
+use Rattle.test_scenes.proofs.StartsMet.{ask_delivered_twice_is_met, first_reason_is_met}
+use Rattle.test_scenes.proofs.StartsMet.{hand_outlives_the_session_is_met, messages_before_the_session_is_up_is_met}
+use Rattle.test_scenes.proofs.StartsMet.{messages_without_a_mission_is_met, messages_without_a_session_is_met}
+use Rattle.test_scenes.proofs.StartsMet.{nothing_happens_is_met, request_without_train_data_is_met, right_comes_is_met}
+use Rattle.test_scenes.proofs.StartsMet.{right_goes_back_is_met, right_is_refused_is_met}
+use Rattle.test_scenes.proofs.StartsMet.{right_serves_a_later_start_is_met, session_ends_is_met}
+use Rattle.test_scenes.proofs.StartsMet.{session_opens_again_is_met, session_opens_is_met}
+use Rattle.test_scenes.proofs.StartsMet.{session_opens_over_a_session_is_met, set_and_unset_is_met}
+use Rattle.test_scenes.proofs.StartsMet.{start_after_the_end_of_mission_is_met, start_at_a_shut_section_is_met}
+use Rattle.test_scenes.proofs.StartsMet.{start_at_the_registrar_is_met, trains_are_named_is_met}
+use Rattle.test_scenes.proofs.StartsMet.{unset_of_the_first_section_is_met}
 
 pub returns-clause-nothing_happens : goal.returns-clause-nothing_happens
 returns-clause-nothing_happens c = nothing_happens_is_met

@@ -1,5 +1,9 @@
-use Rattle.test_scenes.proofs.StrayFrames.{strays_to_a_come_to_nothing, strays_from_c_come_to_nothing, strays_to_the_announcing_come_to_nothing, strays_of_another_centre_come_to_nothing, strays_to_the_expecting_come_to_nothing, strays_to_the_taking_come_to_nothing, fronts_before_the_track_come_to_nothing, yields_are_taken}
 use Rattle.test_scenes.proofs.stray_frames.Goals as goal
+use Rattle.test_scenes.proofs.StrayFrames.{fronts_before_the_track_come_to_nothing, strays_from_c_come_to_nothing}
+use Rattle.test_scenes.proofs.StrayFrames.{strays_of_another_centre_come_to_nothing, strays_to_a_come_to_nothing}
+use Rattle.test_scenes.proofs.StrayFrames.{strays_to_the_announcing_come_to_nothing}
+use Rattle.test_scenes.proofs.StrayFrames.{strays_to_the_expecting_come_to_nothing}
+use Rattle.test_scenes.proofs.StrayFrames.{strays_to_the_taking_come_to_nothing, yields_are_taken}
 
 pub returns-clause-to_a : goal.returns-clause-to_a
 returns-clause-to_a c = strays_to_a_come_to_nothing

@@ -1,5 +1,8 @@
-use Rattle.test_scenes.proofs.ThreeCentresMet.{border_of_the_first_is_met, second_takes_over_is_met, yield_with_a_third_home_is_met, wish_at_a_third_centre_is_met, any_two_are_linked_is_met, each_home_gets_its_section_back_is_met, ended_mission_is_yielded_is_met, stands_still_before_the_third_is_met}
 use Rattle.test_scenes.proofs.three_centres_met.Goals as goal
+use Rattle.test_scenes.proofs.ThreeCentresMet.{any_two_are_linked_is_met, border_of_the_first_is_met}
+use Rattle.test_scenes.proofs.ThreeCentresMet.{each_home_gets_its_section_back_is_met, ended_mission_is_yielded_is_met}
+use Rattle.test_scenes.proofs.ThreeCentresMet.{second_takes_over_is_met, stands_still_before_the_third_is_met}
+use Rattle.test_scenes.proofs.ThreeCentresMet.{wish_at_a_third_centre_is_met, yield_with_a_third_home_is_met}
 
 pub returns-clause-border_of_the_first : goal.returns-clause-border_of_the_first
 returns-clause-border_of_the_first c = border_of_the_first_is_met

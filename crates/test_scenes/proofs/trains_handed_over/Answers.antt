@@ -1,4 +1,5 @@
-use Rattle.test_scenes.proofs.Handover.{handover_comes_out, return_after_handover_comes_out, yield_carries_the_last_stamp_heard_comes_out, cancelled_before_taking_over_comes_out}
+use Rattle.test_scenes.proofs.Handover.{cancelled_before_taking_over_comes_out, handover_comes_out}
+use Rattle.test_scenes.proofs.Handover.{return_after_handover_comes_out, yield_carries_the_last_stamp_heard_comes_out}
 use Rattle.test_scenes.proofs.trains_handed_over.Goals as goal
 
 pub returns-clause-handover : goal.returns-clause-handover

@@ -1,7 +1,7 @@
-use Rattle.std.proofs.Common.{◌≡◌, ◌<◌, length, drop, slice_get}
+use Rattle.std.proofs.Common.{◌<◌, ◌≡◌, drop, length, slice_get}
 use Rattle.std.specs.List.{filter}
-use Rattle.cli_storm.specs.Links.{has_sent}
 use Rattle.cli_storm.proofs.links.sending_at.Given as goal
+use Rattle.cli_storm.specs.Links.{has_sent}
 
 abbrev pub invariant-loop-link : goal.invariant-loop-link
 invariant-loop-link l = record {

@@ -1,8 +1,8 @@
-use Rattle.std.proofs.Common.{◌≡◌, ◌≤◌, ℕ, length, slice_get, Some}
-use Rattle.std.specs.Vec.{vec_len, vec_capacity}
+use Rattle.std.proofs.Common.{◌≡◌, ◌≤◌, length, slice_get, Some, ℕ}
+use Rattle.std.specs.Vec.{vec_capacity, vec_len}
+use Rattle.rbc_centre.proofs.keeping.unknown_trains.Given as goal
 use Rattle.rbc_centre.specs.State.{IsUnknown}
 use Rattle.rbc_train.specs.declared.train.TrainState.{TrainState}
-use Rattle.rbc_centre.proofs.keeping.unknown_trains.Given as goal
 
 abbrev pub invariant-loop-i : goal.invariant-loop-i
 invariant-loop-i l = record {

@@ -1,10 +1,10 @@
-use Rattle.std.proofs.Common.{◌∙◌, sym, ap, arith, inl, inr}
+use Rattle.std.proofs.Common.{◌∙◌, ap, arith, inl, inr, sym}
 use Rattle.std.proofs.lemmas.Bool.Decides.{eqb_tells}
-use Rattle.rbc_spec.specs.Line.{is_home}
-use Rattle.rbc_line.specs.SectionRuns.{run_of}
 use Rattle.law_base.proofs.Runs.{within_true}
 use Rattle.rbc_centre.proofs.Homes.{none_goes}
 use Rattle.rbc_centre.proofs.returned.all_stay.Goals as goal
+use Rattle.rbc_line.specs.SectionRuns.{run_of}
+use Rattle.rbc_spec.specs.Line.{is_home}
 
 pub loop-s-preserved : goal.loop-s-preserved
 loop-s-preserved c s low high = elim (eqb_tells s c.loop-s.s) [
@@ -15,4 +15,5 @@ loop-s-preserved c s low high = elim (eqb_tells s c.loop-s.s) [
 pub returns : goal.returns
 returns c = λ is t track d.
     none_goes c.args.line.now c.args.centre t track (run_of c.args.sections) d c.section_count.ensures.line
-    (λ s in_run. let ends = within_true (run_of c.args.sections) s in_run in c.loop-s.invariant s (omega (arith, ends)) (omega (arith, ends, c.loop-s-test.false)))
+    (λ s in_run. let ends = within_true (run_of c.args.sections) s in_run in
+    c.loop-s.invariant s (omega (arith, ends)) (omega (arith, ends, c.loop-s-test.false)))

@@ -1,4 +1,4 @@
-use Rattle.std.proofs.Common.{◌∙◌, sym, refl}
+use Rattle.std.proofs.Common.{◌∙◌, refl, sym}
 use Rattle.rbc_centre.proofs.returned.stays.Goals as goal
 
 pub returns-then-is_empty : goal.returns-then-is_empty

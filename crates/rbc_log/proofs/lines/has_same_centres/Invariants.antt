@@ -1,4 +1,4 @@
-use Rattle.std.proofs.Common.{◌≡◌, ◌<◌, ℕ, slice_get}
+use Rattle.std.proofs.Common.{◌<◌, ◌≡◌, slice_get, ℕ}
 use Rattle.rbc_log.proofs.lines.has_same_centres.Given as goal
 
 abbrev pub invariant-loop-c : goal.invariant-loop-c

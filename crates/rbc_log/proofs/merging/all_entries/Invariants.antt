@@ -1,8 +1,8 @@
-use Rattle.std.proofs.Common.{◌≡◌, take, map, All}
+use Rattle.std.proofs.Common.{◌≡◌, All, map, take}
+use Rattle.rbc_log.proofs.merging.all_entries.Given as goal
 use Rattle.rbc_log.specs.Entries.{written_of}
 use Rattle.rbc_log.specs.Log.{IsReplaying}
 use Rattle.rbc_log.specs.Merge.{all_entries}
-use Rattle.rbc_log.proofs.merging.all_entries.Given as goal
 
 abbrev pub invariant-loop-log : goal.invariant-loop-log
 invariant-loop-log l =

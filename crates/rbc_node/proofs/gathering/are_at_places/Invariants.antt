@@ -1,6 +1,6 @@
-use Rattle.std.proofs.Common.{◌≡◌, ◌<◌, ℕ, take, Some, slice_get, All}
+use Rattle.std.proofs.Common.{◌<◌, ◌≡◌, All, slice_get, Some, take, ℕ}
 use Rattle.rbc_centre.specs.States.{number_of}
-use Rattle.rbc_log.specs.Log.{LogValue, IsReplaying}
+use Rattle.rbc_log.specs.Log.{IsReplaying, LogValue}
 use Rattle.rbc_log.specs.Merge.{AreOfLine}
 use Rattle.rbc_node.proofs.gathering.are_at_places.Given as goal
 

@@ -11,5 +11,6 @@ loop-node-preserved c =
     let log = c.into_log.result in (
       omega (arith, was, pushed, popped),
       subst (All IsReplaying) (sym c.in_ok-push.ensures.items)
-          (All-append IsReplaying c.loop-node.logs.items (log ∷ []) c.loop-node.invariant.1 (All-cons IsReplaying log [] c.into_log.ensures (All-nil IsReplaying))),
+          (All-append IsReplaying c.loop-node.logs.items (log ∷ []) c.loop-node.invariant.1
+          (All-cons IsReplaying log [] c.into_log.ensures (All-nil IsReplaying))),
     )

@@ -1,4 +1,4 @@
-use Rattle.std.proofs.Common.{◌≡◌, ◌+◌, All, vec_len}
+use Rattle.std.proofs.Common.{◌+◌, ◌≡◌, All, vec_len}
 use Rattle.rbc_log.specs.Log.{IsReplaying}
 use Rattle.rbc_node.proofs.gathering.logs_of.Given as goal
 

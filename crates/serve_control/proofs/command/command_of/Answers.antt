@@ -1,9 +1,9 @@
-use Rattle.std.proofs.Common.{IfOk, IfErr, sym, subst, rules}
-use Rattle.text_script.specs.Script.{rows}
-use Rattle.text_script.specs.Entries.{AreAsked}
-use Rattle.serve_control.specs.Commands.{Bids, IsNoCommand}
+use Rattle.std.proofs.Common.{IfErr, IfOk, rules, subst, sym}
 use Rattle.serve_control.proofs.Bidden.{bids, bids_nothing}
 use Rattle.serve_control.proofs.command.command_of.Goals as goal
+use Rattle.serve_control.specs.Commands.{Bids, IsNoCommand}
+use Rattle.text_script.specs.Entries.{AreAsked}
+use Rattle.text_script.specs.Script.{rows}
 
 pub returns-in-Ok-clause-ok : goal.returns-in-Ok-clause-ok
 returns-in-Ok-clause-ok c =

@@ -1,4 +1,4 @@
-use Rattle.serve_workers.proofs.Delivers.{delivers}
+use Rattle.serve_workers.proofs.Carried.{delivers}
 use Rattle.serve_workers.proofs.laws.frames_are_committed_in_their_order.Goals as goal
 
 pub returns : goal.returns

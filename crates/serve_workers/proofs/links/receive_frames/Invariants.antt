@@ -1,7 +1,7 @@
-use Rattle.std.proofs.Common.{List, Option, Bool}
+use Rattle.std.proofs.Common.{Bool, List, Option}
 use Rattle.rbc_node.specs.Node.{centre_of}
-use Rattle.serve_workers.specs.Carried.{TakesTurns}
 use Rattle.serve_workers.proofs.links.receive_frames.Given as goal
+use Rattle.serve_workers.specs.Carried.{TakesTurns}
 
 abbrev pub invariant-loop : goal.invariant-loop
 invariant-loop g l =

@@ -1,7 +1,7 @@
 use Rattle.std.proofs.Common.{◌≤◌}
 use Rattle.rbc_node.specs.Node.{centre_of}
-use Rattle.serve_workers.specs.Carried.{PutsInOrder}
 use Rattle.serve_workers.proofs.links.send_frames.Given as goal
+use Rattle.serve_workers.specs.Carried.{PutsInOrder}
 
 abbrev pub invariant-loop : goal.invariant-loop
 invariant-loop g l =

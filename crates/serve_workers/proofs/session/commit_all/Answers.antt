@@ -1,13 +1,14 @@
-use Rattle.std.proofs.Common.{◌≡◌, List, [], ◌∷◌, ◌++◌, reverse, refl, sym, ap, subst, ◌∙◌, append_assoc, append-nil, arith}
-use Rattle.std.proofs.lemmas.List.{reverse-append, reverse-reverse, nil_from_length}
+use Rattle.std.proofs.Common.{[], ◌++◌, ◌∙◌, ◌∷◌, ◌≡◌, ap, append-nil, append_assoc, arith, List, refl, reverse, subst}
+use Rattle.std.proofs.Common.{sym}
+use Rattle.std.proofs.lemmas.List.{nil_from_length, reverse-append, reverse-reverse}
 use Rattle.std.proofs.lemmas.Result.{err_from_is_err_and}
-use Rattle.rbc_msgs.specs.TrainText.{TrainText}
 use Rattle.rbc_centre.specs.declared.event.Event.TheVariants.{Train}
-use Rattle.rbc_node.specs.Receipts.{ShareValue}
+use Rattle.rbc_msgs.specs.TrainText.{TrainText}
 use Rattle.rbc_node.specs.Node.{centre_of, RefusesAt}
-use Rattle.serve_workers.specs.Session.{Joins}
-use Rattle.serve_workers.proofs.Joins.{joins-none, joins-same, joins-then}
+use Rattle.rbc_node.specs.Receipts.{ShareValue}
 use Rattle.serve_workers.proofs.session.commit_all.Goals as goal
+use Rattle.serve_workers.proofs.Turns.{joins-none, joins-same, joins-then}
+use Rattle.serve_workers.specs.Session.{Joins}
 
 -- the next message is the first of the remaining ones
 next_of : (old new : List TrainText) (m : TrainText) → old ≡ new ++ m ∷ [] → reverse old ≡ m ∷ reverse new
@@ -25,9 +26,11 @@ loop-message-preserved g c =
     let before = c.loop-message.invariant in
     let m : TrainText = c.in-Some.message in
     let left : List TrainText = c.pop.new.self.items in
-    let next : reverse c.loop-message.messages.items ≡ m ∷ reverse left = next_of c.loop-message.messages.items left m c.in-Some.ensures.items in (
+    let next : reverse c.loop-message.messages.items ≡ m ∷ reverse left =
+    next_of c.loop-message.messages.items left m c.in-Some.ensures.items in (
       before.0 ++ m ∷ [],
-      joins-then (centre_of c.args.node.now) c.args.share.now c.loop-message.share c.commit_one.new.share before.0 (m ∷ []) before.1 c.in_ok-commit_one.ensures.joins,
+      joins-then (centre_of c.args.node.now) c.args.share.now c.loop-message.share c.commit_one.new.share before.0
+          (m ∷ []) before.1 c.in_ok-commit_one.ensures.joins,
       before.2 ∙ ap (λ xs. before.0 ++ xs) next ∙ sym (append_assoc before.0 (m ∷ []) (reverse left)),
     )
 
@@ -37,18 +40,32 @@ returns-in_err-commit_one-clause-commits g c =
     let before = c.loop-message.invariant in
     let m : TrainText = c.in-Some.message in
     let left : List TrainText = c.pop.new.self.items in
-    let next : reverse c.loop-message.messages.items ≡ m ∷ reverse left = next_of c.loop-message.messages.items left m c.in-Some.ensures.items in
+    let next : reverse c.loop-message.messages.items ≡ m ∷ reverse left =
+    next_of c.loop-message.messages.items left m c.in-Some.ensures.items in
     let same : c.commit_one.new.share ≡ c.loop-message.share = c.in_err-commit_one.ensures.err in
     let all : c.args.messages.now.items ≡ before.0 ++ m ∷ reverse left =
-    forwards c.args.messages.now.items c.reverse.new.self.items c.reverse.ensures.items ∙ before.2 ∙ ap (λ xs. before.0 ++ xs) next in
+    forwards c.args.messages.now.items c.reverse.new.self.items c.reverse.ensures.items ∙ before.2
+    ∙ ap (λ xs. before.0 ++ xs) next in
     let refused : RefusesAt (centre_of c.args.node.now) c.commit_one.new.share (Train m) c.in_err-commit_one.field-0.0 =
-    subst (λ (s : ShareValue). RefusesAt (centre_of c.args.node.now) s (Train m) c.in_err-commit_one.field-0.0) (sym same) c.in_err-commit_one.ensures.refused in
-    rw (p.1, p.2) (before.0, m, reverse left, all, joins-same (centre_of c.args.node.now) c.args.share.now c.loop-message.share c.commit_one.new.share before.0 same before.1, refused)
+    subst (λ (s : ShareValue). RefusesAt (centre_of c.args.node.now) s (Train m) c.in_err-commit_one.field-0.0)
+    (sym same) c.in_err-commit_one.ensures.refused in
+    rw (p.1, p.2) (
+      before.0,
+      m,
+      reverse left,
+      all,
+      joins-same (centre_of c.args.node.now) c.args.share.now c.loop-message.share c.commit_one.new.share before.0
+          same before.1,
+      refused,
+    )
 
 pub returns-clause-commits : goal.returns-clause-commits
 returns-clause-commits g c =
     let before = c.loop-message.invariant in
-    let empty : c.loop-message.messages.items ≡ [] = nil_from_length c.loop-message.messages.items (omega (arith, c.in_default.ensures.cases.0)) in
+    let empty : c.loop-message.messages.items ≡ [] =
+    nil_from_length c.loop-message.messages.items (omega (arith, c.in_default.ensures.cases.0)) in
     let all : before.0 ≡ c.args.messages.now.items =
-    sym (forwards c.args.messages.now.items c.reverse.new.self.items c.reverse.ensures.items ∙ before.2 ∙ ap (λ xs. before.0 ++ reverse xs) empty ∙ append-nil before.0) in
-    subst (λ (ms : List TrainText). Joins (centre_of c.args.node.now) c.args.share.now c.loop-message.share ms) all before.1
+    sym (forwards c.args.messages.now.items c.reverse.new.self.items c.reverse.ensures.items ∙ before.2
+    ∙ ap (λ xs. before.0 ++ reverse xs) empty ∙ append-nil before.0) in
+    subst (λ (ms : List TrainText). Joins (centre_of c.args.node.now) c.args.share.now c.loop-message.share ms)
+    all before.1

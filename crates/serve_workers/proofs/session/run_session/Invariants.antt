@@ -1,10 +1,10 @@
-use Rattle.std.proofs.Common.{◌≡◌, ℕ, List, [], Some}
+use Rattle.std.proofs.Common.{[], ◌≡◌, List, Some, ℕ}
 use Rattle.std.specs.Io.KnownBytes.{Consumes}
+use Rattle.rbc_msgs.specs.Streams.{Adds, IsRest}
 use Rattle.rbc_msgs.specs.TrainText.{TrainText}
-use Rattle.rbc_msgs.specs.Streams.{IsRest, Adds}
 use Rattle.rbc_node.specs.Node.{centre_of}
-use Rattle.serve_workers.specs.Session.{Joins}
 use Rattle.serve_workers.proofs.session.run_session.Given as goal
+use Rattle.serve_workers.specs.Session.{Joins}
 
 abbrev pub invariant-loop : goal.invariant-loop
 invariant-loop g l =

@@ -1,6 +1,6 @@
+use Rattle.test_scenes.proofs.at_standstill.standstill_at_the_start_of_a_section.Goals as goal
 use Rattle.test_scenes.proofs.Standstill.{ahead, ahead_of_the_front, at_the_start, cleared_section, freed}
 use Rattle.test_scenes.proofs.Standstill.{met_at_the_start, met_past_the_start, past_the_start, section_of_the_front}
-use Rattle.test_scenes.proofs.at_standstill.standstill_at_the_start_of_a_section.Goals as goal
 
 pub returns-clause-at_the_start : goal.returns-clause-at_the_start
 returns-clause-at_the_start c = at_the_start

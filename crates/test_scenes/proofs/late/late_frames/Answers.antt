@@ -1,5 +1,10 @@
-use Rattle.test_scenes.proofs.Races.{withdrawn_from_the_pool_comes_out, first_of_the_pool_withdrawn_comes_out, last_of_the_pool_withdrawn_comes_out, route_for_an_ended_mission_comes_out, end_of_mission_with_a_pool_comes_out, awaited_comes_out, route_after_the_yield_comes_out, wish_at_the_yield_comes_out, cleared_elsewhere_comes_out, cleared_with_a_pool_comes_out, cleared_over_the_border_comes_out, whole_hand_is_cut_comes_out, session_opens_over_a_waiting_start_comes_out}
 use Rattle.test_scenes.proofs.late.late_frames.Goals as goal
+use Rattle.test_scenes.proofs.Races.{awaited_comes_out, cleared_elsewhere_comes_out, cleared_over_the_border_comes_out}
+use Rattle.test_scenes.proofs.Races.{cleared_with_a_pool_comes_out, end_of_mission_with_a_pool_comes_out}
+use Rattle.test_scenes.proofs.Races.{first_of_the_pool_withdrawn_comes_out, last_of_the_pool_withdrawn_comes_out}
+use Rattle.test_scenes.proofs.Races.{route_after_the_yield_comes_out, route_for_an_ended_mission_comes_out}
+use Rattle.test_scenes.proofs.Races.{session_opens_over_a_waiting_start_comes_out, whole_hand_is_cut_comes_out}
+use Rattle.test_scenes.proofs.Races.{wish_at_the_yield_comes_out, withdrawn_from_the_pool_comes_out}
 
 pub returns-clause-withdrawn_from_the_pool : goal.returns-clause-withdrawn_from_the_pool
 returns-clause-withdrawn_from_the_pool c = withdrawn_from_the_pool_comes_out

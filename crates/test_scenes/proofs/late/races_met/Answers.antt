@@ -1,5 +1,10 @@
-use Rattle.test_scenes.proofs.RacesMet.{withdrawn_from_the_pool_is_met, first_of_the_pool_withdrawn_is_met, last_of_the_pool_withdrawn_is_met, route_for_an_ended_mission_is_met, end_of_mission_with_a_pool_is_met, awaited_is_met, route_after_the_yield_is_met, wish_at_the_yield_is_met, cleared_elsewhere_is_met, cleared_with_a_pool_is_met, cleared_over_the_border_is_met, whole_hand_is_cut_is_met, session_opens_over_a_waiting_start_is_met}
 use Rattle.test_scenes.proofs.late.races_met.Goals as goal
+use Rattle.test_scenes.proofs.RacesMet.{awaited_is_met, cleared_elsewhere_is_met, cleared_over_the_border_is_met}
+use Rattle.test_scenes.proofs.RacesMet.{cleared_with_a_pool_is_met, end_of_mission_with_a_pool_is_met}
+use Rattle.test_scenes.proofs.RacesMet.{first_of_the_pool_withdrawn_is_met, last_of_the_pool_withdrawn_is_met}
+use Rattle.test_scenes.proofs.RacesMet.{route_after_the_yield_is_met, route_for_an_ended_mission_is_met}
+use Rattle.test_scenes.proofs.RacesMet.{session_opens_over_a_waiting_start_is_met, whole_hand_is_cut_is_met}
+use Rattle.test_scenes.proofs.RacesMet.{wish_at_the_yield_is_met, withdrawn_from_the_pool_is_met}
 
 pub returns-clause-withdrawn_from_the_pool : goal.returns-clause-withdrawn_from_the_pool
 returns-clause-withdrawn_from_the_pool c = withdrawn_from_the_pool_is_met

@@ -1,5 +1,6 @@
-use Rattle.test_scenes.proofs.NotAllowed.{at_home, elsewhere, silent, after_silence, in_order, out_of_order, none_elsewhere, none_after_silence, none_out_of_order}
 use Rattle.test_scenes.proofs.not_allowed.moves_not_allowed.Goals as goal
+use Rattle.test_scenes.proofs.NotAllowed.{after_silence, at_home, elsewhere, in_order, none_after_silence}
+use Rattle.test_scenes.proofs.NotAllowed.{none_elsewhere, none_out_of_order, out_of_order, silent}
 
 pub returns-clause-at_home : goal.returns-clause-at_home
 returns-clause-at_home c = at_home

@@ -1,5 +1,5 @@
-use Rattle.test_scenes.proofs.NotAllowed.{one_mission, two_missions, no_state}
 use Rattle.test_scenes.proofs.not_allowed.two_yields_on_the_way.Goals as goal
+use Rattle.test_scenes.proofs.NotAllowed.{no_state, one_mission, two_missions}
 
 pub returns-clause-one : goal.returns-clause-one
 returns-clause-one c = one_mission

@@ -1,5 +1,6 @@
-use Rattle.test_scenes.proofs.OnePlaces.{starts_keep, requests_keep, shortenings_keep, handovers_keep, late_frames_keep, conditions_keep, three_centres_keep, one_yield_is, two_yields_is}
 use Rattle.test_scenes.proofs.one_places.each_thing_stays_in_one_place.Goals as goal
+use Rattle.test_scenes.proofs.OnePlaces.{conditions_keep, handovers_keep, late_frames_keep, one_yield_is, requests_keep}
+use Rattle.test_scenes.proofs.OnePlaces.{shortenings_keep, starts_keep, three_centres_keep, two_yields_is}
 
 pub returns-clause-starts : goal.returns-clause-starts
 returns-clause-starts c = starts_keep

@@ -1,5 +1,6 @@
-use Rattle.text_journal.proofs.Whole.{whole_journal}
 use Rattle.text_journal.proofs.laws.whole_lines_are_a_journal.Goals as goal
+use Rattle.text_journal.proofs.Whole.{whole_journal}
 
 pub returns : goal.returns
-returns c = λ line number file text es n good it h whole some. whole_journal line good number file text es n it h whole some
+returns c =
+    λ line number file text es n good it h whole some. whole_journal line good number file text es n it h whole some

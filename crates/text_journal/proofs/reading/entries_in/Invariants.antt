@@ -1,6 +1,6 @@
 use Rattle.std.proofs.Common.{length}
-use denote.Text.{Utf8}
 use denote.Shadow.{shadow}
+use denote.Text.{Utf8}
 use Rattle.text_journal.proofs.Entries.{Reads}
 use Rattle.text_journal.proofs.reading.entries_in.Given as goal
 

@@ -1,5 +1,5 @@
-use Rattle.rbc_centre.specs.State.{stands_for}
 use Rattle.rbc_centre.proofs.centre.Centre.page.Goals as goal
+use Rattle.rbc_centre.specs.State.{stands_for}
 
 pub returns-clause-entry : goal.returns-clause-entry
 unfolding stands_for

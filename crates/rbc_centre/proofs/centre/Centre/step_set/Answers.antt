@@ -1,10 +1,10 @@
-use Rattle.std.proofs.Common.{◌∙◌, ap, sym, refl, Ok}
+use Rattle.std.proofs.Common.{◌∙◌, ap, Ok, refl, sym}
 use Rattle.std.proofs.lemmas.Result.{err_from_is_err_and}
-use Rattle.rbc_spec.specs.Step.{Set}
-use Rattle.rbc_centre.specs.States.{state_of}
+use Rattle.rbc_centre.proofs.centre.Centre.step_set.Goals as goal
 use Rattle.rbc_centre.proofs.Steps.{refused_step, taken_step, wants_none}
 use Rattle.rbc_centre.proofs.Turns.{set_stamp}
-use Rattle.rbc_centre.proofs.centre.Centre.step_set.Goals as goal
+use Rattle.rbc_centre.specs.States.{state_of}
+use Rattle.rbc_spec.specs.Step.{Set}
 
 pub set-requires : goal.set-requires
 set-requires c = record { allowed = c.in_ok-may_take.ensures.ok (Set c.args.s) (set_stamp c.args.self.now c.args.s) }
@@ -22,10 +22,12 @@ returns-in_err-may_take-clause-memory c =
     let k = c.args.self.now in
     let event = Set c.args.s in
     let p = err_from_is_err_and c.from_residual.result c.from_residual.ensures.1 in
-    wants_none k.line k.number (state_of k) event c.in_err-may_take.field-0.0 c.from_residual.result (rw (p.1, p.2) refl) (c.in_err-may_take.ensures.err event (set_stamp k c.args.s))
+    wants_none k.line k.number (state_of k) event c.in_err-may_take.field-0.0 c.from_residual.result
+    (rw (p.1, p.2) refl) (c.in_err-may_take.ensures.err event (set_stamp k c.args.s))
 
 pub returns-clause-exact : goal.returns-clause-exact
 returns-clause-exact c =
     let k = c.args.self.now in
     let s = c.args.s in
-    taken_step k.line k.number (state_of k) (Set s) (c.in_ok-may_take.ensures.ok (Set s) (set_stamp k s)) ∙ ap (λ x. Ok x) (sym c.set.ensures.exact)
+    taken_step k.line k.number (state_of k) (Set s) (c.in_ok-may_take.ensures.ok (Set s) (set_stamp k s))
+    ∙ ap (λ x. Ok x) (sym c.set.ensures.exact)

@@ -1,7 +1,7 @@
-use Rattle.std.proofs.Common.{◌∙◌, sym, ap}
+use Rattle.std.proofs.Common.{◌∙◌, ap, sym}
+use Rattle.rbc_centre.proofs.frames.Frames.as_slice.Goals as goal
 use Rattle.rbc_centre.specs.Listed.{frames_in, list_of}
 use Rattle.rbc_centre.specs.Sent.{frames_to}
-use Rattle.rbc_centre.proofs.frames.Frames.as_slice.Goals as goal
 
 pub returns-in-Some-clause-value : goal.returns-in-Some-clause-value
 unfolding frames_to

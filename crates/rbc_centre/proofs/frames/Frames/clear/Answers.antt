@@ -1,7 +1,7 @@
 use Rattle.std.proofs.Common.{ap}
+use Rattle.rbc_centre.proofs.frames.Frames.clear.Goals as goal
 use Rattle.rbc_centre.specs.Listed.{frames_in, list_of}
 use Rattle.rbc_centre.specs.Sent.{frames_to}
-use Rattle.rbc_centre.proofs.frames.Frames.clear.Goals as goal
 
 pub returns-in-Some : goal.returns-in-Some
 unfolding frames_to

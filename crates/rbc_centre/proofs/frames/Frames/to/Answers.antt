@@ -1,7 +1,7 @@
-use Rattle.std.proofs.Common.{◌≡◌, ◌==◌, true, length, sym, ap, arith, refl, eq-eqb}
+use Rattle.std.proofs.Common.{◌==◌, ◌≡◌, ap, arith, eq-eqb, length, refl, sym, true}
 use Rattle.std.proofs.lemmas.Option.{slice_get_read}
-use Rattle.rbc_centre.proofs.Rows.{few_to, one_more_to}
 use Rattle.rbc_centre.proofs.frames.Frames.to.Goals as goal
+use Rattle.rbc_centre.proofs.Rows.{few_to, one_more_to}
 
 pub push-requires : goal.push-requires
 push-requires c =

@@ -1,6 +1,6 @@
-use Rattle.std.proofs.Common.{◌∙◌, sym, refl}
-use Rattle.rbc_spec.specs.Centre.{beginning}
+use Rattle.std.proofs.Common.{◌∙◌, refl, sym}
 use Rattle.rbc_centre.proofs.posted.Dispatch.home.Goals as goal
+use Rattle.rbc_spec.specs.Centre.{beginning}
 
 pub returns-then-is_empty : goal.returns-then-is_empty
 returns-then-is_empty c = let none = sym c.is_empty.ensures ∙ c.if-is_empty.true in rw none refl

@@ -1,9 +1,9 @@
-use Rattle.std.proofs.Common.{◌≤◌, ◌*◌, [], length, vec_capacity}
+use Rattle.std.proofs.Common.{[], ◌*◌, ◌≤◌, length, vec_capacity}
+use Rattle.rbc_centre.proofs.posted.Dispatch.post_all.Given as goal
+use Rattle.rbc_centre.proofs.Posts.{below}
 use Rattle.rbc_centre.specs.Dispatches.{bodies_to}
 use Rattle.rbc_centre.specs.Posts.{HasSent}
 use Rattle.rbc_centre.specs.Rooms.{HasFrameRoom}
-use Rattle.rbc_centre.proofs.Posts.{below}
-use Rattle.rbc_centre.proofs.posted.Dispatch.post_all.Given as goal
 
 abbrev pub invariant-loop-to : goal.invariant-loop-to
 invariant-loop-to l = record {

@@ -1,7 +1,7 @@
-use Rattle.std.proofs.Common.{◌≡◌, ◌<◌, ℕ, false}
-use Rattle.rbc_handover.specs.Expectations.{is_told}
-use Rattle.rbc_centre.specs.Reached.{IsOutside}
+use Rattle.std.proofs.Common.{◌<◌, ◌≡◌, false, ℕ}
 use Rattle.rbc_centre.proofs.reach.Reach.and_told.Given as goal
+use Rattle.rbc_centre.specs.Reached.{IsOutside}
+use Rattle.rbc_handover.specs.Expectations.{is_told}
 
 abbrev pub invariant-loop-to : goal.invariant-loop-to
 invariant-loop-to l = record {

@@ -1,5 +1,5 @@
-use Rattle.std.proofs.Common.{ap, ◌∙◌}
-use Rattle.std.proofs.lemmas.Result.{IfOk-weaker, IfErr-weaker}
+use Rattle.std.proofs.Common.{◌∙◌, ap}
+use Rattle.std.proofs.lemmas.Result.{IfErr-weaker, IfOk-weaker}
 use Rattle.rbc_centre.specs.States.{number_of}
 use Rattle.rbc_log.specs.Log.{LogValue}
 use Rattle.rbc_node.proofs.node.Node.commit.Goals as goal
@@ -11,7 +11,10 @@ returns-clause-commits g c =
     (λ o h. (
       c.deref_mut.result.now,
       c.commit-answer.new.log,
-      record { replays = c.commit-answer.ensures.replayed; centre = ap (λ (l : LogValue). number_of l.core) c.deref_mut.ensures.value ∙ c.locked-log.ensures },
+      record {
+        replays = c.commit-answer.ensures.replayed;
+        centre = ap (λ (l : LogValue). number_of l.core) c.deref_mut.ensures.value ∙ c.locked-log.ensures;
+      },
       h,
     )) c.commit-answer.ensures.commits
 
@@ -20,6 +23,9 @@ returns-clause-refused g c =
     IfErr-weaker c.commit-answer.result _ _
     (λ fault h. (
       c.deref_mut.result.now,
-      record { replays = c.commit-answer.ensures.replayed; centre = ap (λ (l : LogValue). number_of l.core) c.deref_mut.ensures.value ∙ c.locked-log.ensures },
+      record {
+        replays = c.commit-answer.ensures.replayed;
+        centre = ap (λ (l : LogValue). number_of l.core) c.deref_mut.ensures.value ∙ c.locked-log.ensures;
+      },
       h,
     )) c.commit-answer.ensures.refused

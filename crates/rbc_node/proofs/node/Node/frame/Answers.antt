@@ -1,4 +1,4 @@
-use Rattle.std.proofs.Common.{ap, ◌∙◌}
+use Rattle.std.proofs.Common.{◌∙◌, ap}
 use Rattle.rbc_centre.specs.States.{number_of}
 use Rattle.rbc_log.specs.Log.{LogValue}
 use Rattle.rbc_node.proofs.node.Node.frame.Goals as goal
@@ -7,6 +7,9 @@ use Rattle.rbc_node.proofs.node.Node.frame.Goals as goal
 pub returns : goal.returns
 returns g c = (
   c.deref.result.now,
-  record { replays = c.frame.ensures.replays; centre = ap (λ (l : LogValue). number_of l.core) c.deref.ensures ∙ c.locked-log.ensures },
+  record {
+    replays = c.frame.ensures.replays;
+    centre = ap (λ (l : LogValue). number_of l.core) c.deref.ensures ∙ c.locked-log.ensures;
+  },
   c.frame.ensures.value,
 )

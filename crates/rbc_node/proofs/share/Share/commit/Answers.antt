@@ -1,15 +1,15 @@
-use Rattle.std.proofs.Common.{◌≡◌, ◌∙◌, ap, sym, subst, arith, rules, length, List, None}
+use Rattle.std.proofs.Common.{◌∙◌, ◌≡◌, ap, arith, length, List, None, rules, subst, sym}
 use Rattle.std.proofs.lemmas.Result.{err_from_is_err_and}
-use Rattle.rbc_spec.specs.Step.{refusal}
 use Rattle.rbc_centre.specs.Answer.{IsRefusalOf}
+use Rattle.rbc_centre.specs.declared.centre.Centre.{Centre}
 use Rattle.rbc_centre.specs.States.{line_of, number_of, state_of}
 use Rattle.rbc_centre.specs.Views.{event_of}
-use Rattle.rbc_centre.specs.declared.centre.Centre.{Centre}
+use Rattle.rbc_log.proofs.Refusals.{no_memory, refused_as}
 use Rattle.rbc_log.specs.declared.entry.Entry.{Entry}
-use Rattle.rbc_log.proofs.Refusals.{refused_as, no_memory}
+use Rattle.rbc_node.proofs.share.Share.commit.Goals as goal
 use Rattle.rbc_node.specs.Commit.{Fits, Refuses}
 use Rattle.rbc_node.specs.declared.fault.ShareFault.TheVariants.{Commit}
-use Rattle.rbc_node.proofs.share.Share.commit.Goals as goal
+use Rattle.rbc_spec.specs.Step.{refusal}
 
 pub returns-in-Err-clause-refused : goal.returns-in-Err-clause-refused
 returns-in-Err-clause-refused c =
@@ -18,8 +18,11 @@ returns-in-Err-clause-refused c =
     subst (Refuses c.args.self.now c.args.log.now c.args.event) (sym (c.from-in-Err.ensures ∙ ap Commit c.from.ensures))
     ((
       fits,
-      refused_as c.args.log.now (event_of c.args.event) c.in-Err.fault (omega (arith, same, c.if-place-ge-MOST_ENTRIES.false))
-          (subst (λ (k : Centre). IsRefusalOf c.in-Err.fault (refusal (line_of k) (number_of k) (state_of k) (event_of c.args.event))) c.core.ensures.value c.in-Err.ensures.err),
+      refused_as c.args.log.now (event_of c.args.event) c.in-Err.fault
+          (omega (arith, same, c.if-place-ge-MOST_ENTRIES.false))
+          (subst (λ (k : Centre). IsRefusalOf c.in-Err.fault
+          (refusal (line_of k) (number_of k) (state_of k) (event_of c.args.event))) c.core.ensures.value
+          c.in-Err.ensures.err),
     ))
 
 pub returns-in_err-reserve-clause-refused : goal.returns-in_err-reserve-clause-refused
@@ -30,7 +33,8 @@ returns-in_err-reserve-clause-refused c =
     rw (p.1, p.2) ((
       fits,
       no_memory c.args.log.now (event_of c.args.event) (omega (arith, same, c.if-place-ge-MOST_ENTRIES.false))
-          (subst (λ (k : Centre). refusal (line_of k) (number_of k) (state_of k) (event_of c.args.event) ≡ None) c.core.ensures.value c.in_default.ensures.ok),
+          (subst (λ (k : Centre). refusal (line_of k) (number_of k) (state_of k) (event_of c.args.event) ≡ None)
+          c.core.ensures.value c.in_default.ensures.ok),
     ))
 
 pub returns-in_err-reserve-2-clause-refused : goal.returns-in_err-reserve-2-clause-refused
@@ -41,7 +45,8 @@ returns-in_err-reserve-2-clause-refused c =
     rw (p.1, p.2) ((
       fits,
       no_memory c.args.log.now (event_of c.args.event) (omega (arith, same, c.if-place-ge-MOST_ENTRIES.false))
-          (subst (λ (k : Centre). refusal (line_of k) (number_of k) (state_of k) (event_of c.args.event) ≡ None) c.core.ensures.value c.in_default.ensures.ok),
+          (subst (λ (k : Centre). refusal (line_of k) (number_of k) (state_of k) (event_of c.args.event) ≡ None)
+          c.core.ensures.value c.in_default.ensures.ok),
     ))
 
 pub returns-in_err-given-clause-refused : goal.returns-in_err-given-clause-refused
@@ -52,5 +57,6 @@ returns-in_err-given-clause-refused c =
     rw (p.1, p.2) ((
       fits,
       no_memory c.args.log.now (event_of c.args.event) (omega (arith, same, c.if-place-ge-MOST_ENTRIES.false))
-          (subst (λ (k : Centre). refusal (line_of k) (number_of k) (state_of k) (event_of c.args.event) ≡ None) c.core.ensures.value c.in_default.ensures.ok),
+          (subst (λ (k : Centre). refusal (line_of k) (number_of k) (state_of k) (event_of c.args.event) ≡ None)
+          c.core.ensures.value c.in_default.ensures.ok),
     ))

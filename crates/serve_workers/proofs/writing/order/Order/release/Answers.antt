@@ -1,6 +1,6 @@
-use Rattle.std.proofs.Common.{◌≡◌, ◌<◌, length, HoldsAt, subst}
-use Rattle.serve_workers.proofs.WritingLemmas.LetOut.{turn_of}
+use Rattle.std.proofs.Common.{◌<◌, ◌≡◌, HoldsAt, length, subst}
 use Rattle.serve_workers.proofs.writing.order.Order.release.Goals as goal
+use Rattle.serve_workers.proofs.WritingLemmas.Order.{turn_of}
 
 pub returns-clause-some : goal.returns-clause-some
 returns-clause-some c =
@@ -8,5 +8,7 @@ returns-clause-some c =
     let next = c.args.self.now.next in
     let early = c.args.self.now.early.items in
     let at : (place < length early) × HoldsAt (λ reply. reply.message.t_train ≡ next) early place =
-    subst (λ xs. (place < length xs) × HoldsAt (λ reply. reply.message.t_train ≡ next) xs place) c.as_slice.ensures.value c.in_ok-place.ensures.some in
-    turn_of next early c.remove-reply.new.self.items place c.remove-reply.result at.0 c.remove-reply.ensures.value at.1 c.remove-reply.ensures.items
+    subst (λ xs. (place < length xs) × HoldsAt (λ reply. reply.message.t_train ≡ next) xs place)
+    c.as_slice.ensures.value c.in_ok-place.ensures.some in
+    turn_of next early c.remove-reply.new.self.items place c.remove-reply.result at.0 c.remove-reply.ensures.value at.1
+    c.remove-reply.ensures.items

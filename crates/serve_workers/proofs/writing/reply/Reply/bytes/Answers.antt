@@ -1,8 +1,8 @@
-use Rattle.std.proofs.Common.{ℕ, List, sym, subst}
+use Rattle.std.proofs.Common.{List, subst, sym, ℕ}
 use Rattle.std.proofs.Math.Logic.{∥∥₁_elim}
 use Rattle.rbc_msgs.specs.TrackSpelling.{SpellsTrack}
-use Rattle.serve_workers.proofs.WritingLemmas.Spelled.{spells-prop}
 use Rattle.serve_workers.proofs.writing.reply.Reply.bytes.Goals as goal
+use Rattle.serve_workers.proofs.WritingLemmas.Written.{spells-prop}
 
 pub returns : goal.returns
 returns c =

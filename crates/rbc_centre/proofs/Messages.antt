@@ -1,1 +1,0 @@
--- The ranges of a report.
