@@ -30,7 +30,7 @@ mod run;
 mod view;
 mod world;
 
-pub use event::{Answer, Reply, WorldEvent};
+pub use event::{Answer, WorldEvent};
 pub use rbc_centre::{
     Body, Centre, Event, Frame, FrameRoom, Frames, LAST_STAMP, LinkAnswer, MissionFacts, Outcome,
     Phase, Reason, Saying, SectionRun, SentFrame, StepFault, TrainPage, Word,
