@@ -48,7 +48,7 @@ spoken_by (answer.Outcome o) = Some (record {
 })
 spoken_by answer = None
 
--- the answer of no step: an outcome under stamp 0 that says and sends nothing
+-- the answer of no step: an outcome under stamp 0 without messages, frames and replies
 abbrev pub nothing_answered : world.Answer
 nothing_answered = world.Answered (record {
   stamp = 0;

@@ -47,25 +47,27 @@ pub enum Answer {
 impl Answer {
     ghost use Rattle.rbc_world.specs.Views.{answer_of, answer_by, nothing_answered};
 
-    /// Nothing yet: an outcome under stamp 0. A step writes its answer over it.
+    /// The empty outcome, under stamp 0. A step writes its answer over it.
     pub fn nothing() -> Answer
         ensures { answer_of result ≡ nothing_answered }
     {
         Answer::Outcome(Outcome::nothing())
     }
 
-    /// An outcome stays, to be written over. Any other answer becomes nothing.
+    /// An outcome stays, to be written over. Any other answer becomes the empty outcome.
     #[inline(always)]
     pub(crate) fn make_outcome(&mut self)
         ensures { (o : Outcome) × (self.new ≡ answer.Outcome o) }
     {
         match self {
             Answer::Outcome(_) => {}
-            Answer::NoCentre | Answer::NotSent | Answer::Fault(_) => *self = Answer::nothing(),
+            Answer::NoCentre | Answer::NotSent | Answer::Fault(_) => {
+                *self = Answer::Outcome(Outcome::nothing());
+            }
         }
     }
 
-    /// The answer by this reply, where the outcome of this answer was written.
+    /// Makes the answer of a step that gave this reply, and that wrote its outcome over the one here.
     #[inline(always)]
     pub(crate) fn finish(&mut self, reply: Reply)
         ensures { (o : Outcome) → self.old ≡ answer.Outcome o → answer_of self.new ≡ answer_by reply o }

@@ -92,7 +92,7 @@ impl World {
     }
 
     /// The same step, which writes its answer over one that the caller lends. The list of frames in a lent outcome is
-    /// used again. A refusal leaves nothing in the answer.
+    /// used again. A refusal leaves the empty outcome.
     pub fn step_to(&mut self, event: &WorldEvent, answer: &mut Answer) -> Result<(), StepFault>
         ensures line { line_of self.new ≡ line_of self.old }
         ensures exact { Gives (λ u. (answer_of answer.new, state_of self.new)) result
