@@ -1,12 +1,12 @@
 //! Replays a print.
 
 use crate::heard::event_of;
-use crate::run::{Event, Run};
+use crate::run::Run;
 use rbc_line::Line;
 use std::alloc::Global;
 use text_replay::{Cut, events_in, train_in};
 use text_script::status::Fault;
-use text_script::{World, WorldEvent};
+use text_script::{Answer, World, WorldEvent};
 
 /// Plays the events of a print, up to the last that is drawn.
 pub fn played<'a>(
@@ -70,13 +70,14 @@ fn world_at(
 }
 
 fn pass(world: &mut World, events: &[WorldEvent], first: usize) -> Result<(), Fault<'static>> {
+    let mut answer = Answer::nothing();
     for event in events.iter().take(first) {
-        world.step(event)?;
+        world.step_to(event, &mut answer)?;
     }
     Ok(())
 }
 
-// Plays the drawn events.
+// Plays the drawn events, and describes each by its answer.
 fn play(
     alloc: Global,
     world: &mut World,
@@ -84,22 +85,13 @@ fn play(
     after: usize,
     run: &mut Run<'_>,
 ) -> Result<(), Fault<'static>> {
+    let mut answer = Answer::nothing();
     for event in events.iter().take(after).skip(run.skipped) {
-        let what = told(alloc, world, run.line, event)?;
+        world.step_to(event, &mut answer)?;
+        let what = event_of(alloc, run.line, event, &answer)?;
         run.events.push(what)?;
         let view = world.view(alloc)?;
         run.views.push(view)?;
     }
     Ok(())
-}
-
-// Plays an event, and describes it by its answer.
-fn told(
-    alloc: Global,
-    world: &mut World,
-    line: &Line,
-    event: &WorldEvent,
-) -> Result<Event, Fault<'static>> {
-    let answer = world.step(event)?;
-    Ok(event_of(alloc, line, event, &answer)?)
 }

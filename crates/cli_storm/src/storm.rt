@@ -25,6 +25,8 @@ pub struct Storm {
     world: World,
     links: Vec<Link>,
     draws: Draws,
+    /// The answer to the last event, which the next is written over.
+    answer: Answer,
     ghost counted: { links.items ≡ all_links (line_of world) (state_of world) },
 }
 
@@ -39,6 +41,7 @@ impl Storm {
             world: World::new(alloc, line)?,
             links: links_of(alloc, line)?,
             draws: Draws { x: seed },
+            answer: Answer::nothing(),
         })
     }
 
@@ -139,27 +142,26 @@ impl Storm {
         if let Err(fault) = observer.comes(event) {
             return Err(PlayFault::Untold(fault));
         }
-        let answer = match self.step(event) {
-            Ok(answer) => answer,
-            Err(fault) => return Err(PlayFault::Refused(fault)),
-        };
-        match observer.answered(event, &answer) {
+        if let Err(fault) = self.step(event) {
+            return Err(PlayFault::Refused(fault));
+        }
+        match observer.answered(event, &self.answer) {
             Ok(()) => Ok(()),
             Err(fault) => Err(PlayFault::Untold(fault)),
         }
     }
 
     // The centres take an event. The frames that they send are counted.
-    fn step(&mut self, event: &WorldEvent) -> Result<Answer, StepFault>
+    fn step(&mut self, event: &WorldEvent) -> Result<(), StepFault>
         ensures line { line_of self.new.world ≡ line_of self.old.world }
         ensures draws { self.new.draws ≡ self.old.draws }
-        ensures exact { Gives (λ a. (answer_of a, state_of self.new.world)) result
+        ensures exact { Gives (λ u. (answer_of self.new.answer, state_of self.new.world)) result
             (world_step (line_of self.old.world) (state_of self.old.world) (event_of event.now)) }
         ensures err { OnErr result (state_of self.new.world ≡ state_of self.old.world) }
     {
-        let answer = self.world.step(event)?;
-        count_answer(&mut self.links, centre_of(event), &answer);
-        Ok(answer)
+        self.world.step_to(event, &mut self.answer)?;
+        count_answer(&mut self.links, centre_of(event), &self.answer);
+        Ok(())
     }
 }
 

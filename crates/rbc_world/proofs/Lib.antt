@@ -8,3 +8,4 @@ pub mod Reached
 pub mod Mentions
 pub mod Wanted
 pub mod Outside
+pub mod Theorems

@@ -2,6 +2,7 @@ pub mod Views
 pub mod Answers
 pub mod States
 pub mod Reached
+pub mod Stepped
 pub mod World
 pub mod View
 pub mod Missions

@@ -1,5 +1,5 @@
 -- The plain data of events and answers.
-use Rattle.std.specs.Prelude.{◌≡◌, ◌≢◌, ℕ, ◌++◌, map, Option, Some, None, is_none, Result, Ok, Err}
+use Rattle.std.specs.Prelude.{◌≡◌, ◌≢◌, ℕ, [], ◌++◌, map, Option, Some, None, is_none, Result, Ok, Err}
 use Rattle.rbc_spec.specs.Message.{TrainMessage}
 use Rattle.rbc_spec.specs.World.{Event, Bytes, Set, Unset, Delivery}
 use Rattle.rbc_spec.specs.Outcome.{Told}
@@ -47,6 +47,17 @@ spoken_by (answer.Outcome o) = Some (record {
   words = words_of o.word ++ map (λ s. Told s) o.told;
 })
 spoken_by answer = None
+
+-- the answer of no step: an outcome under stamp 0 without messages, frames and replies
+abbrev pub nothing_answered : world.Answer
+nothing_answered = world.Answered (record {
+  stamp = 0;
+  sayings = [];
+  frames = λ d. [];
+  words = [];
+  link = None;
+  silence = None;
+})
 
 -- the answer that a reply makes with the outcome that was written
 abbrev pub answer_by : Reply → Outcome → world.Answer

@@ -1,4 +1,6 @@
 ghost use Rattle.std.specs.Prelude.{◌≡◌};
+ghost use Rattle.rbc_centre.specs.declared.outcome.Outcome.{Outcome};
+ghost use Rattle.rbc_world.specs.declared.event.Answer.TheVariants as answer;
 
 use rbc_centre::Outcome;
 use rbc_msgs::MsgFault;
@@ -18,7 +20,7 @@ pub enum WorldEvent {
 
 /// Whether a centre took a step, or why none did.
 #[derive(Clone, Copy, Debug, PartialEq, Eq)]
-pub enum Reply {
+pub(crate) enum Reply {
     /// A centre took a step, and its outcome was written.
     Outcome,
     /// The centre is not of the line. Nothing changes.
@@ -27,22 +29,6 @@ pub enum Reply {
     NotSent,
     /// The bytes spell no message. Nothing changes.
     Fault(MsgFault),
-}
-
-impl Reply {
-    ghost use Rattle.rbc_world.specs.Views.{answer_of, answer_by};
-
-    /// The answer, with the outcome that was written if a centre took a step.
-    pub(crate) fn with(self, outcome: Outcome) -> Answer
-        ensures { answer_of result ≡ answer_by self outcome }
-    {
-        match self {
-            Reply::Outcome => Answer::Outcome(outcome),
-            Reply::NoCentre => Answer::NoCentre,
-            Reply::NotSent => Answer::NotSent,
-            Reply::Fault(fault) => Answer::Fault(fault),
-        }
-    }
 }
 
 /// The answer to an event.
@@ -56,4 +42,41 @@ pub enum Answer {
     NotSent,
     /// The bytes spell no message. Nothing changes.
     Fault(MsgFault),
+}
+
+impl Answer {
+    ghost use Rattle.rbc_world.specs.Views.{answer_of, answer_by, nothing_answered};
+
+    /// The empty outcome, under stamp 0. A step writes its answer over it.
+    pub fn nothing() -> Answer
+        ensures { answer_of result ≡ nothing_answered }
+    {
+        Answer::Outcome(Outcome::nothing())
+    }
+
+    /// An outcome stays, to be written over. Any other answer becomes the empty outcome.
+    #[inline(always)]
+    pub(crate) fn make_outcome(&mut self)
+        ensures { (o : Outcome) × (self.new ≡ answer.Outcome o) }
+    {
+        match self {
+            Answer::Outcome(_) => {}
+            Answer::NoCentre | Answer::NotSent | Answer::Fault(_) => {
+                *self = Answer::Outcome(Outcome::nothing());
+            }
+        }
+    }
+
+    /// Makes the answer of a step that gave this reply, and that wrote its outcome over the one here.
+    #[inline(always)]
+    pub(crate) fn finish(&mut self, reply: Reply)
+        ensures { (o : Outcome) → self.old ≡ answer.Outcome o → answer_of self.new ≡ answer_by reply o }
+    {
+        match reply {
+            Reply::Outcome => {}
+            Reply::NoCentre => *self = Answer::NoCentre,
+            Reply::NotSent => *self = Answer::NotSent,
+            Reply::Fault(fault) => *self = Answer::Fault(fault),
+        }
+    }
 }

@@ -4,15 +4,11 @@ ghost use Rattle.rbc_spec.specs.World.{new_world, world_step, at_centre, takes, 
 ghost use Rattle.rbc_msgs.specs.TrainReading.{read_train};
 ghost use Rattle.rbc_world.specs.States.{AtBeginning, stands_for};
 ghost use Rattle.rbc_world.specs.Reached.{WasReached, MayBeTold};
+ghost use Rattle.rbc_world.specs.Stepped.{KeepsTheorems, IsWorldOf};
 ghost use Rattle.rbc_world.specs.Views.{IsFaultOf};
 ghost use Rattle.rbc_world.specs.Named.{AreNamed};
 ghost use Rattle.std.proofs.Math.ListN.{replicate};
 ghost use Rattle.rbc_centre.specs.declared.fault.StepFault.TheVariants.{Memory};
-ghost use Rattle.rbc_spec.specs.Run.{Goes};
-ghost use Rattle.rbc_spec.specs.ReadOff.{StandsFor, read_off};
-ghost use Rattle.rbc_spec.specs.Promises.{IsSound, KeepsPromises};
-ghost use Rattle.rbc_spec.specs.Theorems.{IsOneCentreLine, GoesForced};
-ghost use Rattle.law_outside.specs.Outside.{StaysSafeOutside};
 ghost use Rattle.rbc_centre.specs.declared.centre.Centre.{Centre};
 ghost use Rattle.rbc_centre.specs.States as one;
 ghost use Rattle.rbc_centre.specs.Answer as one_step;
@@ -45,7 +41,7 @@ pub struct World {
 
 impl World {
     ghost use Rattle.rbc_world.specs.World.{line_of, state_of};
-    ghost use Rattle.rbc_world.specs.Views.{event_of, answer_of, answer_by, numbered};
+    ghost use Rattle.rbc_world.specs.Views.{event_of, answer_of, answer_by, nothing_answered, numbered};
     ghost use Rattle.rbc_world.specs.Answers.{Gives, TakesMemory, BytesTakeMemory, IsNextSent, IfWanted};
 
     /// The centres of the line in their initial state. A copy of the line is kept.
@@ -78,80 +74,65 @@ impl World {
         // The answer and the new state are those of the definition of a world's step.
         ensures exact { Gives (λ a. (answer_of a, state_of self.new)) result
             (world_step (line_of self.old) (state_of self.old) (event_of event.now)) }
-        // It is one piece of the one line centre's run, or none.
-        ensures piece { IfOk result (λ a. Goes (line_of self.old) (read_off (line_of self.old) (state_of self.old))
-            (event_of event.now) (answer_of a) (read_off (line_of self.old) (state_of self.new))) }
-        // Some list of events leads from the line's initial state to the new world.
-        ensures reached { ∥ WasReached (line_of self.new) (state_of self.new) ∥₁ }
-        // The state that is read off represents the centres, after refused events too.
-        ensures stands { StandsFor (line_of self.new) (state_of self.new)
-            (read_off (line_of self.new) (state_of self.new)) }
-        // So each train has at most one supervisor, and each section at most one train. No section in use and no right
-        // is lost or in two places.
-        ensures sound { IsSound (line_of self.new) (state_of self.new) }
-        // A section leaves an authority only by a message of its train, and the reports to the interlocking are true.
-        ensures promises { IfOk result
-            (λ a. KeepsPromises (line_of self.old) (state_of self.old) (event_of event.now) (answer_of a)
+        ensures theorems { IfOk result
+            (λ a. KeepsTheorems (line_of self.old) (state_of self.old) (event_of event.now) (answer_of a)
             (state_of self.new)) }
-        // This holds for all events that led here. By the messages to trains, no two trains may run over one section,
-        // and none over a section that is not released.
-        ensures outside { IfOk result
-            (λ a. StaysSafeOutside (line_of self.old) (state_of self.old) (event_of event.now) (answer_of a)) }
-        // On a one-centre line the piece leaves no choice.
-        ensures one_centre { (c : ℕ) → IsOneCentreLine (line_of self.old) c
-            → IfOk result (λ a. GoesForced (line_of self.old) (read_off (line_of self.old) (state_of self.old))
-            (event_of event.now) (answer_of a) (read_off (line_of self.old) (state_of self.new))) }
+        ensures world { IsWorldOf (line_of self.new) (state_of self.new) }
         // Only three events need memory. A train's bytes, at a centre of the line, need it for kept packets, a session,
         // a frame or a first mention. An unset needs it if the section is out. A frame needs it if it is the next of
         // its link.
         ensures memory { IfWanted result (TakesMemory (line_of self.old) (state_of self.old) event.now) }
         ensures err { OnErr result (state_of self.new ≡ state_of self.old) }
     {
-        let mut out = Outcome::nothing();
-        match self.step_to(event, &mut out) {
-            Ok(reply) => Ok(reply.with(out)),
+        let mut answer = Answer::nothing();
+        match self.step_to(event, &mut answer) {
+            Ok(()) => Ok(answer),
             Err(fault) => Err(fault),
         }
     }
 
-    /// The same step, which writes the outcome of a centre's step over `out`, and uses its list of frames again. If no
-    /// centre took a step, `out` has no meaning.
-    pub fn step_to(&mut self, event: &WorldEvent, out: &mut Outcome) -> Result<Reply, StepFault>
+    /// The same step, which writes its answer over one that the caller lends. The list of frames in a lent outcome is
+    /// used again. A refusal leaves the empty outcome.
+    pub fn step_to(&mut self, event: &WorldEvent, answer: &mut Answer) -> Result<(), StepFault>
         ensures line { line_of self.new ≡ line_of self.old }
-        // The answer and the new state are those of the definition of a world's step.
-        ensures exact { Gives (λ r. (answer_by r out.new, state_of self.new)) result
+        ensures exact { Gives (λ u. (answer_of answer.new, state_of self.new)) result
             (world_step (line_of self.old) (state_of self.old) (event_of event.now)) }
-        // It is one piece of the one line centre's run, or none.
-        ensures piece { IfOk result (λ r. Goes (line_of self.old) (read_off (line_of self.old) (state_of self.old))
-            (event_of event.now) (answer_by r out.new) (read_off (line_of self.old) (state_of self.new))) }
-        // Some list of events leads from the line's initial state to the new world.
-        ensures reached { ∥ WasReached (line_of self.new) (state_of self.new) ∥₁ }
-        // The state that is read off represents the centres, after refused events too.
-        ensures stands { StandsFor (line_of self.new) (state_of self.new)
-            (read_off (line_of self.new) (state_of self.new)) }
-        // So each train has at most one supervisor, and each section at most one train. No section in use and no right
-        // is lost or in two places.
-        ensures sound { IsSound (line_of self.new) (state_of self.new) }
-        // A section leaves an authority only by a message of its train, and the reports to the interlocking are true.
-        ensures promises { IfOk result
-            (λ r. KeepsPromises (line_of self.old) (state_of self.old) (event_of event.now) (answer_by r out.new)
+        ensures theorems { IfOk result
+            (λ u. KeepsTheorems (line_of self.old) (state_of self.old) (event_of event.now) (answer_of answer.new)
             (state_of self.new)) }
-        // This holds for all events that led here. By the messages to trains, no two trains may run over one section,
-        // and none over a section that is not released.
-        ensures outside { IfOk result
-            (λ r. StaysSafeOutside (line_of self.old) (state_of self.old) (event_of event.now) (answer_by r out.new)) }
-        // On a one-centre line the piece leaves no choice.
-        ensures one_centre { (c : ℕ) → IsOneCentreLine (line_of self.old) c
-            → IfOk result (λ r. GoesForced (line_of self.old) (read_off (line_of self.old) (state_of self.old))
-            (event_of event.now) (answer_by r out.new) (read_off (line_of self.old) (state_of self.new))) }
-        // Only three events need memory. A train's bytes, at a centre of the line, need it for kept packets, a session,
-        // a frame or a first mention. An unset needs it if the section is out. A frame needs it if it is the next of
-        // its link.
+        ensures world { IsWorldOf (line_of self.new) (state_of self.new) }
         ensures memory { IfWanted result (TakesMemory (line_of self.old) (state_of self.old) event.now) }
         ensures err { OnErr result (state_of self.new ≡ state_of self.old) }
+        ensures refused { OnErr result (answer_of answer.new ≡ nothing_answered) }
     {
         known_line(&self.line);
-        self.take(event, out)
+        self.write_answer(event, answer)
+    }
+
+    // Writes the answer over the one that is lent.
+    #[inline(always)]
+    fn write_answer(&mut self, event: &WorldEvent, answer: &mut Answer) -> Result<(), StepFault>
+        ensures line { line_of self.new ≡ line_of self.old }
+        ensures exact { Gives (λ u. (answer_of answer.new, state_of self.new)) result
+            (world_step (line_of self.old) (state_of self.old) (event_of event.now)) }
+        ensures memory { IfWanted result (TakesMemory (line_of self.old) (state_of self.old) event.now) }
+        ensures err { OnErr result (state_of self.new ≡ state_of self.old) }
+        ensures refused { OnErr result (answer_of answer.new ≡ nothing_answered) }
+    {
+        answer.make_outcome();
+        let Answer::Outcome(out) = answer else {
+            unreachable!()
+        };
+        match self.take(event, out) {
+            Ok(reply) => {
+                answer.finish(reply);
+                Ok(())
+            }
+            Err(fault) => {
+                *answer = Answer::nothing();
+                Err(fault)
+            }
+        }
     }
 
     #[inline(always)]

@@ -13,7 +13,7 @@ use std::alloc::{AllocError, Global};
 use std::io::{BufWriter, Write};
 use text_script::print::{name_of, print_event, print_line, print_outcome};
 use text_script::status::Fault;
-use text_script::{Event, StepFault, World, WorldEvent};
+use text_script::{Answer, Event, StepFault, World, WorldEvent};
 
 /// Prints the events of all logs in the order of their stamps, each with its effects from its log, and the line at the
 /// end.
@@ -45,12 +45,13 @@ fn print_entries<O: Write>(
     out: &mut O,
 ) -> Result<(), Fault<'static>> {
     let mut world = World::new(alloc, line)?;
+    let mut answer = Answer::nothing();
     for entry in entries {
         let event = world_event(alloc, entry)?;
         print_event(alloc, out, line, &event)?;
         let name = name_of(line, entry.centre);
         print_outcome(alloc, out, line, name, &entry.outcome)?;
-        world.step(&event)?;
+        world.step_to(&event, &mut answer)?;
     }
     Ok(print_line(alloc, out, line, &world)?)
 }

@@ -9,7 +9,7 @@ use std::io::{BufWriter, Write};
 use std::time::Instant;
 use std::{fs, io};
 use text_script::script::{Entry, script_of};
-use text_script::{Outcome, Reply, World, WorldEvent};
+use text_script::{Answer, Outcome, World, WorldEvent};
 
 /// Prints what the centres of a line answer to each event of a script.
 pub fn print_answers(rt: &HostRuntime, line: &str, script: &str) -> anyhow::Result<()> {
@@ -30,8 +30,9 @@ fn print_each<W: Write>(
     events: &[WorldEvent],
     out: &mut W,
 ) -> anyhow::Result<()> {
+    let mut answer = Answer::nothing();
     for event in events {
-        print_step(alloc, world, event, out)?;
+        print_step(alloc, world, event, out, &mut answer)?;
     }
     out.flush()?;
     Ok(())
@@ -42,9 +43,10 @@ fn print_step<W: Write>(
     world: &mut World,
     event: &WorldEvent,
     out: &mut W,
+    answer: &mut Answer,
 ) -> anyhow::Result<()> {
-    match world.step(event) {
-        Ok(answer) => Ok(print_answer(alloc, out, &answer)?),
+    match world.step_to(event, answer) {
+        Ok(()) => Ok(print_answer(alloc, out, answer)?),
         Err(fault) => bail!("step refused {}", fault.number()),
     }
 }
@@ -122,13 +124,11 @@ fn events_in(rt: &HostRuntime, line: &Line, file: &str) -> anyhow::Result<Vec<Wo
 // or memory ran out.
 fn play(alloc: Global, world: &mut World, events: &[WorldEvent]) -> Option<usize> {
     let mut bytes = 0usize;
-    let mut outcome = Outcome::nothing();
+    let mut answer = Answer::nothing();
     for event in events {
-        let Ok(reply) = world.step_to(event, &mut outcome) else {
-            return None;
-        };
-        if let Reply::Outcome = reply {
-            bytes = bytes.saturating_add(written(alloc, &outcome)?);
+        world.step_to(event, &mut answer).ok()?;
+        if let Answer::Outcome(outcome) = &answer {
+            bytes = bytes.saturating_add(written(alloc, outcome)?);
         }
     }
     Some(bytes)

@@ -42,6 +42,8 @@ pub(crate) fn play(
 struct Centres {
     world: World,
     handovers: Handovers,
+    /// The answer to the last event, which the next is written over.
+    answer: Answer,
 }
 
 // The centres before the first recorded event.
@@ -53,7 +55,11 @@ fn centres_at(
 ) -> Result<Centres, Fault<'static>> {
     let world = World::new(alloc, line)?;
     let handovers = Handovers::new(alloc, line)?;
-    let mut centres = Centres { world, handovers };
+    let mut centres = Centres {
+        world,
+        handovers,
+        answer: Answer::nothing(),
+    };
     pass(line, events, first, &mut centres)?;
     Ok(centres)
 }
@@ -96,15 +102,15 @@ fn told(
     event: &WorldEvent,
     centres: &mut Centres,
 ) -> Result<String, Fault<'static>> {
-    let answer = step(line, event, centres)?;
-    event_in_words(alloc, line, event, &answer)
+    step(line, event, centres)?;
+    event_in_words(alloc, line, event, &centres.answer)
 }
 
 // Plays an event, and records the centres' frames about handovers.
-fn step(line: &Line, event: &WorldEvent, centres: &mut Centres) -> Result<Answer, Fault<'static>> {
-    let answer = centres.world.step(event)?;
-    hear(line, event, &answer, &mut centres.handovers);
-    Ok(answer)
+fn step(line: &Line, event: &WorldEvent, centres: &mut Centres) -> Result<(), Fault<'static>> {
+    centres.world.step_to(event, &mut centres.answer)?;
+    hear(line, event, &centres.answer, &mut centres.handovers);
+    Ok(())
 }
 
 // Records the centres' frames about handovers in an event.

@@ -12,6 +12,6 @@ pub mod status;
 
 pub use rbc_world::{
     Answer, Body, Centre, Event, Frame, FrameRoom, Frames, LAST_STAMP, LineView, LinkAnswer, Mark,
-    MissionFacts, MissionView, Outcome, Phase, Reply, Saying, SectionRun, SectionView, SentFrame,
+    MissionFacts, MissionView, Outcome, Phase, Saying, SectionRun, SectionView, SentFrame,
     StepFault, Supervisor, TrainPage, Word, World, WorldEvent,
 };

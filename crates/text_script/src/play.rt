@@ -50,8 +50,9 @@ pub fn play<T: Observer>(
     ensures told { Leaves T.tells (line_of world.old) (state_of world.old) observer.old entries.now result
         (state_of world.new) observer.new }
 {
+    let mut answer = Answer::nothing();
     for entry in entries {
-        play_one(world, entry, observer)?;
+        play_one(world, entry, observer, &mut answer)?;
     }
     Ok(())
 }
@@ -60,6 +61,7 @@ fn play_one<T: Observer>(
     world: &mut World,
     entry: &Entry,
     observer: &mut T,
+    answer: &mut Answer,
 ) -> Result<(), PlayFault<T::Fault>>
     ensures line { line_of world.new ≡ line_of world.old }
     ensures told { Leaves T.tells (line_of world.old) (state_of world.old) observer.old (entry.now ∷ []) result
@@ -67,7 +69,7 @@ fn play_one<T: Observer>(
 {
     match entry {
         Entry::Show => show(world, observer),
-        Entry::Event(event) => take(world, event, observer),
+        Entry::Event(event) => take(world, event, observer, answer),
     }
 }
 
@@ -81,10 +83,12 @@ fn show<T: Observer>(world: &World, observer: &mut T) -> Result<(), PlayFault<T:
     }
 }
 
+// The answer is written over the one that is lent.
 fn take<T: Observer>(
     world: &mut World,
     event: &WorldEvent,
     observer: &mut T,
+    answer: &mut Answer,
 ) -> Result<(), PlayFault<T::Fault>>
     ensures line { line_of world.new ≡ line_of world.old }
     ensures told { Leaves T.tells (line_of world.old) (state_of world.old) observer.old
@@ -93,11 +97,10 @@ fn take<T: Observer>(
     if let Err(fault) = observer.comes(event) {
         return Err(PlayFault::Untold(fault));
     }
-    let answer = match world.step(event) {
-        Ok(answer) => answer,
-        Err(fault) => return Err(PlayFault::Refused(fault)),
-    };
-    match observer.answered(event, &answer) {
+    if let Err(fault) = world.step_to(event, answer) {
+        return Err(PlayFault::Refused(fault));
+    }
+    match observer.answered(event, answer) {
         Ok(()) => Ok(()),
         Err(fault) => Err(PlayFault::Untold(fault)),
     }

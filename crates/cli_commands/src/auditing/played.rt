@@ -3,7 +3,7 @@ use std::alloc::Global;
 use text_script::print::{print_answer, print_event, print_line, print_show};
 use text_script::script::Entry;
 use text_script::status::PrintFault;
-use text_script::{StepFault, World, WorldEvent};
+use text_script::{Answer, StepFault, World, WorldEvent};
 
 /// The centres of the line, which replay the entries of a print.
 #[derive(Drop)]
@@ -11,12 +11,18 @@ pub(crate) struct Played<'a> {
     alloc: Global,
     line: &'a Line,
     world: World,
+    /// The answer to the last event, which the next is written over.
+    answer: Answer,
 }
 
 impl<'a> Played<'a> {
     pub(crate) fn new(alloc: Global, line: &'a Line) -> Result<Played<'a>, StepFault> {
-        let world = World::new(alloc, line)?;
-        Ok(Played { alloc, line, world })
+        Ok(Played {
+            alloc,
+            line,
+            world: World::new(alloc, line)?,
+            answer: Answer::nothing(),
+        })
     }
 
     /// Plays an entry, and returns the lines that a run prints for it.
@@ -41,8 +47,8 @@ impl<'a> Played<'a> {
 
     fn add_event(&mut self, text: &mut Vec<u8>, event: &WorldEvent) -> Result<(), StepFault> {
         told(print_event(self.alloc, text, self.line, event))?;
-        let answer = self.world.step(event)?;
-        told(print_answer(self.alloc, text, self.line, event, &answer))
+        self.world.step_to(event, &mut self.answer)?;
+        told(print_answer(self.alloc, text, self.line, event, &self.answer))
     }
 
     fn add_line(&self, text: &mut Vec<u8>) -> Result<(), StepFault> {

@@ -22,13 +22,15 @@ fn keep_caused(alloc: Global, world: &mut World, entries: Vec<Entry>) -> Result<
     let mut cut: Vec<u8> = Vec::new(alloc);
     let mut kept = Vec::new(alloc);
     let mut left_out = 0usize;
+    let mut answer = Answer::nothing();
     for entry in entries {
         let centre = entry.centre();
         if cut.contains(&centre) {
             left_out = left_out.saturating_add(1);
             continue;
         }
-        match world.step(&entry.event)? {
+        world.step_to(&entry.event, &mut answer)?;
+        match &answer {
             Answer::NotSent => {
                 cut.push(centre)?;
                 left_out = left_out.saturating_add(1);

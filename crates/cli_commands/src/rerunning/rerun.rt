@@ -19,9 +19,10 @@ pub fn first_unfit(
     ensures { Finds line.now entries.now result }
 {
     let mut world = World::new(alloc, line)?;
+    let mut answer = Answer::nothing();
     let mut at = 0;
     for entry in entries {
-        let answer = world.step(&entry.event)?;
+        world.step_to(&entry.event, &mut answer)?;
         if has_stamp(&answer, entry.stamp) {
             at += 1;
         } else {

@@ -18,14 +18,14 @@ loop-entry-init c = record {
   run = begins c.args.line.now _ c.in_ok-world.ensures.beginning;
 }
 
-pub returns-in_err-answer : goal.returns-in_err-answer
-returns-in_err-answer c =
-    let p = err_from_is_err_and c.from_residual-in_err-answer.result c.from_residual-in_err-answer.ensures.1 in
+pub returns-in_err-step_to : goal.returns-in_err-step_to
+returns-in_err-step_to c =
+    let p = err_from_is_err_and c.from_residual-in_err-step_to.result c.from_residual-in_err-step_to.ensures.1 in
     let e = c.entry-item.result in
     let es = c.args.entries.now in
     let k = c.loop-entry.entry-index in
-    let no_step = subst (λ (l : Line). IsRefusal c.in_err-answer.field-0.0 (world_step l (state_of c.loop-entry.world) (happened e))) c.loop-entry.invariant.line c.in_err-answer.ensures.exact in
-    rw (p.1, p.2) (refused c.args.line.now es (take k es) (drop (k + 1) es) e (state_of c.loop-entry.world) c.in_err-answer.field-0.0
+    let no_step = subst (λ (l : Line). IsRefusal c.in_err-step_to.field-0.0 (world_step l (state_of c.loop-entry.world) (happened e))) c.loop-entry.invariant.line c.in_err-step_to.ensures.exact in
+    rw (p.1, p.2) (refused c.args.line.now es (take k es) (drop (k + 1) es) e (state_of c.loop-entry.world) c.in_err-step_to.field-0.0
     (cut_at es k e c.loop-entry-test.true c.entry-item.is) c.loop-entry.invariant.run no_step)
 
 pub loop-entry-preserved : goal.loop-entry-preserved
@@ -33,12 +33,12 @@ loop-entry-preserved c =
     let e = c.entry-item.result in
     let es = c.args.entries.now in
     let k = c.loop-entry.entry-index in
-    let done = ap (λ (l : Line). world_step l (state_of c.loop-entry.world) (happened e)) (sym c.loop-entry.invariant.line) ∙ c.in_ok-answer.ensures.exact in
+    let done = ap (λ (l : Line). world_step l (state_of c.loop-entry.world) (happened e)) (sym c.loop-entry.invariant.line) ∙ c.in_ok-step_to.ensures.exact in
     record {
       at = ap (λ n. n + 1) c.loop-entry.invariant.at;
-      line = c.in_ok-answer.ensures.line ∙ c.loop-entry.invariant.line;
-      run = subst (λ (front : List Entry). IsRerun c.args.line.now front (state_of c.step.new.self)) (sym (one_more es k e c.loop-entry-test.true c.entry-item.is))
-          (goes_on c.args.line.now (take k es) e (state_of c.loop-entry.world) (state_of c.step.new.self) (answer_of c.in_ok-answer.answer) c.loop-entry.invariant.run done
+      line = c.in_ok-step_to.ensures.line ∙ c.loop-entry.invariant.line;
+      run = subst (λ (front : List Entry). IsRerun c.args.line.now front (state_of c.step_to.new.self)) (sym (one_more es k e c.loop-entry-test.true c.entry-item.is))
+          (goes_on c.args.line.now (take k es) e (state_of c.loop-entry.world) (state_of c.step_to.new.self) (answer_of c.step_to.new.answer) c.loop-entry.invariant.run done
           (c.has_stamp.ensures.0 c.if-has_stamp.true));
     }
 
@@ -47,14 +47,14 @@ returns-else-has_stamp c =
     let e = c.entry-item.result in
     let es = c.args.entries.now in
     let k = c.loop-entry.entry-index in
-    let done = ap (λ (l : Line). world_step l (state_of c.loop-entry.world) (happened e)) (sym c.loop-entry.invariant.line) ∙ c.in_ok-answer.ensures.exact in
+    let done = ap (λ (l : Line). world_step l (state_of c.loop-entry.world) (happened e)) (sym c.loop-entry.invariant.line) ∙ c.in_ok-step_to.ensures.exact in
     record {
       front = take k es;
       rest = drop (k + 1) es;
       entry = e;
       reached = state_of c.loop-entry.world;
-      answer = answer_of c.in_ok-answer.answer;
-      next = state_of c.step.new.self;
+      answer = answer_of c.step_to.new.answer;
+      next = state_of c.step_to.new.self;
       cut = cut_at es k e c.loop-entry-test.true c.entry-item.is;
       fits = c.loop-entry.invariant.run;
       step = done;

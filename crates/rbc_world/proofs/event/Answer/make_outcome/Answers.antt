@@ -1,0 +1,5 @@
+use Rattle.std.proofs.Common.{refl}
+use Rattle.rbc_world.proofs.event.Answer.make_outcome.Goals as goal
+
+pub returns-in-NoCentre : goal.returns-in-NoCentre
+returns-in-NoCentre c = (c.nothing.result, refl)
