@@ -1,18 +1,18 @@
 -- The effects of the commands that read a line file: the print of a run, and the contents of their files for it.
-use Rattle.std.specs.Prelude.{◌≡◌, ◌≢◌, ◌⊎◌, ℕ, List, Option, Some, None, Result, Ok, Err}
-use Rattle.rbc_spec.specs.Line.{Line}
-use Rattle.rbc_line.specs.Faults.{Names, Applies, IsLowest}
+use Rattle.std.specs.Prelude.{◌≡◌, ◌≢◌, ◌⊎◌, Err, List, None, Ok, Option, Result, Some, ℕ}
+use Rattle.cli_commands.specs.Running.Printed.{LeavesPrint}
 use Rattle.rbc_line.specs.declared.fault.LineFault.TheVariants as bad
-use Rattle.text_script.specs.rbc_centre.declared.fault.StepFault.TheVariants as refused
-use Rattle.text_script.specs.declared.status.fault.Fault.{Fault}
-use Rattle.text_script.specs.declared.status.print_fault.PrintFault.{PrintFault}
-use Rattle.text_script.specs.declared.status.fault.Fault.TheVariants as fault
-use Rattle.text_script.specs.Script.{rows}
-use Rattle.text_script.specs.Entries.{AreAsked, IsFirstFault}
+use Rattle.rbc_line.specs.Faults.{Applies, IsLowest, Names}
+use Rattle.rbc_spec.specs.Line.{Line}
+use Rattle.text_script.specs.declared.play.PlayFault.TheVariants.{Refused}
 use Rattle.text_script.specs.declared.script.Entry.{Entry}
 use Rattle.text_script.specs.declared.script.ScriptFault.TheVariants.{Form}
-use Rattle.text_script.specs.declared.play.PlayFault.TheVariants.{Refused}
-use Rattle.cli_commands.specs.Running.Printed.{LeavesPrint}
+use Rattle.text_script.specs.declared.status.fault.Fault.{Fault}
+use Rattle.text_script.specs.declared.status.fault.Fault.TheVariants as fault
+use Rattle.text_script.specs.declared.status.print_fault.PrintFault.{PrintFault}
+use Rattle.text_script.specs.Entries.{AreAsked, IsFirstFault}
+use Rattle.text_script.specs.rbc_centre.declared.fault.StepFault.TheVariants as refused
+use Rattle.text_script.specs.Script.{rows}
 
 -- For files, `gives name text` means that they may give this text, or none, for this name.
 

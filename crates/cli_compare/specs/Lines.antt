@@ -1,5 +1,6 @@
 -- Texts as lines, and the first line in which two texts differ.
-use Rattle.std.specs.Prelude.{◌≡◌, ℕ, ◌+◌, ◌<◌, ◌==◌, Bool, true, false, if◌then◌else◌, List, [], ◌∷◌, length, take, drop, Option, Some, None}
+use Rattle.std.specs.Prelude.{[], ◌+◌, ◌<◌, ◌==◌, ◌∷◌, ◌≡◌, Bool, drop, false, if◌then◌else◌, length, List, None}
+use Rattle.std.specs.Prelude.{Option, Some, take, true, ℕ}
 use Rattle.std.specs.Str.{bytes_eq}
 
 -- one more byte at the front of the first line, if there is one

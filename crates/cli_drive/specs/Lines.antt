@@ -1,8 +1,9 @@
 -- A train's file as bytes: its lines, and the request of each.
-use Rattle.std.specs.Prelude.{ℕ, ◌^◌, ◌==◌, ◌&&◌, Bool, if◌then◌else◌, List, [], ◌∷◌, length, codes, nat_lt, Option, Some, None, is_none, option_map}
 use Rattle.std.specs.List.{slice_split}
+use Rattle.std.specs.Prelude.{[], ◌&&◌, ◌==◌, ◌^◌, ◌∷◌, Bool, codes, if◌then◌else◌, is_none, length, List, nat_lt, None}
+use Rattle.std.specs.Prelude.{Option, option_map, Some, ℕ}
 use Rattle.std.specs.Result.{result_ok}
-use Rattle.std.specs.Str.{bytes_eq, all_ascii_digits}
+use Rattle.std.specs.Str.{all_ascii_digits, bytes_eq}
 use Rattle.std.specs.Str.Parse.{digits_value}
 use Rattle.hex.specs.Hex.{decode_of}
 

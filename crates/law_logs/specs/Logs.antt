@@ -1,13 +1,14 @@
 -- The logs of centres that ran side by side, and the definition of a merge of the logs.
-use Rattle.std.specs.Prelude.{◌≡◌, ℕ, ◌+◌, ◌≤◌, ◌<◌, ◌==◌, List, [], ◌∷◌, ◌++◌, map, filter, length, true, false, Some, Ok, slice_get, All, AllPairs, Contains}
 use Rattle.std.specs.List.Sorted.{IsPermutation}
-use Rattle.rbc_spec.specs.Line.{Line, is_centre}
+use Rattle.std.specs.Prelude.{[], ◌++◌, ◌+◌, ◌<◌, ◌==◌, ◌∷◌, ◌≡◌, ◌≤◌, All, AllPairs, Contains, false, filter, length}
+use Rattle.std.specs.Prelude.{List, map, Ok, slice_get, Some, true, ℕ}
+use Rattle.rbc_spec.specs.Centre.{beginning, Centre}
 use Rattle.rbc_spec.specs.Frame.{Frame}
+use Rattle.rbc_spec.specs.Line.{is_centre, Line}
 use Rattle.rbc_spec.specs.Outcome.{Outcome}
-use Rattle.rbc_spec.specs.Centre.{Centre, beginning}
-use Rattle.rbc_spec.specs.Step.{Event, Train, Set, Unset, Deliver, step}
+use Rattle.rbc_spec.specs.Step.{Deliver, Event, Set, step, Train, Unset}
 use Rattle.rbc_spec.specs.World as world
-use Rattle.rbc_spec.specs.World.{World, Answer, Answered, new_world, world_run}
+use Rattle.rbc_spec.specs.World.{Answer, Answered, new_world, World, world_run}
 
 -- ## One log
 

@@ -1,18 +1,20 @@
 -- Wrong rules. Each is an act as the rules have it, but for one part.
-use Rattle.std.specs.Prelude.{ℕ, Bool, true, false, ◌&&◌, not, if◌then◌else◌, min, Some, None, is_some, is_none}
-use Rattle.std.specs.Option.{option_map_or}
 use Rattle.std.specs.List.{find, range_with_len}
-use Rattle.rbc_spec.specs.Maps.{has, put}
-use Rattle.rbc_spec.specs.SectionRuns.{SectionRun, is_empty, longest}
-use Rattle.rbc_spec.specs.Line.{Line, is_home, section, registrar}
-use Rattle.rbc_spec.specs.Sections.{is_on}
-use Rattle.rbc_spec.specs.Place.{Place, covered}
+use Rattle.std.specs.Option.{option_map_or}
+use Rattle.std.specs.Prelude.{◌&&◌, Bool, false, if◌then◌else◌, is_none, is_some, min, None, not, Some, true, ℕ}
+use Rattle.rbc_spec.specs.Acts.{◌>>◌, Act, become, booked, end_order, freed, part_at, propose_if_so, rest, returned}
+use Rattle.rbc_spec.specs.Acts.{send, set_mission, where_so, with_mission, with_some}
+use Rattle.rbc_spec.specs.Centre.{Centre, Entry, Handing, is_expected, is_open, is_out_for, is_taken_for, is_unused}
+use Rattle.rbc_spec.specs.Centre.{Mission, Open, Out, Shut, Taken, uses_some}
 use Rattle.rbc_spec.specs.Frame.{AskRight, RouteInfo, Yield, yielded_place}
-use Rattle.rbc_spec.specs.Outcome.{Done, NotHome}
-use Rattle.rbc_spec.specs.Centre.{Centre, Entry, Shut, Open, Taken, Out, Mission, Handing, is_open, is_unused, is_taken_for, is_out_for, is_expected, uses_some}
-use Rattle.rbc_spec.specs.Acts.{Act, become, rest, ◌>>◌, where_so, with_some, with_mission, send, booked, freed, returned, set_mission, part_at, end_order, propose_if_so}
-use Rattle.rbc_spec.specs.Rules.{begin, tell}
+use Rattle.rbc_spec.specs.Line.{is_home, Line, registrar, section}
 use Rattle.rbc_spec.specs.Links.{expect}
+use Rattle.rbc_spec.specs.Maps.{has, put}
+use Rattle.rbc_spec.specs.Outcome.{Done, NotHome}
+use Rattle.rbc_spec.specs.Place.{covered, Place}
+use Rattle.rbc_spec.specs.Rules.{begin, tell}
+use Rattle.rbc_spec.specs.SectionRuns.{is_empty, longest, SectionRun}
+use Rattle.rbc_spec.specs.Sections.{is_on}
 use Rattle.rbc_spec.specs.Step.{make, wished}
 
 -- ## Sections that are lent

@@ -1,14 +1,15 @@
 -- A small line of two centres, and the worlds that some events lead to.
-use Rattle.std.specs.Prelude.{ℕ, ◌+◌, true, List, [], ◌∷◌, ◌++◌, Some, None, pos, Result, Ok, Err}
-use Rattle.rbc_spec.specs.Maps.{put_pair}
-use Rattle.rbc_spec.specs.SectionRuns.{SectionRun}
-use Rattle.rbc_spec.specs.Line.{Line}
-use Rattle.rbc_spec.specs.Place.{Position, Place}
-use Rattle.rbc_spec.specs.Message.{TrainBody, InitiationOfSession, SessionEstablished, StartOfMission, TrainData, Request, Report}
-use Rattle.rbc_spec.specs.Centre.{Centre, beginning}
-use Rattle.rbc_spec.specs.Step.{Refusal}
-use Rattle.rbc_spec.specs.World.{World, Answer, Event, Bytes, Set, Unset, Delivery, new_world, world_run}
+use Rattle.std.specs.Prelude.{[], ◌++◌, ◌+◌, ◌∷◌, Err, List, None, Ok, pos, Result, Some, true, ℕ}
 use Rattle.law_invariants.specs.Flow.Flow.{Flow, flow_of}
+use Rattle.rbc_spec.specs.Centre.{beginning, Centre}
+use Rattle.rbc_spec.specs.Line.{Line}
+use Rattle.rbc_spec.specs.Maps.{put_pair}
+use Rattle.rbc_spec.specs.Message.{InitiationOfSession, Report, Request, SessionEstablished, StartOfMission, TrainBody}
+use Rattle.rbc_spec.specs.Message.{TrainData}
+use Rattle.rbc_spec.specs.Place.{Place, Position}
+use Rattle.rbc_spec.specs.SectionRuns.{SectionRun}
+use Rattle.rbc_spec.specs.Step.{Refusal}
+use Rattle.rbc_spec.specs.World.{Answer, Bytes, Delivery, Event, new_world, Set, Unset, World, world_run}
 
 -- Centres A (0) and B (1), and a track of three sections of 1 000 m, the first at A and two at B. Train 1 is registered
 -- at A, train 2 at B.

@@ -3,15 +3,19 @@
 -- message to a train never takes anything back from it. A message of a train takes back only a part that the train was
 -- sent before it sent that message. "In advance of" is further on in the direction of travel, "in rear of" is further
 -- back.
-use Rattle.std.specs.Prelude.{◌≡◌, ℕ, zero, suc, ◌+◌, ◌*◌, ◌==◌, Bool, true, false, ◌&&◌, if◌then◌else◌, List, [], ◌∷◌, ◌++◌, map, min, max, Option, Some, None, option_map, option_and_then, is_none, nat_lt, nat_le, ℤ, pos, int_lt, Ok}
 use Rattle.std.specs.Option.{option_map_or}
+use Rattle.std.specs.Prelude.{[], ◌&&◌, ◌*◌, ◌++◌, ◌+◌, ◌==◌, ◌∷◌, ◌≡◌, Bool, false, if◌then◌else◌, int_lt, is_none}
+use Rattle.std.specs.Prelude.{List, map, max, min, nat_le, nat_lt, None, Ok, Option, option_and_then, option_map, pos}
+use Rattle.std.specs.Prelude.{Some, suc, true, zero, ℕ, ℤ}
+use Rattle.rbc_spec.specs.Line.{end, IsLine, Line, section_of_group, start}
 use Rattle.rbc_spec.specs.Maps.{has, put, put_pair}
-use Rattle.rbc_spec.specs.Line.{Line, IsLine, section_of_group, start, end}
+use Rattle.rbc_spec.specs.Message.{Authority, EndOfMission, InitiationOfSession, Report, ShorteningGranted}
+use Rattle.rbc_spec.specs.Message.{ShorteningRequest, StartOfMission, TerminationOfSession, TrackBody, TrainAccepted}
+use Rattle.rbc_spec.specs.Message.{TrainBody, TrainMessage, TrainRejected}
+use Rattle.rbc_spec.specs.Outcome.{Done, Saying, Told, Word}
+use Rattle.rbc_spec.specs.Place.{extent, Place, Position}
 use Rattle.rbc_spec.specs.Sections.{is_on, section_count}
-use Rattle.rbc_spec.specs.Place.{Place, Position, extent}
-use Rattle.rbc_spec.specs.Message.{TrainMessage, TrainBody, Report, ShorteningGranted, EndOfMission, StartOfMission, InitiationOfSession, TerminationOfSession, TrackBody, Authority, ShorteningRequest, TrainAccepted, TrainRejected}
-use Rattle.rbc_spec.specs.Outcome.{Saying, Word, Done, Told}
-use Rattle.rbc_spec.specs.World.{World, Event, Bytes, Set, Unset, centre_of, Answer, Answered, new_world, world_run}
+use Rattle.rbc_spec.specs.World.{Answer, Answered, Bytes, centre_of, Event, new_world, Set, Unset, World, world_run}
 
 -- a pending request to shorten: the centre that sent it, its T_TRAIN, and the proposed end of the authority
 pub record Shortening : Type 0 where

@@ -1,14 +1,15 @@
 -- Scenes that test the definition of the promise (`Outside.antt`): lists of events with the answers to them. A right
 -- definition calls the first scenes safe, and notices each part that a train takes back there. It calls all other
 -- scenes unsafe: two trains may run over one section, or one train over a section that is not released.
-use Rattle.std.specs.Prelude.{ℕ, ◌+◌, ◌*◌, true, List, [], ◌∷◌, ◌++◌, map, Option, Some, Ok}
 use Rattle.std.specs.List.{range_with_len}
+use Rattle.std.specs.Prelude.{[], ◌*◌, ◌++◌, ◌+◌, ◌∷◌, List, map, Ok, Option, Some, true, ℕ}
+use Rattle.law_outside.specs.Outside.{nothing_seen, sees_all, Spoken, View}
 use Rattle.rbc_spec.specs.Line.{Line}
+use Rattle.rbc_spec.specs.Message.{Authority, EndOfMission, Report, Request, ShorteningGranted, ShorteningRequest}
+use Rattle.rbc_spec.specs.Message.{StartOfMission, TrackBody, TrainAccepted, TrainBody, TrainRejected}
+use Rattle.rbc_spec.specs.Outcome.{Asked, Done, Saying, Told, Word}
 use Rattle.rbc_spec.specs.Place.{Position}
-use Rattle.rbc_spec.specs.Message.{TrainBody, StartOfMission, Request, Report, ShorteningGranted, EndOfMission, TrackBody, Authority, ShorteningRequest, TrainAccepted, TrainRejected}
-use Rattle.rbc_spec.specs.Outcome.{Saying, Word, Done, Asked, Told}
-use Rattle.rbc_spec.specs.World.{Event, Bytes, Set, Unset, Delivery}
-use Rattle.law_outside.specs.Outside.{View, Spoken, sees_all, nothing_seen}
+use Rattle.rbc_spec.specs.World.{Bytes, Delivery, Event, Set, Unset}
 
 -- ## The line and its trains
 

@@ -1,20 +1,21 @@
 -- The facts that are known of a world after a list of events. They have at most one proof, so a value may keep it. If a
 -- world is sound for one of two reasons, the fact stated here is the test between them.
-use Rattle.std.specs.Prelude.{◌≡◌, ℕ, ◌+◌, ◌<◌, ◌≤◌, true, false, ◌&&◌, [], Some, None, option_map, is_some, nat_lt, length}
-use Rattle.law_base.specs.Counting.Network.{IsCounted, EachOnTheWay, way}
+use Rattle.std.specs.Prelude.{[], ◌&&◌, ◌+◌, ◌<◌, ◌≡◌, ◌≤◌, false, is_some, length, nat_lt, None, option_map, Some}
+use Rattle.std.specs.Prelude.{true, ℕ}
 use Rattle.law_base.specs.Counting.Chain.{Chain}
-use Rattle.rbc_spec.specs.SectionRuns.{SectionRun, within}
-use Rattle.rbc_spec.specs.Line.{Line, is_centre, is_home, next_centre, train_number}
-use Rattle.rbc_spec.specs.Place.{Place}
-use Rattle.rbc_spec.specs.Frame.{YieldedPlace, carried_place, Body, Announce, Cancel, Yield}
-use Rattle.rbc_spec.specs.World.{World}
-use Rattle.rbc_spec.specs.ReadOff.{read_off}
+use Rattle.law_base.specs.Counting.Network.{EachOnTheWay, IsCounted, way}
 use Rattle.law_invariants.specs.Flow.Flow.{Flow, flow_of}
 use Rattle.law_invariants.specs.Flow.Numbers.{IsNumbered}
-use Rattle.law_invariants.specs.Flow.Pairs.{follows, handing_to, before, after}
-use Rattle.law_invariants.specs.Flow.Sound.{IsHandAt, IsCentreSound, LosesNothing}
+use Rattle.law_invariants.specs.Flow.Pairs.{after, before, follows, handing_to}
 use Rattle.law_invariants.specs.Flow.Shows.{Shows}
+use Rattle.law_invariants.specs.Flow.Sound.{IsCentreSound, IsHandAt, LosesNothing}
 use Rattle.law_refinement.specs.Announced.{IsAnnounced}
+use Rattle.rbc_spec.specs.Frame.{Announce, Body, Cancel, carried_place, Yield, YieldedPlace}
+use Rattle.rbc_spec.specs.Line.{is_centre, is_home, Line, next_centre, train_number}
+use Rattle.rbc_spec.specs.Place.{Place}
+use Rattle.rbc_spec.specs.ReadOff.{read_off}
+use Rattle.rbc_spec.specs.SectionRuns.{SectionRun, within}
+use Rattle.rbc_spec.specs.World.{World}
 
 -- ## Frames on the way
 

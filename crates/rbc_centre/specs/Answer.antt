@@ -1,11 +1,11 @@
 -- The step's definition, seen from the code.
-use Rattle.std.specs.Prelude.{◌≡◌, ◌⊎◌, ◌+◌, ℕ, true, Option, Some, Result, Ok, Err, IsOk}
-use Rattle.rbc_spec.specs.Message.{InitiationOfSession}
+use Rattle.std.specs.Prelude.{◌+◌, ◌≡◌, ◌⊎◌, Err, IsOk, Ok, Option, Result, Some, true, ℕ}
+use Rattle.rbc_centre.specs.declared.fault.StepFault.{StepFault}
+use Rattle.rbc_centre.specs.declared.fault.StepFault.TheVariants.{ClockEnd, LinkFull, Memory}
 use Rattle.rbc_spec.specs.Centre.{Centre, Out}
+use Rattle.rbc_spec.specs.Message.{InitiationOfSession}
 use Rattle.rbc_spec.specs.Step as step
 use Rattle.rbc_train.specs.Letters.{tells_others}
-use Rattle.rbc_centre.specs.declared.fault.StepFault.{StepFault}
-use Rattle.rbc_centre.specs.declared.fault.StepFault.TheVariants.{Memory, LinkFull, ClockEnd}
 
 -- The fault is the refusal of the definition. If memory runs out, the definition does not refuse the step.
 abbrev pub IsRefusal : {Y : Type 0} → StepFault → Result Y step.Refusal → Type 0

@@ -1,19 +1,19 @@
 -- The invariants of a centre between two steps.
-use Rattle.std.specs.Prelude.{◌≡◌, ◌≤◌, ◌*◌, ℕ, true, List, length, Some, slice_get, All}
-use Rattle.rbc_spec.specs.Line.{Line, IsLine, is_centre, is_home, is_linked, train_number}
-use Rattle.rbc_spec.specs.Frame.{HasFrameRanges}
+use Rattle.std.specs.Prelude.{◌*◌, ◌≡◌, ◌≤◌, All, length, List, slice_get, Some, true, ℕ}
 use Rattle.law_invariants.specs.Flow.Sound.{IsCentreSound}
 use Rattle.law_invariants.specs.Ranges.Ranges.{HasStateRanges}
-use Rattle.rbc_book.specs.Book.{Pages, is_own}
+use Rattle.rbc_book.specs.Book.{is_own, Pages}
+use Rattle.rbc_centre.specs.declared.desk.Desk.{Desk}
+use Rattle.rbc_centre.specs.State.{IsOfTrain, stands_for}
 use Rattle.rbc_link.specs.declared.link.Link.{Link}
 use Rattle.rbc_link.specs.Links.{has_link, sent_to}
 use Rattle.rbc_link.specs.Outgoing.{frames_by}
 use Rattle.rbc_linkmsg.specs.Bodies.{body_of}
 use Rattle.rbc_linkmsg.specs.declared.body.Body.{Body}
 use Rattle.rbc_session.specs.Sessions.{Records}
+use Rattle.rbc_spec.specs.Frame.{HasFrameRanges}
+use Rattle.rbc_spec.specs.Line.{is_centre, is_home, is_linked, IsLine, Line, train_number}
 use Rattle.rbc_train.specs.declared.train.TrainState.{TrainState}
-use Rattle.rbc_centre.specs.State.{stands_for, IsOfTrain}
-use Rattle.rbc_centre.specs.declared.desk.Desk.{Desk}
 
 -- the links of centre c are those of the line, and each frame that was sent is in its ranges
 pub record AreLinks (line : Line) (c : ℕ) (links : List (Link Body)) : Type 0 where

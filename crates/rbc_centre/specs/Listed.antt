@@ -1,9 +1,9 @@
 -- Lists of frames, each with the centre that it goes to.
-use Rattle.std.specs.Prelude.{ℕ, ◌==◌, List, [], Vec, Option, Some, None, map}
-use Rattle.std.specs.List.{filter}
 use Rattle.std.specs.declared.alloc.Global.{Global}
-use Rattle.rbc_spec.specs.Frame.{Frame}
+use Rattle.std.specs.List.{filter}
+use Rattle.std.specs.Prelude.{[], ◌==◌, List, map, None, Option, Some, Vec, ℕ}
 use Rattle.rbc_centre.specs.declared.sent_frame.SentFrame.{SentFrame}
+use Rattle.rbc_spec.specs.Frame.{Frame}
 
 -- the frames of a list to each centre
 abbrev pub frames_in : List SentFrame → ℕ → List Frame

@@ -1,18 +1,18 @@
 -- The frames of a step: bodies that are sent on the links.
-use Rattle.std.specs.Prelude.{◌≡◌, ◌⊎◌, ℕ, ◌+◌, ◌≤◌, ◌==◌, if◌then◌else◌, true, List, [], ◌∷◌, ◌++◌, length, All}
-use Rattle.rbc_spec.specs.Line.{Line, is_linked}
-use Rattle.rbc_spec.specs.Frame as spec
-use Rattle.rbc_spec.specs.Frame.{Frame, HasBodyRange, last_stamp}
-use Rattle.rbc_spec.specs.Step.{numbered}
+use Rattle.std.specs.Prelude.{[], ◌++◌, ◌+◌, ◌==◌, ◌∷◌, ◌≡◌, ◌≤◌, ◌⊎◌, All, if◌then◌else◌, length, List, true, ℕ}
+use Rattle.rbc_centre.specs.declared.frame_room.FrameRoom.{FrameRoom}
+use Rattle.rbc_centre.specs.declared.sent_frame.SentFrame.{SentFrame}
+use Rattle.rbc_centre.specs.Listed.{frames_in}
+use Rattle.rbc_centre.specs.Rooms.{HasFrameRoom}
 use Rattle.rbc_link.specs.declared.link.Link.{Link}
-use Rattle.rbc_link.specs.Links.{has_link, sent_to, room_to}
+use Rattle.rbc_link.specs.Links.{has_link, room_to, sent_to}
 use Rattle.rbc_link.specs.Posted.{HasPosted}
 use Rattle.rbc_linkmsg.specs.Bodies.{body_of}
 use Rattle.rbc_linkmsg.specs.declared.body.Body.{Body}
-use Rattle.rbc_centre.specs.declared.sent_frame.SentFrame.{SentFrame}
-use Rattle.rbc_centre.specs.declared.frame_room.FrameRoom.{FrameRoom}
-use Rattle.rbc_centre.specs.Listed.{frames_in}
-use Rattle.rbc_centre.specs.Rooms.{HasFrameRoom}
+use Rattle.rbc_spec.specs.Frame as spec
+use Rattle.rbc_spec.specs.Frame.{Frame, HasBodyRange, last_stamp}
+use Rattle.rbc_spec.specs.Line.{is_linked, Line}
+use Rattle.rbc_spec.specs.Step.{numbered}
 
 -- these bodies to one centre
 abbrev pub only : ℕ → List spec.Body → ℕ → List spec.Body

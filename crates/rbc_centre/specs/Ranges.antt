@@ -1,10 +1,12 @@
 -- The ranges of a frame are met in one way at most.
-use Rattle.std.specs.Prelude.{ℕ, List, All}
 use Rattle.std.proofs.Props.{props}
-use Rattle.rbc_spec.specs.SectionRuns.{SectionRun}
-use Rattle.rbc_spec.specs.Line.{Line}
-use Rattle.rbc_spec.specs.Frame.{Frame, Body, YieldedPlace, AskRight, GiveRight, RefuseRight, ReturnRight, RouteAsk, RouteInfo, RouteWithdraw, RouteReturn, Announce, Cancel, TakingOver, Yield, HasRunRange, HasPlaceRange, HasBodyRange, HasFrameRanges}
+use Rattle.std.specs.Prelude.{All, List, ℕ}
 use Rattle.law_invariants.specs.Ranges.Ranges.{IsSentInRange}
+use Rattle.rbc_spec.specs.Frame.{Announce, AskRight, Body, Cancel, Frame, GiveRight, HasBodyRange, HasFrameRanges}
+use Rattle.rbc_spec.specs.Frame.{HasPlaceRange, HasRunRange, RefuseRight, ReturnRight, RouteAsk, RouteInfo, RouteReturn}
+use Rattle.rbc_spec.specs.Frame.{RouteWithdraw, TakingOver, Yield, YieldedPlace}
+use Rattle.rbc_spec.specs.Line.{Line}
+use Rattle.rbc_spec.specs.SectionRuns.{SectionRun}
 
 HasRunRange-prop : (least most : ℕ) (run : SectionRun) → IsProp (HasRunRange least most run)
 HasRunRange-prop least most run = hlevel props

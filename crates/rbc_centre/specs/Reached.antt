@@ -1,5 +1,5 @@
 -- Stretches of centres.
-use Rattle.std.specs.Prelude.{ℕ, ◌⊎◌, ◌<◌}
+use Rattle.std.specs.Prelude.{◌<◌, ◌⊎◌, ℕ}
 use Rattle.rbc_centre.specs.declared.reach.Reach.{Reach}
 
 -- the centre is not in the stretch

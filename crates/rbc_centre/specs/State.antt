@@ -1,24 +1,25 @@
 -- The states of sections and trains in memory, as functions of numbers.
-use Rattle.std.specs.Prelude.{◌≡◌, ℕ, List, Bool, false, length, Option, Some, None, option_and_then, option_map, slice_get}
 use Rattle.std.specs.Option.{option_map_or}
-use Rattle.rbc_spec.specs.Line.{Line, train_number}
-use Rattle.rbc_spec.specs.Centre as centre
-use Rattle.rbc_book.specs.Book.{Pages, entry_at, wish_at}
-use Rattle.rbc_right.specs.Rights.{Rights, is_here}
-use Rattle.rbc_session.specs.Sessions.{Records}
-use Rattle.rbc_session.specs.SessionStates.{session_phase}
-use Rattle.rbc_train.specs.rbc_pending_start.Waits.{IsCovered}
+use Rattle.std.specs.Prelude.{◌≡◌, Bool, false, length, List, None, Option, option_and_then, option_map, slice_get}
+use Rattle.std.specs.Prelude.{Some, ℕ}
+use Rattle.rbc_book.specs.Book.{entry_at, Pages, wish_at}
+use Rattle.rbc_centre.specs.declared.desk.Desk.{Desk}
 use Rattle.rbc_handover.specs.Expectations.{expected_from}
 use Rattle.rbc_link.specs.declared.link.Link.{Link}
 use Rattle.rbc_link.specs.Links.{sent_to, taken_from}
 use Rattle.rbc_link.specs.Outgoing.{frames_by}
 use Rattle.rbc_linkmsg.specs.Bodies.{body_of}
 use Rattle.rbc_linkmsg.specs.declared.body.Body.{Body}
-use Rattle.rbc_train.specs.Desk.{IsHeld}
-use Rattle.rbc_train.specs.SessionStates.{Stands}
+use Rattle.rbc_right.specs.Rights.{is_here, Rights}
+use Rattle.rbc_session.specs.Sessions.{Records}
+use Rattle.rbc_session.specs.SessionStates.{session_phase}
+use Rattle.rbc_spec.specs.Centre as centre
+use Rattle.rbc_spec.specs.Line.{Line, train_number}
 use Rattle.rbc_train.specs.declared.train.TrainState.{TrainState}
+use Rattle.rbc_train.specs.Desk.{IsHeld}
+use Rattle.rbc_train.specs.rbc_pending_start.Waits.{IsCovered}
+use Rattle.rbc_train.specs.SessionStates.{Stands}
 use Rattle.rbc_train.specs.Trains.{unknown_state}
-use Rattle.rbc_centre.specs.declared.desk.Desk.{Desk}
 
 -- the state of a train of the line
 abbrev pub state_at : Line → List TrainState → ℕ → Option TrainState

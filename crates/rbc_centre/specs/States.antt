@@ -1,10 +1,10 @@
 -- The plain data of a centre: its line, its number, and its state.
 use Rattle.std.specs.Prelude.{◌≡◌, ℕ}
-use Rattle.rbc_spec.specs.Line.{Line}
-use Rattle.rbc_spec.specs.Centre as centre
-use Rattle.rbc_link.specs.Links.{KeepsLinks}
 use Rattle.rbc_centre.specs.declared.centre.Centre.{Centre}
 use Rattle.rbc_centre.specs.State.{stands_for}
+use Rattle.rbc_link.specs.Links.{KeepsLinks}
+use Rattle.rbc_spec.specs.Centre as centre
+use Rattle.rbc_spec.specs.Line.{Line}
 
 abbrev pub line_of : Centre → Line
 line_of k = k.line

@@ -1,12 +1,12 @@
 -- An event that a centre takes.
 use Rattle.std.specs.Prelude.{◌≡◌, None}
-use Rattle.rbc_spec.specs.Step as step
-use Rattle.rbc_link.specs.Links.{HasRoom}
+use Rattle.rbc_centre.specs.declared.centre.Centre.{Centre}
+use Rattle.rbc_centre.specs.declared.outcome.Outcome.{Outcome}
 use Rattle.rbc_centre.specs.Rooms.{HasFrameRoom}
 use Rattle.rbc_centre.specs.States.{line_of, number_of, state_of}
 use Rattle.rbc_centre.specs.Views.{outcome_of}
-use Rattle.rbc_centre.specs.declared.centre.Centre.{Centre}
-use Rattle.rbc_centre.specs.declared.outcome.Outcome.{Outcome}
+use Rattle.rbc_link.specs.Links.{HasRoom}
+use Rattle.rbc_spec.specs.Step as step
 
 -- the centre does not refuse the event
 abbrev pub MayTake : Centre → step.Event → Type 0

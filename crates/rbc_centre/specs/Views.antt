@@ -1,24 +1,25 @@
 -- The plain data of the types of a step.
-use Rattle.std.specs.Prelude.{ℕ, ◌==◌, ◌-◌, slice_get, if◌then◌else◌, List, [], ◌∷◌, ◌++◌, Option, Some, None, map, option_map, option_and_then}
-use Rattle.rbc_spec.specs.Frame.{Frame}
-use Rattle.rbc_spec.specs.Centre.{Mission, Handing}
-use Rattle.rbc_spec.specs.Outcome.{Outcome}
-use Rattle.rbc_spec.specs.Outcome as spec
-use Rattle.rbc_spec.specs.Step as step
-use Rattle.rbc_link.specs.Inbox.{answer_of}
-use Rattle.rbc_link.specs.declared.link_answer.LinkAnswer.{LinkAnswer}
-use Rattle.rbc_msgs.specs.StepMessage.{step_message}
-use Rattle.rbc_train.specs.Reasons.{reason_of}
-use Rattle.rbc_train.specs.Sayings.{saying_of, told_train}
-use Rattle.rbc_train.specs.declared.heard.Heard.{Heard}
+use Rattle.std.specs.Prelude.{[], ◌++◌, ◌-◌, ◌==◌, ◌∷◌, if◌then◌else◌, List, map, None, Option, option_and_then}
+use Rattle.std.specs.Prelude.{option_map, slice_get, Some, ℕ}
 use Rattle.rbc_centre.specs.declared.event.Event.{Event}
-use Rattle.rbc_centre.specs.declared.event.Event.TheVariants.{Train, Set, Unset, Deliver}
+use Rattle.rbc_centre.specs.declared.event.Event.TheVariants.{Deliver, Set, Train, Unset}
 use Rattle.rbc_centre.specs.declared.fault.StepFault.{StepFault}
 use Rattle.rbc_centre.specs.declared.fault.StepFault.TheVariants as fault
-use Rattle.rbc_centre.specs.Sent.{frames_to}
+use Rattle.rbc_centre.specs.declared.outcome.Outcome.{Outcome as OutcomeCode}
 use Rattle.rbc_centre.specs.declared.outcome.Word.{Word}
 use Rattle.rbc_centre.specs.declared.outcome.Word.TheVariants as word
-use Rattle.rbc_centre.specs.declared.outcome.Outcome.{Outcome as OutcomeCode}
+use Rattle.rbc_centre.specs.Sent.{frames_to}
+use Rattle.rbc_link.specs.declared.link_answer.LinkAnswer.{LinkAnswer}
+use Rattle.rbc_link.specs.Inbox.{answer_of}
+use Rattle.rbc_msgs.specs.StepMessage.{step_message}
+use Rattle.rbc_spec.specs.Centre.{Handing, Mission}
+use Rattle.rbc_spec.specs.Frame.{Frame}
+use Rattle.rbc_spec.specs.Outcome as spec
+use Rattle.rbc_spec.specs.Outcome.{Outcome}
+use Rattle.rbc_spec.specs.Step as step
+use Rattle.rbc_train.specs.declared.heard.Heard.{Heard}
+use Rattle.rbc_train.specs.Reasons.{reason_of}
+use Rattle.rbc_train.specs.Sayings.{saying_of, told_train}
 
 abbrev pub event_of : Event → step.Event
 event_of (Train m) = step.Train (step_message m)

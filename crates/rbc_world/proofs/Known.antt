@@ -40,7 +40,8 @@ module _ (line : Line) (w : World) (ok : IsLine line) (reached : ∥ WasReached 
 
   -- on a one-centre line no other centre has a part in it
   pub world_local : (c : ℕ) → IsOneCentreLine line c → IsLocal line w
-  world_local c one = ∥∥₁_elim reached (forced.one_proof line w) (λ r. forced.stays_local line ok c one r.events r.answers w r.run)
+  world_local c one =
+      ∥∥₁_elim reached (forced.one_proof line w) (λ r. forced.stays_local line ok c one r.events r.answers w r.run)
 
 -- ## Frames that were sent
 
@@ -53,7 +54,8 @@ none_at number = by_number (number == 0)
     by_number false = refl
 
 -- each was sent to a centre of the line
-pub receiver : (line : Line) (w : World) (a b number : ℕ) → IsKnown line w → (o : Option Frame) → o ≡ frame_sent w a b number → IfSome o (λ f. is_centre line b ≡ true)
+pub receiver : (line : Line) (w : World) (a b number : ℕ) → IsKnown line w → (o : Option Frame)
+    → o ≡ frame_sent w a b number → IfSome o (λ f. is_centre line b ≡ true)
 receiver line w a b number known None is = tt
 receiver line w a b number known (Some f) is = by_centre (is_centre line b) refl
   where
@@ -64,5 +66,7 @@ receiver line w a b number known (Some f) is = by_centre (is_centre line b) refl
     by_centre : (z : Bool) → is_centre line b ≡ z → is_centre line b ≡ true
     by_centre true e = e
     by_centre false e =
-        let none : None ≡ Some f = none_at number ∙ ap (λ (fs : List Frame). frame_number fs number) (sym (known.no_sent a b (away (is_centre line a) (is_centre line b) e))) ∙ sym is in
+        let none : None ≡ Some f = none_at number
+        ∙ ap (λ (fs : List Frame). frame_number fs number)
+        (sym (known.no_sent a b (away (is_centre line a) (is_centre line b) e))) ∙ sym is in
         cc

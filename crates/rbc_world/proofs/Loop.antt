@@ -19,11 +19,14 @@ use Rattle.rbc_spec.specs.World.{all_named, Answer, Event, new_world, World, wor
 use Rattle.rbc_world.specs.Answers.{Gives, IsRefusal, IsRefusedRun}
 
 -- at the first event
-pub starts : (line : Line) (all : List Event) (answers : List Answer) (w : World) → answers ≡ [] → w ≡ new_world line → Reaches line all all answers w
+pub starts : (line : Line) (all : List Event) (answers : List Answer) (w : World) → answers ≡ [] → w ≡ new_world line
+    → Reaches line all all answers w
 starts line all answers w none new = rw (none, new) (at_start line all)
 
-pub stops : (line : Line) (all rest : List Event) (answers : List Answer) (w : World) (event : Event) (fault : StepFault)
-    → Reaches line all (event ∷ rest) answers w → IsRefusal fault (world_step line w event) → IsRefusal fault (world_run line (new_world line) all)
+pub stops : (line : Line) (all rest : List Event) (answers : List Answer) (w : World) (event : Event)
+    (fault : StepFault)
+    → Reaches line all (event ∷ rest) answers w → IsRefusal fault (world_step line w event)
+    → IsRefusal fault (world_run line (new_world line) all)
 stops line all rest answers w event Memory so_far s = tt
 stops line all rest answers w event LinkFull so_far s = stops_at line all rest answers w event AtLinkFull so_far s
 stops line all rest answers w event ClockEnd so_far s = stops_at line all rest answers w event AtClockEnd so_far s
@@ -35,12 +38,14 @@ module _ {X : Type 0} (line : Line) (events : List Event) (answers : X → List 
   abbrev Runs : Result X StepFault → Type 0
   Runs result = Gives (λ o. (answers o, world o)) result (world_run line (new_world line) events)
 
-  pub names_trains : (result : Result X StepFault) → Runs result → IfOk result (λ o. (world o).trains ≡ all_named line events [])
+  pub names_trains : (result : Result X StepFault) → Runs result
+      → IfOk result (λ o. (world o).trains ≡ all_named line events [])
   unfolding new_world
   names_trains (Ok o) e = run_names line (new_world line) events (answers o) (world o) e
   names_trains (Err fault) e = tt
 
-  refused_by : (fault : StepFault) → IsRefusal fault (world_run line (new_world line) events) → IsRefusedRun line events fault
+  refused_by : (fault : StepFault) → IsRefusal fault (world_run line (new_world line) events)
+      → IsRefusedRun line events fault
   refused_by Memory e = tt
   refused_by LinkFull e = run_refused line events AtLinkFull (new_world line) e
   refused_by ClockEnd e = run_refused line events AtClockEnd (new_world line) e
@@ -50,39 +55,46 @@ module _ {X : Type 0} (line : Line) (events : List Event) (answers : X → List 
   is_refused (Err fault) e = refused_by fault e
 
   module _ (ok : IsLine line) where
-    pub is_line_run : (result : Result X StepFault) → Runs result → IfOk result (λ o. IsLineRun line events (answers o) (world o))
+    pub is_line_run : (result : Result X StepFault) → Runs result
+        → IfOk result (λ o. IsLineRun line events (answers o) (world o))
     is_line_run (Ok o) e = the_run line ok events (answers o) (world o) e
     is_line_run (Err fault) e = tt
 
-    pub is_safe_outside : (spoken : X → List (Option Spoken)) → ((o : X) → map spoken_of (answers o) ≡ spoken o) → (result : Result X StepFault) → Runs result
+    pub is_safe_outside : (spoken : X → List (Option Spoken)) → ((o : X) → map spoken_of (answers o) ≡ spoken o)
+        → (result : Result X StepFault) → Runs result
         → IfOk result (λ o. IsSafeOutside line (sees_all line events (spoken o) nothing_seen))
     is_safe_outside spoken same (Ok o) e =
         let h = the_run line ok events (answers o) (world o) e in
-        subst (λ (all : List (Option Spoken)). IsSafeOutside line (sees_all line events all nothing_seen)) (same o) (run_safe line ok events (answers o) h.last h.is_run)
+        subst (λ (all : List (Option Spoken)). IsSafeOutside line (sees_all line events all nothing_seen)) (same o)
+        (run_safe line ok events (answers o) h.last h.is_run)
     is_safe_outside spoken same (Err fault) e = tt
 
     pub is_sound : (result : Result X StepFault) → Runs result → IfOk result (λ o. IsSound line (world o))
     is_sound (Ok o) e = run_sound line ok events (answers o) (world o) e
     is_sound (Err fault) e = tt
 
-    pub ends_read : (result : Result X StepFault) → Runs result → IfOk result (λ o. Run line line_beginning events (answers o) (read_off line (world o)))
+    pub ends_read : (result : Result X StepFault) → Runs result
+        → IfOk result (λ o. Run line line_beginning events (answers o) (read_off line (world o)))
     ends_read (Ok o) e = (run_read line ok events (answers o) (world o) e).0
     ends_read (Err fault) e = tt
 
     -- on a one-centre line
     module _ (c : ℕ) (one : IsOneCentreLine line c) where
-      pub is_one_centre_run : (result : Result X StepFault) → Runs result → IfOk result (λ o. IsOneCentreRun line events (answers o) (world o))
+      pub is_one_centre_run : (result : Result X StepFault) → Runs result
+          → IfOk result (λ o. IsOneCentreRun line events (answers o) (world o))
       is_one_centre_run (Ok o) e = forced.run_is line ok c one events (answers o) (world o) e
       is_one_centre_run (Err fault) e = tt
 
-      pub ends_forced : (result : Result X StepFault) → Runs result → IfOk result (λ o. ForcedRun line line_beginning events (answers o) (read_off line (world o)))
+      pub ends_forced : (result : Result X StepFault) → Runs result
+          → IfOk result (λ o. ForcedRun line line_beginning events (answers o) (read_off line (world o)))
       ends_forced (Ok o) e = forced.run_read line ok c one events (answers o) (world o) e
       ends_forced (Err fault) e = tt
 
 -- ## The events that are left
 
 -- the rest of a list from position i begins with the item there
-pub map_drop : {X Y : Type 0} (f : X → Y) (xs : List X) (i : ℕ) (x : X) → i < length xs → x ≡ get_or xs i x → map f (drop i xs) ≡ f x ∷ map f (drop (i + 1) xs)
+pub map_drop : {X Y : Type 0} (f : X → Y) (xs : List X) (i : ℕ) (x : X) → i < length xs → x ≡ get_or xs i x
+    → map f (drop i xs) ≡ f x ∷ map f (drop (i + 1) xs)
 map_drop f [] i x h e = absurd (let never : ⊥ = omega arith in never)
 map_drop f (y ∷ ys) zero x h e = ap (λ z. f z ∷ map f ys) (sym e)
 map_drop f (y ∷ ys) (suc i) x h e =

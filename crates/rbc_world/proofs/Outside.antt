@@ -19,8 +19,10 @@ use Rattle.rbc_world.specs.declared.event.Answer.TheVariants as answer
 use Rattle.rbc_world.specs.declared.event.WorldEvent.{WorldEvent}
 use Rattle.rbc_world.specs.Views.{answer_of, event_of, spoken_by}
 
-pub step_outside : {X : Type 0} (answer : X → Answer) (line : Line) (ok : IsLine line) (w new : World) (e : WorldEvent) (result : Result X StepFault)
-    → Gives (λ x. (answer x, new)) result (world_step line w (event_of e)) → IfOk result (λ x. StaysSafeOutside line w (event_of e) (answer x))
+pub step_outside : {X : Type 0} (answer : X → Answer) (line : Line) (ok : IsLine line) (w new : World) (e : WorldEvent)
+    (result : Result X StepFault)
+    → Gives (λ x. (answer x, new)) result (world_step line w (event_of e))
+    → IfOk result (λ x. StaysSafeOutside line w (event_of e) (answer x))
 step_outside answer line ok w new e (Ok x) s = λ events answers led.
     let h = the_run line ok (events ++ event_of e ∷ []) (answers ++ answer x ∷ []) new
     (run_on line events (new_world line) w new answers (event_of e) (answer x) led s) in
@@ -47,4 +49,5 @@ spoken_same (answer.Fault fault) = refl
 pub all_spoken : (answers : List AnswerCode) → map spoken_of (map answer_of answers) ≡ map spoken_by answers
 all_spoken [] = refl
 all_spoken (a ∷ answers) =
-    ap (λ (first : Option Spoken). first ∷ map spoken_of (map answer_of answers)) (spoken_same a) ∙ ap (λ (rest : List (Option Spoken)). spoken_by a ∷ rest) (all_spoken answers)
+    ap (λ (first : Option Spoken). first ∷ map spoken_of (map answer_of answers)) (spoken_same a)
+    ∙ ap (λ (rest : List (Option Spoken)). spoken_by a ∷ rest) (all_spoken answers)

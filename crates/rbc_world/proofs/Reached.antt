@@ -29,75 +29,110 @@ of_ok : {X : Type 0} (p q : X) → ◌≡◌ {A = Result X Refusal} (Ok p) (Ok q
 of_ok p q e = cc
 
 -- one event after those of a run
-pub run_on : (line : Line) (events : List Event) (w mid new : World) (answers : List Answer) (event : Event) (answer : Answer)
-    → world_run line w events ≡ Ok (answers, mid) → world_step line mid event ≡ Ok (answer, new) → world_run line w (events ++ event ∷ []) ≡ Ok (answers ++ answer ∷ [], new)
+pub run_on : (line : Line) (events : List Event) (w mid new : World) (answers : List Answer) (event : Event)
+    (answer : Answer)
+    → world_run line w events ≡ Ok (answers, mid) → world_step line mid event ≡ Ok (answer, new)
+    → world_run line w (events ++ event ∷ []) ≡ Ok (answers ++ answer ∷ [], new)
 run_on line [] w mid new answers event answer is s =
     let same : ([], w) ≡ (answers, mid) = of_ok ([], w) (answers, mid) (sym (run_of_none line w) ∙ is) in
-    let first : world_step line w event ≡ Ok (answer, new) = ap (λ (q : List Answer × World). world_step line q.1 event) same ∙ s in
+    let first : world_step line w event ≡ Ok (answer, new) =
+    ap (λ (q : List Answer × World). world_step line q.1 event) same ∙ s in
     subst (λ (q : List Answer × World). world_run line w (event ∷ []) ≡ Ok (q.0 ++ answer ∷ [], new)) same
     (whole_run line w event [] (answer, new) (Ok ([], new)) first (run_of_none line new))
 run_on line (e ∷ events) w mid new answers event answer is s =
     let first = bind_ok (world_step line w e) _ (answers, mid) (sym (run_of_cons line w e events) ∙ is) in
     let others = bind_ok (world_run line first.0.1 events) _ (answers, mid) first.2 in
-    let same : (first.0.0 ∷ others.0.0, others.0.1) ≡ (answers, mid) = of_ok (first.0.0 ∷ others.0.0, others.0.1) (answers, mid) others.2 in
-    let last : world_step line others.0.1 event ≡ Ok (answer, new) = ap (λ (q : List Answer × World). world_step line q.1 event) same ∙ s in
-    subst (λ (q : List Answer × World). world_run line w (e ∷ (events ++ event ∷ [])) ≡ Ok (q.0 ++ answer ∷ [], new)) same
-    (whole_run line w e (events ++ event ∷ []) first.0 (Ok (others.0.0 ++ answer ∷ [], new)) first.1 (run_on line events first.0.1 others.0.1 new others.0.0 event answer others.1 last))
+    let same : (first.0.0 ∷ others.0.0, others.0.1) ≡ (answers, mid) =
+    of_ok (first.0.0 ∷ others.0.0, others.0.1) (answers, mid) others.2 in
+    let last : world_step line others.0.1 event ≡ Ok (answer, new) =
+    ap (λ (q : List Answer × World). world_step line q.1 event) same ∙ s in
+    subst (λ (q : List Answer × World). world_run line w (e ∷ (events ++ event ∷ [])) ≡ Ok (q.0 ++ answer ∷ [], new))
+    same
+    (whole_run line w e (events ++ event ∷ []) first.0 (Ok (others.0.0 ++ answer ∷ [], new)) first.1
+    (run_on line events first.0.1 others.0.1 new others.0.0 event answer others.1 last))
 
 -- no event leads to the beginning
 led_to_beginning : (line : Line) (w : World) → w ≡ new_world line → WasReached line w
-led_to_beginning line w new = record { events = []; answers = []; run = run_of_none line (new_world line) ∙ ap (λ (v : World). Ok ([], v)) (sym new) }
+led_to_beginning line w new = record {
+  events = [];
+  answers = [];
+  run = run_of_none line (new_world line) ∙ ap (λ (v : World). Ok ([], v)) (sym new);
+}
 
 pub begins : (line own : Line) (w : World) → own ≡ line → w ≡ new_world line → ∥ WasReached own w ∥₁
 begins line own w same new = subst (λ (l : Line). ∥ WasReached l w ∥₁) (sym same) ∣ led_to_beginning line w new ∣₁
 
 -- a step leads on
-led_on : (line : Line) (w new : World) (event : Event) (answer : Answer) → world_step line w event ≡ Ok (answer, new) → WasReached line w → WasReached line new
+led_on : (line : Line) (w new : World) (event : Event) (answer : Answer) → world_step line w event ≡ Ok (answer, new)
+    → WasReached line w → WasReached line new
 led_on line w new event answer s before = record {
   events = before.events ++ event ∷ [];
   answers = before.answers ++ answer ∷ [];
   run = run_on line before.events (new_world line) w new before.answers event answer before.run s;
 }
 
-goes_on : (line : Line) (w new : World) (event : Event) (answer : Answer) → world_step line w event ≡ Ok (answer, new) → ∥ WasReached line w ∥₁ → ∥ WasReached line new ∥₁
+goes_on : (line : Line) (w new : World) (event : Event) (answer : Answer) → world_step line w event ≡ Ok (answer, new)
+    → ∥ WasReached line w ∥₁ → ∥ WasReached line new ∥₁
 goes_on line w new event answer s before = ∥∥₁_map before (led_on line w new event answer s)
 
 -- an event of a centre of the line leads on
-told_on : (line : Line) (w new : World) (c : ℕ) (event : CentreEvent) (answer : Answer) → is_centre line c ≡ true → MayBeTold w c event
-    → told_at line w c (takes line w c w.trains (one_event event)) ≡ Ok (answer, new) → ∥ WasReached line w ∥₁ → ∥ WasReached line new ∥₁
+told_on : (line : Line) (w new : World) (c : ℕ) (event : CentreEvent) (answer : Answer) → is_centre line c ≡ true
+    → MayBeTold w c event
+    → told_at line w c (takes line w c w.trains (one_event event)) ≡ Ok (answer, new) → ∥ WasReached line w ∥₁
+    → ∥ WasReached line new ∥₁
 told_on line w new c (of_centre.Train m) answer here never s before = absurd never
-told_on line w new c (of_centre.Set n) answer here said s before = goes_on line w new (Set c n) answer (set_told line w c n ∙ s) before
-told_on line w new c (of_centre.Unset n) answer here said s before = goes_on line w new (Unset c n) answer (unset_told line w c n ∙ s) before
+told_on line w new c (of_centre.Set n) answer here said s before =
+    goes_on line w new (Set c n) answer (set_told line w c n ∙ s) before
+told_on line w new c (of_centre.Unset n) answer here said s before =
+    goes_on line w new (Unset c n) answer (unset_told line w c n ∙ s) before
 told_on line w new c (of_centre.Deliver from frame) answer here sent s before =
     goes_on line w new (Delivery from c sent.0) answer (delivered line w from c sent.0 frame here sent.1 ∙ s) before
 
 -- ## A centre of the world steps
 
-module _ (line : Line) (cs : List Centre) (trains : List ℕ) (c : ℕ) (k new : Centre) (at : slice_get cs c ≡ Some k) (within : c < length cs)
-    (of_line : one.line_of k ≡ line) (of_number : one.number_of k ≡ c) (each : length cs ≡ length line.centres) (before : ∥ WasReached line (stands_for line cs trains) ∥₁) where
+module _ (line : Line) (cs : List Centre) (trains : List ℕ) (c : ℕ) (k new : Centre) (at : slice_get cs c ≡ Some k)
+    (within : c < length cs)
+    (of_line : one.line_of k ≡ line) (of_number : one.number_of k ≡ c) (each : length cs ≡ length line.centres)
+    (before : ∥ WasReached line (stands_for line cs trains) ∥₁) where
   -- a refused step leaves the world that was reached
-  pub reached_still : (after : List ℕ) → after ≡ trains → one.state_of new ≡ one.state_of k → ∥ WasReached line (stands_for line (set cs c new) after) ∥₁
-  reached_still after same kept = subst (λ (w : World). ∥ WasReached line w ∥₁) (sym (ap (stands_for line (set cs c new)) same ∙ world_kept line cs trains c k new at within kept)) before
+  pub reached_still : (after : List ℕ) → after ≡ trains → one.state_of new ≡ one.state_of k
+      → ∥ WasReached line (stands_for line (set cs c new) after) ∥₁
+  reached_still after same kept =
+      subst (λ (w : World). ∥ WasReached line w ∥₁)
+      (sym (ap (stands_for line (set cs c new)) same ∙ world_kept line cs trains c k new at within kept)) before
 
   -- after the event of the centre
-  pub reached_by_word : {X : Type 0} (outcome : X → Outcome) (event : CentreEvent) (result : Result X StepFault) → MayBeTold (stands_for line cs trains) c event
-      → Steps (λ x. (outcome x, one.state_of new)) result (step.step (one.line_of k) (one.number_of k) (one_event event) (one.state_of k)) → OnErr result (one.state_of new ≡ one.state_of k)
+  pub reached_by_word : {X : Type 0} (outcome : X → Outcome) (event : CentreEvent) (result : Result X StepFault)
+      → MayBeTold (stands_for line cs trains) c event
+      → Steps (λ x. (outcome x, one.state_of new)) result
+      (step.step (one.line_of k) (one.number_of k) (one_event event) (one.state_of k))
+      → OnErr result (one.state_of new ≡ one.state_of k)
       → ∥ WasReached line (stands_for line (set cs c new) trains) ∥₁
   reached_by_word outcome event (Ok x) said s kept =
-      told_on line (stands_for line cs trains) (stands_for line (set cs c new) trains) c event (Answered (outcome x)) (is_centre_within line cs c each within) said (told_ok line cs trains (one_event event) c k new at within of_line of_number each (outcome x) s) before
+      told_on line (stands_for line cs trains) (stands_for line (set cs c new) trains) c event (Answered (outcome x))
+      (is_centre_within line cs c each within) said
+      (told_ok line cs trains (one_event event) c k new at within of_line of_number each (outcome x) s) before
   reached_by_word outcome event (Err fault) said s kept = reached_still trains refl kept
 
   -- after a train's message
-  pub reached_by_message : (m : TrainMessage) (outcome : Outcome) (after : List ℕ) → step.step (one.line_of k) (one.number_of k) (step.Train m) (one.state_of k) ≡ Ok (outcome, one.state_of new)
+  pub reached_by_message : (m : TrainMessage) (outcome : Outcome) (after : List ℕ)
+      → step.step (one.line_of k) (one.number_of k) (step.Train m) (one.state_of k) ≡ Ok (outcome, one.state_of new)
       → after ≡ mention line m.nid_engine trains → ∥ WasReached line (stands_for line (set cs c new) after) ∥₁
   unfolding stands_for
   reached_by_message m outcome after s named =
-      goes_on line (stands_for line cs trains) (stands_for line (set cs c new) after) (Bytes c (Ok m)) (Answered outcome)
-      (at_centre line (stands_for line cs trains) cs c (Ok m) each within ∙ step_ok line cs trains (step.Train m) c k new at within of_line of_number outcome (mention line m.nid_engine trains) after s named) before
+      goes_on line (stands_for line cs trains) (stands_for line (set cs c new) after) (Bytes c (Ok m))
+      (Answered outcome)
+      (at_centre line (stands_for line cs trains) cs c (Ok m) each within
+      ∙ step_ok line cs trains (step.Train m) c k new at within of_line of_number outcome
+      (mention line m.nid_engine trains) after s named) before
 
   -- after a message of no train of the line, or its refusal
-  pub reached_by_foreign : {X : Type 0} (outcome : X → Outcome) (m : TrainMessage) (result : Result X StepFault) → train_number line m.nid_engine ≡ None
-      → Steps (λ x. (outcome x, one.state_of new)) result (step.step (one.line_of k) (one.number_of k) (step.Train m) (one.state_of k)) → OnErr result (one.state_of new ≡ one.state_of k)
+  pub reached_by_foreign : {X : Type 0} (outcome : X → Outcome) (m : TrainMessage) (result : Result X StepFault)
+      → train_number line m.nid_engine ≡ None
+      → Steps (λ x. (outcome x, one.state_of new)) result
+      (step.step (one.line_of k) (one.number_of k) (step.Train m) (one.state_of k))
+      → OnErr result (one.state_of new ≡ one.state_of k)
       → ∥ WasReached line (stands_for line (set cs c new) trains) ∥₁
-  reached_by_foreign outcome m (Ok x) none s kept = reached_by_message m (outcome x) trains s (sym (foreign_mention line trains m.nid_engine none))
+  reached_by_foreign outcome m (Ok x) none s kept =
+      reached_by_message m (outcome x) trains s (sym (foreign_mention line trains m.nid_engine none))
   reached_by_foreign outcome m (Err fault) none s kept = reached_still trains refl kept

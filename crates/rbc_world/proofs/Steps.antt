@@ -39,85 +39,118 @@ use Rattle.rbc_world.specs.Views.{answer_by, event_of, IsFaultOf, numbered}
 
 -- ## An event that centre c takes
 
-module _ (line : Line) (cs : List Centre) (trains : List ℕ) (event : step.Event) (c : ℕ) (k new : Centre) (at : slice_get cs c ≡ Some k) (within : c < length cs)
+module _ (line : Line) (cs : List Centre) (trains : List ℕ) (event : step.Event) (c : ℕ) (k new : Centre)
+    (at : slice_get cs c ≡ Some k) (within : c < length cs)
     (of_line : one.line_of k ≡ line) (of_number : one.number_of k ≡ c) where
   -- the step of the definition is that of the centre
-  same_step : step.step line c event ((stands_for line cs trains).at c) ≡ step.step (one.line_of k) (one.number_of k) event (one.state_of k)
+  same_step : step.step line c event ((stands_for line cs trains).at c)
+      ≡ step.step (one.line_of k) (one.number_of k) event (one.state_of k)
   unfolding stands_for
   same_step =
-      ap (λ l. step.step l c event (centres_of line cs c)) (sym of_line) ∙ ap (λ n. step.step (one.line_of k) n event (centres_of line cs c)) (sym of_number)
+      ap (λ l. step.step l c event (centres_of line cs c)) (sym of_line)
+      ∙ ap (λ n. step.step (one.line_of k) n event (centres_of line cs c)) (sym of_number)
       ∙ ap (step.step (one.line_of k) (one.number_of k) event) (centre_at line cs c k at)
 
-  pub step_ok : (outcome : Outcome) (named after : List ℕ) → step.step (one.line_of k) (one.number_of k) event (one.state_of k) ≡ Ok (outcome, one.state_of new) → after ≡ named
-      → takes line (stands_for line cs trains) c named event ≡ Ok (Answered outcome, stands_for line (set cs c new) after)
+  pub step_ok : (outcome : Outcome) (named after : List ℕ)
+      → step.step (one.line_of k) (one.number_of k) event (one.state_of k) ≡ Ok (outcome, one.state_of new)
+      → after ≡ named
+      → takes line (stands_for line cs trains) c named event
+      ≡ Ok (Answered outcome, stands_for line (set cs c new) after)
   unfolding stands_for
   step_ok outcome named after s same =
       ap (stepped (stands_for line cs trains) c named) (same_step ∙ s)
-      ∙ (λ i. Ok (Answered outcome, record { at = λ d. sym (centres_of-set line cs c new within d) i; trains = sym same i }))
+      ∙ (λ i.
+      Ok (Answered outcome, record { at = λ d. sym (centres_of-set line cs c new within d) i; trains = sym same i }))
 
-  pub step_err : (named : List ℕ) (fault : StepFault) → one_step.IsRefusal fault (step.step (one.line_of k) (one.number_of k) event (one.state_of k))
+  pub step_err : (named : List ℕ) (fault : StepFault)
+      → one_step.IsRefusal fault (step.step (one.line_of k) (one.number_of k) event (one.state_of k))
       → IsRefusal fault (takes line (stands_for line cs trains) c named event)
   step_err named Memory never = tt
   step_err named LinkFull s = ap (stepped (stands_for line cs trains) c named) (same_step ∙ s)
   step_err named ClockEnd s = ap (stepped (stands_for line cs trains) c named) (same_step ∙ s)
 
-pub world_kept : (line : Line) (cs : List Centre) (trains : List ℕ) (c : ℕ) (k new : Centre) → slice_get cs c ≡ Some k → c < length cs → one.state_of new ≡ one.state_of k → stands_for line (set cs c new) trains ≡ stands_for line cs trains
+pub world_kept : (line : Line) (cs : List Centre) (trains : List ℕ) (c : ℕ) (k new : Centre) → slice_get cs c ≡ Some k
+    → c < length cs → one.state_of new ≡ one.state_of k
+    → stands_for line (set cs c new) trains ≡ stands_for line cs trains
 unfolding stands_for
-world_kept line cs trains c k new at within same = λ i. record { at = λ d. centres_of-kept line cs c k new at within same d i; trains = trains }
+world_kept line cs trains c k new at within same =
+    λ i. record { at = λ d. centres_of-kept line cs c k new at within same d i; trains = trains }
 
 -- ## Bytes, sets and unsets
 
-pub is_centre_within : (line : Line) (cs : List Centre) (c : ℕ) → length cs ≡ length line.centres → c < length cs → is_centre line c ≡ true
+pub is_centre_within : (line : Line) (cs : List Centre) (c : ℕ) → length cs ≡ length line.centres → c < length cs
+    → is_centre line c ≡ true
 is_centre_within line cs c each within = grind (arith, nat_tests)
 
-is_centre_past : (line : Line) (cs : List Centre) (c : ℕ) → length cs ≡ length line.centres → length cs ≤ c → is_centre line c ≡ false
+is_centre_past : (line : Line) (cs : List Centre) (c : ℕ) → length cs ≡ length line.centres → length cs ≤ c
+    → is_centre line c ≡ false
 is_centre_past line cs c each past = grind (arith, nat_tests)
 
-pub no_centre : (line : Line) (w : World) (cs : List Centre) (c : ℕ) (read : Result TrainMessage ℕ) → length cs ≡ length line.centres → length cs ≤ c → world_step line w (Bytes c read) ≡ Ok (NoCentre, w)
+pub no_centre : (line : Line) (w : World) (cs : List Centre) (c : ℕ) (read : Result TrainMessage ℕ)
+    → length cs ≡ length line.centres → length cs ≤ c → world_step line w (Bytes c read) ≡ Ok (NoCentre, w)
 unfolding world_step
 no_centre line w cs c read each past = rw (is_centre_past line cs c each past) refl
 
-pub at_centre : (line : Line) (w : World) (cs : List Centre) (c : ℕ) (read : Result TrainMessage ℕ) → length cs ≡ length line.centres → c < length cs → world_step line w (Bytes c read) ≡ reads line w c read
+pub at_centre : (line : Line) (w : World) (cs : List Centre) (c : ℕ) (read : Result TrainMessage ℕ)
+    → length cs ≡ length line.centres → c < length cs → world_step line w (Bytes c read) ≡ reads line w c read
 unfolding world_step
 at_centre line w cs c read each within = rw (is_centre_within line cs c each within) refl
 
-pub told_within : (line : Line) (w : World) (cs : List Centre) (c : ℕ) (event : step.Event) → length cs ≡ length line.centres → c < length cs
+pub told_within : (line : Line) (w : World) (cs : List Centre) (c : ℕ) (event : step.Event)
+    → length cs ≡ length line.centres → c < length cs
     → told_at line w c (takes line w c w.trains event) ≡ takes line w c w.trains event
 told_within line w cs c event each within = rw (is_centre_within line cs c each within) refl
 
-pub told_ok : (line : Line) (cs : List Centre) (trains : List ℕ) (event : step.Event) (c : ℕ) (k new : Centre) → slice_get cs c ≡ Some k → c < length cs → one.line_of k ≡ line → one.number_of k ≡ c
-    → length cs ≡ length line.centres → (outcome : Outcome) → step.step (one.line_of k) (one.number_of k) event (one.state_of k) ≡ Ok (outcome, one.state_of new)
-    → told_at line (stands_for line cs trains) c (takes line (stands_for line cs trains) c (stands_for line cs trains).trains event) ≡ Ok (Answered outcome, stands_for line (set cs c new) trains)
+pub told_ok : (line : Line) (cs : List Centre) (trains : List ℕ) (event : step.Event) (c : ℕ) (k new : Centre)
+    → slice_get cs c ≡ Some k → c < length cs → one.line_of k ≡ line → one.number_of k ≡ c
+    → length cs ≡ length line.centres → (outcome : Outcome)
+    → step.step (one.line_of k) (one.number_of k) event (one.state_of k) ≡ Ok (outcome, one.state_of new)
+    → told_at line (stands_for line cs trains) c
+    (takes line (stands_for line cs trains) c (stands_for line cs trains).trains event)
+    ≡ Ok (Answered outcome, stands_for line (set cs c new) trains)
 unfolding stands_for
 told_ok line cs trains event c k new at within of_line of_number each outcome s =
-    told_within line (stands_for line cs trains) cs c event each within ∙ step_ok line cs trains event c k new at within of_line of_number outcome trains trains s refl
+    told_within line (stands_for line cs trains) cs c event each within
+    ∙ step_ok line cs trains event c k new at within of_line of_number outcome trains trains s refl
 
-pub told_err : (line : Line) (cs : List Centre) (trains : List ℕ) (event : step.Event) (c : ℕ) (k new : Centre) → slice_get cs c ≡ Some k → c < length cs → one.line_of k ≡ line → one.number_of k ≡ c
-    → length cs ≡ length line.centres → (fault : StepFault) → one_step.IsRefusal fault (step.step (one.line_of k) (one.number_of k) event (one.state_of k))
-    → IsRefusal fault (told_at line (stands_for line cs trains) c (takes line (stands_for line cs trains) c (stands_for line cs trains).trains event))
+pub told_err : (line : Line) (cs : List Centre) (trains : List ℕ) (event : step.Event) (c : ℕ) (k new : Centre)
+    → slice_get cs c ≡ Some k → c < length cs → one.line_of k ≡ line → one.number_of k ≡ c
+    → length cs ≡ length line.centres → (fault : StepFault)
+    → one_step.IsRefusal fault (step.step (one.line_of k) (one.number_of k) event (one.state_of k))
+    → IsRefusal fault (told_at line (stands_for line cs trains) c
+    (takes line (stands_for line cs trains) c (stands_for line cs trains).trains event))
 told_err line cs trains event c k new at within of_line of_number each fault s =
     rw (told_within line (stands_for line cs trains) cs c event each within)
     (step_err line cs trains event c k new at within of_line of_number (stands_for line cs trains).trains fault s)
 
-pub set_told : (line : Line) (w : World) (c s : ℕ) → world_step line w (Set c s) ≡ told_at line w c (takes line w c w.trains (step.Set s))
+pub set_told : (line : Line) (w : World) (c s : ℕ)
+    → world_step line w (Set c s) ≡ told_at line w c (takes line w c w.trains (step.Set s))
 unfolding world_step
 set_told line w c s = refl
 
-pub unset_told : (line : Line) (w : World) (c s : ℕ) → world_step line w (Unset c s) ≡ told_at line w c (takes line w c w.trains (step.Unset s))
+pub unset_told : (line : Line) (w : World) (c s : ℕ)
+    → world_step line w (Unset c s) ≡ told_at line w c (takes line w c w.trains (step.Unset s))
 unfolding world_step
 unset_told line w c s = refl
 
 -- ## Bytes that were read
 
-pub message_step : (line : Line) (w : World) (cs : List Centre) (c : ℕ) (read : Result TrainText MsgFault) (m : TrainText) → length cs ≡ length line.centres → c < length cs → read ≡ Ok m
-    → world_step line w (Bytes c (numbered read)) ≡ takes line w c (mention line m.nid_engine w.trains) (step.Train (step_message m))
-message_step line w cs c read m each within e = at_centre line w cs c (numbered read) each within ∙ ap (λ r. reads line w c (numbered r)) e
+pub message_step : (line : Line) (w : World) (cs : List Centre) (c : ℕ) (read : Result TrainText MsgFault)
+    (m : TrainText) → length cs ≡ length line.centres → c < length cs → read ≡ Ok m
+    → world_step line w (Bytes c (numbered read))
+    ≡ takes line w c (mention line m.nid_engine w.trains) (step.Train (step_message m))
+message_step line w cs c read m each within e =
+    at_centre line w cs c (numbered read) each within ∙ ap (λ r. reads line w c (numbered r)) e
 
-pub fault_step : (line : Line) (w : World) (cs : List Centre) (c : ℕ) (read : Result TrainText MsgFault) (fault : MsgFault) → length cs ≡ length line.centres → c < length cs → read ≡ Err fault
+pub fault_step : (line : Line) (w : World) (cs : List Centre) (c : ℕ) (read : Result TrainText MsgFault)
+    (fault : MsgFault) → length cs ≡ length line.centres → c < length cs → read ≡ Err fault
     → world_step line w (Bytes c (numbered read)) ≡ Ok (Fault (fault_number fault), w)
-fault_step line w cs c read fault each within e = at_centre line w cs c (numbered read) each within ∙ ap (λ r. reads line w c (numbered r)) e
+fault_step line w cs c read fault each within e =
+    at_centre line w cs c (numbered read) each within ∙ ap (λ r. reads line w c (numbered r)) e
 
-pub unread_gives : (line : Line) (w : World) (cs : List Centre) (c : ℕ) (read : Result TrainText MsgFault) (fault : MsgFault) (result : Result Reply StepFault) (out : OutcomeInMemory) → length cs ≡ length line.centres → c < length cs
+pub unread_gives : (line : Line) (w : World) (cs : List Centre) (c : ℕ) (read : Result TrainText MsgFault)
+    (fault : MsgFault) (result : Result Reply StepFault) (out : OutcomeInMemory) → length cs ≡ length line.centres
+    → c < length cs
     → (fault ≢ of_message.Memory → read ≡ Err fault) → IfOk result (IsFaultOf fault) → IfErr result (λ e. e ≡ Memory)
     → Gives (λ r. (answer_by r out, w)) result (world_step line w (Bytes c (numbered read)))
 unread_gives line w cs c read fault (Ok r) out each within shows ok err =
@@ -127,34 +160,45 @@ unread_gives line w cs c read fault (Err e) out each within shows ok err = rw er
 -- ## Deliveries
 
 -- a frame that was sent is delivered to its receiver, which is a centre of the line
-pub delivered : (line : Line) (w : World) (from to number : ℕ) (f : Frame) → is_centre line to ≡ true → frame_sent w from to number ≡ Some f
+pub delivered : (line : Line) (w : World) (from to number : ℕ) (f : Frame) → is_centre line to ≡ true
+    → frame_sent w from to number ≡ Some f
     → world_step line w (Delivery from to number) ≡ told_at line w to (takes line w to w.trains (step.Deliver from f))
 unfolding world_step
 delivered line w from to number f here sent =
-    rw here (ap (λ (o : Option Frame). option_map_or (λ g. takes line w to w.trains (step.Deliver from g)) o (Ok (NotSent, w))) sent)
+    rw here
+    (ap (λ (o : Option Frame). option_map_or (λ g. takes line w to w.trains (step.Deliver from g)) o (Ok (NotSent, w)))
+    sent)
 
-pub not_sent : (line : Line) (w : World) (from to number : ℕ) → frame_sent w from to number ≡ None → world_step line w (Delivery from to number) ≡ Ok (NotSent, w)
+pub not_sent : (line : Line) (w : World) (from to number : ℕ) → frame_sent w from to number ≡ None
+    → world_step line w (Delivery from to number) ≡ Ok (NotSent, w)
 unfolding world_step
-not_sent line w from to number none = ap (λ (o : Option Frame). option_map_or (λ g. takes line w to w.trains (step.Deliver from g)) o (Ok (NotSent, w))) none
+not_sent line w from to number none =
+    ap (λ (o : Option Frame). option_map_or (λ g. takes line w to w.trains (step.Deliver from g)) o (Ok (NotSent, w)))
+    none
 
 -- ## The piece, after the events that led to the world
 
-module _ {X : Type 0} (answer : X → Answer) (line : Line) (ok : IsLine line) (w new : World) (e : WorldEvent) (reached : ∥ WasReached line w ∥₁) where
+module _ {X : Type 0} (answer : X → Answer) (line : Line) (ok : IsLine line) (w new : World) (e : WorldEvent)
+    (reached : ∥ WasReached line w ∥₁) where
   -- the result of the definition of a world's step
   abbrev Steps : Result X StepFault → Type 0
   Steps result = Gives (λ x. (answer x, new)) result (world_step line w (event_of e))
 
-  pub step_piece : (result : Result X StepFault) → Steps result → IfOk result (λ x. Goes line (read_off line w) (event_of e) (answer x) (read_off line new))
+  pub step_piece : (result : Result X StepFault) → Steps result
+      → IfOk result (λ x. Goes line (read_off line w) (event_of e) (answer x) (read_off line new))
   step_piece (Ok x) s = goes line w (world_known line w ok reached) ok new (event_of e) (answer x) s
   step_piece (Err fault) s = tt
 
   -- the promises of the event are kept
-  pub step_promises : (result : Result X StepFault) → Steps result → IfOk result (λ x. KeepsPromises line w (event_of e) (answer x) new)
+  pub step_promises : (result : Result X StepFault) → Steps result
+      → IfOk result (λ x. KeepsPromises line w (event_of e) (answer x) new)
   step_promises (Ok x) s = promises line w (world_known line w ok reached) ok new (event_of e) (answer x) s
   step_promises (Err fault) s = tt
 
   -- on a one-centre line it leaves no choice
   pub step_forced : (d : ℕ) → IsOneCentreLine line d → (result : Result X StepFault) → Steps result
       → IfOk result (λ x. GoesForced line (read_off line w) (event_of e) (answer x) (read_off line new))
-  step_forced d one (Ok x) s = forced line ok d one w (world_known line w ok reached) (world_local line w ok reached d one) (event_of e) (answer x) new s
+  step_forced d one (Ok x) s =
+      forced line ok d one w (world_known line w ok reached) (world_local line w ok reached d one) (event_of e)
+      (answer x) new s
   step_forced d one (Err fault) s = tt

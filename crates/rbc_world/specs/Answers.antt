@@ -1,21 +1,21 @@
 -- The answers of a world's calls, beside their definitions.
-use Rattle.std.specs.Prelude.{◌≡◌, ◌≢◌, ◌⊎◌, ◌+◌, ℕ, true, List, [], ◌∷◌, ◌++◌, Some, Result, Ok, Err}
-use Rattle.rbc_spec.specs.Line.{Line, is_centre}
+use Rattle.std.specs.Prelude.{[], ◌++◌, ◌+◌, ◌∷◌, ◌≡◌, ◌≢◌, ◌⊎◌, Err, List, Ok, Result, Some, true, ℕ}
+use Rattle.rbc_centre.specs.declared.fault.StepFault.{StepFault}
+use Rattle.rbc_centre.specs.declared.fault.StepFault.TheVariants.{ClockEnd, LinkFull, Memory}
+use Rattle.rbc_centre.specs.rbc_train.Letters.{tells_others}
+use Rattle.rbc_msgs.specs.declared.fault.MsgFault.{MsgFault}
+use Rattle.rbc_msgs.specs.Kept.{IsAfterPackets, kept_packets}
+use Rattle.rbc_msgs.specs.StepMessage.{step_message}
+use Rattle.rbc_msgs.specs.TrainReading.{read_train}
+use Rattle.rbc_msgs.specs.TrainText.{TrainText}
 use Rattle.rbc_spec.specs.Centre.{Out}
 use Rattle.rbc_spec.specs.Frame.{Frame}
-use Rattle.rbc_spec.specs.World.{Event, World, new_world, mention, frame_sent, IsRefused}
-use Rattle.rbc_spec.specs.Step.{Refusal, ClockEnd as AtClockEnd, LinkFull as AtLinkFull}
-use Rattle.rbc_spec.specs.Message.{TrainMessage, InitiationOfSession}
-use Rattle.rbc_msgs.specs.StepMessage.{step_message}
-use Rattle.rbc_centre.specs.rbc_train.Letters.{tells_others}
-use Rattle.rbc_msgs.specs.TrainText.{TrainText}
-use Rattle.rbc_msgs.specs.TrainReading.{read_train}
-use Rattle.rbc_msgs.specs.Kept.{kept_packets, IsAfterPackets}
-use Rattle.rbc_msgs.specs.declared.fault.MsgFault.{MsgFault}
+use Rattle.rbc_spec.specs.Line.{is_centre, Line}
+use Rattle.rbc_spec.specs.Message.{InitiationOfSession, TrainMessage}
+use Rattle.rbc_spec.specs.Step.{ClockEnd as AtClockEnd, LinkFull as AtLinkFull, Refusal}
+use Rattle.rbc_spec.specs.World.{Event, frame_sent, IsRefused, mention, new_world, World}
 use Rattle.rbc_world.specs.declared.event.WorldEvent.{WorldEvent}
 use Rattle.rbc_world.specs.declared.event.WorldEvent.TheVariants as event
-use Rattle.rbc_centre.specs.declared.fault.StepFault.{StepFault}
-use Rattle.rbc_centre.specs.declared.fault.StepFault.TheVariants.{Memory, LinkFull, ClockEnd}
 
 -- while memory suffices, the fault is the refusal of the definition
 abbrev pub IsRefusal : {Y : Type 0} → StepFault → Result Y Refusal → Type 0

@@ -1,9 +1,9 @@
 -- The places in which a train's mission is looked up: the centres of the line, and the Yields on the way between them.
-use Rattle.std.specs.Prelude.{ℕ, List, Option, slice_get}
 use Rattle.std.specs.List.{filter_map}
+use Rattle.std.specs.Prelude.{List, Option, slice_get, ℕ}
 use Rattle.rbc_spec.specs.Line.{Line}
-use Rattle.rbc_spec.specs.World.{World, way}
-use Rattle.rbc_spec.specs.ReadOff.{Held, held_at, handed_over, centres_of}
+use Rattle.rbc_spec.specs.ReadOff.{centres_of, handed_over, Held, held_at}
+use Rattle.rbc_spec.specs.World.{way, World}
 
 -- the value for the first item that has one
 abbrev pub first_given : {X Y : Type 0} → (X → Option Y) → List X → Option Y

@@ -1,6 +1,6 @@
 -- Which trains of the line messages have named.
-use Rattle.std.specs.Prelude.{◌≡◌, ◌==◌, ℕ, Bool, List, Some, slice_get}
 use Rattle.std.specs.List.{list_any}
+use Rattle.std.specs.Prelude.{◌==◌, ◌≡◌, Bool, List, slice_get, Some, ℕ}
 use Rattle.rbc_spec.specs.Line.{Line, train_number}
 
 -- the mark at a train's position in the line file is true if and only if the train is in this list

@@ -1,9 +1,9 @@
 -- Worlds that events led to.
-use Rattle.std.specs.Prelude.{◌≡◌, ℕ, List, Ok, Some}
-use Rattle.rbc_spec.specs.Line.{Line}
-use Rattle.rbc_spec.specs.World.{World, Event, Answer, new_world, frame_sent, world_run}
+use Rattle.std.specs.Prelude.{◌≡◌, List, Ok, Some, ℕ}
 use Rattle.rbc_centre.specs.declared.event.Event.{Event as CentreEvent}
 use Rattle.rbc_centre.specs.declared.event.Event.TheVariants as of_centre
+use Rattle.rbc_spec.specs.Line.{Line}
+use Rattle.rbc_spec.specs.World.{Answer, Event, frame_sent, new_world, World, world_run}
 
 -- some list of events, each with its answer, led from the line's initial state to this world
 pub record WasReached (line : Line) (w : World) : Type 0 where

@@ -1,11 +1,11 @@
 -- The state of a world.
-use Rattle.std.specs.Prelude.{◌≡◌, ℕ, List, slice_get}
 use Rattle.std.specs.Option.{option_map_or}
-use Rattle.rbc_spec.specs.Line.{Line}
-use Rattle.rbc_spec.specs.Centre as centre
-use Rattle.rbc_spec.specs.World as spec
-use Rattle.rbc_centre.specs.States as one
+use Rattle.std.specs.Prelude.{◌≡◌, List, slice_get, ℕ}
 use Rattle.rbc_centre.specs.declared.centre.Centre.{Centre}
+use Rattle.rbc_centre.specs.States as one
+use Rattle.rbc_spec.specs.Centre as centre
+use Rattle.rbc_spec.specs.Line.{Line}
+use Rattle.rbc_spec.specs.World as spec
 
 -- the centres by their numbers; any other number has the initial state
 abbrev pub centres_of : Line → List Centre → ℕ → centre.Centre

@@ -1,12 +1,12 @@
 -- The theorems of a step of a world, and of the world that it leaves.
 use Rattle.std.specs.Prelude.{ℕ}
-use Rattle.rbc_spec.specs.Line.{Line}
-use Rattle.rbc_spec.specs.World.{World, Event, Answer}
-use Rattle.rbc_spec.specs.Run.{Goes}
-use Rattle.rbc_spec.specs.ReadOff.{StandsFor, read_off}
-use Rattle.rbc_spec.specs.Promises.{IsSound, KeepsPromises}
-use Rattle.rbc_spec.specs.Theorems.{IsOneCentreLine, GoesForced}
 use Rattle.law_outside.specs.Outside.{StaysSafeOutside}
+use Rattle.rbc_spec.specs.Line.{Line}
+use Rattle.rbc_spec.specs.Promises.{IsSound, KeepsPromises}
+use Rattle.rbc_spec.specs.ReadOff.{read_off, StandsFor}
+use Rattle.rbc_spec.specs.Run.{Goes}
+use Rattle.rbc_spec.specs.Theorems.{GoesForced, IsOneCentreLine}
+use Rattle.rbc_spec.specs.World.{Answer, Event, World}
 use Rattle.rbc_world.specs.Reached.{WasReached}
 
 -- the answer to this event, and the world after it

@@ -1,23 +1,23 @@
 -- The relation between a view of a line and its state.
-use Rattle.std.specs.Prelude.{◌≡◌, ℕ, List, length, slice_get, Option, Some, None, IfSome, option_and_then, option_map}
+use Rattle.std.specs.Prelude.{◌≡◌, IfSome, length, List, None, Option, option_and_then, option_map, slice_get, Some, ℕ}
+use Rattle.rbc_centre.specs.rbc_place.Places.{place_of}
+use Rattle.rbc_centre.specs.rbc_session.SessionStates.{phase_of}
+use Rattle.rbc_centre.specs.rbc_shorten.Facts.{standing_of}
+use Rattle.rbc_line.specs.SectionRuns.{run_of}
 use Rattle.rbc_spec.specs.Line.{Line}
 use Rattle.rbc_spec.specs.LineCentre as line_centre
-use Rattle.rbc_spec.specs.LineCentre.{LineState, IsHand}
-use Rattle.rbc_spec.specs.World.{World}
+use Rattle.rbc_spec.specs.LineCentre.{IsHand, LineState}
 use Rattle.rbc_spec.specs.ReadOff.{Held, held, read_off}
-use Rattle.rbc_line.specs.SectionRuns.{run_of}
-use Rattle.rbc_centre.specs.rbc_place.Places.{place_of}
-use Rattle.rbc_centre.specs.rbc_shorten.Facts.{standing_of}
-use Rattle.rbc_centre.specs.rbc_session.SessionStates.{phase_of}
+use Rattle.rbc_spec.specs.World.{World}
+use Rattle.rbc_world.specs.declared.view.LineView.{LineView}
 use Rattle.rbc_world.specs.declared.view.Mark.{Mark}
 use Rattle.rbc_world.specs.declared.view.Mark.TheVariants as mark
-use Rattle.rbc_world.specs.declared.view.Supervisor.{Supervisor}
-use Rattle.rbc_world.specs.declared.view.Supervisor.TheVariants as supervisor
+use Rattle.rbc_world.specs.declared.view.MissionView.{MissionView}
 use Rattle.rbc_world.specs.declared.view.SectionView.{SectionView}
 use Rattle.rbc_world.specs.declared.view.SessionView.{SessionView}
-use Rattle.rbc_world.specs.declared.view.MissionView.{MissionView}
+use Rattle.rbc_world.specs.declared.view.Supervisor.{Supervisor}
+use Rattle.rbc_world.specs.declared.view.Supervisor.TheVariants as supervisor
 use Rattle.rbc_world.specs.declared.view.TrainView.{TrainView}
-use Rattle.rbc_world.specs.declared.view.LineView.{LineView}
 
 abbrev pub mark_shown : Mark → line_centre.Mark
 mark_shown mark.Shut = line_centre.Shut

@@ -1,25 +1,25 @@
 -- The plain data of events and answers.
-use Rattle.std.specs.Prelude.{◌≡◌, ◌≢◌, ℕ, [], ◌++◌, map, Option, Some, None, is_none, Result, Ok, Err}
-use Rattle.rbc_spec.specs.Message.{TrainMessage}
-use Rattle.rbc_spec.specs.World.{Event, Bytes, Set, Unset, Delivery}
-use Rattle.rbc_spec.specs.Outcome.{Told}
-use Rattle.rbc_spec.specs.World as world
+use Rattle.std.specs.Prelude.{[], ◌++◌, ◌≡◌, ◌≢◌, Err, is_none, map, None, Ok, Option, Result, Some, ℕ}
 use Rattle.law_outside.specs.Outside.{Spoken}
-use Rattle.rbc_msgs.specs.TrainText.{TrainText}
-use Rattle.rbc_msgs.specs.StepMessage.{step_message}
-use Rattle.rbc_msgs.specs.Faults.{fault_number}
-use Rattle.rbc_msgs.specs.TrainReading.{read_train}
-use Rattle.rbc_msgs.specs.declared.fault.MsgFault.{MsgFault}
-use Rattle.rbc_msgs.specs.declared.fault.MsgFault.TheVariants.{Memory}
+use Rattle.rbc_centre.specs.declared.outcome.Outcome.{Outcome}
 use Rattle.rbc_centre.specs.rbc_train.Sayings.{saying_of}
 use Rattle.rbc_centre.specs.Views.{outcome_of, words_of}
-use Rattle.rbc_world.specs.declared.event.WorldEvent.{WorldEvent}
-use Rattle.rbc_world.specs.declared.event.WorldEvent.TheVariants as event
+use Rattle.rbc_msgs.specs.declared.fault.MsgFault.{MsgFault}
+use Rattle.rbc_msgs.specs.declared.fault.MsgFault.TheVariants.{Memory}
+use Rattle.rbc_msgs.specs.Faults.{fault_number}
+use Rattle.rbc_msgs.specs.StepMessage.{step_message}
+use Rattle.rbc_msgs.specs.TrainReading.{read_train}
+use Rattle.rbc_msgs.specs.TrainText.{TrainText}
+use Rattle.rbc_spec.specs.Message.{TrainMessage}
+use Rattle.rbc_spec.specs.Outcome.{Told}
+use Rattle.rbc_spec.specs.World as world
+use Rattle.rbc_spec.specs.World.{Bytes, Delivery, Event, Set, Unset}
 use Rattle.rbc_world.specs.declared.event.Answer.{Answer}
 use Rattle.rbc_world.specs.declared.event.Answer.TheVariants as answer
 use Rattle.rbc_world.specs.declared.event.Reply.{Reply}
 use Rattle.rbc_world.specs.declared.event.Reply.TheVariants as reply
-use Rattle.rbc_centre.specs.declared.outcome.Outcome.{Outcome}
+use Rattle.rbc_world.specs.declared.event.WorldEvent.{WorldEvent}
+use Rattle.rbc_world.specs.declared.event.WorldEvent.TheVariants as event
 
 -- the fields of a message that a step reads, or a fault by its number
 abbrev pub numbered : Result TrainText MsgFault → Result TrainMessage ℕ

@@ -1,8 +1,8 @@
 -- The plain data of a world in memory.
 use Rattle.rbc_spec.specs.Line.{Line}
 use Rattle.rbc_spec.specs.World as spec
-use Rattle.rbc_world.specs.States.{stands_for}
 use Rattle.rbc_world.specs.declared.world.World.{World}
+use Rattle.rbc_world.specs.States.{stands_for}
 
 -- the line of a world, and its centres and trains
 abbrev pub line_of : World → Line

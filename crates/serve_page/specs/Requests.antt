@@ -1,15 +1,16 @@
 -- The meaning of a request.
-use Rattle.std.specs.Prelude.{◌≡◌, ◌≢◌, ◌<◌, ◌≤◌, ℕ, Bool, true, false, ◌&&◌, ◌||◌, ◌==◌, List, [], ◌∷◌, length, take, drop, map, filter, position, codes, Option, Some, None, if◌then◌else◌, ⊤}
 use Rattle.std.specs.Char.{to_ascii_lowercase}
+use Rattle.std.specs.Prelude.{[], ◌&&◌, ◌<◌, ◌==◌, ◌||◌, ◌∷◌, ◌≡◌, ◌≢◌, ◌≤◌, Bool, codes, drop, false, filter}
+use Rattle.std.specs.Prelude.{if◌then◌else◌, length, List, map, None, Option, position, Some, take, true, ℕ, ⊤}
 use Rattle.std.specs.Str.{bytes_eq}
-use Rattle.httparse.specs.Grammar.{RequestHead, ReadsRequest, MayBecomeRequest}
-use Rattle.httparse.specs.Spans.{span_bytes, name_and_value}
 use Rattle.httparse.specs.declared.spans.HeaderSpan.{HeaderSpan}
+use Rattle.httparse.specs.Grammar.{MayBecomeRequest, ReadsRequest, RequestHead}
+use Rattle.httparse.specs.Spans.{name_and_value, span_bytes}
 use Rattle.serve_page.specs.declared.request.Asked.{Asked}
 use Rattle.serve_page.specs.declared.request.Asked.TheVariants as asked
-use Rattle.serve_page.specs.declared.request.Refusal.TheVariants as refusal
 use Rattle.serve_page.specs.declared.request.Hosts.{Hosts}
 use Rattle.serve_page.specs.declared.request.Hosts.TheVariants as hosts
+use Rattle.serve_page.specs.declared.request.Refusal.TheVariants as refusal
 
 -- a field of this name names a host
 abbrev pub names_host : List ℕ → Bool
@@ -59,7 +60,8 @@ is_absolute target = bytes_eq (take 7 target) (codes "http://")
 
 -- a target names no host, or this one
 abbrev pub is_ours : List ℕ → Bool
-is_ours target = if is_absolute target then is_loopback (host_before (drop 7 target) (slash_in (drop 7 target))) else true
+is_ours target =
+    if is_absolute target then is_loopback (host_before (drop 7 target) (slash_in (drop 7 target))) else true
 
 -- a host is this one, and the target names no other
 abbrev pub is_for_us : List ℕ → List ℕ → Bool

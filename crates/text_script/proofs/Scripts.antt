@@ -1,18 +1,20 @@
 -- The entries of a script grow with the lines read. Numbers are read.
-use Rattle.std.proofs.Common.{◌≡◌, ◌≢◌, ℕ, Bor, ◌+◌, ◌<◌, ◌^◌, ◌&&◌, Bool, true, false, cond, List, [], ◌∷◌, ◌++◌, length, get_or, take, map, Some, None, Ok, Err, refl, ap, sym, ◌∙◌, rules, arith, tests, below_more, nat_lt}
+use Rattle.std.proofs.Common.{[], ◌&&◌, ◌++◌, ◌+◌, ◌<◌, ◌^◌, ◌∙◌, ◌∷◌, ◌≡◌, ◌≢◌, ap, arith, below_more, Bool, Bor, cond}
+use Rattle.std.proofs.Common.{Err, false, get_or, length, List, map, nat_lt, None, Ok, refl, rules, Some, sym, take}
+use Rattle.std.proofs.Common.{tests, true, ℕ}
+use Rattle.std.proofs.lemmas.List.{map-append}
+use Rattle.std.proofs.lemmas.List.Elements.{filter_more}
+use Rattle.std.proofs.lemmas.List.Sums.{position_or_len_is}
+use Rattle.std.proofs.lemmas.Str.Parse.{IsNumeralModel, numerals_by_value, parse_plain, tells_all_ascii_digits}
 use Rattle.std.specs.Cmp.Derive.{both_true}
 use Rattle.std.specs.List.{filter, position_or_len}
 use Rattle.std.specs.Str.{all_ascii_digits}
 use Rattle.std.specs.Str.Parse.{digits_value, ParsesUnsigned}
-use Rattle.std.proofs.lemmas.List.{map-append}
-use Rattle.std.proofs.lemmas.List.Elements.{filter_more}
-use Rattle.std.proofs.lemmas.List.Sums.{position_or_len_is}
-use Rattle.std.proofs.lemmas.Str.Parse.{IsNumeralModel, numerals_by_value, tells_all_ascii_digits, parse_plain}
 use Rattle.rbc_spec.specs.Line.{Line}
 use Rattle.text_script.specs.declared.script.Entry.{Entry}
 use Rattle.text_script.specs.declared.script.ScriptFault.TheVariants.{Form}
+use Rattle.text_script.specs.Entries.{AreAsked, asked_of, IsFirstFault}
 use Rattle.text_script.specs.Script.{asked, is_faulty, is_kept, number_of, row_asks}
-use Rattle.text_script.specs.Entries.{AreAsked, IsFirstFault, asked_of}
 
 -- the entries are the requests of the first i lines, and none of these lines is faulty
 pub record Reads (line : Line) (rows : List (List ℕ)) (i : ℕ) (entries : List Entry) : Type 0 where
@@ -64,7 +66,8 @@ own = numerals_by_value _ tells_all_ascii_digits
 abbrev is_number : ℕ → List ℕ → Bool
 is_number bits bs = nat_lt 0 (length bs) && all_ascii_digits bs && nat_lt (digits_value 10 bs) (2 ^ bits)
 
-is_number-true : (bits : ℕ) (bs : List ℕ) → all_ascii_digits bs ≡ true → 0 < length bs → digits_value 10 bs < 2 ^ bits → is_number bits bs ≡ true
+is_number-true : (bits : ℕ) (bs : List ℕ) → all_ascii_digits bs ≡ true → 0 < length bs → digits_value 10 bs < 2 ^ bits
+    → is_number bits bs ≡ true
 is_number-true bits bs digits some fits =
     let a : nat_lt 0 (length bs) ≡ true = search (rules, tests) in
     let b : nat_lt (digits_value 10 bs) (2 ^ bits) ≡ true = search (rules, tests) in
@@ -82,17 +85,20 @@ if_false : {A : Type 0} (b : Bool) (x : A) → (b ≡ true → ⊥) → cond b (
 if_false true x h = absurd (h refl)
 if_false false x h = refl
 
-pub number_of-Ok : (bits : ℕ) (E : Type 0) (bs : List ℕ) (n : ℕ) → ParsesUnsigned {E = E} bits 10 bs (Ok n) → (get_or bs 0 0 ≡ 43 → ⊥) → number_of bits bs ≡ Some n
+pub number_of-Ok : (bits : ℕ) (E : Type 0) (bs : List ℕ) (n : ℕ) → ParsesUnsigned {E = E} bits 10 bs (Ok n)
+    → (get_or bs 0 0 ≡ 43 → ⊥) → number_of bits bs ≡ Some n
 number_of-Ok bits E bs n h plain =
     let p = parse_plain own {E = E} bits bs (Ok n) h plain in
     let t : is_number bits bs ≡ true = is_number-true bits bs p.0.0 p.0.1 p.0.2 in
     ap (λ b. cond b (Some (digits_value 10 bs)) None) t ∙ ap Some (sym p.1)
 
-pub number_of-Err : (bits : ℕ) (E : Type 0) (bs : List ℕ) (e : E) → ParsesUnsigned {E = E} bits 10 bs (Err e) → (get_or bs 0 0 ≡ 43 → ⊥) → number_of bits bs ≡ None
+pub number_of-Err : (bits : ℕ) (E : Type 0) (bs : List ℕ) (e : E) → ParsesUnsigned {E = E} bits 10 bs (Err e)
+    → (get_or bs 0 0 ≡ 43 → ⊥) → number_of bits bs ≡ None
 number_of-Err bits E bs e h plain =
     let p = parse_plain own {E = E} bits bs (Err e) h plain in
     if_false (is_number bits bs) (digits_value 10 bs) (λ t.
     let front = true_left (nat_lt 0 (length bs) && all_ascii_digits bs) (nat_lt (digits_value 10 bs) (2 ^ bits)) t in
     let some : nat_lt 0 (length bs) ≡ true = true_left _ (all_ascii_digits bs) front in
-    let fits : nat_lt (digits_value 10 bs) (2 ^ bits) ≡ true = true_right (nat_lt 0 (length bs) && all_ascii_digits bs) _ t in
+    let fits : nat_lt (digits_value 10 bs) (2 ^ bits) ≡ true =
+    true_right (nat_lt 0 (length bs) && all_ascii_digits bs) _ t in
     p (true_right (nat_lt 0 (length bs)) _ front, search (rules, tests), search (rules, tests)))

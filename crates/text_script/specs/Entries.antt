@@ -1,16 +1,17 @@
 -- The requests of a script's entries in memory, and when they are the requests of a text.
-use Rattle.std.specs.Prelude.{◌≡◌, ℕ, ◌+◌, List, map, filter, position, Option, Some, None, option_map, Result, Ok, Err, ⊤}
+use Rattle.std.specs.Prelude.{◌+◌, ◌≡◌, Err, filter, List, map, None, Ok, Option, option_map, position, Result, Some, ℕ}
+use Rattle.std.specs.Prelude.{⊤}
 use Rattle.rbc_spec.specs.Line.{Line}
 use Rattle.rbc_world.specs.declared.event.WorldEvent.{WorldEvent}
-use Rattle.rbc_world.specs.declared.event.WorldEvent.TheVariants.{Train, Set, Unset, Deliver}
+use Rattle.rbc_world.specs.declared.event.WorldEvent.TheVariants.{Deliver, Set, Train, Unset}
 use Rattle.text_script.specs.declared.script.Entry.{Entry}
 use Rattle.text_script.specs.declared.script.Entry.TheVariants as entry
 use Rattle.text_script.specs.declared.script.EntryFault.{EntryFault}
 use Rattle.text_script.specs.declared.script.EntryFault.TheVariants as refused
 use Rattle.text_script.specs.declared.script.ScriptFault.{ScriptFault}
-use Rattle.text_script.specs.declared.script.ScriptFault.TheVariants.{Memory, Form}
+use Rattle.text_script.specs.declared.script.ScriptFault.TheVariants.{Form, Memory}
 use Rattle.text_script.specs.Script as script
-use Rattle.text_script.specs.Script.{Asked, row_asks, is_kept, is_faulty, rows}
+use Rattle.text_script.specs.Script.{Asked, is_faulty, is_kept, row_asks, rows}
 
 -- the result is the one of the format, unless memory ran out
 abbrev pub Finds : {T A : Type 0} → (T → A) → Result T EntryFault → Option A → Type 0

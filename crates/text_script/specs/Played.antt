@@ -1,16 +1,16 @@
 -- A script is played on a world, and each step is reported.
-use Rattle.std.specs.Prelude.{◌≡◌, List, [], ◌∷◌, ◌++◌, Result, Ok, Err}
+use Rattle.std.specs.Prelude.{[], ◌++◌, ◌∷◌, ◌≡◌, Err, List, Ok, Result}
 use Rattle.rbc_spec.specs.Line.{Line}
 use Rattle.rbc_spec.specs.World as spec
 use Rattle.rbc_spec.specs.World.{World, world_step}
-use Rattle.rbc_world.specs.rbc_centre.declared.fault.StepFault.{StepFault}
 use Rattle.rbc_world.specs.Answers.{IsRefusal}
-use Rattle.rbc_world.specs.Views.{event_of}
 use Rattle.rbc_world.specs.declared.event.WorldEvent.{WorldEvent}
-use Rattle.text_script.specs.declared.script.Entry.{Entry}
-use Rattle.text_script.specs.declared.script.Entry.TheVariants as entry
+use Rattle.rbc_world.specs.rbc_centre.declared.fault.StepFault.{StepFault}
+use Rattle.rbc_world.specs.Views.{event_of}
 use Rattle.text_script.specs.declared.play.PlayFault.{PlayFault}
 use Rattle.text_script.specs.declared.play.PlayFault.TheVariants.{Refused, Untold}
+use Rattle.text_script.specs.declared.script.Entry.{Entry}
+use Rattle.text_script.specs.declared.script.Entry.TheVariants as entry
 
 -- a report to the observer: the centres of a line, an event that comes next, or the answer to that event
 pub data Telling : Type 0 where

@@ -1,8 +1,9 @@
 -- Scripts as bytes: the lines of a script, and the request of each.
-use Rattle.std.specs.Prelude.{ℕ, ◌^◌, ◌==◌, ◌&&◌, Bool, not, if◌then◌else◌, List, [], ◌∷◌, length, slice_index, codes, nat_lt, position, Option, Some, None, is_none, option_map, option_and_then}
 use Rattle.std.specs.List.{slice_split}
+use Rattle.std.specs.Prelude.{[], ◌&&◌, ◌==◌, ◌^◌, ◌∷◌, Bool, codes, if◌then◌else◌, is_none, length, List, nat_lt, None}
+use Rattle.std.specs.Prelude.{not, Option, option_and_then, option_map, position, slice_index, Some, ℕ}
 use Rattle.std.specs.Result.{result_ok}
-use Rattle.std.specs.Str.{bytes_eq, all_ascii_digits}
+use Rattle.std.specs.Str.{all_ascii_digits, bytes_eq}
 use Rattle.std.specs.Str.Parse.{digits_value}
 use Rattle.hex.specs.Hex.{decode_of}
 use Rattle.rbc_spec.specs.Line.{Line}

@@ -29,19 +29,23 @@ goes_on line front e w x a so_far step stamp = record {
   answers = so_far.answers ++ a ∷ [];
   run = ap (world_run line (new_world line)) (map_push happened front e)
       ∙ run_on line (map happened front) (new_world line) w x so_far.answers (happened e) a so_far.run step;
-  stamps = map_push stamp_of so_far.answers a ∙ (λ i. so_far.stamps i ++ stamp i ∷ []) ∙ sym (map_push (λ (d : Entry). Some d.stamp) front e);
+  stamps =
+      map_push stamp_of so_far.answers a ∙ (λ i. so_far.stamps i ++ stamp i ∷ [])
+      ∙ sym (map_push (λ (d : Entry). Some d.stamp) front e);
 }
 
 -- ## A list that is cut at one of its entries
 
-pub cut_at : {X : Type 0} (xs : List X) (k : ℕ) (x : X) → k < length xs → x ≡ get_or xs k x → xs ≡ take k xs ++ x ∷ drop (k + 1) xs
+pub cut_at : {X : Type 0} (xs : List X) (k : ℕ) (x : X) → k < length xs → x ≡ get_or xs k x
+    → xs ≡ take k xs ++ x ∷ drop (k + 1) xs
 cut_at [] k x low is = absurd (let never : ⊥ = omega arith in never)
 cut_at (y ∷ ys) zero x low is = ap (λ z. z ∷ ys) (sym is)
 cut_at (y ∷ ys) (suc k) x low is =
     let next : suc k + 1 ≡ suc (k + 1) = omega arith in
     rw next (ap (λ zs. y ∷ zs) (cut_at ys k x (omega arith) is))
 
-pub one_more : {X : Type 0} (xs : List X) (k : ℕ) (x : X) → k < length xs → x ≡ get_or xs k x → take (k + 1) xs ≡ take k xs ++ x ∷ []
+pub one_more : {X : Type 0} (xs : List X) (k : ℕ) (x : X) → k < length xs → x ≡ get_or xs k x
+    → take (k + 1) xs ≡ take k xs ++ x ∷ []
 one_more [] k x low is = absurd (let never : ⊥ = omega arith in never)
 one_more (y ∷ ys) zero x low is = ap (λ z. z ∷ []) (sym is)
 one_more (y ∷ ys) (suc k) x low is =
@@ -56,7 +60,8 @@ all_taken (y ∷ ys) (suc k) low = ap (λ zs. y ∷ zs) (all_taken ys k (omega a
 
 -- ## Steps that are refused
 
-refused_as : (line : Line) (es front rest : List Entry) (e : Entry) (w : World) (why : Refusal) → es ≡ front ++ e ∷ rest → IsRerun line front w
+refused_as : (line : Line) (es front rest : List Entry) (e : Entry) (w : World) (why : Refusal) → es ≡ front ++ e ∷ rest
+    → IsRerun line front w
     → world_step line w (happened e) ≡ Err why → IsRefused line (new_world line) (map happened es) why
 refused_as line es front rest e w why cut so_far refusal = record {
   front = map happened front;
@@ -69,8 +74,11 @@ refused_as line es front rest e w why cut so_far refusal = record {
   refused = refusal;
 }
 
-pub refused : (line : Line) (es front rest : List Entry) (e : Entry) (w : World) (fault : StepFault) → es ≡ front ++ e ∷ rest → IsRerun line front w
+pub refused : (line : Line) (es front rest : List Entry) (e : Entry) (w : World) (fault : StepFault)
+    → es ≡ front ++ e ∷ rest → IsRerun line front w
     → IsRefusal fault (world_step line w (happened e)) → IsRefusedRun line (map happened es) fault
 refused line es front rest e w Memory cut so_far refusal = tt
-refused line es front rest e w LinkFull cut so_far refusal = refused_as line es front rest e w AtLinkFull cut so_far refusal
-refused line es front rest e w ClockEnd cut so_far refusal = refused_as line es front rest e w AtClockEnd cut so_far refusal
+refused line es front rest e w LinkFull cut so_far refusal =
+    refused_as line es front rest e w AtLinkFull cut so_far refusal
+refused line es front rest e w ClockEnd cut so_far refusal =
+    refused_as line es front rest e w AtClockEnd cut so_far refusal

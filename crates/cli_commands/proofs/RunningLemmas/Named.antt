@@ -1,16 +1,18 @@
 -- The bytes of a writer that is known by its name.
-use Rattle.std.proofs.Common.{◌≡◌, ℕ, List, [], ◌∷◌, ◌++◌, Option, Some, None, Result, Ok, Err, OnOk, is_err, false, sym, ap, subst, ◌∙◌, append-nil}
-use Rattle.std.specs.Io.KnownBytes.{Keeps, Appends, WriteAppends, append_known}
-use Rattle.rbc_spec.specs.Line.{Line}
-use Rattle.text_script.specs.declared.script.Entry.{Entry}
-use Rattle.text_script.specs.declared.play.PlayFault.{PlayFault}
-use Rattle.text_script.specs.declared.play.PlayFault.TheVariants.{Refused, Untold}
+use Rattle.std.proofs.Common.{[], ◌++◌, ◌∙◌, ◌∷◌, ◌≡◌, ap, append-nil, Err, false, is_err, List, None, Ok, OnOk, Option}
+use Rattle.std.proofs.Common.{Result, Some, subst, sym, ℕ}
+use Rattle.std.specs.Io.KnownBytes.{append_known, Appends, Keeps, WriteAppends}
 use Rattle.cli_commands.specs.Running.Named.{named}
 use Rattle.cli_commands.specs.Running.Printed.{LeavesPrint}
+use Rattle.rbc_spec.specs.Line.{Line}
+use Rattle.text_script.specs.declared.play.PlayFault.{PlayFault}
+use Rattle.text_script.specs.declared.play.PlayFault.TheVariants.{Refused, Untold}
+use Rattle.text_script.specs.declared.script.Entry.{Entry}
 
 -- ## One write
 
-pub named_appends : (name : ℕ) (a b : Option (List ℕ)) (bytes : List ℕ) → Appends a b bytes → Appends (named name a) (named name b) bytes
+pub named_appends : (name : ℕ) (a b : Option (List ℕ)) (bytes : List ℕ) → Appends a b bytes
+    → Appends (named name a) (named name b) bytes
 named_appends name None b bytes h = tt
 named_appends name (Some xs) None bytes h = absurd h
 named_appends name (Some xs) (Some ys) bytes h = ap (λ zs. name ∷ zs) h
@@ -20,11 +22,13 @@ named_keeps name None b h = tt
 named_keeps name (Some xs) None h = absurd h
 named_keeps name (Some xs) (Some ys) h = ap (λ zs. name ∷ zs) h
 
-pub named_writes : {E : Type 0} (name : ℕ) (a b : Option (List ℕ)) (result : Result ℕ E) (bytes : List ℕ) → WriteAppends a b result bytes → WriteAppends (named name a) (named name b) result bytes
+pub named_writes : {E : Type 0} (name : ℕ) (a b : Option (List ℕ)) (result : Result ℕ E) (bytes : List ℕ)
+    → WriteAppends a b result bytes → WriteAppends (named name a) (named name b) result bytes
 named_writes name a b (Ok n) bytes h = named_appends name a b _ h
 named_writes name a b (Err why) bytes h = named_keeps name a b h
 
-pub named_all : {T E : Type 0} (name : ℕ) (a b : Option (List ℕ)) (result : Result T E) (bytes : List ℕ) → OnOk result (Appends a b bytes) → OnOk result (Appends (named name a) (named name b) bytes)
+pub named_all : {T E : Type 0} (name : ℕ) (a b : Option (List ℕ)) (result : Result T E) (bytes : List ℕ)
+    → OnOk result (Appends a b bytes) → OnOk result (Appends (named name a) (named name b) bytes)
 named_all name a b (Ok x) bytes h = named_appends name a b bytes h
 named_all name a b (Err why) bytes h = tt
 
@@ -54,26 +58,33 @@ same_head : (n m : ℕ) (xs ys : List ℕ) → n ∷ xs ≡ m ∷ ys → (n ≡ 
 same_head n m xs ys h = (ap (head_or n) h, ap tail_of h)
 
 pub stands : (old mid new : ℕ) (a b c : Option (List ℕ)) (empty left none text : List ℕ) → empty ≡ [] → none ≡ []
-    → Appends (append_known (named old a) empty) (append_known (named mid b) left) text → Keeps (append_known (named mid b) left) (append_known (named new c) none)
+    → Appends (append_known (named old a) empty) (append_known (named mid b) left) text
+    → Keeps (append_known (named mid b) left) (append_known (named new c) none)
     → Stands old new a c text
 stands old mid new None b c empty left none text e f h k = tt
 stands old mid new (Some xs) None c empty left none text e f h k = absurd h
 stands old mid new (Some xs) (Some ys) None empty left none text e f h k = absurd k
 stands old mid new (Some xs) (Some ys) (Some zs) empty left none text e f h k =
     same_head new old zs (xs ++ text) (
-    sym (append-nil (new ∷ zs)) ∙ sym (ap (λ us. (new ∷ zs) ++ us) f) ∙ k ∙ h ∙ ap (λ us. ((old ∷ xs) ++ us) ++ text) e ∙ ap (λ us. us ++ text) (append-nil (old ∷ xs))
+    sym (append-nil (new ∷ zs)) ∙ sym (ap (λ us. (new ∷ zs) ++ us) f) ∙ k ∙ h ∙ ap (λ us. ((old ∷ xs) ++ us) ++ text) e
+    ∙ ap (λ us. us ++ text) (append-nil (old ∷ xs))
     )
 
 -- the lent writer is left in this state, under its name
-pub stands_at_last : (old new : ℕ) (a c last : Option (List ℕ)) (text : List ℕ) → Stands old new a c text → (new ≡ old → last ≡ c) → Appends a last text
+pub stands_at_last : (old new : ℕ) (a c last : Option (List ℕ)) (text : List ℕ) → Stands old new a c text
+    → (new ≡ old → last ≡ c) → Appends a last text
 stands_at_last old new None c last text h left = tt
 stands_at_last old new (Some xs) None last text h left = absurd h
-stands_at_last old new (Some xs) (Some ys) last text (same, grows) left = subst (λ (f : Option (List ℕ)). Appends (Some xs) f text) (sym (left same)) grows
+stands_at_last old new (Some xs) (Some ys) last text (same, grows) left =
+    subst (λ (f : Option (List ℕ)). Appends (Some xs) f text) (sym (left same)) grows
 
 -- the print of a script through a buffer
-pub print_stands : {F : Type 0} (line : Line) (entries : List Entry) (result : Result (Unit {0}) (PlayFault F)) (old mid new : ℕ) (a b c last : Option (List ℕ)) (empty held none : List ℕ)
-    → empty ≡ [] → none ≡ [] → LeavesPrint {F = F} line entries result (append_known (named old a) empty) (append_known (named mid b) held)
-    → Keeps (append_known (named mid b) held) (append_known (named new c) none) → (new ≡ old → last ≡ c) → LeavesPrint {F = F} line entries result a last
+pub print_stands : {F : Type 0} (line : Line) (entries : List Entry) (result : Result (Unit {0}) (PlayFault F))
+    (old mid new : ℕ) (a b c last : Option (List ℕ)) (empty held none : List ℕ)
+    → empty ≡ [] → none ≡ []
+    → LeavesPrint {F = F} line entries result (append_known (named old a) empty) (append_known (named mid b) held)
+    → Keeps (append_known (named mid b) held) (append_known (named new c) none) → (new ≡ old → last ≡ c)
+    → LeavesPrint {F = F} line entries result a last
 print_stands line entries (Ok done) old mid new a b c last empty held none e f (text, is, grows) k left =
     (text, is, stands_at_last old new a c last text (stands old mid new a b c empty held none text e f grows k) left)
 print_stands line entries (Err (Refused fault)) old mid new a b c last empty held none e f (text, is, grows) k left =

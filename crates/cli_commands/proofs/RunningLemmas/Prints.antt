@@ -1,18 +1,19 @@
 -- The text that a printer has written for the reports of a script.
-use Rattle.std.proofs.Common.{◌≡◌, ℕ, List, [], ◌∷◌, ◌++◌, Option, Some, None, Ok, Err, codes, refl, sym, ap, ◌∙◌, subst, append_assoc, append-nil}
+use Rattle.std.proofs.Common.{[], ◌++◌, ◌∙◌, ◌∷◌, ◌≡◌, ap, append-nil, append_assoc, codes, Err, List, None, Ok, Option}
+use Rattle.std.proofs.Common.{refl, Some, subst, sym, ℕ}
 use Rattle.std.specs.Io.KnownBytes.{Appends}
+use Rattle.cli_commands.specs.Running.Printed.{Adds, IsTold, PrintsAll}
 use Rattle.rbc_spec.specs.Line.{Line}
-use Rattle.rbc_spec.specs.World.{World, new_world, world_step}
-use Rattle.text_script.specs.rbc_world.Answers.{IsRefusal}
-use Rattle.text_script.specs.rbc_world.Views.{event_of}
-use Rattle.text_script.specs.declared.script.Entry.{Entry}
-use Rattle.text_script.specs.declared.script.Entry.TheVariants as entry
+use Rattle.rbc_spec.specs.World.{new_world, World, world_step}
 use Rattle.text_script.specs.declared.play.PlayFault.{PlayFault}
 use Rattle.text_script.specs.declared.play.PlayFault.TheVariants.{Refused, Untold}
-use Rattle.text_script.specs.Played.{Telling, Coming, Answering, IsPlayed, Leaves}
+use Rattle.text_script.specs.declared.script.Entry.{Entry}
+use Rattle.text_script.specs.declared.script.Entry.TheVariants as entry
+use Rattle.text_script.specs.Played.{Answering, Coming, IsPlayed, Leaves, Telling}
 use Rattle.text_script.specs.Print.Rows.{event_row}
 use Rattle.text_script.specs.Print.Shown.{line_text}
-use Rattle.cli_commands.specs.Running.Printed.{IsTold, Adds, PrintsAll}
+use Rattle.text_script.specs.rbc_world.Answers.{IsRefusal}
+use Rattle.text_script.specs.rbc_world.Views.{event_of}
 
 adds_none : (known : Option (List ℕ)) → Appends known known []
 adds_none None = tt
@@ -37,7 +38,8 @@ module _ {T N : Type 0} (name : T → N) (line_at : T → Line) (held : T → Op
     pub of_line : line_at u ≡ line
     pub writer : name u ≡ name t
 
-  pub prints : (w : World) (t : T) (entries : List Entry) (v : World) (u : T) (before : List ℕ) → line_at t ≡ line → IsPlayed Tells line w t entries v u → Prints w t entries v u before
+  pub prints : (w : World) (t : T) (entries : List Entry) (v : World) (u : T) (before : List ℕ) → line_at t ≡ line
+      → IsPlayed Tells line w t entries v u → Prints w t entries v u before
   prints w t [] v u before at (same, one) = record {
     rows = [];
     played = (same, append-nil before);
@@ -51,14 +53,21 @@ module _ {T N : Type 0} (name : T → N) (line_at : T → Line) (held : T → Op
       let more = prints w s rest v u (before ++ first) (told.1 ∙ at) after in
       record {
         rows = first ++ more.rows;
-        played = (before ++ first, (first, refl, refl), subst (λ (text : List ℕ). IsPlayed (Adds line) line w (before ++ first) rest v text) (append_assoc before first more.rows) more.played);
+        played = (
+          before ++ first,
+          (first, refl, refl),
+          subst
+              (λ (text : List ℕ). IsPlayed (Adds line) line w (before ++ first) rest v text)
+              (append_assoc before first more.rows) more.played,
+        );
         adds = adds_both (held t) (held s) (held u) first more.rows wrote more.adds;
         of_line = more.of_line;
         writer = more.writer ∙ told.0;
       }
   prints w t (entry.Event event ∷ rest) v u before at (answer, x, s, r, done, comes, answers, after) =
       let first : List ℕ = event_row line event in
-      let one : Appends (held t) (held s) first = subst (λ (l : Line). IsTold l (Coming event) (held t) (held s)) at comes.2 in
+      let one : Appends (held t) (held s) first =
+      subst (λ (l : Line). IsTold l (Coming event) (held t) (held s)) at comes.2 in
       let two = subst (λ (l : Line). IsTold l (Answering event answer) (held s) (held r)) (comes.1 ∙ at) answers.2 in
       let second : List ℕ = two.0 in
       let more = prints x r rest v u ((before ++ first) ++ second) (answers.1 ∙ comes.1 ∙ at) after in
@@ -73,19 +82,26 @@ module _ {T N : Type 0} (name : T → N) (line_at : T → Line) (held : T → Op
           (first, refl, refl),
           (second, two.1, refl),
           subst (λ (text : List ℕ). IsPlayed (Adds line) line x ((before ++ first) ++ second) rest v text)
-              (append_assoc (before ++ first) second more.rows ∙ append_assoc before first (second ++ more.rows)) more.played,
+              (append_assoc (before ++ first) second more.rows ∙ append_assoc before first (second ++ more.rows))
+              more.played,
         );
-        adds = adds_both (held t) (held s) (held u) first (second ++ more.rows) one (adds_both (held s) (held r) (held u) second more.rows two.2 more.adds);
+        adds =
+            adds_both (held t) (held s) (held u) first (second ++ more.rows) one
+            (adds_both (held s) (held r) (held u) second more.rows two.2 more.adds);
         of_line = more.of_line;
         writer = more.writer ∙ answers.0 ∙ comes.0;
       }
 
   -- all entries were played, and the line is printed after them, to the same writer
-  pub prints_all : (F : Type 0) (l : Line) (w : World) (t : T) (entries : List Entry) (v : World) (u : T) (n : N) (after : Option (List ℕ)) → line ≡ l → line_at t ≡ line → w ≡ new_world line
-      → IsPlayed Tells l w t entries v u → n ≡ name u → (line_at u ≡ l → Appends (held u) after (line_text (line_at u) v)) → PrintsAll {F = F} line entries (Ok tt) (name t) n (held t) after
+  pub prints_all : (F : Type 0) (l : Line) (w : World) (t : T) (entries : List Entry) (v : World) (u : T) (n : N)
+      (after : Option (List ℕ)) → line ≡ l → line_at t ≡ line → w ≡ new_world line
+      → IsPlayed Tells l w t entries v u → n ≡ name u
+      → (line_at u ≡ l → Appends (held u) after (line_text (line_at u) v))
+      → PrintsAll {F = F} line entries (Ok tt) (name t) n (held t) after
   prints_all F l w t entries v u n after of at begins played same last =
       let it = prints w t entries v u [] at (subst (λ (k : Line). IsPlayed Tells k w t entries v u) (sym of) played) in
-      let shown : Appends (held u) after (line_text line v) = subst (λ (k : Line). Appends (held u) after (line_text k v)) it.of_line (last (it.of_line ∙ of)) in (
+      let shown : Appends (held u) after (line_text line v) =
+      subst (λ (k : Line). Appends (held u) after (line_text k v)) it.of_line (last (it.of_line ∙ of)) in (
         same ∙ it.writer,
         (
           it.rows ++ line_text line v,
@@ -95,18 +111,34 @@ module _ {T N : Type 0} (name : T → N) (line_at : T → Line) (held : T → Op
       )
 
   -- the play stopped at an event, or for another reason
-  pub prints_until : {F : Type 0} (l : Line) (w : World) (t : T) (entries : List Entry) (fault : PlayFault F) (v : World) (u : T) → line ≡ l → line_at t ≡ line → w ≡ new_world line
-      → Leaves {F = F} Tells l w t entries (Err fault) v u → PrintsAll {F = F} line entries (Err fault) (name t) (name u) (held t) (held u)
+  pub prints_until : {F : Type 0} (l : Line) (w : World) (t : T) (entries : List Entry) (fault : PlayFault F)
+      (v : World) (u : T) → line ≡ l → line_at t ≡ line → w ≡ new_world line
+      → Leaves {F = F} Tells l w t entries (Err fault) v u
+      → PrintsAll {F = F} line entries (Err fault) (name t) (name u) (held t) (held u)
   prints_until l w t entries (Untold why) v u of at begins stopped = tt
   prints_until l w t entries (Refused fault) v u of at begins (front, rest, event, s, cut, played, comes, refused) =
       let it = prints w t front v s [] at (subst (λ (k : Line). IsPlayed Tells k w t front v s) (sym of) played) in
       let last : List ℕ = event_row line event in
-      let wrote : Appends (held s) (held u) last = subst (λ (k : Line). IsTold k (Coming event) (held s) (held u)) it.of_line comes.2 in
+      let wrote : Appends (held s) (held u) last =
+      subst (λ (k : Line). IsTold k (Coming event) (held s) (held u)) it.of_line comes.2 in
       let here = subst (λ (k : Line). IsRefusal fault (world_step k v (event_of event))) (sym of) refused in (
         comes.0 ∙ it.writer,
         (
           it.rows ++ last,
-          (v, (front, rest, event, it.rows, cut, subst (λ (x : World). IsPlayed (Adds line) line x [] front v it.rows) begins it.played, (last, refl, refl), here)),
+          (
+            v,
+            (
+              front,
+              rest,
+              event,
+              it.rows,
+              cut,
+              subst (λ (x : World). IsPlayed (Adds line) line x [] front v it.rows)
+                  begins it.played,
+              (last, refl, refl),
+              here,
+            ),
+          ),
           adds_both (held t) (held s) (held u) it.rows last it.adds wrote,
         ),
       )

@@ -1,10 +1,10 @@
 -- The findings in a line file, compared with the faults that apply to it.
-use Rattle.std.specs.Prelude.{ℕ, List, Option, option_map, slice_get, MatchOption}
-use Rattle.toml.specs.Data.{Members}
-use Rattle.rbc_line.specs.declared.fault.LineFault.{LineFault}
-use Rattle.rbc_line.specs.Faults.{number_of, AppliesToTables, IsLowest}
+use Rattle.std.specs.Prelude.{List, MatchOption, Option, option_map, slice_get, ℕ}
 use Rattle.cli_commands.specs.declared.inspecting.finding.Finding.{Finding}
 use Rattle.cli_commands.specs.Inspecting.Findings.{flaw_fault}
+use Rattle.rbc_line.specs.declared.fault.LineFault.{LineFault}
+use Rattle.rbc_line.specs.Faults.{AppliesToTables, IsLowest, number_of}
+use Rattle.toml.specs.Data.{Members}
 
 -- the number of a finding's fault
 abbrev pub fault_number : Finding → ℕ

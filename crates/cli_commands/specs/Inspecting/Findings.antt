@@ -1,10 +1,11 @@
 -- The fault of a line file for each kind of finding.
-use Rattle.rbc_line.specs.declared.fault.LineFault.{LineFault}
-use Rattle.rbc_line.specs.declared.fault.LineFault.TheVariants.{Shape, Centres, Tracks, Sections, Trains, Length, Number, Twice, Home, Order}
 use Rattle.cli_commands.specs.declared.inspecting.finding.Counted.{Counted}
 use Rattle.cli_commands.specs.declared.inspecting.finding.Counted.TheVariants as counted
 use Rattle.cli_commands.specs.declared.inspecting.finding.Flaw.{Flaw}
 use Rattle.cli_commands.specs.declared.inspecting.finding.Flaw.TheVariants as flaw
+use Rattle.rbc_line.specs.declared.fault.LineFault.{LineFault}
+use Rattle.rbc_line.specs.declared.fault.LineFault.TheVariants.{Centres, Home, Length, Number, Order, Sections, Shape}
+use Rattle.rbc_line.specs.declared.fault.LineFault.TheVariants.{Tracks, Trains, Twice}
 
 -- the fault of too few or too many items of this kind
 abbrev pub count_fault : Counted → LineFault

@@ -1,15 +1,15 @@
 -- The print of entries that are one run of a line.
-use Rattle.std.specs.Prelude.{◌≡◌, ℕ, List, map, Option, Result, Ok, Err}
 use Rattle.std.specs.Io.KnownBytes.{Appends}
+use Rattle.std.specs.Prelude.{◌≡◌, Err, List, map, Ok, Option, Result, ℕ}
+use Rattle.cli_commands.specs.declared.rerunning.fault.RerunFault.{RerunFault}
+use Rattle.cli_commands.specs.declared.rerunning.fault.RerunFault.TheVariants.{Refused, Unfit, Untold}
+use Rattle.cli_commands.specs.Rerunning.Rerun.{IsFirstUnfit, IsRerun}
+use Rattle.cli_commands.specs.Running.Printed.{IsPrint}
 use Rattle.rbc_spec.specs.Line.{Line}
 use Rattle.rbc_spec.specs.World.{World}
+use Rattle.text_journal.specs.declared.entry.Entry.{Entry}
 use Rattle.text_script.specs.declared.script.Entry.{Entry as Asked}
 use Rattle.text_script.specs.declared.script.Entry.TheVariants.{Event}
-use Rattle.text_journal.specs.declared.entry.Entry.{Entry}
-use Rattle.cli_commands.specs.Running.Printed.{IsPrint}
-use Rattle.cli_commands.specs.Rerunning.Rerun.{IsRerun, IsFirstUnfit}
-use Rattle.cli_commands.specs.declared.rerunning.fault.RerunFault.{RerunFault}
-use Rattle.cli_commands.specs.declared.rerunning.fault.RerunFault.TheVariants.{Unfit, Refused, Untold}
 
 -- the script entry for the event of an entry
 abbrev pub asks : Entry → Asked

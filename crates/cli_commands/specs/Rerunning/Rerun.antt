@@ -1,13 +1,14 @@
 -- Whether entries are one run of a line.
-use Rattle.std.specs.Prelude.{◌≡◌, ◌≢◌, ℕ, List, ◌∷◌, ◌++◌, map, Option, Some, None, Result, Ok, Err}
+use Rattle.std.specs.Prelude.{◌++◌, ◌∷◌, ◌≡◌, ◌≢◌, Err, List, map, None, Ok, Option, Result, Some, ℕ}
+use Rattle.cli_commands.specs.declared.rerunning.place.Place.{Place}
 use Rattle.rbc_spec.specs.Line.{Line}
-use Rattle.rbc_spec.specs.World.{World, Event, Answer, Answered, NoCentre, NotSent, Fault, new_world, world_step, world_run}
+use Rattle.rbc_spec.specs.World.{Answer, Answered, Event, Fault, new_world, NoCentre, NotSent, World, world_run}
+use Rattle.rbc_spec.specs.World.{world_step}
+use Rattle.text_journal.specs.declared.entry.Entry.{Entry}
+use Rattle.text_journal.specs.Order.{taken_at}
 use Rattle.text_script.specs.rbc_centre.declared.fault.StepFault.{StepFault}
 use Rattle.text_script.specs.rbc_world.Answers.{IsRefusedRun}
 use Rattle.text_script.specs.rbc_world.Views.{event_of}
-use Rattle.text_journal.specs.Order.{taken_at}
-use Rattle.text_journal.specs.declared.entry.Entry.{Entry}
-use Rattle.cli_commands.specs.declared.rerunning.place.Place.{Place}
 
 -- the event of the world at an entry
 abbrev pub happened : Entry → Event

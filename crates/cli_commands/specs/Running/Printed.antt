@@ -1,17 +1,17 @@
 -- The print of a script that is played on a line.
-use Rattle.std.specs.Prelude.{◌≡◌, ℕ, List, [], ◌++◌, Option, Result, Ok, Err, codes}
 use Rattle.std.specs.Io.KnownBytes.{Appends}
+use Rattle.std.specs.Prelude.{[], ◌++◌, ◌≡◌, codes, Err, List, Ok, Option, Result, ℕ}
 use Rattle.rbc_spec.specs.Line.{Line}
-use Rattle.rbc_spec.specs.World.{World, new_world, centre_of}
-use Rattle.text_script.specs.rbc_centre.declared.fault.StepFault.{StepFault}
-use Rattle.text_script.specs.rbc_world.Views.{event_of}
-use Rattle.text_script.specs.declared.script.Entry.{Entry}
+use Rattle.rbc_spec.specs.World.{centre_of, new_world, World}
 use Rattle.text_script.specs.declared.play.PlayFault.{PlayFault}
 use Rattle.text_script.specs.declared.play.PlayFault.TheVariants.{Refused, Untold}
-use Rattle.text_script.specs.Played.{Telling, Showing, Coming, Answering, IsPlayed, IsStopped}
-use Rattle.text_script.specs.Print.Rows.{event_row}
+use Rattle.text_script.specs.declared.script.Entry.{Entry}
+use Rattle.text_script.specs.Played.{Answering, Coming, IsPlayed, IsStopped, Showing, Telling}
 use Rattle.text_script.specs.Print.Answers.{IsAnswerPrint}
+use Rattle.text_script.specs.Print.Rows.{event_row}
 use Rattle.text_script.specs.Print.Shown.{line_text}
+use Rattle.text_script.specs.rbc_centre.declared.fault.StepFault.{StepFault}
+use Rattle.text_script.specs.rbc_world.Views.{event_of}
 
 -- the lines of one report, for the centres of this line
 abbrev pub AreRows : Line → Telling → List ℕ → Type 0

@@ -1,13 +1,14 @@
 -- The handover of a train between two centres, as each of them and the frames on the way record it.
-use Rattle.std.specs.Prelude.{◌≡◌, ◌⊎◌, ℕ, ◌+◌, ◌==◌, ◌<◌, ◌≤◌, Bool, false, ◌&&◌, not, if◌then◌else◌, List, [], ◌∷◌, Option, Some, None, option_map, is_none}
 use Rattle.std.specs.Option.{option_map_or}
-use Rattle.law_base.specs.Counting.Sums.{one_if}
-use Rattle.law_base.specs.Counting.Network.{way}
+use Rattle.std.specs.Prelude.{[], ◌&&◌, ◌+◌, ◌<◌, ◌==◌, ◌∷◌, ◌≡◌, ◌≤◌, ◌⊎◌, Bool, false, if◌then◌else◌, is_none, List}
+use Rattle.std.specs.Prelude.{None, not, Option, option_map, Some, ℕ}
 use Rattle.law_base.specs.Counting.Chain.{Chain}
-use Rattle.rbc_spec.specs.Maps.{has}
-use Rattle.rbc_spec.specs.Frame.{Body, Announce, Cancel, TakingOver, Yield}
-use Rattle.rbc_spec.specs.Centre.{Mission, Handing}
+use Rattle.law_base.specs.Counting.Network.{way}
+use Rattle.law_base.specs.Counting.Sums.{one_if}
 use Rattle.law_invariants.specs.Flow.Flow.{Flow}
+use Rattle.rbc_spec.specs.Centre.{Handing, Mission}
+use Rattle.rbc_spec.specs.Frame.{Announce, Body, Cancel, TakingOver, Yield}
+use Rattle.rbc_spec.specs.Maps.{has}
 
 abbrev pub is_number : ℕ → Option ℕ → Bool
 is_number h number = has (λ n. n == h) number

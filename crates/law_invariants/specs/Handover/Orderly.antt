@@ -1,12 +1,13 @@
 -- The effect of an act of a centre on handovers: those that it announces, those that it expects, and the frames
 -- between.
-use Rattle.std.specs.Prelude.{◌≡◌, ◌≢◌, ◌⊎◌, ℕ, ◌+◌, ◌==◌, ◌<◌, ◌≤◌, ◌&&◌, not, List, Option, Some, option_map, Bool, false, true}
-use Rattle.law_base.specs.Counting.Sums.{one_if}
+use Rattle.std.specs.Prelude.{◌&&◌, ◌+◌, ◌<◌, ◌==◌, ◌≡◌, ◌≢◌, ◌≤◌, ◌⊎◌, Bool, false, List, not, Option, option_map}
+use Rattle.std.specs.Prelude.{Some, true, ℕ}
 use Rattle.law_base.specs.Counting.Chain.{Chain}
-use Rattle.rbc_spec.specs.Maps.{has}
+use Rattle.law_base.specs.Counting.Sums.{one_if}
+use Rattle.law_invariants.specs.Flow.Pairs.{announces, count_if, follows, handing_to, takes_over, yields}
+use Rattle.rbc_spec.specs.Centre.{Centre, Expectation, Handing}
 use Rattle.rbc_spec.specs.Frame.{Body}
-use Rattle.rbc_spec.specs.Centre.{Centre, Handing, Expectation}
-use Rattle.law_invariants.specs.Flow.Pairs.{follows, handing_to, count_if, announces, takes_over, yields}
+use Rattle.rbc_spec.specs.Maps.{has}
 
 -- the number of a handover that is expected, and of one that is announced
 abbrev pub number_expected : Option Expectation → Option ℕ

@@ -1,13 +1,14 @@
 -- Frames that a centre looks for, and so does not drop the right or the section inside. Any other frame with a right or
 -- a section inside is stray.
-use Rattle.std.specs.Prelude.{ℕ, ◌==◌, Bool, true, false, ◌&&◌, ◌||◌, not, is_none}
+use Rattle.std.specs.Prelude.{◌&&◌, ◌==◌, ◌||◌, Bool, false, is_none, not, true, ℕ}
+use Rattle.law_base.specs.Walk.Trains.{train_of}
+use Rattle.rbc_spec.specs.Centre.{Centre, is_out_for, is_registrar_of}
+use Rattle.rbc_spec.specs.Frame.{Announce, AskRight, Body, Cancel, carried_place, GiveRight, RefuseRight, ReturnRight}
+use Rattle.rbc_spec.specs.Frame.{RouteAsk, RouteInfo, RouteReturn, RouteWithdraw, TakingOver, Yield}
+use Rattle.rbc_spec.specs.Line.{is_home, Line}
+use Rattle.rbc_spec.specs.Links.{is_of_line, is_train, may_take}
 use Rattle.rbc_spec.specs.Maps.{has}
 use Rattle.rbc_spec.specs.SectionRuns.{all_of}
-use Rattle.rbc_spec.specs.Line.{Line, is_home}
-use Rattle.rbc_spec.specs.Frame.{Body, carried_place, AskRight, GiveRight, RefuseRight, ReturnRight, RouteAsk, RouteInfo, RouteWithdraw, RouteReturn, Announce, Cancel, TakingOver, Yield}
-use Rattle.rbc_spec.specs.Centre.{Centre, is_out_for, is_registrar_of}
-use Rattle.rbc_spec.specs.Links.{is_of_line, is_train, may_take}
-use Rattle.law_base.specs.Walk.Trains.{train_of}
 
 -- a body that has neither a right nor a section inside
 abbrev pub is_plain : Body → Bool

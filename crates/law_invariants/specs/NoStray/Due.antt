@@ -1,15 +1,16 @@
 -- The state that a frame finds if it is the next of its link, so that it is not stray. An answer finds its question, a
 -- returned thing is out, and a handover is expected.
-use Rattle.std.specs.Prelude.{◌≡◌, ℕ, ◌==◌, ◌&&◌, true, false, length, Some, None, nat_lt}
-use Rattle.rbc_spec.specs.Maps.{has}
-use Rattle.rbc_spec.specs.SectionRuns.{SectionRun, is_empty, all_of}
-use Rattle.rbc_spec.specs.Line.{Line, is_home}
-use Rattle.rbc_spec.specs.Place.{Place}
-use Rattle.rbc_spec.specs.Frame.{Body, Frame, yielded_place, AskRight, GiveRight, RefuseRight, ReturnRight, RouteAsk, RouteInfo, RouteWithdraw, RouteReturn, Announce, Cancel, TakingOver, Yield}
-use Rattle.rbc_spec.specs.Centre.{Centre, Mission, is_out_for, is_registrar_of}
-use Rattle.rbc_spec.specs.Links.{is_of_line, is_train, is_under, may_take}
-use Rattle.rbc_spec.specs.World.{World}
+use Rattle.std.specs.Prelude.{◌&&◌, ◌==◌, ◌≡◌, false, length, nat_lt, None, Some, true, ℕ}
 use Rattle.law_base.specs.Walk.Trains.{train_of}
+use Rattle.rbc_spec.specs.Centre.{Centre, is_out_for, is_registrar_of, Mission}
+use Rattle.rbc_spec.specs.Frame.{Announce, AskRight, Body, Cancel, Frame, GiveRight, RefuseRight, ReturnRight, RouteAsk}
+use Rattle.rbc_spec.specs.Frame.{RouteInfo, RouteReturn, RouteWithdraw, TakingOver, Yield, yielded_place}
+use Rattle.rbc_spec.specs.Line.{is_home, Line}
+use Rattle.rbc_spec.specs.Links.{is_of_line, is_train, is_under, may_take}
+use Rattle.rbc_spec.specs.Maps.{has}
+use Rattle.rbc_spec.specs.Place.{Place}
+use Rattle.rbc_spec.specs.SectionRuns.{all_of, is_empty, SectionRun}
+use Rattle.rbc_spec.specs.World.{World}
 
 -- The state k of centre b that a body from centre a finds. A TakingOver may find that its handover was cancelled
 -- meanwhile; then it has no effect.

@@ -1,12 +1,14 @@
 -- The ranges of the values that a centre keeps and receives, as far as its frames are made of them.
-use Rattle.std.specs.Prelude.{◌≡◌, ◌⊎◌, ℕ, ◌≤◌, ◌<◌, true, List, All, Option, Some}
-use Rattle.rbc_spec.specs.SectionRuns.{SectionRun, most_in_hand, next_after}
-use Rattle.rbc_spec.specs.Line.{Line, is_centre, is_linked}
-use Rattle.rbc_spec.specs.Place.{Place, Position, covered}
-use Rattle.rbc_spec.specs.Message.{TrainMessage, TrainBody, TrainData, Request, Report, ShorteningGranted, ShorteningRejected, EndOfMission, StartOfMission, unknown_time}
-use Rattle.rbc_spec.specs.Frame.{Body, yielded_place, IsEngine, IsHandoverNumber, HasRunRange, HasPlaceRange, HasBodyRange, last_stamp}
-use Rattle.rbc_spec.specs.Centre.{Centre, Entry, Out, Mission, Handing, Expectation}
-use Rattle.rbc_spec.specs.Step.{Event, Train, Set, Unset, Deliver}
+use Rattle.std.specs.Prelude.{◌<◌, ◌≡◌, ◌≤◌, ◌⊎◌, All, List, Option, Some, true, ℕ}
+use Rattle.rbc_spec.specs.Centre.{Centre, Entry, Expectation, Handing, Mission, Out}
+use Rattle.rbc_spec.specs.Frame.{Body, HasBodyRange, HasPlaceRange, HasRunRange, IsEngine, IsHandoverNumber, last_stamp}
+use Rattle.rbc_spec.specs.Frame.{yielded_place}
+use Rattle.rbc_spec.specs.Line.{is_centre, is_linked, Line}
+use Rattle.rbc_spec.specs.Message.{EndOfMission, Report, Request, ShorteningGranted, ShorteningRejected, StartOfMission}
+use Rattle.rbc_spec.specs.Message.{TrainBody, TrainData, TrainMessage, unknown_time}
+use Rattle.rbc_spec.specs.Place.{covered, Place, Position}
+use Rattle.rbc_spec.specs.SectionRuns.{most_in_hand, next_after, SectionRun}
+use Rattle.rbc_spec.specs.Step.{Deliver, Event, Set, Train, Unset}
 
 -- ## Values that arrive
 

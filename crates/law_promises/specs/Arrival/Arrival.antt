@@ -1,12 +1,13 @@
 -- The view by which trains run if only a part of the messages to them arrives. Each runs by the messages that arrived,
 -- in their order, and by its own messages.
-use Rattle.std.specs.Prelude.{◌≡◌, ℕ, Bool, true, false, List, [], ◌∷◌, Option, Some, None, Ok}
+use Rattle.std.specs.Prelude.{[], ◌∷◌, ◌≡◌, Bool, false, List, None, Ok, Option, Some, true, ℕ}
+use Rattle.law_outside.specs.Outside.{IsSafeOutside, may_run_over, nothing_seen, sees, sees_all, Shortening, Spoken}
+use Rattle.law_outside.specs.Outside.{Stretch, View}
 use Rattle.rbc_spec.specs.Line.{Line}
-use Rattle.rbc_spec.specs.Place.{Position}
 use Rattle.rbc_spec.specs.Message.{ShorteningGranted, TrackBody, TrainAccepted}
 use Rattle.rbc_spec.specs.Outcome.{Saying, Word}
-use Rattle.rbc_spec.specs.World.{Event, Bytes}
-use Rattle.law_outside.specs.Outside.{Shortening, Stretch, View, Spoken, nothing_seen, sees, sees_all, may_run_over, IsSafeOutside}
+use Rattle.rbc_spec.specs.Place.{Position}
+use Rattle.rbc_spec.specs.World.{Bytes, Event}
 
 abbrev pub is_acceptance : TrackBody → Bool
 is_acceptance TrainAccepted = true
@@ -16,13 +17,15 @@ is_acceptance body = false
 pub data Comes : List Saying → List Saying → Type 0 where
   no_more : Comes [] []
   comes : (p : Saying) (told some : List Saying) → Comes told some → Comes (p ∷ told) (p ∷ some)
-  is_lost : (p : Saying) (told some : List Saying) → is_acceptance p.message.body ≡ false → Comes told some → Comes (p ∷ told) some
+  is_lost : (p : Saying) (told some : List Saying) → is_acceptance p.message.body ≡ false → Comes told some
+      → Comes (p ∷ told) some
 
 -- the part of a step's messages and replies that arrives
 pub data PartOf : Option Spoken → Option Spoken → Type 0 where
   none_spoken : PartOf None None
   some_spoken : (is_heard : Bool) (told some : List Saying) (words : List Word) → Comes told some
-      → PartOf (Some (record { is_heard = is_heard; sayings = told; words = words })) (Some (record { is_heard = is_heard; sayings = some; words = words }))
+      → PartOf (Some (record { is_heard = is_heard; sayings = told; words = words }))
+      (Some (record { is_heard = is_heard; sayings = some; words = words }))
 
 -- If a train grants the request that was last sent to it, that request has arrived. View v is of all messages that were
 -- sent, w of those that arrived.
@@ -35,7 +38,8 @@ GrantsWhatCame event v w = Unit {0}
 abbrev pub Arrive : Line → List Event → List (Option Spoken) → List (Option Spoken) → View → View → Type 0
 Arrive line [] [] [] v w = Unit {0}
 Arrive line (event ∷ events) (spoken ∷ all) (part ∷ came) v w =
-    PartOf spoken part × GrantsWhatCame event v w × Arrive line events all came (sees line event spoken v) (sees line event part w)
+    PartOf spoken part × GrantsWhatCame event v w
+    × Arrive line events all came (sees line event spoken v) (sees line event part w)
 Arrive line events all came v w = ⊥
 
 -- by the messages that arrived, no two trains may run over one section, and none over one that is not released

@@ -1,11 +1,12 @@
 -- The true positions of trains. If each train is within the stretch by which it runs, no two trains are on one section.
-use Rattle.std.specs.Prelude.{◌≡◌, ℕ, ◌*◌, ◌≤◌, Bool, true, ◌&&◌, List, map, Option, Some, nat_lt, ℤ, pos, int_lt, int_le, Ok}
-use Rattle.rbc_spec.specs.Line.{Line, IsLine, start, end}
-use Rattle.rbc_spec.specs.Sections.{is_on}
-use Rattle.rbc_spec.specs.World.{World, Event, Answer, new_world, world_run}
-use Rattle.law_outside.specs.Outside.{View, Stretch, Spoken, nothing_seen, sees_all, spoken_of}
+use Rattle.std.specs.Prelude.{◌&&◌, ◌*◌, ◌≡◌, ◌≤◌, Bool, int_le, int_lt, List, map, nat_lt, Ok, Option, pos, Some, true}
+use Rattle.std.specs.Prelude.{ℕ, ℤ}
+use Rattle.law_outside.specs.Outside.{nothing_seen, sees_all, Spoken, spoken_of, Stretch, View}
 use Rattle.law_promises.specs.Arrival.Arrival.{IsSafeByWhatCame}
-use Rattle.law_promises.specs.Arrival.Received.{nothing_known, AreReceived}
+use Rattle.law_promises.specs.Arrival.Received.{AreReceived, nothing_known}
+use Rattle.rbc_spec.specs.Line.{end, IsLine, Line, start}
+use Rattle.rbc_spec.specs.Sections.{is_on}
+use Rattle.rbc_spec.specs.World.{Answer, Event, new_world, World, world_run}
 
 -- the true place of a train: its track, its rear end and its front end, in decimetres
 pub record Extent : Type 0 where

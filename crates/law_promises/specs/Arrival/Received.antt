@@ -3,14 +3,15 @@
 -- trains, and none of the centres. A train grants only a request that has arrived at it. No authority arrives at a
 -- train whose last acceptance was lost. For within a session over GSM-R nothing is lost, and in a later session a train
 -- requests no authority before it is accepted.
-use Rattle.std.specs.Prelude.{◌≡◌, ℕ, ◌==◌, Bool, true, false, ◌&&◌, ◌||◌, not, List, [], ◌∷◌, map, Option, Some, None, Ok}
-use Rattle.rbc_spec.specs.Maps.{put}
-use Rattle.rbc_spec.specs.Line.{Line, IsLine}
-use Rattle.rbc_spec.specs.Message.{TrainBody, ShorteningGranted, TrackBody, Authority, ShorteningRequest, TrainAccepted}
-use Rattle.rbc_spec.specs.Outcome.{Saying, Word}
-use Rattle.rbc_spec.specs.World.{World, Event, Bytes, centre_of, Answer, new_world, world_run}
-use Rattle.law_outside.specs.Outside.{Spoken, nothing_seen, sees_all, spoken_of}
+use Rattle.std.specs.Prelude.{[], ◌&&◌, ◌==◌, ◌||◌, ◌∷◌, ◌≡◌, Bool, false, List, map, None, not, Ok, Option, Some, true}
+use Rattle.std.specs.Prelude.{ℕ}
+use Rattle.law_outside.specs.Outside.{nothing_seen, sees_all, Spoken, spoken_of}
 use Rattle.law_promises.specs.Arrival.Arrival.{IsSafeByWhatCame}
+use Rattle.rbc_spec.specs.Line.{IsLine, Line}
+use Rattle.rbc_spec.specs.Maps.{put}
+use Rattle.rbc_spec.specs.Message.{Authority, ShorteningGranted, ShorteningRequest, TrackBody, TrainAccepted, TrainBody}
+use Rattle.rbc_spec.specs.Outcome.{Saying, Word}
+use Rattle.rbc_spec.specs.World.{Answer, Bytes, centre_of, Event, new_world, World, world_run}
 
 -- For each train, whether its last acceptance (41) was lost. For each train, centre and T_TRAIN, whether a request to
 -- shorten (9) with that T_TRAIN has arrived from that centre at the train.
@@ -69,7 +70,8 @@ may_happen k event = true
 abbrev pub AreReceived : Known → List Event → List (Option Spoken) → List (Option Spoken) → Type 0
 AreReceived k [] [] [] = Unit {0}
 AreReceived k (event ∷ events) (spoken ∷ others) (part ∷ parts) =
-    (may_happen k event ≡ true) × ((new : Known) × PartReaches (centre_of event) new k spoken part × AreReceived new events others parts)
+    (may_happen k event ≡ true)
+    × ((new : Known) × PartReaches (centre_of event) new k spoken part × AreReceived new events others parts)
 AreReceived k events spoken parts = ⊥
 
 -- for all events of the centres of a line, and every part of their messages that arrives at the trains

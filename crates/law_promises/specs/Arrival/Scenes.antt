@@ -1,10 +1,11 @@
 -- Scenes of lost messages, and of trains that do not keep the requirements.
-use Rattle.std.specs.Prelude.{ℕ, ◌==◌, if◌then◌else◌, List, [], ◌∷◌, ◌++◌, true, Option, Some, None, pos}
-use Rattle.rbc_spec.specs.Message.{StartOfMission, Request, Report, Authority, TrainAccepted}
+use Rattle.std.specs.Prelude.{[], ◌++◌, ◌==◌, ◌∷◌, if◌then◌else◌, List, None, Option, pos, Some, true, ℕ}
+use Rattle.law_outside.specs.Scenes.{Exchange, exchange, in_section, released, starts_in_1, talk, train_1_grants}
+use Rattle.law_outside.specs.Scenes.{train_1_runs, train_2_starts}
+use Rattle.law_promises.specs.Arrival.Meeting.{Extent}
+use Rattle.rbc_spec.specs.Message.{Authority, Report, Request, StartOfMission, TrainAccepted}
 use Rattle.rbc_spec.specs.Outcome.{Asked}
 use Rattle.rbc_spec.specs.World.{Unset}
-use Rattle.law_outside.specs.Scenes.{Exchange, in_section, exchange, talk, released, starts_in_1, train_1_runs, train_1_grants, train_2_starts}
-use Rattle.law_promises.specs.Arrival.Meeting.{Extent}
 
 -- Train 1 starts in section 1 and is accepted. It starts there again, and is accepted again. It gets an authority to
 -- the end of section 2.

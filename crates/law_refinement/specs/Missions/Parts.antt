@@ -1,19 +1,20 @@
 -- The effect of a message that changes a mission at its centre: the own step of the one line centre, and the acts after
 -- it.
-use Rattle.std.specs.Prelude.{◌≡◌, ℕ, ◌*◌, true, if◌then◌else◌, Some, None, nat_le}
 use Rattle.std.specs.Option.{option_map_or}
-use Rattle.rbc_spec.specs.Line.{Line, is_centre, end, next_centre}
-use Rattle.rbc_spec.specs.Place.{Position, place_on}
-use Rattle.rbc_spec.specs.Message.{TrainMessage, TrainBody, Authority}
-use Rattle.rbc_spec.specs.Centre.{Centre, Taken, Mission, is_open}
-use Rattle.rbc_spec.specs.Acts.{Act, Reply, rest, ◌>>◌, with_some, with_mission, hear, say, booked, set_mission, change_mission, return_pool}
-use Rattle.rbc_spec.specs.Rules.{report_here, take_over, cut, extension, extended_by, authority, at_border, stand_still}
-use Rattle.rbc_spec.specs.Step.{silence, ticked, hear_and_answer}
-use Rattle.rbc_spec.specs.LineCentre.{LineState}
+use Rattle.std.specs.Prelude.{◌*◌, ◌≡◌, if◌then◌else◌, nat_le, None, Some, true, ℕ}
 use Rattle.law_invariants.specs.Flow.Flow.{Flow}
-use Rattle.law_invariants.specs.Flow.Sound.{IsFlowSound}
+use Rattle.law_invariants.specs.Flow.Leads.{HeardAs, Leads, LeadsOwn, replied, said_by}
 use Rattle.law_invariants.specs.Flow.Shows.{Shows}
-use Rattle.law_invariants.specs.Flow.Leads.{HeardAs, said_by, replied, Leads, LeadsOwn}
+use Rattle.law_invariants.specs.Flow.Sound.{IsFlowSound}
+use Rattle.rbc_spec.specs.Acts.{◌>>◌, Act, booked, change_mission, hear, Reply, rest, return_pool, say, set_mission}
+use Rattle.rbc_spec.specs.Acts.{with_mission, with_some}
+use Rattle.rbc_spec.specs.Centre.{Centre, is_open, Mission, Taken}
+use Rattle.rbc_spec.specs.Line.{end, is_centre, Line, next_centre}
+use Rattle.rbc_spec.specs.LineCentre.{LineState}
+use Rattle.rbc_spec.specs.Message.{Authority, TrainBody, TrainMessage}
+use Rattle.rbc_spec.specs.Place.{place_on, Position}
+use Rattle.rbc_spec.specs.Rules.{at_border, authority, cut, extended_by, extension, report_here, stand_still, take_over}
+use Rattle.rbc_spec.specs.Step.{hear_and_answer, silence, ticked}
 
 -- ## Own parts
 

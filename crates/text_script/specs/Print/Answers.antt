@@ -1,13 +1,13 @@
 -- The print of an answer: its lines in order.
-use Rattle.std.specs.Prelude.{◌≡◌, ℕ, zero, suc, List, [], ◌∷◌, ◌++◌, Option, Some, None, length, codes}
 use Rattle.std.specs.List.{flat_map}
 use Rattle.std.specs.Option.{option_map_or}
-use Rattle.rbc_spec.specs.Line.{Line}
-use Rattle.rbc_spec.specs.Frame.{Frame}
-use Rattle.rbc_spec.specs.Outcome.{Outcome, Saying, Taken, Old, Early, Reason}
-use Rattle.rbc_spec.specs.World.{Answer, Answered, NoCentre, NotSent, Fault}
+use Rattle.std.specs.Prelude.{[], ◌++◌, ◌∷◌, ◌≡◌, codes, length, List, None, Option, Some, suc, zero, ℕ}
 use Rattle.rbc_msgs.specs.TrackSpelling.{SpellsTrack}
-use Rattle.text_script.specs.Print.Rows.{name_at, saying_row, frame_row, word_row, silence_row, remark_row, fault_row}
+use Rattle.rbc_spec.specs.Frame.{Frame}
+use Rattle.rbc_spec.specs.Line.{Line}
+use Rattle.rbc_spec.specs.Outcome.{Early, Old, Outcome, Reason, Saying, Taken}
+use Rattle.rbc_spec.specs.World.{Answer, Answered, Fault, NoCentre, NotSent}
+use Rattle.text_script.specs.Print.Rows.{fault_row, frame_row, name_at, remark_row, saying_row, silence_row, word_row}
 
 -- the line of a message to a train shows the bytes that spell it
 pub record IsSayingRow (centre : List ℕ) (s : Saying) (text : List ℕ) : Type 0 where

@@ -1,12 +1,14 @@
 -- The printed lines, one for each item. A line feed ends each of them.
-use Rattle.std.specs.Prelude.{ℕ, ◌++◌, Bool, List, if◌then◌else◌, Option, codes, slice_get}
-use Rattle.std.specs.Option.{option_map_or}
 use Rattle.std.specs.Fmt.{decimal}
+use Rattle.std.specs.Option.{option_map_or}
+use Rattle.std.specs.Prelude.{◌++◌, Bool, codes, if◌then◌else◌, List, Option, slice_get, ℕ}
 use Rattle.hex.specs.Hex.{encode_upper}
+use Rattle.rbc_spec.specs.Frame.{Announce, AskRight, Body, Cancel, Frame, GiveRight, RefuseRight, ReturnRight, RouteAsk}
+use Rattle.rbc_spec.specs.Frame.{RouteInfo, RouteReturn, RouteWithdraw, TakingOver, Yield}
 use Rattle.rbc_spec.specs.Line.{Line, section}
-use Rattle.rbc_spec.specs.Frame.{Frame, Body, AskRight, GiveRight, RefuseRight, ReturnRight, RouteAsk, RouteInfo, RouteWithdraw, RouteReturn, Announce, Cancel, TakingOver, Yield}
-use Rattle.rbc_spec.specs.Outcome.{Word, Done, Asked, NotHome, Told, Reason, StaleStamp, NoSession, ForeignEngine, NoPlace, NotSupervised, NoTrainData, ProposalPending, Unasked, MissionEnded, WrongPhase}
-use Rattle.rbc_spec.specs.LineCentre.{Mark, Shut, Open, Kept, Given}
+use Rattle.rbc_spec.specs.LineCentre.{Given, Kept, Mark, Open, Shut}
+use Rattle.rbc_spec.specs.Outcome.{Asked, Done, ForeignEngine, MissionEnded, NoPlace, NoSession, NotHome, NoTrainData}
+use Rattle.rbc_spec.specs.Outcome.{NotSupervised, ProposalPending, Reason, StaleStamp, Told, Unasked, Word, WrongPhase}
 use Rattle.rbc_world.specs.declared.event.WorldEvent.{WorldEvent}
 use Rattle.rbc_world.specs.declared.event.WorldEvent.TheVariants as event
 

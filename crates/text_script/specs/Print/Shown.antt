@@ -1,10 +1,10 @@
 -- The print of the line: one line of text for each section, and one for each train that messages have named.
-use Rattle.std.specs.Prelude.{ℕ, zero, suc, ◌==◌, List, [], ◌++◌, Option, option_and_then, length}
-use Rattle.std.specs.List.{flat_map, find}
+use Rattle.std.specs.List.{find, flat_map}
+use Rattle.std.specs.Prelude.{[], ◌++◌, ◌==◌, length, List, Option, option_and_then, suc, zero, ℕ}
 use Rattle.rbc_spec.specs.Line.{Line}
 use Rattle.rbc_spec.specs.LineCentre.{LineState}
-use Rattle.rbc_spec.specs.World.{World}
 use Rattle.rbc_spec.specs.ReadOff.{read_off}
+use Rattle.rbc_spec.specs.World.{World}
 use Rattle.rbc_world.specs.View.{centre_in}
 use Rattle.text_script.specs.Print.Rows.{section_row, train_row}
 

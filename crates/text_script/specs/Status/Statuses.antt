@@ -1,9 +1,10 @@
 -- The exit statuses of the program.
-use Rattle.std.specs.Prelude.{◌≡◌, ℕ, ◌⊎◌, Result, Ok, Err}
+use Rattle.std.specs.Prelude.{◌≡◌, ◌⊎◌, Err, Ok, Result, ℕ}
 use Rattle.text_script.specs.declared.status.fault.Fault.{Fault}
-use Rattle.text_script.specs.declared.status.fault.Fault.TheVariants.{Words, Usage, NotHexadecimal, NoTrain, NoEvents}
-use Rattle.text_script.specs.declared.status.fault.Fault.TheVariants.{CannotRead, NoJournal, Foreign, Damaged, Unfit}
-use Rattle.text_script.specs.declared.status.fault.Fault.TheVariants.{Line, Script, Step, Message, Differs, Socket, Write}
+use Rattle.text_script.specs.declared.status.fault.Fault.TheVariants.{CannotRead, Damaged, Differs, Foreign, Line}
+use Rattle.text_script.specs.declared.status.fault.Fault.TheVariants.{Message, NoEvents, NoJournal, NotHexadecimal}
+use Rattle.text_script.specs.declared.status.fault.Fault.TheVariants.{NoTrain, Script, Socket, Step, Unfit, Usage}
+use Rattle.text_script.specs.declared.status.fault.Fault.TheVariants.{Words, Write}
 
 -- the exit status of a fault
 abbrev pub status_of : Fault → ℕ

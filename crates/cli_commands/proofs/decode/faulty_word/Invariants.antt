@@ -1,5 +1,5 @@
-use denote.Text.{Utf8}
 use denote.Shadow.{shadow}
+use denote.Text.{Utf8}
 use Rattle.cli_commands.proofs.decode.faulty_word.Given as goal
 
 -- the last word is text

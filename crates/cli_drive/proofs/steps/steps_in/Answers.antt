@@ -1,8 +1,8 @@
-use Rattle.std.proofs.Common.{◌≡◌, ◌+◌, ◌<◌, ℕ, List, Bor, map, length, get_or, [], sym, ◌∙◌, ap, subst}
+use Rattle.std.proofs.Common.{[], ◌+◌, ◌<◌, ◌∙◌, ◌≡◌, ap, Bor, get_or, length, List, map, subst, sym, ℕ}
 use Rattle.std.proofs.lemmas.List.{get_or-map, length-map}
-use Rattle.cli_drive.specs.Lines.{row_asks}
-use Rattle.cli_drive.proofs.Reading.{Reads, reads_step, reads_fault}
+use Rattle.cli_drive.proofs.Reading.{Reads, reads_fault, reads_step}
 use Rattle.cli_drive.proofs.steps.steps_in.Goals as goal
+use Rattle.cli_drive.specs.Lines.{row_asks}
 
 -- the text of a line
 row_at : (rows : List (Bor (List ℕ))) (i : ℕ) → i < length rows →
@@ -15,7 +15,8 @@ within rows i h = simp length-map h
 pub returns-in-Err-Form-clause-fault : goal.returns-in-Err-Form-clause-fault
 returns-in-Err-Form-clause-fault c =
     reads_fault _ c.loop-i.i _ (within c.args.rows.now c.loop-i.i c.loop-i-test.true)
-    (ap row_asks (row_at c.args.rows.now c.loop-i.i c.loop-i-test.true) ∙ c.in-Err-Form.ensures c.in-Err-Form.field-0-is)
+    (ap row_asks (row_at c.args.rows.now c.loop-i.i c.loop-i-test.true)
+    ∙ c.in-Err-Form.ensures c.in-Err-Form.field-0-is)
     c.loop-i.invariant
 
 pub loop-i-preserved : goal.loop-i-preserved

@@ -1,4 +1,4 @@
-use Rattle.std.proofs.Common.{◌≡◌, ◌∙◌, Bool, true, false, not, Some, ap, refl}
+use Rattle.std.proofs.Common.{◌∙◌, ◌≡◌, ap, Bool, false, not, refl, Some, true}
 use Rattle.std.proofs.lemmas.Option.{slice_get_read}
 use Rattle.rbc_world.proofs.hearing.is_first_mention.Goals as goal
 

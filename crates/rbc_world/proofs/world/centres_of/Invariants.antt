@@ -1,7 +1,7 @@
-use Rattle.std.proofs.Common.{◌≡◌, ℕ, length, slice_get, Some}
+use Rattle.std.proofs.Common.{◌≡◌, length, slice_get, Some, ℕ}
 use Rattle.rbc_centre.specs.declared.centre.Centre.{Centre}
-use Rattle.rbc_world.specs.States.{AtBeginning}
 use Rattle.rbc_world.proofs.world.centres_of.Given as goal
+use Rattle.rbc_world.specs.States.{AtBeginning}
 
 abbrev pub invariant-loop-c : goal.invariant-loop-c
 invariant-loop-c l = record {

@@ -1,7 +1,7 @@
 use Rattle.std.proofs.Common.{rules, tests}
 use Rattle.std.specs.declared.num.ParseIntError.{ParseIntError}
-use Rattle.text_script.proofs.Scripts.{number_of-Ok, number_of-Err}
 use Rattle.text_script.proofs.script.number_in.Goals as goal
+use Rattle.text_script.proofs.Scripts.{number_of-Err, number_of-Ok}
 
 pub returns-in-Ok : goal.returns-in-Ok
 returns-in-Ok c =
@@ -9,4 +9,5 @@ returns-in-Ok c =
 
 pub returns-in-Err : goal.returns-in-Err
 returns-in-Err c e =
-    number_of-Err 32 ParseIntError c.args.word.now c.in-Err.field-0 c.in-Err.ensures.value.0 (λ plus. search (rules, tests))
+    number_of-Err 32 ParseIntError c.args.word.now c.in-Err.field-0 c.in-Err.ensures.value.0
+    (λ plus. search (rules, tests))

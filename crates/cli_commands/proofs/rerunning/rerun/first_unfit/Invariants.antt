@@ -1,7 +1,7 @@
 use Rattle.std.proofs.Common.{◌≡◌, take}
-use Rattle.text_script.specs.rbc_world.World.{line_of, state_of}
-use Rattle.cli_commands.specs.Rerunning.Rerun.{IsRerun}
 use Rattle.cli_commands.proofs.rerunning.rerun.first_unfit.Given as goal
+use Rattle.cli_commands.specs.Rerunning.Rerun.{IsRerun}
+use Rattle.text_script.specs.rbc_world.World.{line_of, state_of}
 
 abbrev pub invariant-loop-entry : goal.invariant-loop-entry
 invariant-loop-entry l = record {

@@ -1,20 +1,31 @@
-use Rattle.std.proofs.Common.{◌∙◌, ap, sym, length, List, Bool, false}
+use Rattle.std.proofs.Common.{◌∙◌, ap, Bool, false, length, List, sym}
 use Rattle.std.proofs.Math.ListN.{length-replicate}
 use Rattle.rbc_spec.specs.Line.{Line}
 use Rattle.rbc_world.proofs.Centres.{new_world_stands}
-use Rattle.rbc_world.proofs.Reached.{begins}
 use Rattle.rbc_world.proofs.Mentions.{none_named}
+use Rattle.rbc_world.proofs.Reached.{begins}
 use Rattle.rbc_world.proofs.world.World.new.Goals as goal
 
 pub invariant_of-result : goal.invariant_of-result
 invariant_of-result c = record {
-  each_centre = c.in_ok-centres_of.ensures.count ∙ ap (λ (l : Line). length l.centres) (sym c.in_ok-copied.ensures.value);
+  each_centre =
+      c.in_ok-centres_of.ensures.count ∙ ap (λ (l : Line). length l.centres) (sym c.in_ok-copied.ensures.value);
   one_line = λ d k at. (c.in_ok-centres_of.ensures.each d k at).line_of ∙ sym c.in_ok-copied.ensures.value;
   in_order = λ d k at. (c.in_ok-centres_of.ensures.each d k at).number_of;
-  each_train = ap (λ (bs : List Bool). length bs) c.in_ok-none_named.ensures ∙ length-replicate (length c.args.line.now.trains) false ∙ ap (λ (l : Line). length l.trains) (sym c.in_ok-copied.ensures.value);
-  are_named = none_named c.in_ok-copied.field-0 _ _ (length c.args.line.now.trains) c.in_ok-none_named.ensures c.new.ensures.empty;
-  reached = begins c.args.line.now _ _ c.in_ok-copied.ensures.value (new_world_stands _ c.args.line.now _ _ c.in_ok-copied.ensures.value c.in_ok-centres_of.ensures.each c.new.ensures.empty);
+  each_train =
+      ap (λ (bs : List Bool). length bs) c.in_ok-none_named.ensures
+      ∙ length-replicate (length c.args.line.now.trains) false
+      ∙ ap (λ (l : Line). length l.trains) (sym c.in_ok-copied.ensures.value);
+  are_named =
+      none_named c.in_ok-copied.field-0 _ _ (length c.args.line.now.trains) c.in_ok-none_named.ensures
+      c.new.ensures.empty;
+  reached =
+      begins c.args.line.now _ _ c.in_ok-copied.ensures.value
+      (new_world_stands _ c.args.line.now _ _ c.in_ok-copied.ensures.value c.in_ok-centres_of.ensures.each
+      c.new.ensures.empty);
 }
 
 pub returns-clause-beginning : goal.returns-clause-beginning
-returns-clause-beginning c = new_world_stands _ c.args.line.now _ _ c.in_ok-copied.ensures.value c.in_ok-centres_of.ensures.each c.new.ensures.empty
+returns-clause-beginning c =
+    new_world_stands _ c.args.line.now _ _ c.in_ok-copied.ensures.value c.in_ok-centres_of.ensures.each
+    c.new.ensures.empty

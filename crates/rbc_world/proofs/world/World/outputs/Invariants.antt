@@ -7,5 +7,6 @@ use Rattle.rbc_world.specs.World.{line_of, state_of}
 abbrev pub invariant-loop-event : goal.invariant-loop-event
 invariant-loop-event l = record {
   line : line_of l.world ≡ l.line;
-  reaches : Reaches l.line (map event_of l.events) (map event_of (drop l.event-index l.events)) (map answer_of l.answers.items) (state_of l.world);
+  reaches : Reaches l.line (map event_of l.events) (map event_of (drop l.event-index l.events))
+      (map answer_of l.answers.items) (state_of l.world);
 }

@@ -1,9 +1,9 @@
 use Rattle.std.proofs.Common.{◌∙◌, sym}
 use Rattle.rbc_spec.specs.Line.{section}
-use Rattle.rbc_world.specs.World.{line_of, state_of}
 use Rattle.rbc_world.proofs.Known.{world_sections}
 use Rattle.rbc_world.proofs.Shown.{has_home, no_section}
 use Rattle.rbc_world.proofs.world.World.section_view.Goals as goal
+use Rattle.rbc_world.specs.World.{line_of, state_of}
 
 pub returns-in-Some : goal.returns-in-Some
 returns-in-Some c =

@@ -1,4 +1,4 @@
-use Rattle.std.proofs.Common.{◌≡◌, ◌∙◌, refl, slice_get, Some}
+use Rattle.std.proofs.Common.{◌∙◌, ◌≡◌, refl, slice_get, Some}
 use Rattle.std.proofs.lemmas.Option.{slice_get_read}
 use Rattle.rbc_spec.specs.ReadOff.{read_off}
 use Rattle.rbc_world.proofs.Shown.{seen_at}
@@ -12,8 +12,16 @@ returns c =
     let ts = c.args.self.now.trains.keys in
     let at : slice_get cs c.args.c ≡ Some c.index.result.now = slice_get_read _ _ _ _ refl c.requires c.index.ensures in
     record {
-      phase = c.train-state.ensures.phase ∙ seen_at line cs ts c.args.c (λ k. k.phase c.args.nid_engine) c.index.result.now at;
-      heard = c.train-state.ensures.heard ∙ seen_at line cs ts c.args.c (λ k. k.heard c.args.nid_engine) c.index.result.now at;
-      said = c.train-state.ensures.said ∙ seen_at line cs ts c.args.c (λ k. k.said c.args.nid_engine) c.index.result.now at;
-      wait = c.train-state.ensures.waiting ∙ seen_at line cs ts c.args.c (λ k. k.wait c.args.nid_engine) c.index.result.now at;
+      phase =
+          c.train-state.ensures.phase ∙ seen_at line cs ts c.args.c (λ k. k.phase c.args.nid_engine)
+          c.index.result.now at;
+      heard =
+          c.train-state.ensures.heard ∙ seen_at line cs ts c.args.c (λ k. k.heard c.args.nid_engine)
+          c.index.result.now at;
+      said =
+          c.train-state.ensures.said ∙ seen_at line cs ts c.args.c (λ k. k.said c.args.nid_engine)
+          c.index.result.now at;
+      wait =
+          c.train-state.ensures.waiting ∙ seen_at line cs ts c.args.c (λ k. k.wait c.args.nid_engine)
+          c.index.result.now at;
     }

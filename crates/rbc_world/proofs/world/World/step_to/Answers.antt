@@ -14,4 +14,5 @@ returns-clause-theorems c =
 pub returns-clause-world : goal.returns-clause-world
 returns-clause-world c =
     let new = c.write_answer.new.self in
-    is_world_of new.line (state_of new) (subst IsLine (sym c.write_answer.ensures.line) c.known_line.ensures) new.reached
+    is_world_of new.line (state_of new) (subst IsLine (sym c.write_answer.ensures.line) c.known_line.ensures)
+    new.reached

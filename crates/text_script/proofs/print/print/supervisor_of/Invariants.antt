@@ -1,4 +1,4 @@
-use Rattle.std.proofs.Common.{◌≡◌, ◌==◌, take, None}
+use Rattle.std.proofs.Common.{◌==◌, ◌≡◌, None, take}
 use Rattle.std.specs.List.{find}
 use Rattle.text_script.proofs.print.print.supervisor_of.Given as goal
 
