@@ -1,6 +1,7 @@
 -- A message that the rules allow at the safe ends of a train is allowed wherever the train may be.
-use Rattle.std.proofs.Common.{if◌then◌else◌, ◌&&◌, ◌==◌, ◌∙◌, ◌≡◌, arith, Bool, Err, false, int_le, is_ok, le-leb, leb-true}
-use Rattle.std.proofs.Common.{nat_le, nat_lt, negsuc, None, not, Ok, Option, pos, refl, Result, Some, subst, sym, true, ℕ, ℤ}
+use Rattle.std.proofs.Common.{if◌then◌else◌, ◌&&◌, ◌==◌, ◌∙◌, ◌≡◌, arith, Bool, Err, false, int_le, is_ok, le-leb}
+use Rattle.std.proofs.Common.{leb-true, nat_le, nat_lt, negsuc, None, not, Ok, Option, pos, refl, Result, Some, subst}
+use Rattle.std.proofs.Common.{sym, true, ℕ, ℤ}
 use Rattle.std.proofs.lemmas.Bool.{and_from, and_parts}
 use Rattle.std.specs.Option.{option_map_or}
 use Rattle.std.specs.Result.{IsErr}
@@ -96,7 +97,7 @@ module _ (unit : OnBoardUnit) (there safe : Ends) (within : IsWithin there safe)
   asked_too c (StartOfMission is_valid p) is = is
   asked_too c SessionEstablished is = is
 
-  -- what it may send by its safe ends it may send there
+  -- a message that it may send by its safe ends it may send there
   pub may_say_there : (line : Line) (engine c : ℕ) (m : TrainMessage)
       → is_ok (verdict line engine c m (train_of unit safe)) ≡ true → may_say line c m (train_of unit there) ≡ true
   may_say_there line engine c m is =

@@ -1,4 +1,4 @@
-//! What a unit changes before the train sends a message: it gives back first.
+//! The changes of a unit before the train sends a message: it gives back first.
 
 ghost use Rattle.std.specs.Prelude.{◌≡◌, option_map};
 ghost use Rattle.rbc_msgs.specs.StepMessage.{step_body};
@@ -10,7 +10,7 @@ use crate::unit::{Asked, OnBoardUnit};
 use rbc_msgs::TrainBody;
 
 impl OnBoardUnit {
-    /// What changes on board before the train sends a message with this T_TRAIN to a centre.
+    /// The changes on board before the train sends a message with this T_TRAIN to a centre.
     pub(crate) fn before_it_says(&mut self, centre: u8, t_train: u32, body: &TrainBody)
         ensures exact { (ends : Ends) → train_of self.new ends
             ≡ rules.before_it_says centre t_train (step_body body.now) (train_of self.old ends) }
@@ -30,7 +30,8 @@ impl OnBoardUnit {
 
     // It keeps this end of its authority, and follows no centre from then on.
     fn gives_back(&mut self, t_train: u32, left: Option<u32>)
-        ensures exact { (ends : Ends) → train_of self.new ends ≡ rules.gives_back t_train left (train_of self.old ends) }
+        ensures exact { (ends : Ends) → train_of self.new ends
+            ≡ rules.gives_back t_train left (train_of self.old ends) }
         ensures name { self.new.nid_engine ≡ self.old.nid_engine }
     {
         self.end = left;

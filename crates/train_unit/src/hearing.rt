@@ -1,4 +1,4 @@
-//! What a unit keeps of the messages that it receives.
+//! The messages that a unit receives.
 
 ghost use Rattle.std.specs.Prelude.{◌≡◌, ◌^◌, ◌<◌, ℕ, true};
 ghost use Rattle.rbc_spec.specs.Line.{is_centre};
@@ -100,6 +100,7 @@ impl OnBoardUnit {
         let Some(end) = end_from(line, message.nid_lrbg(), metres) else {
             return;
         };
+        // The line has at most 8 centres, and this is one of them.
         if centre < line.centre_count() {
             self.asked[centre as usize] = Some(Asked {
                 stamp: message.t_train(),

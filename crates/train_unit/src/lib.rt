@@ -1,9 +1,10 @@
-//! The on-board unit of a train that obeys: what it keeps of the messages that it receives and sends, what it may send,
-//! and how far it may run. Its functions are the rules of `law_trains` themselves.
+//! The on-board unit of a train that obeys. It decides which messages the train may send, and how far it may run. It
+//! keeps the parts of messages that the rules need. Its contracts are the rules of `law_trains` themselves.
 //!
-//! An [`OnBoardUnit`] keeps the end of its authority, the centre that it follows, the last T_TRAIN that it sent, and
-//! the requests to shorten that it received. It keeps no state of a session, and trusts no order of the messages. Where
-//! the train is, its odometry says ([`Ends`]). A message that the rules forbid is [`Refused`], and changes nothing.
+//! An [`OnBoardUnit`] keeps the end of its authority and the centre that it follows. It keeps the last T_TRAIN that it
+//! sent, and the last request to shorten of each centre. It has no session, and needs no order of the messages. The
+//! odometry of the train gives its safe ends ([`Ends`]). A message that the rules forbid is [`Refused`], and changes
+//! nothing.
 //!
 //! ```
 //! let mut unit = OnBoardUnit::new(7);

@@ -1,4 +1,4 @@
-//! What a unit may send, and what it gives back before it does.
+//! The messages that a unit may send.
 
 ghost use Rattle.std.specs.Prelude.{◌≡◌, ◌==◌, ◌&&◌, ℕ, true, is_ok, OnOk, OnErr};
 ghost use Rattle.rbc_msgs.specs.StepMessage.{step_body, step_message};
@@ -14,8 +14,9 @@ use rbc_line::Line;
 use rbc_msgs::{TrainBody, TrainMsg};
 
 impl OnBoardUnit {
-    /// The train sends a message to this centre, with its safe ends there by its odometry. It has given back what the
-    /// message gives back before that. An error names the first rule that forbids the message, and changes nothing.
+    /// The train sends a message to this centre. `ends` are its safe ends then, by its odometry. A message that gives
+    /// something back is sent after the unit has done so. An error names the first rule that forbids the message, and
+    /// changes nothing.
     pub fn say(
         &mut self,
         line: &Line,

@@ -44,6 +44,7 @@ impl OnBoardUnit {
     /// The unit of a train that has sent and received nothing.
     pub fn new(nid_engine: u32) -> OnBoardUnit
         ensures name { result.nid_engine ≡ nid_engine }
+        ensures stamps { (result.clock ≡ 0) × (result.gave_back ≡ 0) }
         ensures new { (ends : There) → int_lt ends.rear (pos ends.front) ≡ true → IsNew (train_of result ends) }
     {
         OnBoardUnit {

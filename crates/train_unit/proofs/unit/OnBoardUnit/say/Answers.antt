@@ -11,6 +11,7 @@ returns-clause-obeys c there within =
 
 pub returns-in_err-look_at-clause-may : goal.returns-in_err-look_at-clause-may
 returns-in_err-look_at-clause-may c =
-    not_ok c.from_residual.result c.from_residual.ensures.0 ∙ sym (ap is_ok c.in_err-look_at.was) ∙ ap is_ok c.look_at.ensures
+    not_ok c.from_residual.result c.from_residual.ensures.0 ∙ sym (ap is_ok c.in_err-look_at.was)
+    ∙ ap is_ok c.look_at.ensures
     ∙ verdict_is c.args.line.now c.args.self.now.nid_engine c.args.centre (step_message c.args.message.now)
     (train_of c.args.self.now c.args.ends)
