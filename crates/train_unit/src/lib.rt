@@ -4,7 +4,7 @@
 //! An [`OnBoardUnit`] keeps the end of its authority and the centre that it follows. It keeps the last T_TRAIN that it
 //! sent, and the last request to shorten of each centre. It has no session, and needs no order of the messages. The
 //! odometry of the train gives its safe ends ([`Ends`]). A message that the rules forbid is [`Refused`], and changes
-//! nothing.
+//! nothing. `next_message` is a policy, which proposes a [`NextMessage`] to a centre; any other policy is as safe.
 //!
 //! ```
 //! let mut unit = OnBoardUnit::new(7);
@@ -19,6 +19,7 @@
 mod ends;
 mod giving_back;
 mod hearing;
+mod policy;
 mod position;
 mod refused;
 mod running;
@@ -26,5 +27,6 @@ mod saying;
 mod unit;
 
 pub use ends::Ends;
+pub use policy::{Contact, NextMessage, Session};
 pub use refused::Refused;
 pub use unit::OnBoardUnit;
