@@ -59,8 +59,8 @@ pub enum NextMessage {
 }
 
 impl OnBoardUnit {
-    /// The next message of the train to a centre, with this T_TRAIN. `None` if it has to wait. `front` is its safe front
-    /// end, in decimetres from the start of the track.
+    /// The next message of the train to a centre, with this T_TRAIN. `None` if it has to wait. `front` is its safe
+    /// front end, in decimetres from the start of the track.
     pub fn next_message(&self, contact: Contact, now: u32, front: u32) -> Option<NextMessage>
         ensures allowed { IfSome result (IsAllowed self.now contact.centre now) }
         // It waits for its clock, and without a request for the time after which a message is sent again.
