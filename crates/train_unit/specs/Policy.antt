@@ -1,7 +1,8 @@
 -- Messages that a policy proposes.
 use Rattle.std.specs.Option.{option_map_or}
-use Rattle.std.specs.Prelude.{◌==◌, ◌≡◌, Bool, false, true, ℕ}
+use Rattle.std.specs.Prelude.{if◌then◌else◌, ◌&&◌, ◌*◌, ◌==◌, ◌≡◌, nat_le, true, ℕ}
 use Rattle.rbc_spec.specs.Line.{Line}
+use Rattle.rbc_spec.specs.Maps.{has}
 use Rattle.rbc_spec.specs.Message as said
 use Rattle.rbc_spec.specs.Place.{extent, Position}
 use Rattle.law_trains.specs.Trains.{is_in_place, may_say}
@@ -9,7 +10,7 @@ use Rattle.train_unit.specs.declared.ends.Ends.{Ends}
 use Rattle.train_unit.specs.declared.policy.NextMessage.{NextMessage}
 use Rattle.train_unit.specs.declared.policy.NextMessage.TheVariants as next
 use Rattle.train_unit.specs.declared.unit.OnBoardUnit.{OnBoardUnit}
-use Rattle.train_unit.specs.Units.{train_of}
+use Rattle.train_unit.specs.Units.{asked_by, train_of}
 
 -- the body of the message, with this position report
 abbrev pub body_of : NextMessage → Position → said.TrainBody
@@ -21,11 +22,12 @@ body_of next.InitiationOfSession p = said.InitiationOfSession
 body_of next.StartOfMission p = said.StartOfMission true p
 body_of next.SessionEstablished p = said.SessionEstablished
 
--- the message grants or rejects the request to shorten with this T_TRAIN
-abbrev pub is_answer_to : ℕ → NextMessage → Bool
-is_answer_to request (next.ShorteningGranted r) = r == request
-is_answer_to request (next.ShorteningRejected r) = r == request
-is_answer_to request message = false
+-- the answer to the request of centre c with this T_TRAIN: it is granted if it is the last, and if the front end, in
+-- decimetres, is not past the proposed end
+abbrev pub answer_to : OnBoardUnit → ℕ → ℕ → ℕ → NextMessage
+answer_to unit c request front =
+    if has (λ a. (a.stamp == request) && nat_le front (10 * a.end)) (asked_by unit c)
+    then next.ShorteningGranted request else next.ShorteningRejected request
 
 -- The rules allow the train to send this message to centre c with this T_TRAIN, wherever it is, if its position report
 -- is true.

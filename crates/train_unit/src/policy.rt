@@ -4,7 +4,7 @@
 ghost use Rattle.std.specs.Prelude.{◌≡◌, ◌+◌, ◌&&◌, ◌||◌, ℕ, nat_le, nat_lt, is_none, Some, true, IfSome};
 ghost use Rattle.rbc_spec.specs.Place.{Position};
 ghost use Rattle.law_trains.specs.Trains as rules;
-ghost use Rattle.train_unit.specs.Policy.{body_of, is_answer_to, IsAllowed};
+ghost use Rattle.train_unit.specs.Policy.{answer_to, body_of, IsAllowed};
 ghost use Rattle.train_unit.specs.Units.{train_of};
 ghost use Rattle.train_unit.specs.declared.ends.Ends.{Ends};
 
@@ -67,7 +67,7 @@ impl OnBoardUnit {
         ensures waits { is_none result
             ≡ (nat_le now self.now.clock || (is_none contact.request && nat_lt now (contact.last + 500))) }
         ensures answers { (request : ℕ) → contact.request ≡ Some request
-            → IfSome result (λ message. is_answer_to request message ≡ true) }
+            → IfSome result (λ message. message ≡ answer_to self.now contact.centre request front) }
     {
         if now <= self.clock {
             return None;
@@ -83,7 +83,7 @@ impl OnBoardUnit {
 
     // The answer to a request to shorten: it is granted if the front end is not past the proposed end.
     fn answer(&self, centre: u8, request: u32, front: u32) -> NextMessage
-        ensures answer { is_answer_to request result ≡ true }
+        ensures answer { result ≡ answer_to self.now centre request front }
         ensures asked { (ends : Ends) (p : Position)
             → rules.was_asked centre (body_of result p) (train_of self.now ends) ≡ true }
     {
