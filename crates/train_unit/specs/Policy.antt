@@ -22,8 +22,8 @@ body_of next.InitiationOfSession p = said.InitiationOfSession
 body_of next.StartOfMission p = said.StartOfMission true p
 body_of next.SessionEstablished p = said.SessionEstablished
 
--- the answer to the request of centre c with this T_TRAIN: it is granted if it is the last, and if the front end, in
--- decimetres, is not past the proposed end
+-- The answer to the request of centre c with this T_TRAIN. It is granted if it is the last, and the front end is not
+-- past the proposed end. `front` is in decimetres.
 abbrev pub answer_to : OnBoardUnit → ℕ → ℕ → ℕ → NextMessage
 answer_to unit c request front =
     if has (λ a. (a.stamp == request) && nat_le front (10 * a.end)) (asked_by unit c)
