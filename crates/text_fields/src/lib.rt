@@ -9,6 +9,7 @@
 #![tactic(auto)]
 
 mod fault;
+mod frames;
 mod hexadecimal;
 mod kind;
 mod layout;
@@ -16,6 +17,7 @@ mod look;
 mod meaning;
 mod messages;
 mod names;
+mod packet_fields;
 mod packets;
 mod print;
 mod seen;
@@ -24,7 +26,7 @@ mod walk;
 
 pub use hexadecimal::bytes_in;
 pub use kind::Kind;
-pub use layout::{Field, Part};
+pub use layout::Field;
 pub use print::{Form, PrintFault, print_frame, print_messages};
 pub use seen::{Notes, Seen};
 pub use shown::Shown;
