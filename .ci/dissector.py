@@ -171,7 +171,7 @@ def message_entries(all_words):
     fields = {it: parts("messages.rt", text, all_words) for it, text in fields}
     required = dict(re.findall(r"(?s)Required::(\w+) => (.*?)(?=Required::|\Z)", required))
     found = []
-    for number, own, packets in BODY_ROW.findall(read(f"{SOURCES}/messages.rt")):
+    for number, own, packets in BODY_ROW.findall(read(f"{SOURCES}/bodies.rt")):
         wanted = [it.split(", ") for it in re.findall(r"wanted\(side, &\[([\d, ]+)\]\)", required[packets])]
         wanted = ", ".join("{" + ", ".join(f"[{it}] = true" for it in each) + "}" for each in wanted)
         found.append((int(number), f"[{number}] = {{parts = {{{', '.join(fields[own])}}}, packets = {{{wanted}}}}}"))

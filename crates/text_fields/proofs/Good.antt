@@ -1,15 +1,15 @@
 -- The fields of a good message are laid out by the tables, and their bits are those of the message.
-use Rattle.std.proofs.Common.{◌≡◌, ◌∙◌, sym, ap, refl, subst, ℕ, zero, suc, ◌+◌, ◌^◌, ◌<◌, ◌≤◌, Bool, List, [], ◌∷◌, ◌++◌, length, append_assoc, append-nil, pow_pos, arith, inl, inr}
-use Rattle.std.specs.Prelude.{codes, MatchOption, replicate, false}
+use Rattle.std.proofs.Common.{◌≡◌, ◌∙◌, sym, ap, refl, subst, ℕ, zero, suc, ◌+◌, ◌^◌, ◌<◌, Bool, List, [], ◌∷◌}
+use Rattle.std.proofs.Common.{◌++◌, length, append_assoc, append-nil, pow_pos, arith}
+use Rattle.std.specs.Prelude.{MatchOption, replicate, false}
 use Rattle.std.specs.List.{AllByRecursion, flat_map}
 use Rattle.std.proofs.lemmas.List.{map-append}
 use Rattle.rbc_bits.specs.Bits.{bits_of, filling, filled}
-use Rattle.rbc_spec.specs.Message.{TrackMessage, TrackBody, unknown_time}
-use Rattle.rbc_spec.specs.Message as track
-use Rattle.rbc_vars.specs.Values.{q_scale_value, direction_value, q_status_value}
+use Rattle.rbc_vars.specs.Values.{q_status_value}
 use Rattle.rbc_vars.proofs.Values.{q_scale-fits, direction-fits, q_status-fits}
 use Rattle.rbc_packets.specs.Layout.{Field, joined, widths}
-use Rattle.rbc_packets.specs.PositionSpelling.{location_fields, train_length_fields, running_fields, level_fields, position_fields, PositionFits, TrainLengthFits, LevelFits}
+use Rattle.rbc_packets.specs.PositionSpelling.{location_fields, train_length_fields, running_fields, level_fields}
+use Rattle.rbc_packets.specs.PositionSpelling.{position_fields, PositionFits, TrainLengthFits, LevelFits}
 use Rattle.rbc_packets.specs.declared.position.Position.{Position}
 use Rattle.rbc_packets.specs.declared.train_length.TrainLength.{TrainLength}
 use Rattle.rbc_packets.specs.declared.train_length.TrainLength.TheVariants as train_length
@@ -18,20 +18,23 @@ use Rattle.rbc_packets.specs.declared.level.Level.TheVariants as level
 use Rattle.rbc_packets.proofs.Again.{filled-parts, length-joined, joined-append, joined-nil}
 use Rattle.rbc_packets.proofs.TrackAgain.{position-width}
 use Rattle.rbc_msgs.specs.TrainText.{TrainText}
-use Rattle.rbc_msgs.specs.TrainSpelling.{SpellsTrain, TrainFits, TrainBodyFits, train_bits, train_body_bits, train_header, train_number, position_packet, packet_bits}
-use Rattle.rbc_msgs.specs.TrackSpelling.{SpellsTrack, TrackFits, TrackBodyFits, track_fields, track_body_fields, track_number}
+use Rattle.rbc_msgs.specs.TrainSpelling.{SpellsTrain, TrainBodyFits, train_bits, train_body_bits}
+use Rattle.rbc_msgs.specs.TrainSpelling.{train_header, train_number, position_packet, packet_bits}
 use Rattle.rbc_msgs.specs.declared.train_body.TrainBody.{TrainBody}
 use Rattle.rbc_msgs.specs.declared.train_body.TrainBody.TheVariants as train
-use Rattle.text_fields.specs.Named.{Named, NamedFits, fields_in, with_names}
-use Rattle.text_fields.specs.Walks.{IsLaid, IsLaidPacket, IsLaidMessage, IsHead, IsOwn, Next, side_of, body_at, count_of}
-use Rattle.text_fields.specs.Messages.{PacketFields, packets_shown, train_head, track_head, IsReadBody, IsReadWhole, train_own, train_packets, track_own, track_packets, train_shown, track_shown}
-use Rattle.text_fields.specs.Messages.{numbered, packet_shown, filling_fields, location_shown, length_shown, running_shown, level_shown, with_filling, position_content, location_names}
-use Rattle.text_fields.specs.Messages.{authority_content, transition_content, end_of_session_content}
+use Rattle.text_fields.specs.Named.{Named, NamedFits, fields_in}
+use Rattle.text_fields.specs.Walks.{IsLaid, IsLaidPacket, IsLaidMessage, IsHead, IsOwn, Next, side_of, body_at}
+use Rattle.text_fields.specs.Walks.{count_of}
+use Rattle.text_fields.specs.Messages.{PacketFields, packets_shown, train_head, IsReadBody, IsReadWhole}
+use Rattle.text_fields.specs.Messages.{train_own, train_packets, train_shown}
+use Rattle.text_fields.specs.Messages.{numbered, filling_fields, location_shown, length_shown}
+use Rattle.text_fields.specs.Messages.{running_shown, level_shown, with_filling, position_content}
 use Rattle.text_fields.specs.declared.messages.Side.{Side}
-use Rattle.text_fields.specs.declared.messages.Side.TheVariants.{Train, Centre}
-use Rattle.text_fields.specs.declared.messages.TheConstants as tables
+use Rattle.text_fields.specs.declared.messages.Side.TheVariants.{Train}
+use Rattle.text_fields.specs.declared.bodies.TheConstants as tables
 use Rattle.text_fields.specs.declared.shown.Shown.{Shown}
 use Rattle.text_fields.proofs.Steps.{both_fit, filling_bits, fields-with_names}
+use Rattle.text_fields.proofs.Filling.{all_bits-filled, few, filling-fit}
 
 -- ## Position reports
 
@@ -43,8 +46,10 @@ content-fields p =
     let d = level_shown p.level in
     map-append (λ (f : Named). f.field) a (b ++ (c ++ d))
     ∙ (ap (λ fields. location_fields p.location ++ fields) (map-append (λ (f : Named). f.field) b (c ++ d))
-    ∙ (ap (λ fields. location_fields p.location ++ (fields ++ fields_in (c ++ d))) (fields-with_names _ (train_length_fields p.train_length))
-    ∙ ap (λ fields. location_fields p.location ++ (train_length_fields p.train_length ++ (running_fields p ++ fields))) (fields-with_names _ (level_fields p.level))))
+    ∙ (ap (λ fields. location_fields p.location ++ (fields ++ fields_in (c ++ d)))
+    (fields-with_names _ (train_length_fields p.train_length))
+    ∙ ap (λ fields. location_fields p.location ++ (train_length_fields p.train_length ++
+    (running_fields p ++ fields))) (fields-with_names _ (level_fields p.level))))
 
 abbrev of_report : Position → PacketFields
 of_report p = record { number = 0; content = position_content p }
@@ -94,16 +99,17 @@ content-fit p h = (
             (omega arith, h.location.l_doubtover),
             (
               (omega arith, h.location.l_doubtunder),
-              both_fit (length_shown p.train_length) (running_shown p ++ level_shown p.level) (length-fit p.train_length h.train_length) (
-                (omega arith, h.running.0),
-                (
-                  (omega arith, direction-fits p.q_dirtrain),
-                  (
-                    (omega arith, h.running.1),
-                    level-fit p.level h.level,
+              both_fit (length_shown p.train_length) (running_shown p ++ level_shown p.level)
+                  (length-fit p.train_length h.train_length) (
+                    (omega arith, h.running.0),
+                    (
+                      (omega arith, direction-fits p.q_dirtrain),
+                      (
+                        (omega arith, h.running.1),
+                        level-fit p.level h.level,
+                      ),
+                    ),
                   ),
-                ),
-              ),
             ),
           ),
         ),
@@ -172,7 +178,7 @@ train_packets_laid train.TerminationOfSession = tt
 train_packets_laid (train.StartOfMission s p) = (report_is_laid p, tt)
 train_packets_laid train.SessionEstablished = tt
 
--- what follows the header
+-- the fields after the header
 abbrev pub train_rest : TrainBody → List Named
 train_rest b = train_own b ++ packets_shown Train (train_packets b)
 
@@ -185,7 +191,10 @@ train_rest-bits (train.ShorteningRejected r p) h = ap (λ (list : List Field). j
 train_rest-bits (train.EndOfMission p) h = ap joined (report-fields p)
 train_rest-bits train.InitiationOfSession h = joined-nil
 train_rest-bits train.TerminationOfSession h = joined-nil
-train_rest-bits (train.StartOfMission s p) h = ap (λ (list : List Field). joined ((2, q_status_value s) ∷ list)) (report-fields p)
+train_rest-bits (train.StartOfMission s p) h = ap (λ (list : List Field). joined ((
+  2,
+  q_status_value s,
+) ∷ list)) (report-fields p)
 train_rest-bits train.SessionEstablished h = joined-nil
 
 train_rest-fit : (b : TrainBody) → IsReadBody b → TrainBodyFits b → AllByRecursion NamedFits (train_rest b)
@@ -208,9 +217,15 @@ pub train_laid : (l : ℕ) (m : TrainText) → IsReadWhole m
 train_laid l m h =
     record {
       number = train_small m.body;
-      head_is = subst (λ (side : Side). IsHead side (head_of l m)) (sym (train_side m.body)) (l, m.t_train, m.nid_engine, refl);
+      head_is = subst (λ (side : Side). IsHead side (head_of l m)) (sym (train_side m.body)) (
+        l,
+        m.t_train,
+        m.nid_engine,
+        refl,
+      );
       body = train_body_laid m.body h.1;
-      packets_are = subst (λ (side : Side). AllByRecursion (IsLaidPacket side) (train_packets m.body)) (sym (train_side m.body)) (train_packets_laid m.body);
+      packets_are = subst (λ (side : Side). AllByRecursion (IsLaidPacket side) (train_packets m.body))
+          (sym (train_side m.body)) (train_packets_laid m.body);
     }
 
 -- all fields but the filling
@@ -221,53 +236,37 @@ train_all-bits : (l : ℕ) (m : TrainText) → IsReadWhole m → train_bits l m 
 unfolding train_bits
 train_all-bits l m h =
     ap (λ (further : List _). joined (train_header l m) ++ (train_body_bits m.body ++ flat_map packet_bits further)) h.0
-    ∙ (ap (λ bits. joined (train_header l m) ++ bits) (append-nil (train_body_bits m.body) ∙ sym (train_rest-bits m.body h.1))
+    ∙ (ap (λ bits. joined (train_header l m) ++ bits) (append-nil (train_body_bits m.body)
+    ∙ sym (train_rest-bits m.body h.1))
     ∙ sym (joined-append (train_header l m) (fields_in (train_rest m.body))))
 
--- ## Filling
-
--- the bits of fields that are filled up to whole bytes
-all_bits-filled : (fields : List Named) → filled (joined (fields_in fields)) ≡ joined (fields_in (with_filling fields)) ++ []
-all_bits-filled fields =
-    let bits = joined (fields_in fields) in
-    let n = filling (widths (fields_in fields)) in
-    filled-parts bits
-    ∙ (ap (λ k. bits ++ replicate (filling k) false) (length-joined (fields_in fields))
-    ∙ (ap (λ others. bits ++ others) (sym (filling_bits n))
-    ∙ (sym (joined-append (fields_in fields) (fields_in (filling_fields n)))
-    ∙ (ap joined (sym (map-append (λ (f : Named). f.field) fields (filling_fields n)))
-    ∙ sym (append-nil (joined (fields_in (with_filling fields))))))))
-
-few : (n : ℕ) → filling n < 8
-few n = omega arith
-
-filling-fit : (n : ℕ) → n < 8 → AllByRecursion NamedFits (filling_fields n)
-filling-fit zero h = tt
-filling-fit (suc n) h = ((omega (arith, h), pow_pos (suc n)), tt)
-
-pub train_next : (bytes : List ℕ) (m : TrainText) → SpellsTrain bytes m → IsReadWhole m → (look : List Shown × List Bool) → look ≡ ([], bits_of bytes)
+pub train_next : (bytes : List ℕ) (m : TrainText) → SpellsTrain bytes m → IsReadWhole m
+    → (look : List Shown × List Bool) → look ≡ ([], bits_of bytes)
     → Next (train_shown (length bytes) m) [] look 0
 train_next bytes m s h look e =
     record {
-      bits = ap (λ p. p.1) e ∙ (s.text ∙ (ap filled (train_all-bits (length bytes) m h) ∙ all_bits-filled (train_all (length bytes) m)));
-      fit = both_fit (train_all (length bytes) m) (filling_fields (filling (widths (fields_in (train_all (length bytes) m))))) (
-        (omega arith, train_small m.body),
-        (
-          (omega arith, s.l_message),
-          (
-            (omega arith, omega (arith, s.fits.t_train)),
+      bits = ap (λ p. p.1) e ∙ (s.text ∙ (ap filled (train_all-bits (length bytes) m h)
+          ∙ all_bits-filled (train_all (length bytes) m)));
+      fit = both_fit (train_all (length bytes) m) (filling_fields
+          (filling (widths (fields_in (train_all (length bytes) m))))) (
+            (omega arith, train_small m.body),
             (
-              (omega arith, s.fits.nid_engine),
-              train_rest-fit m.body h.1 s.fits.body,
+              (omega arith, s.l_message),
+              (
+                (omega arith, omega (arith, s.fits.t_train)),
+                (
+                  (omega arith, s.fits.nid_engine),
+                  train_rest-fit m.body h.1 s.fits.body,
+                ),
+              ),
             ),
-          ),
-        ),
-      )
-          (filling-fit (filling (widths (fields_in (train_all (length bytes) m)))) (few (widths (fields_in (train_all (length bytes) m)))));
+          )
+          (filling-fit (filling (widths (fields_in (train_all (length bytes) m))))
+          (few (widths (fields_in (train_all (length bytes) m)))));
       within = omega arith;
     }
 
--- what the walk shows of it, in the order of its steps
+-- its fields, in the order of the steps of the walk
 pub train_steps : (l : ℕ) (m : TrainText) → train_shown l m
     ≡ numbered (train_number m.body) (head_of l m)
     ++ (train_own m.body ++ (packets_shown (side_of (train_number m.body)) (train_packets m.body)
@@ -278,143 +277,8 @@ train_steps l m =
     let packets = packets_shown Train (train_packets m.body) in
     append_assoc head (train_own m.body ++ packets) fill
     ∙ (ap (λ fields. head ++ fields) (append_assoc (train_own m.body) packets fill)
-    ∙ ap (λ (side : Side). head ++ (train_own m.body ++ (packets_shown side (train_packets m.body) ++ fill))) (sym (train_side m.body)))
+    ∙ ap (λ (side : Side). head ++ (train_own m.body ++ (packets_shown side (train_packets m.body) ++ fill)))
+    (sym (train_side m.body)))
 
 pub train_fill : (l : ℕ) (m : TrainText) → filling (widths (fields_in (train_all l m))) < 8
 train_fill l m = few (widths (fields_in (train_all l m)))
-
--- ## Messages of centres
-
-track_side : (b : TrackBody) → side_of (track_number b) ≡ Centre
-track_side (track.Authority l) = refl
-track_side (track.DataAcknowledged t) = refl
-track_side (track.ShorteningRequest l) = refl
-track_side (track.Transition d c r) = refl
-track_side (track.EndSession c r) = refl
-track_side track.SystemVersion = refl
-track_side track.TerminationAcknowledged = refl
-track_side track.TrainRejected = refl
-track_side track.TrainAccepted = refl
-
-track_small : (b : TrackBody) → track_number b < 2 ^ 8
-track_small (track.Authority l) = omega arith
-track_small (track.DataAcknowledged t) = omega arith
-track_small (track.ShorteningRequest l) = omega arith
-track_small (track.Transition d c r) = omega arith
-track_small (track.EndSession c r) = omega arith
-track_small track.SystemVersion = omega arith
-track_small track.TerminationAcknowledged = omega arith
-track_small track.TrainRejected = omega arith
-track_small track.TrainAccepted = omega arith
-
-track_body_laid : (b : TrackBody) → MatchOption (body_at (track_number b) tables.BODIES.now) ⊥
-    (λ body. IsOwn body.own (track_own b) × (length (track_packets b) ≡ count_of body.packets))
-track_body_laid (track.Authority l) = (refl, refl)
-track_body_laid (track.DataAcknowledged t) = ((t, refl), refl)
-track_body_laid (track.ShorteningRequest l) = (refl, refl)
-track_body_laid (track.Transition d c r) = (refl, refl)
-track_body_laid (track.EndSession c r) = (refl, refl)
-track_body_laid track.SystemVersion = ((32, refl), refl)
-track_body_laid track.TerminationAcknowledged = (refl, refl)
-track_body_laid track.TrainRejected = (refl, refl)
-track_body_laid track.TrainAccepted = (refl, refl)
-
-authority_is_laid : (l : ℕ) → IsLaid Centre 15 (authority_content l)
-authority_is_laid l = record { number = omega arith; count = omega arith; content_is = inl (refl, l, refl) }
-
-track_packets_laid : (b : TrackBody) → AllByRecursion (IsLaidPacket Centre) (track_packets b)
-track_packets_laid (track.Authority l) = (authority_is_laid l, tt)
-track_packets_laid (track.DataAcknowledged t) = tt
-track_packets_laid (track.ShorteningRequest l) = (authority_is_laid l, tt)
-track_packets_laid (track.Transition d c r) =
-    (record { number = omega arith; count = omega arith; content_is = inr (inr (refl, d, c, r, refl)) }, tt)
-track_packets_laid (track.EndSession c r) =
-    (record { number = omega arith; count = omega arith; content_is = inr (inl (refl, c, r, refl)) }, tt)
-track_packets_laid track.SystemVersion = tt
-track_packets_laid track.TerminationAcknowledged = tt
-track_packets_laid track.TrainRejected = tt
-track_packets_laid track.TrainAccepted = tt
-
-abbrev pub track_head_of : ℕ → TrackMessage → List Named
-track_head_of l m = track_head l m.t_train m.nid_lrbg
-
-abbrev pub track_rest : TrackBody → List Named
-track_rest b = track_own b ++ packets_shown Centre (track_packets b)
-
-abbrev pub track_all : ℕ → TrackMessage → List Named
-track_all l m = numbered (track_number m.body) (track_head_of l m) ++ track_rest m.body
-
-track_rest-fields : (b : TrackBody) → fields_in (track_rest b) ≡ track_body_fields b
-track_rest-fields (track.Authority l) = refl
-track_rest-fields (track.DataAcknowledged t) = refl
-track_rest-fields (track.ShorteningRequest l) = refl
-track_rest-fields (track.Transition d c r) = refl
-track_rest-fields (track.EndSession c r) = refl
-track_rest-fields track.SystemVersion = refl
-track_rest-fields track.TerminationAcknowledged = refl
-track_rest-fields track.TrainRejected = refl
-track_rest-fields track.TrainAccepted = refl
-
-authority-fit : (l : ℕ) → l < 2 ^ 15 → AllByRecursion NamedFits (packets_shown Centre (record { number = 15; content = authority_content l } ∷ []))
-authority-fit l h =
-    ((omega arith, omega arith), ((omega arith, omega arith), ((omega arith, omega arith), ((omega arith, omega arith), ((omega arith, omega arith), ((omega arith, omega arith), ((omega arith, omega arith), ((omega arith, h), ((omega arith, omega arith), ((omega arith, omega arith), ((omega arith, omega arith), ((omega arith, omega arith), tt))))))))))))
-
-track_rest-fit : (b : TrackBody) → TrackBodyFits b → AllByRecursion NamedFits (track_rest b)
-track_rest-fit (track.Authority l) f = authority-fit l f
-track_rest-fit (track.DataAcknowledged t) f = ((omega arith, f), tt)
-track_rest-fit (track.ShorteningRequest l) f = authority-fit l f
-track_rest-fit (track.Transition d c r) f =
-    ((omega arith, omega arith), ((omega arith, omega arith), ((omega arith, omega arith), ((omega arith, omega arith), ((omega arith, f.0), ((omega arith, f.1), ((omega arith, f.2), ((omega arith, omega arith), ((omega arith, omega arith), tt)))))))))
-track_rest-fit (track.EndSession c r) f =
-    ((omega arith, omega arith), ((omega arith, omega arith), ((omega arith, omega arith), ((omega arith, omega arith), ((omega arith, f.0), ((omega arith, f.1), ((omega arith, omega arith), ((omega arith, omega arith), tt))))))))
-track_rest-fit track.SystemVersion f = ((omega arith, omega arith), tt)
-track_rest-fit track.TerminationAcknowledged f = tt
-track_rest-fit track.TrainRejected f = tt
-track_rest-fit track.TrainAccepted f = tt
-
-pub track_laid : (l : ℕ) (m : TrackMessage)
-    → IsLaidMessage (track_number m.body) (track_head_of l m) (track_own m.body) (track_packets m.body)
-track_laid l m =
-    record {
-      number = track_small m.body;
-      head_is = subst (λ (side : Side). IsHead side (track_head_of l m)) (sym (track_side m.body)) (l, m.t_train, m.nid_lrbg, refl);
-      body = track_body_laid m.body;
-      packets_are = subst (λ (side : Side). AllByRecursion (IsLaidPacket side) (track_packets m.body)) (sym (track_side m.body)) (track_packets_laid m.body);
-    }
-
-track_all-bits : (l : ℕ) (m : TrackMessage) → joined (track_fields l m) ≡ joined (fields_in (track_all l m))
-track_all-bits l m = ap (λ fields. joined ((8, track_number m.body) ∷ (10, l) ∷ (32, m.t_train) ∷ (1, 0) ∷ (24, m.nid_lrbg) ∷ fields)) (sym (track_rest-fields m.body))
-
-pub track_next : (bytes : List ℕ) (m : TrackMessage) → SpellsTrack bytes m → (look : List Shown × List Bool) → look ≡ ([], bits_of bytes)
-    → Next (track_shown (length bytes) m) [] look 0
-track_next bytes m s look e =
-    record {
-      bits = ap (λ p. p.1) e ∙ (s.text ∙ (ap filled (track_all-bits (length bytes) m) ∙ all_bits-filled (track_all (length bytes) m)));
-      fit = both_fit (track_all (length bytes) m) (filling_fields (filling (widths (fields_in (track_all (length bytes) m))))) (
-        (omega arith, track_small m.body),
-        (
-          (omega arith, s.l_message),
-          (
-            (omega arith, omega (arith, s.fits.t_train)),
-            ((omega arith, omega arith), ((omega arith, s.fits.nid_lrbg), track_rest-fit m.body s.fits.body)),
-          ),
-        ),
-      )
-          (filling-fit (filling (widths (fields_in (track_all (length bytes) m)))) (few (widths (fields_in (track_all (length bytes) m)))));
-      within = omega arith;
-    }
-
-pub track_steps : (l : ℕ) (m : TrackMessage) → track_shown l m
-    ≡ numbered (track_number m.body) (track_head_of l m)
-    ++ (track_own m.body ++ (packets_shown (side_of (track_number m.body)) (track_packets m.body)
-    ++ filling_fields (filling (widths (fields_in (track_all l m))))))
-track_steps l m =
-    let fill = filling_fields (filling (widths (fields_in (track_all l m)))) in
-    let head = numbered (track_number m.body) (track_head_of l m) in
-    let packets = packets_shown Centre (track_packets m.body) in
-    append_assoc head (track_own m.body ++ packets) fill
-    ∙ (ap (λ fields. head ++ fields) (append_assoc (track_own m.body) packets fill)
-    ∙ ap (λ (side : Side). head ++ (track_own m.body ++ (packets_shown side (track_packets m.body) ++ fill))) (sym (track_side m.body)))
-
-pub track_fill : (l : ℕ) (m : TrackMessage) → filling (widths (fields_in (track_all l m))) < 8
-track_fill l m = few (widths (fields_in (track_all l m)))

@@ -1,4 +1,4 @@
--- What is shown of a message that a decoder reads: the codec's widths and values, with the names of the standard.
+-- The shown fields of a message that a decoder reads: the codec's widths and values, with the names of the standard.
 use Rattle.std.specs.Prelude.{◌≡◌, ℕ, zero, suc, ◌+◌, List, [], ◌∷◌, ◌++◌, codes}
 use Rattle.std.specs.List.{flat_map}
 use Rattle.rbc_vars.specs.Values.{q_status_value}
@@ -163,12 +163,12 @@ track_head l t group =
     with_names (codes "L_MESSAGE" ∷ codes "T_TRAIN" ∷ codes "M_ACK" ∷ codes "NID_LRBG" ∷ [])
     ((10, l) ∷ (32, t) ∷ (1, 0) ∷ (24, group) ∷ [])
 
--- what is shown of a train's message of this length: the header, the message's own field, its packets, the filling
+-- the shown fields of a train's message of this length: the header, its own field, its packets, the filling
 abbrev pub train_shown : ℕ → TrainText → List Named
 train_shown l m = with_filling (numbered (train_number m.body) (train_head l m.t_train m.nid_engine)
     ++ (train_own m.body ++ packets_shown Train (train_packets m.body)))
 
--- what is shown of a centre's message
+-- the shown fields of a centre's message
 abbrev pub track_shown : ℕ → TrackMessage → List Named
 track_shown l m = with_filling (numbered (track_number m.body) (track_head l m.t_train m.nid_lrbg)
     ++ (track_own m.body ++ packets_shown Centre (track_packets m.body)))

@@ -1,5 +1,6 @@
 -- The steps of a walk over the fields of a good message.
-use Rattle.std.specs.Prelude.{◌≡◌, ◌⊎◌, ℕ, ◌+◌, ◌^◌, ◌<◌, ◌≤◌, ◌==◌, Bool, List, [], ◌∷◌, ◌++◌, codes, length, nat_lt, if◌then◌else◌, IsTrue, Option, Some, None, MatchOption}
+use Rattle.std.specs.Prelude.{◌≡◌, ◌⊎◌, ℕ, ◌+◌, ◌^◌, ◌<◌, ◌≤◌, ◌==◌, Bool, List, [], ◌∷◌, ◌++◌, codes, length, nat_lt}
+use Rattle.std.specs.Prelude.{if◌then◌else◌, IsTrue, Option, Some, None, MatchOption}
 use Rattle.std.specs.List.{AllByRecursion}
 use denote.Ref.{Bor}
 use Rattle.rbc_packets.specs.Layout.{joined, widths}
@@ -8,14 +9,14 @@ use Rattle.text_fields.specs.Named.{Named, NamedFits, all_named, fields_in, with
 use Rattle.text_fields.specs.Messages.{PacketFields, position_content, authority_content}
 use Rattle.text_fields.specs.Messages.{transition_content, end_of_session_content, train_head, track_head}
 use Rattle.text_fields.specs.declared.kind.Kind.{Kind}
-use Rattle.text_fields.specs.declared.messages.Body.{Body}
-use Rattle.text_fields.specs.declared.messages.Own.{Own}
-use Rattle.text_fields.specs.declared.messages.Own.TheVariants as own
-use Rattle.text_fields.specs.declared.messages.Required.{Required}
-use Rattle.text_fields.specs.declared.messages.Required.TheVariants as required
+use Rattle.text_fields.specs.declared.bodies.Body.{Body}
+use Rattle.text_fields.specs.declared.bodies.Own.{Own}
+use Rattle.text_fields.specs.declared.bodies.Own.TheVariants as own
+use Rattle.text_fields.specs.declared.bodies.Required.{Required}
+use Rattle.text_fields.specs.declared.bodies.Required.TheVariants as required
 use Rattle.text_fields.specs.declared.messages.Side.{Side}
 use Rattle.text_fields.specs.declared.messages.Side.TheVariants.{Train, Centre}
-use Rattle.text_fields.specs.declared.messages.TheConstants as tables
+use Rattle.text_fields.specs.declared.bodies.TheConstants as tables
 use Rattle.text_fields.specs.declared.shown.Shown.{Shown}
 
 -- ## Steps
@@ -31,7 +32,7 @@ pub record Shows (fields : List Named) (rest : List Bool) (old new : List Shown 
   pub shown : all_named new.0 ≡ all_named old.0 ++ fields
   pub left : new.1 ≡ rest
 
--- if these fields are next, the step shows them, and says so
+-- if these fields are next, the step shows them, and its result is true
 abbrev pub Takes : List Named → List Shown × List Bool → ℕ → List Shown × List Bool → ℕ → Bool → Type 0
 Takes fields old end new new_end there =
     (rest : List Bool) → Next fields rest old end → IsTrue there × Shows fields rest old new × (new_end ≡ end)
@@ -45,7 +46,7 @@ abbrev pub last_of : ℕ → List Named → ℕ
 last_of last [] = last
 last_of last (f ∷ fields) = last_of f.field.1 fields
 
--- the fields have the names and widths of these rows
+-- the fields have the names and widths of these entries
 abbrev pub AreRows : List (Bor (List ℕ) × ℕ × Kind) → List Named → Type 0
 AreRows [] [] = Unit {0}
 AreRows [] (f ∷ fields) = ⊥

@@ -9,7 +9,7 @@ pub struct Field {
     pub kind: Kind,
 }
 
-/// A row of a table of fields: a name in the standard, a width in bits, and the kind of the values.
+/// An entry of a table of fields: a name in the standard, a width in bits, and the kind of the values.
 pub(crate) type Row = (&'static str, u32, Kind);
 
 impl Field {

@@ -75,7 +75,7 @@ impl<'a> Walk<'a> {
         self.level()
     }
 
-    /// Where the train is.
+    /// The place of the train.
     fn location(&mut self) -> Result<bool, AllocError>
         ensures bits { OnOk result (all_bits self.new.look ≡ all_bits self.old.look) }
         ensures shows { IfOk result (λ there. (l : Location)

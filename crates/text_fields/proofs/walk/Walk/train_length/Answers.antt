@@ -1,4 +1,4 @@
-use Rattle.std.proofs.Common.{◌≡◌, ◌⊎◌, ◌∙◌, sym, true≢false, Bool, true, false}
+use Rattle.std.proofs.Common.{◌≡◌, ◌⊎◌, ◌∙◌, sym, true≢false}
 use Rattle.std.proofs.lemmas.Result.{IfOk-weaker}
 use Rattle.text_fields.specs.Messages.{length_shown}
 use Rattle.text_fields.proofs.Optional.{q_length, l_trainint, length_split, no_first, has_two, has_one}
@@ -6,7 +6,8 @@ use Rattle.text_fields.proofs.walk.Walk.train_length.Goals as goal
 
 pub returns-then-not-branch-clause-shows : goal.returns-then-not-branch-clause-shows
 returns-then-not-branch-clause-shows c = λ t.
-    no_first q_length l_trainint (λ v. (v ≡ 1) ⊎ (v ≡ 2)) (length_shown t) c.args.self.now.look c.take.new.self.look c.take.new.self.look
+    no_first q_length l_trainint (λ v. (v ≡ 1) ⊎ (v ≡ 2)) (length_shown t) c.args.self.now.look c.take.new.self.look
+    c.take.new.self.look
     c.args.self.now.end c.take.new.self.end c.take.new.self.end c.in_ok-take.field-0
     (length_split t) c.in_ok-take.ensures.shows c.if-not-branch.true
 
@@ -20,6 +21,8 @@ returns-then-not-has_length-clause-shows c = λ t.
 pub returns-clause-shows : goal.returns-clause-shows
 returns-clause-shows c =
     IfOk-weaker c.take-2.result _ _ (λ there h t.
-    has_two q_length l_trainint (λ v. (v ≡ 1) ⊎ (v ≡ 2)) (length_shown t) c.args.self.now.look c.take.new.self.look c.take-2.new.self.look
+    has_two q_length l_trainint (λ v. (v ≡ 1) ⊎ (v ≡ 2)) (length_shown t) c.args.self.now.look c.take.new.self.look
+    c.take-2.new.self.look
     c.args.self.now.end c.take.new.self.end c.take-2.new.self.end c.take.new.self.last c.in_ok-take.field-0 there
-    (length_split t) c.in_ok-take.ensures.shows c.if-not-branch.false c.in_ok-take.ensures.last (c.has_length.ensures.0 c.if-not-has_length.false) h) c.take-2.ensures.shows
+    (length_split t) c.in_ok-take.ensures.shows c.if-not-branch.false c.in_ok-take.ensures.last
+    (c.has_length.ensures.0 c.if-not-has_length.false) h) c.take-2.ensures.shows
