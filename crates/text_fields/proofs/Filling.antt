@@ -1,16 +1,16 @@
 -- The bits that fill the last byte of a message.
-use Rattle.std.proofs.Common.{◌≡◌, ◌∙◌, sym, ap, refl, subst, ℕ, zero, suc, ◌+◌, ◌^◌, ◌<◌, Bool, List, [], ◌∷◌}
-use Rattle.std.proofs.Common.{◌++◌, length, append_assoc, append-nil, pow_pos, arith}
+use Rattle.std.proofs.Common.{◌≡◌, ◌∙◌, sym, ap, ℕ, zero, suc, ◌<◌, List, []}
+use Rattle.std.proofs.Common.{◌++◌, append-nil, pow_pos, arith}
 use Rattle.std.specs.Prelude.{replicate, false}
 use Rattle.std.specs.List.{AllByRecursion}
 use Rattle.std.proofs.lemmas.List.{map-append}
-use Rattle.rbc_bits.specs.Bits.{bits_of, filling, filled}
-use Rattle.rbc_packets.specs.Layout.{Field, joined, widths}
-use Rattle.rbc_packets.proofs.Again.{filled-parts, length-joined, joined-append, joined-nil}
+use Rattle.rbc_bits.specs.Bits.{filling, filled}
+use Rattle.rbc_packets.specs.Layout.{joined, widths}
+use Rattle.rbc_packets.proofs.Again.{filled-parts, length-joined, joined-append}
 use Rattle.text_fields.specs.Named.{Named, NamedFits, fields_in}
-use Rattle.text_fields.specs.Messages.{numbered, filling_fields, location_shown, length_shown}
-use Rattle.text_fields.specs.Messages.{running_shown, level_shown, with_filling, position_content}
-use Rattle.text_fields.proofs.Steps.{both_fit, filling_bits, fields-with_names}
+use Rattle.text_fields.specs.Messages.{filling_fields}
+use Rattle.text_fields.specs.Messages.{with_filling}
+use Rattle.text_fields.proofs.Steps.{filling_bits}
 
 -- the bits of fields that are filled up to whole bytes
 pub all_bits-filled : (fields : List Named) → filled (joined (fields_in fields)) ≡ joined

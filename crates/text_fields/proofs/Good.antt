@@ -1,7 +1,7 @@
 -- The fields of a good message are laid out by the tables, and their bits are those of the message.
-use Rattle.std.proofs.Common.{◌≡◌, ◌∙◌, sym, ap, refl, subst, ℕ, zero, suc, ◌+◌, ◌^◌, ◌<◌, Bool, List, [], ◌∷◌}
-use Rattle.std.proofs.Common.{◌++◌, length, append_assoc, append-nil, pow_pos, arith}
-use Rattle.std.specs.Prelude.{MatchOption, replicate, false}
+use Rattle.std.proofs.Common.{◌≡◌, ◌∙◌, sym, ap, refl, subst, ℕ, ◌+◌, ◌^◌, ◌<◌, Bool, List, [], ◌∷◌}
+use Rattle.std.proofs.Common.{◌++◌, length, append_assoc, append-nil, arith}
+use Rattle.std.specs.Prelude.{MatchOption}
 use Rattle.std.specs.List.{AllByRecursion, flat_map}
 use Rattle.std.proofs.lemmas.List.{map-append}
 use Rattle.rbc_bits.specs.Bits.{bits_of, filling, filled}
@@ -15,7 +15,7 @@ use Rattle.rbc_packets.specs.declared.train_length.TrainLength.{TrainLength}
 use Rattle.rbc_packets.specs.declared.train_length.TrainLength.TheVariants as train_length
 use Rattle.rbc_packets.specs.declared.level.Level.{Level}
 use Rattle.rbc_packets.specs.declared.level.Level.TheVariants as level
-use Rattle.rbc_packets.proofs.Again.{filled-parts, length-joined, joined-append, joined-nil}
+use Rattle.rbc_packets.proofs.Again.{joined-append, joined-nil}
 use Rattle.rbc_packets.proofs.TrackAgain.{position-width}
 use Rattle.rbc_msgs.specs.TrainText.{TrainText}
 use Rattle.rbc_msgs.specs.TrainSpelling.{SpellsTrain, TrainBodyFits, train_bits, train_body_bits}
@@ -28,12 +28,12 @@ use Rattle.text_fields.specs.Walks.{count_of}
 use Rattle.text_fields.specs.Messages.{PacketFields, packets_shown, train_head, IsReadBody, IsReadWhole}
 use Rattle.text_fields.specs.Messages.{train_own, train_packets, train_shown}
 use Rattle.text_fields.specs.Messages.{numbered, filling_fields, location_shown, length_shown}
-use Rattle.text_fields.specs.Messages.{running_shown, level_shown, with_filling, position_content}
+use Rattle.text_fields.specs.Messages.{running_shown, level_shown, position_content}
 use Rattle.text_fields.specs.declared.messages.Side.{Side}
 use Rattle.text_fields.specs.declared.messages.Side.TheVariants.{Train}
 use Rattle.text_fields.specs.declared.bodies.TheConstants as tables
 use Rattle.text_fields.specs.declared.shown.Shown.{Shown}
-use Rattle.text_fields.proofs.Steps.{both_fit, filling_bits, fields-with_names}
+use Rattle.text_fields.proofs.Steps.{both_fit, fields-with_names}
 use Rattle.text_fields.proofs.Filling.{all_bits-filled, few, filling-fit}
 
 -- ## Position reports
