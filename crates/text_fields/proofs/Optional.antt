@@ -176,7 +176,7 @@ has_two one other IsTwo fields x y z end mid last value there second s take e is
     (subst (λ (list : List Named). Takes list y mid z last second) (sym pair.1) (more pair.0)))
     rest n
 
--- there is no second field
+-- the second field is left out
 pub has_one : (one other : ℕ → Named) (IsTwo : ℕ → Type 0) (fields : List Named) (x y : List Shown
     × List Bool) (end mid value : ℕ) (there : Bool)
     → Split one other IsTwo fields → ((v : ℕ) → Takes (one v ∷ []) x end y mid there) → there ≡ true
