@@ -14,11 +14,12 @@ from tables import read
 PAGE = "tools/wireshark/etcs_rbc.lua"
 BODY = ".ci/dissector.lua"
 SOURCES = "crates/text_fields/src"
+LAYOUTS = "packet_fields.rt"
 FAULTS = "crates/rbc_msgs/src/fault.rt"
 TOKEN = re.compile(
     r'\s+|//[^\n]*|"(?P<text>[^"\\]*)"|(?P<number>\d[\d_]*)|(?P<name>\w+(?:::\w+)*)|(?P<sign>[&\[\](),;])'
 )
-CONSTANT = re.compile(r"\bconst (\w+)\s*:[^=]*=(?!\s*\w+ \{)")
+CONSTANT = re.compile(r"\bconst (?!BODIES\b)(\w+)\s*:[^=]*=(?!\s*\w+ \{)")
 # Kinds and texts that only frames between centres need: no frame is on a connection of a train
 OF_FRAMES = {"Range", "Decimetres", "%s%s.%s m", "-"}
 
@@ -123,20 +124,35 @@ def part(name, width, kind, all_words):
     return f"{{{entry}}}"
 
 
-def parts(layout, all_words):
-    """A layout as a Lua list, an entry a line."""
-    found = []
-    for name, *values in layout:
-        if name == "Part::Of":
-            found.append(part(*values, all_words))
-        elif name == "Part::Known":
-            found.append(f"{{known = {values[0]}}}")
-        elif name == "Part::If":
-            when = ", ".join(f"[{it}] = true" for it in values[0])
-            fields = listed([part(*it, all_words) for it in values[1]], " " * 6)
-            found.append(f"{{when = {{{when}}}, fields = {fields}}}")
+STEP = re.compile(
+    r"""(?xs) self\.rows\(&(?P<rows>\[.*?\])\) | self\.take\((?P<take>"\w+",\ .*?)\)(?=\?|\n|,\n)
+    | if\ self\.last\ !=\ (?P<known>\d+)\ \{\s+return\ Ok\(false\)
+    | if\ self\.last\ !=\ (?P<only>\d+)\ \{\s+return\ Ok\(true\)
+    | if\ !(?P<test>has_\w+)\(self\.last\) | self\.(?P<call>\w+)\(\)"""
+)
+BODY_ROW = re.compile(r"number: (\d+),\s+own: Own::(\w+),\s+packets: Required::(\w+)")
+
+
+def parts(path, text, all_words):
+    """The fields that the text of a function shows, as entries of a Lua list, in their order."""
+    found, when, fields = [], None, []
+    for step in STEP.finditer(text):
+        into = fields if when else found
+        if step["rows"]:
+            into += [part(*it, all_words) for it in Reader(step["rows"]).value()]
+        elif step["take"]:
+            into.append(part(*Reader(f"({step['take']})").value(), all_words))
+        elif step["known"]:
+            found.append(f"{{known = {step['known']}}}")
+        elif step["only"]:
+            when = [step["only"]]
+        elif step["test"]:
+            when = re.findall(r"== (\d+)", function(path, step["test"]))
         else:
-            raise Unreadable(name)
+            into += parts(path, function(path, step["call"]), all_words)
+    if when:
+        when = ", ".join(f"[{it}] = true" for it in when)
+        found.append(f"{{when = {{{when}}}, fields = {listed(fields, ' ' * 6)}}}")
     return found
 
 
@@ -150,35 +166,39 @@ def words_table(name, pairs):
 
 def message_entries(all_words):
     """MESSAGES: the fields of each message after its header, and the packets that it must have."""
-    known = constants("messages.rt")
+    own, required = (function("messages.rt", it) for it in ("own", "required"))
+    fields = re.findall(r"(?s)Own::(\w+) => (.*?\n)(?= *Own::| *\})", own)
+    fields = {it: parts("messages.rt", text, all_words) for it, text in fields}
+    required = dict(re.findall(r"(?s)Required::(\w+) => (.*?)(?=Required::|\Z)", required))
     found = []
-    for numbers, body in arms("messages.rt", "body_of"):
-        if not re.fullmatch(r"[\d |]+", numbers):
-            continue
-        fields, packets = (known[it] for it in re.fullmatch(r"\((\w+), (\w+)\)", body).groups())
-        wanted = ", ".join("{" + ", ".join(f"[{it}] = true" for it in each) + "}" for each in packets)
-        layout = ", ".join(parts(fields, all_words))
-        found += [(int(it), f"[{it}] = {{parts = {{{layout}}}, packets = {{{wanted}}}}}") for it in numbers.split("|")]
-    return [it.replace(" ]", "]").replace("[ ", "[") for _, it in sorted(found)]
+    for number, own, packets in BODY_ROW.findall(read(f"{SOURCES}/bodies.rt")):
+        wanted = [it.split(", ") for it in re.findall(r"wanted\(side, &\[([\d, ]+)\]\)", required[packets])]
+        wanted = ", ".join("{" + ", ".join(f"[{it}] = true" for it in each) + "}" for each in wanted)
+        found.append((int(number), f"[{number}] = {{parts = {{{', '.join(fields[own])}}}, packets = {{{wanted}}}}}"))
+    return [it for _, it in sorted(found)]
 
 
 def packet_entries(side, all_words):
     """The fields of each packet of a side after its header."""
-    known, found = constants("packets.rt"), []
-    text = function("packets.rt", "packet_parts")
-    for number, layout in re.findall(rf"\(Side::{side}, (\d+)\) => Some\((\w+)\)", text):
-        found.append(f"[{number}] = {listed(parts(known[layout], all_words), '    ')}")
+    found = []
+    content = function("packets.rt", "content")
+    for number, name in re.findall(rf"Side::{side} if number == (\d+) => self\.(\w+)\(\)", content):
+        fields = parts(LAYOUTS, function(LAYOUTS, name), all_words)
+        found.append(f"[{number}] = {listed(fields, '    ')}")
     return found
 
 
 def side_table(side, all_words):
     """A sender: its header after NID_MESSAGE, its packets and their names, and the sections of the standard."""
-    known, names = constants("messages.rt"), constants("names.rt")
+    names = constants("names.rt")
     sections = [function("messages.rt", it) for it in ("messages", "packets")]
     messages, packets = (re.search(rf'Side::{side} => "(.+)"', it)[1] for it in sections)
-    header = parts(known[f"{side.upper()}_HEADER"], all_words)
+    header, before = (
+        parts(path, re.search(rf"(?s)Side::{side} => (.*?\n|.*?\]\)),\n", function(path, name))[1] + "\n", all_words)
+        for path, name in (("messages.rt", "header"), ("packets.rt", "head"))
+    )
     packet = [f"[{number}] = {lua(words)}" for number, words in names[f"{side.upper()}_PACKETS"]]
-    before = [part(*constants("packets.rt")["Q_DIR"], all_words)] if side == "Centre" else []
+    before = before[:-1]  # L_PACKET
     return f"local {side.upper()} = " + listed(
         [
             f'messages = "{messages}"',
@@ -231,7 +251,7 @@ def page():
     body_faults(body)
     messages = f"local MESSAGES = {listed(message_entries(all_words), '')}"
     sides = [side_table(it, all_words) for it in ("Train", "Centre")]
-    values = {**constants("messages.rt"), **constants("packets.rt")}
+    values = {**constants("messages.rt"), **constants(LAYOUTS)}
     words = "local WORDS = {}\n" + "".join(words_table(it, values[it]) for it in sorted(all_words))
     words += words_table("MESSAGES", constants("names.rt")["MESSAGES"])
     lines = "\n\n".join([number_lines(), section_lines(), words.rstrip("\n"), messages, *sides, fault_table()])

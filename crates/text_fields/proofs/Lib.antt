@@ -1,0 +1,10 @@
+pub mod Fields
+pub mod Steps
+pub mod Along
+pub mod Optional
+pub mod Filling
+pub mod Good
+pub mod GoodTrack
+pub mod Message
+pub mod Packet
+pub mod Wanted

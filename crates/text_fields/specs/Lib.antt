@@ -1,1 +1,4 @@
 pub mod Shown
+pub mod Named
+pub mod Messages
+pub mod Walks

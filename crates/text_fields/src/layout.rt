@@ -9,16 +9,8 @@ pub struct Field {
     pub kind: Kind,
 }
 
-/// A part of a layout.
-#[derive(Clone, Copy)]
-pub enum Part {
-    /// A field: its name, its width in bits, and the kind of its values.
-    Of(&'static str, u32, Kind),
-    /// Fields that follow if the field before them has one of these values: their names, widths and kinds.
-    If(&'static [u64], &'static [(&'static str, u32, Kind)]),
-    /// The parts after it are known only if the field before it has this value.
-    Known(u64),
-}
+/// An entry of a table of fields: a name in the standard, a width in bits, and the kind of the values.
+pub(crate) type Row = (&'static str, u32, Kind);
 
 impl Field {
     /// The section of SUBSET-026 that defines its variable. END_SPEED and END_TIME are names of this project.

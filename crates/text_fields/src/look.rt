@@ -1,8 +1,8 @@
 //! The bits of a message: those that are shown, and those that are not yet.
 
-ghost use Rattle.std.specs.Prelude.{◌≡◌, ◌+◌, ◌^◌, ◌≤◌, [], length, All, IfOk, OnOk};
-ghost use Rattle.rbc_bits.specs.Bits.{bits_of};
-ghost use Rattle.text_fields.specs.Shown.{bits_shown, all_bits, Fits};
+ghost use Rattle.std.specs.Prelude.{◌≡◌, ◌+◌, ◌^◌, ◌<◌, ◌≤◌, ◌++◌, ◌∷◌, [], length, All, IfOk, OnOk, MatchOption};
+ghost use Rattle.rbc_bits.specs.Bits.{field, bits_of};
+ghost use Rattle.text_fields.specs.Shown.{bits_shown, all_bits, packet_of, Fits};
 
 use crate::kind::Kind;
 use crate::layout::Field;
@@ -59,7 +59,7 @@ impl<'a> Look<'a> {
     /// Shows the next bits as this field, if as many are left. It returns their value.
     pub fn take(
         &mut self,
-        field: Field,
+        entry: Field,
         width: u32,
         packet: Option<u64>,
         scale: u64,
@@ -67,15 +67,26 @@ impl<'a> Look<'a> {
         requires { width ≤ 64 }
         ensures bits { OnOk result (all_bits self.new ≡ all_bits self.old) }
         ensures there { OnOk result (width ≤ length self.old.1 → length self.old.1 ≡ width + length self.new.1) }
+        // Its value is that of exactly the next bits, the highest first, and it is shown after the others.
+        ensures shown { IfOk result (λ found. MatchOption found
+            ((length self.old.1 < width) × (self.new ≡ self.old))
+            (λ v. (self.old.1 ≡ field width v ++ self.new.1) × (v < 2 ^ width)
+            × (self.new.0 ≡ self.old.0 ++ record {
+              field = entry;
+              width = width;
+              value = v;
+              packet = packet_of entry.kind packet v;
+              scale = scale;
+            } ∷ []))) }
     {
         match self.left.take(width) {
             Ok(value) => {
-                let packet = match field.kind {
+                let packet = match entry.kind {
                     Kind::Packet => Some(value),
                     _ => packet,
                 };
                 self.shown.push(Shown {
-                    field,
+                    field: entry,
                     width,
                     value,
                     packet,
@@ -91,6 +102,7 @@ impl<'a> Look<'a> {
     pub fn finish(self, unread: Field) -> Result<Vec<Shown>, AllocError>
         ensures bits { IfOk result (λ shown. bits_shown shown.items ≡ all_bits self.entry) }
         ensures fits { IfOk result (λ shown. All Fits shown.items) }
+        ensures none { self.entry.1 ≡ [] → IfOk result (λ shown. shown.items ≡ self.entry.0) }
     {
         let mut look = self;
         while look.left() > 0 {

@@ -15,3 +15,10 @@ pub returns-in-Err-clause-there : goal.returns-in-Err-clause-there
 returns-in-Err-clause-there c = λ there.
     let left : length c.self.inside.left ≡ length c.args.self.now.1 = ap (λ p. length p.1) c.self.view_is in
     absurd (omega (arith, left, there, field_at_err Short _ c.args.width _ c.in-Err.ensures.next))
+
+pub returns-in-Err-clause-shown : goal.returns-in-Err-clause-shown
+returns-in-Err-clause-shown c =
+    let left : length c.self.inside.left ≡ length c.args.self.now.1 = ap (λ p. length p.1) c.self.view_is in (
+      omega (arith, left, field_at_err Short _ c.args.width _ c.in-Err.ensures.next),
+      ap (λ bits. (c.self.inside.shown.items, bits)) c.in-Err.ensures.err ∙ c.self.view_is,
+    )
