@@ -1,0 +1,4 @@
+mod Moments
+mod Trains
+mod Leading
+mod Safe

@@ -1,0 +1,58 @@
+-- A railway as a state of the closed loop.
+use Rattle.std.specs.Prelude.{◌≡◌, ◌++◌, ◌∷◌, [], Err, List, Ok, Option, option_and_then, option_map, Result, slice_get}
+use Rattle.std.specs.Prelude.{true, ℕ}
+use Rattle.law_trains.specs.Trains.{Happens, IsSafeLoop, may_say, Moment, Train}
+use Rattle.rbc_railway.specs.declared.answer.CentreAnswer.{CentreAnswer}
+use Rattle.rbc_railway.specs.declared.fault.RailwayFault.{RailwayFault}
+use Rattle.rbc_railway.specs.declared.fault.RailwayFault.TheVariants.{Refused as ByUnit}
+use Rattle.rbc_railway.specs.declared.railway.Railway.{Railway}
+use Rattle.rbc_railway.specs.declared.train.RunningTrain.{RunningTrain}
+use Rattle.rbc_railway.specs.History.{IsTaken, Leads, loop_after, name_of, obeys, sayings_in, train_at, WasLed}
+use Rattle.rbc_spec.specs.Line.{Line}
+use Rattle.rbc_spec.specs.Message.{TrainMessage}
+use Rattle.rbc_spec.specs.Outcome.{Saying}
+use Rattle.rbc_spec.specs.World.{Event}
+use Rattle.rbc_world.specs.Views.{answer_of}
+use Rattle.rbc_world.specs.World.{state_of}
+use Rattle.train_unit.specs.Units.{verdict}
+
+-- these moments lead to this railway
+abbrev pub HasRun : Railway → (ℕ → Train) → List Moment → Type 0
+HasRun r first moments = Leads r.line (state_of r.world) r.trains.items r.sent.items r.told.items first moments
+
+-- Some list of moments led to this railway. By whichever moments it is so, no two accepted trains are on one section,
+-- and none is on a section that is not released.
+pub record IsSafeRailway (r : Railway) : Type 0 where
+  pub led : ∥ WasLed r.line (state_of r.world) r.trains.items r.sent.items r.told.items ∥₁
+  pub safe : (first : ℕ → Train) (moments : List Moment) → HasRun r first moments
+      → IsSafeLoop r.line (obeys r.trains.items) (loop_after r.line first moments)
+
+-- the line, the centres and the messages on the way stay
+pub record KeepsMessages (old new : Railway) : Type 0 where
+  pub line : new.line ≡ old.line
+  pub world : state_of new.world ≡ state_of old.world
+  pub sent : new.sent.items ≡ old.sent.items
+  pub told : new.told.items ≡ old.told.items
+
+-- nothing changes
+pub record IsUnchanged (old new : Railway) : Type 0 where
+  pub messages : KeepsMessages old new
+  pub trains : new.trains.items ≡ old.trains.items
+
+-- the event happened at the centres, and is one moment more of the closed loop
+pub record Happened (old new : Railway) (event : Event) : Type 0 where
+  pub taken : IsTaken old.line (state_of old.world) (state_of new.world) old.told.items new.told.items event
+  pub moment : (first : ℕ → Train) (moments : List Moment) → HasRun old first moments
+      → HasRun new first (moments ++ Happens event (answer_of taken.answer.answer) ∷ [])
+
+-- the rules allow the train to send it, or the unit's verdict is the error
+abbrev pub IsSentBy : Line → ℕ → TrainMessage → RunningTrain → Result (Unit {0}) RailwayFault → Type 0
+IsSentBy line c m x (Ok u) = (m.nid_engine ≡ name_of x) × (may_say line c m (train_at x) ≡ true)
+IsSentBy line c m x (Err (ByUnit why)) = verdict line (name_of x) c m (train_at x) ≡ Err why
+IsSentBy line c m x (Err why) = Unit {0}
+
+-- message j of answer n, and the centre that sent it
+abbrev pub told_at : List CentreAnswer → ℕ → ℕ → Option (ℕ × Saying)
+told_at told n j =
+    option_and_then (λ (a : CentreAnswer). option_map (λ p. (a.centre, p)) (slice_get (sayings_in (answer_of a.answer)) j))
+    (slice_get told n)
