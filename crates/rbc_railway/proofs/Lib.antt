@@ -2,3 +2,4 @@ mod Moments
 mod Trains
 mod Leading
 mod Safe
+mod Verdicts

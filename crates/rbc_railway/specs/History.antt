@@ -1,7 +1,7 @@
 -- The moments of the closed loop that led to the parts of a railway.
 use Rattle.std.specs.Prelude.{◌≡◌, ℕ, ◌==◌, Bool, true, false, ◌||◌, List, [], ◌∷◌, ◌++◌, map, Some, Ok}
-use Rattle.std.specs.Prelude.{slice_get, Contains, None, pos, if◌then◌else◌}
-use Rattle.law_trains.specs.Trains.{AllMay, all_after, answers_of, at_first, events_of, IsNew, Loop, Moment, Train}
+use Rattle.std.specs.Prelude.{slice_get, Contains, None, Option, option_and_then, option_map, pos, if◌then◌else◌, ℤ}
+use Rattle.law_trains.specs.Trains.{AllMay, all_after, answers_of, at_first, events_of, IsNew, Loop, may_say, Moment, Train}
 use Rattle.rbc_railway.specs.declared.answer.CentreAnswer.{CentreAnswer}
 use Rattle.rbc_railway.specs.declared.train.RunningTrain.{RunningTrain}
 use Rattle.rbc_spec.specs.Line.{is_centre, Line}
@@ -20,6 +20,14 @@ name_of x = x.unit.nid_engine
 -- the train of the closed loop: what its unit keeps, and where it is
 abbrev pub train_at : RunningTrain → Train
 train_at x = train_of x.unit x.ends
+
+-- the train with its ends there
+abbrev pub ran_to : ℕ → ℤ → RunningTrain → RunningTrain
+ran_to front rear x = record { unit = x.unit; ends = record { track = x.ends.track; front = front; rear = rear } }
+
+-- the rules allow the train to send the message to centre c
+abbrev pub MaySend : Line → ℕ → TrainMessage → RunningTrain → Type 0
+MaySend line c m x = (m.nid_engine ≡ name_of x) × (may_say line c m (train_at x) ≡ true)
 
 abbrev pub names_of : List RunningTrain → List ℕ
 names_of trains = map name_of trains
@@ -78,15 +86,28 @@ abbrev pub sayings_in : Answer → List Saying
 sayings_in (Answered o) = o.sayings
 sayings_in answer = []
 
+abbrev pub by_centre : ℕ → Saying → ℕ × Saying
+by_centre c p = (c, p)
+
+abbrev pub saying_at : ℕ → CentreAnswer → Option (ℕ × Saying)
+saying_at j a = option_map (by_centre a.centre) (slice_get (sayings_in (answer_of a.answer)) j)
+
+-- message j of answer n, and the centre that sent it
+abbrev pub told_at : List CentreAnswer → ℕ → ℕ → Option (ℕ × Saying)
+told_at told n j = option_and_then (saying_at j) (slice_get told n)
+
 -- ## Moments
 
 abbrev pub loop_after : Line → (ℕ → Train) → List Moment → Loop
 loop_after line first moments = all_after line moments (at_first first)
 
--- a centre of the line sent the messages in the answer
-pub record IsTold (line : Line) (k : Loop) (a : CentreAnswer) : Type 0 where
-  pub at : is_centre line a.centre ≡ true
-  pub each : (p : Saying) → Contains (sayings_in (answer_of a.answer)) p → Contains k.told (a.centre, p)
+-- the answers are those of centres of the line
+abbrev pub AreOfCentres : Line → List CentreAnswer → Type 0
+AreOfCentres line told = (i : ℕ) (a : CentreAnswer) → slice_get told i ≡ Some a → is_centre line a.centre ≡ true
+
+-- the centre sent the messages in the answer
+abbrev pub IsTold : Loop → CentreAnswer → Type 0
+IsTold k a = (p : Saying) → Contains (sayings_in (answer_of a.answer)) p → Contains k.told (a.centre, p)
 
 -- The centres took the event, and their answer was put to those before.
 pub record IsTaken (line : Line) (w new : World) (told told_after : List CentreAnswer) (event : Event) : Type 0 where
@@ -97,7 +118,7 @@ pub record IsTaken (line : Line) (w new : World) (told told_after : List CentreA
   pub step : world_step line w event ≡ Ok (answer_of answer.answer, new)
 
 -- These moments lead from the trains in their initial state and the initial state of the line to this world and these
--- trains. The bytes in `sent` were sent by them, and the messages in `told` by centres of the line.
+-- trains. The bytes in `sent` were sent by them, and the messages in `told` by centres.
 pub record Leads (line : Line) (w : World) (trains : List RunningTrain) (sent : List WorldEvent)
     (told : List CentreAnswer) (first : ℕ → Train) (moments : List Moment) : Type 0 where
   pub new : (t : ℕ) → IsNew (first t)
@@ -107,7 +128,7 @@ pub record Leads (line : Line) (w : World) (trains : List RunningTrain) (sent : 
       → (loop_after line first moments).train (name_of x) ≡ train_at x
   pub by_trains : (i : ℕ) (e : WorldEvent) → slice_get sent i ≡ Some e
       → WasSent (obeys trains) (loop_after line first moments).said (event_of e)
-  pub by_centres : (i : ℕ) (a : CentreAnswer) → slice_get told i ≡ Some a → IsTold line (loop_after line first moments) a
+  pub by_centres : (i : ℕ) (a : CentreAnswer) → slice_get told i ≡ Some a → IsTold (loop_after line first moments) a
 
 -- some list of moments led here
 pub record WasLed (line : Line) (w : World) (trains : List RunningTrain) (sent : List WorldEvent)

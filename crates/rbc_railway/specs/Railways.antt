@@ -44,15 +44,3 @@ pub record Happened (old new : Railway) (event : Event) : Type 0 where
   pub taken : IsTaken old.line (state_of old.world) (state_of new.world) old.told.items new.told.items event
   pub moment : (first : ℕ → Train) (moments : List Moment) → HasRun old first moments
       → HasRun new first (moments ++ Happens event (answer_of taken.answer.answer) ∷ [])
-
--- the rules allow the train to send it, or the unit's verdict is the error
-abbrev pub IsSentBy : Line → ℕ → TrainMessage → RunningTrain → Result (Unit {0}) RailwayFault → Type 0
-IsSentBy line c m x (Ok u) = (m.nid_engine ≡ name_of x) × (may_say line c m (train_at x) ≡ true)
-IsSentBy line c m x (Err (ByUnit why)) = verdict line (name_of x) c m (train_at x) ≡ Err why
-IsSentBy line c m x (Err why) = Unit {0}
-
--- message j of answer n, and the centre that sent it
-abbrev pub told_at : List CentreAnswer → ℕ → ℕ → Option (ℕ × Saying)
-told_at told n j =
-    option_and_then (λ (a : CentreAnswer). option_map (λ p. (a.centre, p)) (slice_get (sayings_in (answer_of a.answer)) j))
-    (slice_get told n)

@@ -1,7 +1,7 @@
 //! The train with a name.
 
-ghost use Rattle.std.specs.Prelude.{◌≡◌, IfSome, is_some, slice_get, Some};
-ghost use Rattle.rbc_railway.specs.History.{is_named, name_of, names_of};
+ghost use Rattle.std.specs.Prelude.{◌≡◌, IfNone, IfSome, slice_get, Some, ℕ};
+ghost use Rattle.rbc_railway.specs.History.{name_of};
 ghost use Rattle.rbc_railway.specs.declared.train.RunningTrain.{RunningTrain as Running};
 
 use crate::train::RunningTrain;
@@ -9,7 +9,7 @@ use crate::train::RunningTrain;
 /// The index of the train with this NID_ENGINE.
 pub(crate) fn index_of(trains: &[RunningTrain], nid_engine: u32) -> Option<usize>
     ensures found { IfSome result (λ i. (x : Running) × (slice_get trains.now i ≡ Some x) × (name_of x ≡ nid_engine)) }
-    ensures named { is_named (names_of trains.now) nid_engine ≡ is_some result }
+    ensures none { IfNone result ((i : ℕ) (x : Running) → slice_get trains.now i ≡ Some x → name_of x ≡ nid_engine → ⊥) }
 {
     for i in 0..trains.len() {
         if trains[i].nid_engine() == nid_engine {

@@ -9,7 +9,8 @@ impl Railway {
     ghost use Rattle.std.specs.Prelude.{◌≡◌, ◌++◌, ◌∷◌, [], List, OnErr, OnOk, option_map, Some, ℕ};
     ghost use Rattle.law_trains.specs.Trains.{Hears, Moment, Train};
     ghost use Rattle.rbc_spec.specs.Outcome.{Saying as TrackSaying};
-    ghost use Rattle.rbc_railway.specs.Railways.{HasRun, IsSafeRailway, KeepsMessages, told_at};
+    ghost use Rattle.rbc_railway.specs.Railways.{HasRun, IsSafeRailway, KeepsMessages};
+    ghost use Rattle.rbc_railway.specs.History.{told_at};
     ghost use Rattle.rbc_centre.specs.rbc_train.Sayings.{saying_of};
 
     /// A message of a centre arrives at its train: any message that is on the way, in any order, any number of times.

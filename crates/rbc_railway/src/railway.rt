@@ -2,7 +2,7 @@ ghost use Rattle.std.specs.Prelude.{◌≡◌};
 ghost use Rattle.law_trains.specs.Trains.{TrainsTheorem};
 ghost use Rattle.rbc_spec.specs.Line.{IsLine};
 ghost use Rattle.rbc_world.specs.World.{line_of, state_of};
-ghost use Rattle.rbc_railway.specs.History.{HaveOwnNames, WasLed};
+ghost use Rattle.rbc_railway.specs.History.{AreOfCentres, HaveOwnNames, WasLed};
 
 use crate::answer::CentreAnswer;
 use crate::fleet::Fleet;
@@ -25,6 +25,7 @@ pub struct Railway {
     pub(crate) told: Vec<CentreAnswer>,
     ghost one_line: { line_of world ≡ line },
     ghost own_names: { HaveOwnNames trains.items },
+    ghost of_centres: { AreOfCentres line told.items },
     ghost led: { ∥ WasLed line (state_of world) trains.items sent.items told.items ∥₁ },
 }
 

@@ -2,13 +2,12 @@
 
 use crate::fault::RailwayFault;
 use crate::railway::{Railway, known};
-use train_unit::Ends;
 
 impl Railway {
     ghost use Rattle.std.specs.Prelude.{◌≡◌, ◌++◌, ◌∷◌, [], List, OnErr, OnOk, set, slice_get, Some, ℕ};
     ghost use Rattle.law_trains.specs.Trains.{Moment, Runs, Train};
     ghost use Rattle.rbc_railway.specs.declared.train.RunningTrain.{RunningTrain as Running};
-    ghost use Rattle.rbc_railway.specs.History.{name_of, train_at};
+    ghost use Rattle.rbc_railway.specs.History.{name_of, ran_to, train_at};
     ghost use Rattle.rbc_railway.specs.Railways.{HasRun, IsSafeRailway, KeepsMessages};
     ghost use Rattle.rbc_railway.specs.Verdicts.{run_verdict};
 
@@ -19,23 +18,19 @@ impl Railway {
         ensures exact { (x : Running) → slice_get self.old.trains.items train ≡ Some x
             → result ≡ run_verdict front rear (train_at x) }
         ensures ok { OnOk result ((x : Running) → slice_get self.old.trains.items train ≡ Some x
-            → self.new.trains.items ≡ set self.old.trains.items train
-            (record x { ends = record { track = x.ends.track; front = front; rear = rear } })) }
+            → self.new.trains.items ≡ set self.old.trains.items train (ran_to front rear x)) }
         // It is one moment more of the closed loop.
         ensures moment { OnOk result ((x : Running) → slice_get self.old.trains.items train ≡ Some x
             → (first : ℕ → Train) (moments : List Moment) → HasRun self.old first moments
             → HasRun self.new first (moments ++ Runs (name_of x) front rear ∷ [])) }
         ensures kept { KeepsMessages self.old self.new }
         ensures safe { IsSafeRailway self.new }
-        ensures err { OnErr result (self.new ≡ self.old) }
+        ensures err { OnErr result (self.new.trains.items ≡ self.old.trains.items) }
     {
         known(&self.line);
         if train >= self.trains.len() {
             return Err(RailwayFault::NoTrain);
         }
-        self.trains[train].may_run(front, rear)?;
-        let track = self.trains[train].ends.track;
-        self.trains[train].ends = Ends { track, front, rear };
-        Ok(())
+        self.trains[train].run_to(front, rear)
     }
 }

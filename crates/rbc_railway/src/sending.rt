@@ -10,12 +10,12 @@ use rbc_world::WorldEvent;
 use std::alloc::Global;
 
 impl Railway {
-    ghost use Rattle.std.specs.Prelude.{◌++◌, ◌∷◌, [], List, OnErr, OnOk, set, slice_get, Some, ℕ};
+    ghost use Rattle.std.specs.Prelude.{◌++◌, ◌∷◌, [], List, OnErr, OnOk, slice_get, Some, ℕ};
     ghost use Rattle.law_trains.specs.Trains.{Moment, Says, Train};
     ghost use Rattle.rbc_msgs.specs.StepMessage.{step_message};
     ghost use Rattle.rbc_railway.specs.declared.train.RunningTrain.{RunningTrain as Running};
-    ghost use Rattle.rbc_railway.specs.History.{train_at};
-    ghost use Rattle.rbc_railway.specs.Railways.{HasRun, IsSafeRailway, IsSentBy, IsUnchanged};
+    ghost use Rattle.rbc_railway.specs.History.{MaySend};
+    ghost use Rattle.rbc_railway.specs.Railways.{HasRun, IsSafeRailway, IsUnchanged};
 
     /// The train of this index sends a message to a centre. Its bytes are then on the way, and may arrive at any time.
     /// Its on-board unit decides, by the true ends of the train.
@@ -25,9 +25,9 @@ impl Railway {
         centre: u8,
         message: &TrainMsg,
     ) -> Result<(), RailwayFault>
-        // It is sent only if the rules allow it. If the unit refuses it, the rule is that of its verdict.
-        ensures exact { (x : Running) → slice_get self.old.trains.items train ≡ Some x
-            → IsSentBy self.old.line centre (step_message message.now) x result }
+        // It is sent only if the rules allow it.
+        ensures may { OnOk result ((x : Running) → slice_get self.old.trains.items train ≡ Some x
+            → MaySend self.old.line centre (step_message message.now) x) }
         // It is one moment more of the closed loop.
         ensures moment { OnOk result ((first : ℕ → Train) (moments : List Moment) → HasRun self.old first moments
             → HasRun self.new first (moments ++ Says centre (step_message message.now) ∷ [])) }

@@ -20,7 +20,7 @@ pub struct RunningTrain {
 impl RunningTrain {
     ghost use Rattle.std.specs.Prelude.{OnOk, true};
     ghost use Rattle.rbc_spec.specs.Line.{is_centre};
-    ghost use Rattle.rbc_railway.specs.History.{name_of, train_at};
+    ghost use Rattle.rbc_railway.specs.History.{MaySend, name_of, ran_to, train_at};
     ghost use Rattle.rbc_railway.specs.Verdicts.{run_verdict, sent_as};
 
     /// NID_ENGINE of the train.
@@ -53,6 +53,7 @@ impl RunningTrain {
     ) -> Result<(), RailwayFault>
         ensures exact { result ≡ sent_as (verdict line.now (name_of self.old) centre (step_message message.now)
             (train_at self.old)) }
+        ensures may { OnOk result (MaySend line.now centre (step_message message.now) self.old) }
         ensures ok { OnOk result (train_at self.new
             ≡ rules.says centre (step_message message.now) (train_at self.old)) }
         ensures name { name_of self.new ≡ name_of self.old }
@@ -74,8 +75,22 @@ impl RunningTrain {
         self.unit.hears(line, centre, message);
     }
 
+    // It runs to these ends.
+    pub(crate) fn run_to(&mut self, front: u32, rear: i32) -> Result<(), RailwayFault>
+        ensures exact { result ≡ run_verdict front rear (train_at self.old) }
+        ensures may { OnOk result (rules.may_run front rear (train_at self.old) ≡ true) }
+        ensures ok { OnOk result (self.new ≡ ran_to front rear self.old) }
+        ensures name { name_of self.new ≡ name_of self.old }
+        ensures err { OnErr result (self.new ≡ self.old) }
+    {
+        self.may_run(front, rear)?;
+        self.ends.front = front;
+        self.ends.rear = rear;
+        Ok(())
+    }
+
     // Why it may not run to these ends.
-    pub(crate) fn may_run(&self, front: u32, rear: i32) -> Result<(), RailwayFault>
+    fn may_run(&self, front: u32, rear: i32) -> Result<(), RailwayFault>
         ensures { result ≡ run_verdict front rear (train_at self.now) }
     {
         if !self.is_forward(front, rear) {

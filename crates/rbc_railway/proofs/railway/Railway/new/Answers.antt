@@ -1,5 +1,5 @@
 use Rattle.std.proofs.Common.{[], ◌∙◌, subst, sym}
-use Rattle.rbc_railway.proofs.Leading.{leads_first}
+use Rattle.rbc_railway.proofs.Leading.{leads_first, none_there}
 use Rattle.rbc_railway.proofs.railway.Railway.new.Goals as goal
 use Rattle.rbc_railway.proofs.Safe.{is_safe}
 use Rattle.rbc_railway.specs.History.{first_of}
@@ -8,6 +8,7 @@ use Rattle.rbc_spec.specs.Line.{IsLine}
 pub invariant_of-result : goal.invariant_of-result
 invariant_of-result c = record {
   one_line = c.in_ok-new.ensures.line ∙ sym c.in_ok-copied.ensures.value;
+  of_centres = λ i a at. none_there _ i a c.new-3.ensures.items at;
   own_names = c.args.fleet.own_names;
   led = ∣ record {
     first = first_of c.args.fleet.trains.items;
