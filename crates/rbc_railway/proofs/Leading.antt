@@ -433,3 +433,31 @@ led_happened line w new trains sent told after_it event was t led = ∥∥₁_ma
   moments = old.moments ++ Happens event (answer_of t.answer.answer) ∷ [];
   leads = happened line w new trains sent told after_it event was t old.first old.moments old.leads;
 })
+
+module _ {X E : Type 0} (result : Result X E) (line : Line) (w new : World) (told told_after : List CentreAnswer)
+    (event : Event) where
+  pub centres_after : OnOk result (IsTaken line w new told told_after event) → OnErr result (told_after ≡ told)
+      → AreOfCentres line told → AreOfCentres line told_after
+  centres_after = by_result result
+    where
+      by_result : (r : Result X E) → OnOk r (IsTaken line w new told told_after event) → OnErr r (told_after ≡ told)
+          → AreOfCentres line told → AreOfCentres line told_after
+      by_result (Ok x) t none each =
+          subst (AreOfCentres line) (sym t.kept) (at_end (λ a. is_centre line a.centre ≡ true) told t.answer t.here each)
+      by_result (Err e) t same each = subst (AreOfCentres line) (sym same) each
+
+  pub led_after : (trains : List RunningTrain) (sent : List WorldEvent)
+      → ((k : Loop) → ((i : ℕ) (e : WorldEvent) → slice_get sent i ≡ Some e
+      → WasSent (obeys trains) k.said (event_of e)) → WasSent (obeys trains) k.said event)
+      → OnOk result (IsTaken line w new told told_after event) → OnErr result (new ≡ w)
+      → OnErr result (told_after ≡ told) → ∥ WasLed line w trains sent told ∥₁
+      → ∥ WasLed line new trains sent told_after ∥₁
+  led_after trains sent was = by_result result
+    where
+      by_result : (r : Result X E) → OnOk r (IsTaken line w new told told_after event) → OnErr r (new ≡ w)
+          → OnErr r (told_after ≡ told) → ∥ WasLed line w trains sent told ∥₁
+          → ∥ WasLed line new trains sent told_after ∥₁
+      by_result (Ok x) t still same led = led_happened line w new trains sent told told_after event was t led
+      by_result (Err e) t still same led =
+          subst (λ v. ∥ WasLed line v trains sent told_after ∥₁) (sym still)
+          (subst (λ answers. ∥ WasLed line w trains sent answers ∥₁) (sym same) led)

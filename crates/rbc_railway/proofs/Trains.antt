@@ -1,6 +1,7 @@
 -- Trains by their names.
 use Rattle.std.proofs.Common.{if◌then◌else◌, eq-eqb, [], ◌++◌, ◌<◌, ◌==◌, ◌||◌, ◌∙◌, ◌∷◌, ◌≡◌, ap, arith, Bool, false, inl, inr, length, List}
-use Rattle.std.proofs.Common.{map, refl, set, slice_get, Some, subst, suc, sym, true, zero, ℕ}
+use Rattle.std.specs.Option.{IfNone}
+use Rattle.std.proofs.Common.{◌⊎◌, is_some, None, Option, map, refl, set, slice_get, Some, subst, suc, sym, true, zero, ℕ}
 use Rattle.std.proofs.lemmas.Bool.Decides.{eqb_tells}
 use Rattle.law_base.proofs.Lists.{put_here, put_other}
 use Rattle.std.proofs.lemmas.Bool.{cond-false, cond-true, ne_eqb}
@@ -134,3 +135,33 @@ none_named [] t apart = refl
 none_named (x ∷ xs) t apart =
     ap (λ b. b || is_named (names_of xs) t) (ne_eqb (name_of x) t (apart 0 x refl))
     ∙ none_named xs t (λ i y at. apart (suc i) y at)
+
+-- ## One train more
+
+at_cases : {X : Type 0} (xs : List X) (y : X) (i : ℕ) (z : X) → slice_get (xs ++ y ∷ []) i ≡ Some z
+    → (slice_get xs i ≡ Some z) ⊎ ((i ≡ length xs) × (z ≡ y))
+at_cases [] y zero z at = let is : y ≡ z = cc in inr (refl, sym is)
+at_cases [] y (suc i) z at = let bad : ⊥ = cc in absurd bad
+at_cases (x ∷ xs) y zero z at = inl at
+at_cases (x ∷ xs) y (suc i) z at = elim (at_cases xs y i z at) [
+  | inl found ↦ inl found
+  | inr last ↦ inr (ap suc (last.0), last.1)
+]
+
+pub own_names_more : (xs : List RunningTrain) (y : RunningTrain) → HaveOwnNames xs
+    → ((i : ℕ) (x : RunningTrain) → slice_get xs i ≡ Some x → name_of x ≡ name_of y → ⊥)
+    → HaveOwnNames (xs ++ y ∷ [])
+own_names_more xs y own apart i j a b at_i at_j named = elim (at_cases xs y i a at_i) [
+  | inl found_i ↦ elim (at_cases xs y j b at_j) [
+    | inl found_j ↦ own i j a b found_i found_j named
+    | inr last_j ↦ absurd (apart i a found_i (named ∙ ap name_of (last_j.1)))
+  ]
+  | inr last_i ↦ elim (at_cases xs y j b at_j) [
+    | inl found_j ↦ absurd (apart j b found_j (sym named ∙ ap name_of (last_i.1)))
+    | inr last_j ↦ last_i.0 ∙ sym (last_j.0)
+  ]
+]
+
+pub none_found : {P : Type 0} (o : Option ℕ) → is_some o ≡ false → IfNone o P → P
+none_found None e p = p
+none_found (Some i) e p = let no : true ≡ false = e in absurd (let bad : ⊥ = cc in bad)

@@ -1,7 +1,8 @@
 //! Events of the centres.
 
-ghost use Rattle.std.specs.Prelude.{◌≡◌, IfOk, OnErr, OnOk, Ok};
+ghost use Rattle.std.specs.Prelude.{◌≡◌, ◌≢◌, false, OnErr, OnOk};
 ghost use Rattle.rbc_spec.specs.World as world;
+ghost use Rattle.rbc_msgs.specs.declared.fault.MsgFault.TheVariants as of_message;
 ghost use Rattle.rbc_world.specs.Views.{event_of};
 ghost use Rattle.rbc_world.specs.World.{line_of, state_of};
 ghost use Rattle.rbc_railway.specs.History.{IsFree, IsTaken, obeys};
@@ -58,9 +59,34 @@ fn is_free(alloc: Global, trains: &[RunningTrain], event: &WorldEvent) -> Result
         return Ok(());
     };
     match decode_train(alloc, bytes) {
-        Ok(message) if index_of(trains, message.nid_engine()).is_some() => Err(RailwayFault::Name),
-        Err(MsgFault::Memory) => Err(RailwayFault::Memory),
-        Ok(_) | Err(_) => Ok(()),
+        Ok(message) => is_foreign(trains, message.nid_engine()),
+        Err(fault) => unread(fault),
+    }
+}
+
+// Refuses the name of a train of the railway.
+fn is_foreign(trains: &[RunningTrain], nid_engine: u32) -> Result<(), RailwayFault>
+    ensures { OnOk result (obeys trains.now nid_engine ≡ false) }
+{
+    match index_of(trains, nid_engine) {
+        Some(_) => Err(RailwayFault::Name),
+        None => Ok(()),
+    }
+}
+
+// Bytes without a message are in no name, unless memory ran out.
+fn unread(fault: MsgFault) -> Result<(), RailwayFault>
+    ensures { OnOk result (fault ≢ of_message.Memory) }
+{
+    match fault {
+        MsgFault::Memory => Err(RailwayFault::Memory),
+        MsgFault::Short
+        | MsgFault::Length
+        | MsgFault::Padding
+        | MsgFault::UnknownNumber
+        | MsgFault::Packet
+        | MsgFault::Missing
+        | MsgFault::Value => Ok(()),
     }
 }
 
