@@ -11,7 +11,7 @@ impl Railway {
     ghost use Rattle.rbc_spec.specs.Outcome.{Saying as TrackSaying};
     ghost use Rattle.rbc_railway.specs.Railways.{HasRun, IsSafeRailway, KeepsMessages};
     ghost use Rattle.rbc_railway.specs.History.{told_at};
-    ghost use Rattle.rbc_centre.specs.rbc_train.Sayings.{saying_of};
+    ghost use Rattle.rbc_world.specs.rbc_train.Sayings.{saying_of};
 
     /// A message of a centre arrives at its train: any message that is on the way, in any order, any number of times.
     /// `answer` is the index of the answer, and `which` the index of the message in it.

@@ -3,7 +3,7 @@ use Rattle.std.proofs.Common.{sym, ℕ}
 use Rattle.rbc_spec.specs.Outcome.{Saying}
 use Rattle.std.proofs.lemmas.Option.{slice_get_read, slice_get_within}
 use Rattle.law_trains.specs.Trains.{Hears}
-use Rattle.rbc_centre.specs.rbc_train.Sayings.{saying_of}
+use Rattle.rbc_world.specs.rbc_train.Sayings.{saying_of}
 use Rattle.rbc_railway.proofs.Leading.{centre_told, heard, led_heard, one_some}
 use Rattle.rbc_railway.proofs.railway.Railway.hear.Goals as goal
 use Rattle.rbc_railway.proofs.Safe.{is_safe}
