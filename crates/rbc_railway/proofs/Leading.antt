@@ -1,12 +1,12 @@
 -- A moment leads on from a railway to the next.
-use Rattle.std.proofs.Common.{[], ◌++◌, ◌<◌, ◌∙◌, ◌∷◌, ◌≡◌, ap, arith, Bool, Err, false, length, List, map, None, Ok, Option, option_and_then, option_map, refl, Result}
+use Rattle.std.proofs.Common.{[], ◌++◌, ◌<◌, ◌∙◌, ◌∷◌, ◌≡◌, ap, arith, Bool, Err, false, length, List, None, Ok, Option, option_and_then, option_map, refl, Result}
 use Rattle.std.proofs.Math.Logic.{∥∥₁_map}
 use Rattle.std.specs.Result.{OnErr, OnOk}
 use Rattle.std.proofs.Common.{set, slice_get, Some, subst, suc, sym, true, zero, ℕ, ℤ}
 use Rattle.std.proofs.lemmas.Option.{get_or_from_slice_get, slice_get_within}
-use Rattle.std.proofs.lemmas.List.Elements.{Contains-append_cases, Contains-append_left, Contains-append_right}
+use Rattle.std.proofs.lemmas.List.Elements.{Contains-append_left, Contains-append_right}
 use Rattle.std.specs.Prelude.{Contains}
-use Rattle.law_trains.specs.Trains.{after, all_after, AllMay, and_told, answers_of, at_first, events_of, Happens, hears}
+use Rattle.law_trains.specs.Trains.{after, AllMay, and_told, answers_of, at_first, events_of, Happens, hears}
 use Rattle.law_trains.specs.Trains.{Hears, Loop, May, may_run, may_say, Moment, Runs, says, Says, told_after, Train}
 use Rattle.rbc_railway.proofs.Moments.{after_one, answer_in, answers_one, event_in, events_one, may_one}
 use Rattle.rbc_railway.proofs.Trains.{at_end, first_at, first_new, names_set, trains_put}

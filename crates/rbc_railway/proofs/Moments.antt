@@ -1,5 +1,5 @@
 -- One moment after those of a list.
-use Rattle.std.proofs.Common.{[], ◌++◌, ◌∙◌, ◌∷◌, ◌≡◌, ap, Bool, List, refl, ℕ}
+use Rattle.std.proofs.Common.{[], ◌++◌, ◌∷◌, ◌≡◌, ap, Bool, List, refl, ℕ}
 use Rattle.law_trains.specs.Trains.{after, all_after, AllMay, answers_of, events_of, Happens, Hears, Loop, May, Moment}
 use Rattle.law_trains.specs.Trains.{Runs, Says}
 use Rattle.rbc_spec.specs.Line.{Line}

@@ -1,5 +1,4 @@
 -- A railway that moments led to is safe.
-use Rattle.std.proofs.Common.{List, ℕ}
 use Rattle.law_trains.specs.Trains.{TrainsTheorem}
 use Rattle.rbc_railway.specs.declared.railway.Railway.{Railway}
 use Rattle.rbc_railway.specs.History.{obeys}

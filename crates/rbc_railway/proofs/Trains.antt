@@ -1,7 +1,7 @@
 -- Trains by their names.
 use Rattle.std.proofs.Common.{if◌then◌else◌, eq-eqb, [], ◌++◌, ◌<◌, ◌==◌, ◌||◌, ◌∙◌, ◌∷◌, ◌≡◌, ap, arith, Bool, false, inl, inr, length, List}
 use Rattle.std.specs.Option.{IfNone}
-use Rattle.std.proofs.Common.{◌⊎◌, is_some, None, Option, map, refl, set, slice_get, Some, subst, suc, sym, true, zero, ℕ}
+use Rattle.std.proofs.Common.{◌⊎◌, is_some, None, Option, refl, set, slice_get, Some, subst, suc, sym, true, zero, ℕ}
 use Rattle.std.proofs.lemmas.Bool.Decides.{eqb_tells}
 use Rattle.law_base.proofs.Lists.{put_here, put_other}
 use Rattle.std.proofs.lemmas.Bool.{cond-false, cond-true, ne_eqb}

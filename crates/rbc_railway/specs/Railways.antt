@@ -1,20 +1,12 @@
 -- A railway as a state of the closed loop.
-use Rattle.std.specs.Prelude.{◌≡◌, ◌++◌, ◌∷◌, [], Err, List, Ok, Option, option_and_then, option_map, Result, slice_get}
-use Rattle.std.specs.Prelude.{true, ℕ}
-use Rattle.law_trains.specs.Trains.{Happens, IsSafeLoop, may_say, Moment, Train}
-use Rattle.rbc_railway.specs.declared.answer.CentreAnswer.{CentreAnswer}
-use Rattle.rbc_railway.specs.declared.fault.RailwayFault.{RailwayFault}
-use Rattle.rbc_railway.specs.declared.fault.RailwayFault.TheVariants.{Refused as ByUnit}
+use Rattle.std.specs.Prelude.{◌≡◌, ◌++◌, ◌∷◌, [], List}
+use Rattle.std.specs.Prelude.{ℕ}
+use Rattle.law_trains.specs.Trains.{Happens, IsSafeLoop, Moment, Train}
 use Rattle.rbc_railway.specs.declared.railway.Railway.{Railway}
-use Rattle.rbc_railway.specs.declared.train.RunningTrain.{RunningTrain}
-use Rattle.rbc_railway.specs.History.{IsTaken, Leads, loop_after, name_of, obeys, sayings_in, train_at, WasLed}
-use Rattle.rbc_spec.specs.Line.{Line}
-use Rattle.rbc_spec.specs.Message.{TrainMessage}
-use Rattle.rbc_spec.specs.Outcome.{Saying}
+use Rattle.rbc_railway.specs.History.{IsTaken, Leads, loop_after, obeys, WasLed}
 use Rattle.rbc_spec.specs.World.{Event}
 use Rattle.rbc_world.specs.Views.{answer_of}
 use Rattle.rbc_world.specs.World.{state_of}
-use Rattle.train_unit.specs.Units.{verdict}
 
 -- these moments lead to this railway
 abbrev pub HasRun : Railway → (ℕ → Train) → List Moment → Type 0

@@ -47,7 +47,12 @@ impl Railway {
         if message >= self.sent.len() {
             return Err(RailwayFault::NotSent);
         }
-        take(&self.line, &mut self.world, &mut self.told, &self.sent[message])
+        take(
+            &self.line,
+            &mut self.world,
+            &mut self.told,
+            &self.sent[message],
+        )
     }
 }
 

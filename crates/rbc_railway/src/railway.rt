@@ -52,6 +52,41 @@ impl Railway {
             told: Vec::new(alloc),
         })
     }
+
+    /// The line.
+    pub fn line(&self) -> &Line
+        ensures { result.now ≡ self.now.line }
+    {
+        &self.line
+    }
+
+    /// The trains, by their indices.
+    pub fn trains(&self) -> &[RunningTrain]
+        ensures { result.now ≡ self.now.trains.items }
+    {
+        self.trains.as_slice()
+    }
+
+    /// All messages that trains have sent, by their indices, as the events of their arrival.
+    pub fn sent(&self) -> &[WorldEvent]
+        ensures { result.now ≡ self.now.sent.items }
+    {
+        self.sent.as_slice()
+    }
+
+    /// All answers of the centres, by their indices.
+    pub fn answers(&self) -> &[CentreAnswer]
+        ensures { result.now ≡ self.now.told.items }
+    {
+        self.told.as_slice()
+    }
+
+    /// The centres.
+    pub fn world(&self) -> &World
+        ensures { result.now ≡ self.now.world }
+    {
+        &self.world
+    }
 }
 
 // Every rule of a line holds of each line, and trains that obey never meet.

@@ -19,12 +19,7 @@ impl Railway {
 
     /// The train of this index sends a message to a centre. Its bytes are then on the way, and may arrive at any time.
     /// Its on-board unit decides, by the true ends of the train.
-    pub fn send(
-        &mut self,
-        train: usize,
-        centre: u8,
-        message: &TrainMsg,
-    ) -> Result<(), RailwayFault>
+    pub fn send(&mut self, train: usize, centre: u8, message: &TrainMsg) -> Result<(), RailwayFault>
         // It is sent only if the rules allow it.
         ensures may { OnOk result ((x : Running) → slice_get self.old.trains.items train ≡ Some x
             → MaySend self.old.line centre (step_message message.now) x) }

@@ -1,4 +1,4 @@
-use Rattle.std.proofs.Common.{◌∙◌, ◌≡◌, ap, Err, false, Ok, subst, sym}
+use Rattle.std.proofs.Common.{◌∙◌, ◌≡◌, ap, false, Ok, subst, sym}
 use Rattle.rbc_msgs.specs.TrainReading.{read_train}
 use Rattle.rbc_railway.proofs.events.is_free.Goals as goal
 use Rattle.rbc_railway.proofs.Leading.{ok_map}

@@ -1,10 +1,10 @@
-use Rattle.std.proofs.Common.{[], ◌++◌, ◌∷◌, ◌∙◌, ◌≡◌, ap, List, Ok, rules, subst, sym, true}
+use Rattle.std.proofs.Common.{[], ◌++◌, ◌∷◌, ◌∙◌, ◌≡◌, ap, List, Ok, rules, subst, true}
 use Rattle.rbc_railway.proofs.events.take.Goals as goal
 use Rattle.rbc_railway.specs.declared.answer.CentreAnswer.{CentreAnswer}
-use Rattle.rbc_spec.specs.Line.{is_centre, Line}
+use Rattle.rbc_spec.specs.Line.{is_centre}
 use Rattle.rbc_spec.specs.World.{world_step}
 use Rattle.rbc_world.specs.Views.{answer_of, event_of}
-use Rattle.rbc_world.specs.World.{line_of, state_of}
+use Rattle.rbc_world.specs.World.{state_of}
 
 pub returns-in-Ok-clause-taken : goal.returns-in-Ok-clause-taken
 returns-in-Ok-clause-taken c same =

@@ -1,4 +1,4 @@
-use Rattle.std.proofs.Common.{◌<◌, ◌∙◌, ◌≡◌, ap, arith, false, inl, inr, slice_get, Some, subst, sym, true}
+use Rattle.std.proofs.Common.{◌∙◌, ◌≡◌, ap, arith, inl, inr, slice_get, Some, subst}
 use Rattle.std.proofs.lemmas.Bool.Decides.{eqb_tells}
 use Rattle.std.proofs.lemmas.Option.{get_or_from_slice_get}
 use Rattle.rbc_railway.specs.History.{name_of}

@@ -1,13 +1,11 @@
-use Rattle.std.proofs.Common.{[], ◌++◌, ◌<◌, ◌∙◌, ◌∷◌, ◌≡◌, ap, Err, length, Ok, refl, Result, rules, set, slice_get, Some, subst, sym}
+use Rattle.std.proofs.Common.{◌<◌, ◌∙◌, ◌≡◌, ap, length, refl, rules, set, slice_get, Some, sym}
 use Rattle.std.proofs.lemmas.Int.{to_z-of_z}
 use Rattle.std.proofs.lemmas.Option.{slice_get_read}
-use Rattle.law_trains.specs.Trains.{Runs, Train}
 use Rattle.rbc_railway.proofs.Leading.{led_ran, ok_map, one_some, ran}
 use Rattle.rbc_railway.proofs.railway.Railway.run_to.Goals as goal
 use Rattle.rbc_railway.proofs.Safe.{is_safe}
 use Rattle.rbc_railway.proofs.Trains.{own_names_set}
-use Rattle.rbc_railway.specs.declared.train.RunningTrain.{RunningTrain}
-use Rattle.rbc_railway.specs.History.{name_of, ran_to, train_at}
+use Rattle.rbc_railway.specs.History.{ran_to, train_at}
 use Rattle.rbc_railway.specs.Verdicts.{run_verdict}
 use Rattle.rbc_world.specs.World.{state_of}
 
