@@ -1,5 +1,6 @@
 -- Trains by their names.
-use Rattle.std.proofs.Common.{if◌then◌else◌, eq-eqb, [], ◌++◌, ◌<◌, ◌==◌, ◌||◌, ◌∙◌, ◌∷◌, ◌≡◌, ap, arith, Bool, false, inl, inr, length, List}
+use Rattle.std.proofs.Common.{if◌then◌else◌, eq-eqb, [], ◌++◌, ◌<◌, ◌==◌, ◌||◌, ◌∙◌, ◌∷◌, ◌≡◌, ap, arith, Bool, false}
+use Rattle.std.proofs.Common.{inl, inr, length, List}
 use Rattle.std.specs.Option.{IfNone}
 use Rattle.std.proofs.Common.{◌⊎◌, is_some, None, Option, refl, set, slice_get, Some, subst, suc, sym, true, zero, ℕ}
 use Rattle.std.proofs.lemmas.Bool.Decides.{eqb_tells}
@@ -46,7 +47,7 @@ module _ (xs : List RunningTrain) (i : ℕ) (x y : RunningTrain) (at : slice_get
           let is : z ≡ x = cc in ap (λ n. n ∷ names_of zs) (same ∙ ap name_of (sym is))
       names_kept (z ∷ zs) (suc j) found = ap (λ ns. name_of z ∷ ns) (names_kept zs j found)
 
-  -- what holds of the others and of the new one holds of all
+  -- a property of the others and of the new one is one of all
   each_set : (P : ℕ → RunningTrain → Type 0) → i < length xs → P i y
       → ((j : ℕ) (z : RunningTrain) → slice_get xs j ≡ Some z → (j ≡ i → ⊥) → P j z)
       → (j : ℕ) (z : RunningTrain) → slice_get (set xs i y) j ≡ Some z → P j z
@@ -88,7 +89,8 @@ pub named_at : (xs : List RunningTrain) (i : ℕ) (x : RunningTrain) → slice_g
     → is_named (names_of xs) (name_of x) ≡ true
 named_at [] i x at = absurd (let no : ⊥ = cc in no)
 named_at (y ∷ ys) zero x at =
-    let is : y ≡ x = cc in ap (λ b. b || is_named (names_of ys) (name_of x)) (eq-eqb (name_of y) (name_of x) (ap name_of is))
+    let is : y ≡ x = cc in ap (λ b. b || is_named (names_of ys) (name_of x)) (eq-eqb (name_of y) (name_of x) (ap
+    name_of is))
 named_at (y ∷ ys) (suc i) x at = or_true (name_of y == name_of x) (named_at ys i x at)
   where
     or_true : (a : Bool) {b : Bool} → b ≡ true → (a || b) ≡ true
@@ -102,12 +104,16 @@ pub first_at : (xs : List RunningTrain) → HaveOwnNames xs → (i : ℕ) (x : R
 first_at [] own i x at = absurd (let no : ⊥ = cc in no)
 first_at (y ∷ ys) own zero x at =
     let is : y ≡ x = cc in
-    cond-true (name_of y == name_of x) (train_at y) (first_of ys (name_of x)) (eq-eqb (name_of y) (name_of x) (ap name_of is))
+    cond-true (name_of y == name_of x) (train_at y) (first_of ys (name_of x)) (eq-eqb (name_of y) (name_of x) (ap
+    name_of is))
     ∙ ap train_at is
 first_at (y ∷ ys) own (suc i) x at =
     cond-false (name_of y == name_of x) (train_at y) (first_of ys (name_of x))
     (ne_eqb (name_of y) (name_of x) (λ named. let no : 0 ≡ suc i = own 0 (suc i) y x refl at named in cc))
-    ∙ first_at ys (λ j k a b at_j at_k named. let is = own (suc j) (suc k) a b at_j at_k named in omega (arith, is)) i x at
+    ∙ first_at ys (λ j k a b at_j at_k named. let is = own (suc j) (suc k) a b at_j at_k named in omega (
+      arith,
+      is,
+    )) i x at
 
 nobody_new : IsNew nobody
 nobody_new = record {

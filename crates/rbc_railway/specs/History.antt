@@ -1,7 +1,8 @@
 -- The moments of the closed loop that led to the parts of a railway.
 use Rattle.std.specs.Prelude.{◌≡◌, ℕ, ◌==◌, Bool, true, false, ◌||◌, List, [], ◌∷◌, ◌++◌, map, Some, Ok}
 use Rattle.std.specs.Prelude.{slice_get, Contains, None, Option, option_and_then, option_map, pos, if◌then◌else◌, ℤ}
-use Rattle.law_trains.specs.Trains.{AllMay, all_after, answers_of, at_first, events_of, IsNew, Loop, may_say, Moment, Train}
+use Rattle.law_trains.specs.Trains.{AllMay, all_after, answers_of, at_first, events_of, IsNew, Loop, may_say, Moment}
+use Rattle.law_trains.specs.Trains.{Train}
 use Rattle.rbc_railway.specs.declared.answer.CentreAnswer.{CentreAnswer}
 use Rattle.rbc_railway.specs.declared.train.RunningTrain.{RunningTrain}
 use Rattle.rbc_spec.specs.Line.{is_centre, Line}
@@ -17,7 +18,7 @@ use Rattle.train_unit.specs.Units.{train_of}
 abbrev pub name_of : RunningTrain → ℕ
 name_of x = x.unit.nid_engine
 
--- the train of the closed loop: what its unit keeps, and where it is
+-- the train of the closed loop, with the fields that its unit keeps, and its true ends
 abbrev pub train_at : RunningTrain → Train
 train_at x = train_of x.unit x.ends
 

@@ -22,8 +22,8 @@ impl Railway {
     ghost use Rattle.rbc_railway.specs.Railways.{Happened, IsSafeRailway, IsUnchanged};
     ghost use Rattle.rbc_world.specs.declared.event.WorldEvent.{WorldEvent as SentEvent};
 
-    /// An event happens to the centres: of the interlocking, a frame between centres, or bytes that are not in the name
-    /// of a train of the railway. The answer is kept, and its messages to trains are on the way.
+    /// An event happens to the centres: of the interlocking, a frame between centres, or bytes. They are not in the
+    /// name of a train of the railway. The answer is kept, and its messages to trains are on the way.
     pub fn happen(&mut self, event: &WorldEvent) -> Result<(), RailwayFault>
         ensures free { OnOk result (IsFree (obeys self.old.trains.items) (event_of event.now)) }
         ensures moment { OnOk result (Happened self.old self.new (event_of event.now)) }
@@ -103,7 +103,8 @@ fn take(
     event: &WorldEvent,
 ) -> Result<(), RailwayFault>
     ensures taken { OnOk result (line_of world.old ≡ line.now
-        → IsTaken line.now (state_of world.old) (state_of world.new) told.old.items told.new.items (event_of event.now)) }
+        → IsTaken line.now (state_of world.old) (state_of world.new) told.old.items told.new.items
+        (event_of event.now)) }
     ensures line { line_of world.new ≡ line_of world.old }
     ensures world { OnErr result (state_of world.new ≡ state_of world.old) }
     ensures told { OnErr result (told.new.items ≡ told.old.items) }

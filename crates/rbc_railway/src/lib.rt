@@ -1,12 +1,12 @@
-//! The closed loop of `law_trains` as a value: the centres of a line, the trains that obey on it with their true ends,
-//! and all messages between them.
+//! The closed loop of `law_trains` as a value. It has the centres of a line, the trains that obey on it with their
+//! true ends, and all messages between them.
 //!
 //! A [`Railway`] begins with a [`Fleet`] of trains. Each call is one moment of the loop. A train sends a message
 //! ([`Railway::send`]), which arrives at its centre ([`Railway::arrive`]). Another event happens to the centres
-//! ([`Railway::happen`]). A train receives a message ([`Railway::hear`]), or runs ([`Railway::run_to`]). What was sent
+//! ([`Railway::happen`]). A train receives a message ([`Railway::hear`]), or runs ([`Railway::run_to`]). Each message
 //! is kept, and may arrive late, more than once, out of order or never. A call that the rules forbid is a
-//! [`RailwayFault`]. After each call the clause `safe` holds: no two accepted trains are on one section, and none is on
-//! a section that is not released (`specs/Railways.antt`, `IsSafeRailway`).
+//! [`RailwayFault`]. The clause `safe` of each call is the theorem (`IsSafeRailway`). No two accepted trains are on one
+//! section, and none is on a section that is not released.
 //!
 //! ```
 //! let mut fleet = Fleet::new(alloc);

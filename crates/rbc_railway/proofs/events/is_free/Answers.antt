@@ -1,7 +1,7 @@
 use Rattle.std.proofs.Common.{◌∙◌, ◌≡◌, ap, false, Ok, subst, sym}
 use Rattle.rbc_msgs.specs.TrainReading.{read_train}
 use Rattle.rbc_railway.proofs.events.is_free.Goals as goal
-use Rattle.rbc_railway.proofs.Leading.{ok_map}
+use Rattle.rbc_railway.proofs.Moves.{ok_map}
 use Rattle.rbc_railway.specs.History.{IsFree, obeys}
 use Rattle.rbc_spec.specs.World.{Bytes}
 use Rattle.rbc_world.specs.Views.{event_of, numbered}

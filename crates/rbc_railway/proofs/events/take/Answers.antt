@@ -11,7 +11,11 @@ returns-in-Ok-clause-taken c same =
     let here : is_centre c.args.line.now c.centre_of-centre.result ≡ true = search rules in
     record {
       answer = record { centre = c.centre_of-centre.result; answer = c.in-Ok.answer };
-      kept = c.push_reserved.ensures.items ∙ ap (λ (told : List CentreAnswer). told ++ record { centre = c.centre_of-centre.result; answer = c.in-Ok.answer } ∷ []) c.reserve.ensures.items;
+      kept = c.push_reserved.ensures.items ∙ ap (λ (told : List CentreAnswer). told ++ record {
+        centre =
+            c.centre_of-centre.result;
+        answer = c.in-Ok.answer;
+      } ∷ []) c.reserve.ensures.items;
       of_centre = c.centre_of-centre.ensures;
       here = here;
       step =

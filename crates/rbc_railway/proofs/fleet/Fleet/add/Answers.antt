@@ -1,4 +1,5 @@
-use Rattle.std.proofs.Common.{[], ◌++◌, ◌∙◌, ◌∷◌, ◌≡◌, ap, int_lt, List, pos, rules, slice_get, Some, subst, sym, true, ℕ}
+use Rattle.std.proofs.Common.{[], ◌++◌, ◌∙◌, ◌∷◌, ◌≡◌, ap, int_lt, List, pos, rules, slice_get, Some, subst, sym}
+use Rattle.std.proofs.Common.{true, ℕ}
 use Rattle.std.proofs.lemmas.Int.{to_z-of_z}
 use Rattle.law_trains.specs.Trains.{IsNew}
 use Rattle.rbc_railway.proofs.fleet.Fleet.add.Goals as goal

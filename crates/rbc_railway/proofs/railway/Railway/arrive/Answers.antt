@@ -1,6 +1,6 @@
 use Rattle.std.proofs.Common.{◌<◌, ◌∙◌, ◌≡◌, length, refl, rules, slice_get, Some, subst, sym}
 use Rattle.std.proofs.lemmas.Option.{slice_get_read}
-use Rattle.rbc_railway.proofs.Leading.{centres_after, happened, led_after, ok_map, one_some}
+use Rattle.rbc_railway.proofs.Moves.{centres_after, happened, led_after, ok_map, one_some}
 use Rattle.rbc_railway.proofs.railway.Railway.arrive.Goals as goal
 use Rattle.rbc_railway.proofs.Safe.{is_safe}
 use Rattle.rbc_railway.specs.History.{IsTaken}

@@ -1,5 +1,6 @@
 use Rattle.std.proofs.Common.{◌∙◌, List, subst}
-use Rattle.rbc_railway.proofs.Leading.{centres_after, free_sent, happened, led_after, ok_map}
+use Rattle.rbc_railway.proofs.Leading.{free_sent}
+use Rattle.rbc_railway.proofs.Moves.{centres_after, happened, led_after, ok_map}
 use Rattle.rbc_railway.proofs.railway.Railway.happen.Goals as goal
 use Rattle.rbc_railway.proofs.Safe.{is_safe}
 use Rattle.rbc_railway.specs.declared.train.RunningTrain.{RunningTrain}

@@ -1,10 +1,11 @@
-use Rattle.std.proofs.Common.{[], ◌++◌, ◌<◌, ◌∙◌, ◌∷◌, ◌≡◌, ap, length, option_map, refl, rules, set, slice_get, Some, subst}
+use Rattle.std.proofs.Common.{[], ◌++◌, ◌<◌, ◌∙◌, ◌∷◌, ◌≡◌, ap, length, option_map, refl, rules, set, slice_get, Some}
+use Rattle.std.proofs.Common.{subst}
 use Rattle.std.proofs.Common.{sym, ℕ}
 use Rattle.rbc_spec.specs.Outcome.{Saying}
 use Rattle.std.proofs.lemmas.Option.{slice_get_read, slice_get_within}
 use Rattle.law_trains.specs.Trains.{Hears}
 use Rattle.rbc_world.specs.rbc_train.Sayings.{saying_of}
-use Rattle.rbc_railway.proofs.Leading.{centre_told, heard, led_heard, one_some}
+use Rattle.rbc_railway.proofs.Moves.{centre_told, heard, led_heard, one_some}
 use Rattle.rbc_railway.proofs.railway.Railway.hear.Goals as goal
 use Rattle.rbc_railway.proofs.Safe.{is_safe}
 use Rattle.rbc_railway.proofs.Trains.{own_names_set}
@@ -72,7 +73,8 @@ returns-clause-moment c d q told first_train moments h =
     let at : slice_get r.trains.items i ≡ Some x = slice_get_read _ _ _ _ refl within c.index_mut.ensures.value in
     let there : told_at r.told.items c.args.answer c.args.which ≡ Some (c.in-Some.centre, p) =
     sym c.on_the_way.ensures ∙ ap (option_map (λ q. (q.0, saying_of (q.1)))) c.in-Some.is in
-    subst (λ (z : ℕ × Saying). Leads r.line (state_of r.world) (set r.trains.items i y) r.sent.items r.told.items first_train
+    subst (λ (z : ℕ × Saying). Leads r.line (state_of r.world) (set r.trains.items i y) r.sent.items r.told.items
+    first_train
     (moments ++ Hears (z.1).nid_engine (z.0) (z.1).message ∷ [])) (one_some (sym there ∙ told))
     (heard r.line (state_of r.world) r.trains.items r.sent.items r.told.items r.own_names i x y at within
     c.hears.ensures.name c.args.answer c.args.which c.in-Some.centre p there

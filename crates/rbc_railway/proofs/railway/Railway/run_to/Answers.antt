@@ -1,7 +1,7 @@
 use Rattle.std.proofs.Common.{◌<◌, ◌∙◌, ◌≡◌, ap, length, refl, rules, set, slice_get, Some, sym}
 use Rattle.std.proofs.lemmas.Int.{to_z-of_z}
 use Rattle.std.proofs.lemmas.Option.{slice_get_read}
-use Rattle.rbc_railway.proofs.Leading.{led_ran, ok_map, one_some, ran}
+use Rattle.rbc_railway.proofs.Moves.{led_ran, ok_map, one_some, ran}
 use Rattle.rbc_railway.proofs.railway.Railway.run_to.Goals as goal
 use Rattle.rbc_railway.proofs.Safe.{is_safe}
 use Rattle.rbc_railway.proofs.Trains.{own_names_set}

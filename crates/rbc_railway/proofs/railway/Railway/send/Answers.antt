@@ -2,7 +2,7 @@ use Rattle.std.proofs.Common.{[], ◌++◌, ◌<◌, ◌∙◌, ◌∷◌, ◌�
 use Rattle.std.proofs.lemmas.Option.{slice_get_read}
 use Rattle.law_trains.specs.Trains.{Says}
 use Rattle.rbc_msgs.specs.StepMessage.{step_message}
-use Rattle.rbc_railway.proofs.Leading.{led_said, led_sent, one_some, says_on}
+use Rattle.rbc_railway.proofs.Moves.{led_said, led_sent, one_some, says_on}
 use Rattle.rbc_railway.proofs.railway.Railway.send.Goals as goal
 use Rattle.rbc_railway.proofs.Safe.{is_safe}
 use Rattle.rbc_railway.proofs.Trains.{own_names_set}
@@ -44,7 +44,8 @@ returns-clause-moment c first moments h =
     let at : slice_get r.trains.items c.args.train ≡ Some x =
     slice_get_read _ _ _ _ refl within c.index_mut.ensures.value in
     let e = event.Train c.args.centre c.in_ok-bytes.bytes in
-    subst (λ sent. Leads r.line (state_of r.world) (set r.trains.items c.args.train c.say.new.self) sent r.told.items first
+    subst (λ sent. Leads r.line (state_of r.world) (set r.trains.items c.args.train c.say.new.self) sent
+    r.told.items first
     (moments ++ Says c.args.centre (step_message c.args.message.now) ∷ []))
     (sym (c.push_reserved.ensures.items ∙ ap (λ sent. sent ++ e ∷ []) c.reserve.ensures.items))
     (says_on r.line (state_of r.world) r.trains.items r.sent.items r.told.items r.own_names c.args.train x
@@ -65,7 +66,8 @@ invariant_of-self-2 c =
       own_names = own_names_set r.trains.items c.args.train x c.say.new.self at c.say.ensures.name r.own_names within;
       of_centres = r.of_centres;
       led =
-          subst (λ sent. ∥ WasLed r.line (state_of r.world) (set r.trains.items c.args.train c.say.new.self) sent r.told.items ∥₁)
+          subst (λ sent. ∥ WasLed r.line (state_of r.world) (set r.trains.items c.args.train c.say.new.self) sent
+          r.told.items ∥₁)
           (sym (c.push_reserved.ensures.items ∙ ap (λ sent. sent ++ e ∷ []) c.reserve.ensures.items))
           (led_sent r.line (state_of r.world) r.trains.items r.sent.items r.told.items r.own_names c.args.train x
           c.say.new.self at within c.say.ensures.name c.args.centre (step_message c.args.message.now) e
