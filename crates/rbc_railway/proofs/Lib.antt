@@ -1,0 +1,6 @@
+mod Moments
+mod Trains
+mod Leading
+mod Moves
+mod Safe
+mod Verdicts
