@@ -1,8 +1,6 @@
 -- A moment leads on from a railway to the next.
 use Rattle.std.proofs.Common.{[], ◌++◌, ◌<◌, ◌∙◌, ◌∷◌, ◌≡◌, ap, arith, Bool, Err, false, length, List, None, Ok}
-use Rattle.std.proofs.Common.{Option, option_and_then, option_map, refl, Result}
-use Rattle.std.proofs.Math.Logic.{∥∥₁_map}
-use Rattle.std.specs.Result.{OnErr, OnOk}
+use Rattle.std.proofs.Common.{refl}
 use Rattle.std.proofs.Common.{set, slice_get, Some, subst, suc, sym, true, zero, ℕ, ℤ}
 use Rattle.std.proofs.lemmas.Option.{get_or_from_slice_get, slice_get_within}
 use Rattle.std.proofs.lemmas.List.Elements.{Contains-append_left, Contains-append_right}
@@ -13,11 +11,11 @@ use Rattle.rbc_railway.proofs.Moments.{after_one, answer_in, answers_one, event_
 use Rattle.rbc_railway.proofs.Trains.{at_end, first_at, first_new, names_set, trains_put}
 use Rattle.rbc_railway.specs.declared.answer.CentreAnswer.{CentreAnswer}
 use Rattle.rbc_railway.specs.declared.train.RunningTrain.{RunningTrain}
-use Rattle.rbc_railway.specs.History.{AreNew, AreOfCentres, first_of}
-use Rattle.rbc_railway.specs.History.{HaveOwnNames, IsFree, IsTaken, IsTold, by_centre, ran_to, saying_at, told_at}
+use Rattle.rbc_railway.specs.History.{AreNew, first_of}
+use Rattle.rbc_railway.specs.History.{HaveOwnNames, IsFree, IsTold}
 use Rattle.rbc_railway.specs.History.{Leads, loop_after, name_of, names_of, obeys}
-use Rattle.rbc_railway.specs.History.{is_named, sayings_in, train_at, WasLed, WasSent}
-use Rattle.rbc_spec.specs.Line.{is_centre, Line}
+use Rattle.rbc_railway.specs.History.{is_named, sayings_in, train_at, WasSent}
+use Rattle.rbc_spec.specs.Line.{Line}
 use Rattle.rbc_spec.specs.Maps.{put}
 use Rattle.rbc_spec.specs.Message.{TrackMessage, TrainMessage}
 use Rattle.rbc_spec.specs.Outcome.{Saying}

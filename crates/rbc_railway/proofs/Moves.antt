@@ -1,29 +1,23 @@
 -- Moves of a railway: each leads on from any list of moments that led to it.
-use Rattle.std.proofs.Common.{[], ◌++◌, ◌<◌, ◌∙◌, ◌∷◌, ◌≡◌, ap, arith, Bool, Err, false, length, List, None, Ok}
+use Rattle.std.proofs.Common.{[], ◌++◌, ◌<◌, ◌∙◌, ◌∷◌, ◌≡◌, ap, Err, length, List, None, Ok}
 use Rattle.std.proofs.Common.{Option, option_and_then, option_map, refl, Result}
 use Rattle.std.proofs.Math.Logic.{∥∥₁_map}
 use Rattle.std.specs.Result.{OnErr, OnOk}
 use Rattle.std.proofs.Common.{set, slice_get, Some, subst, suc, sym, true, zero, ℕ, ℤ}
-use Rattle.std.proofs.lemmas.Option.{get_or_from_slice_get, slice_get_within}
-use Rattle.std.proofs.lemmas.List.Elements.{Contains-append_left, Contains-append_right}
 use Rattle.std.specs.Prelude.{Contains}
-use Rattle.law_trains.specs.Trains.{after, AllMay, and_told, answers_of, at_first, events_of, Happens, hears}
-use Rattle.law_trains.specs.Trains.{Hears, Loop, May, may_run, may_say, Moment, Runs, says, Says, told_after, Train}
-use Rattle.rbc_railway.proofs.Moments.{after_one, answer_in, answers_one, event_in, events_one, may_one}
-use Rattle.rbc_railway.proofs.Trains.{at_end, first_at, first_new, names_set, trains_put}
+use Rattle.law_trains.specs.Trains.{Happens, hears}
+use Rattle.law_trains.specs.Trains.{Hears, Loop, may_run, may_say, Moment, Runs, says, Says, Train}
+use Rattle.rbc_railway.proofs.Trains.{at_end}
 use Rattle.rbc_railway.specs.declared.answer.CentreAnswer.{CentreAnswer}
 use Rattle.rbc_railway.specs.declared.train.RunningTrain.{RunningTrain}
-use Rattle.rbc_railway.specs.History.{AreNew, AreOfCentres, first_of}
-use Rattle.rbc_railway.specs.History.{HaveOwnNames, IsFree, IsTaken, IsTold, by_centre, ran_to, saying_at, told_at}
-use Rattle.rbc_railway.specs.History.{Leads, loop_after, name_of, names_of, obeys}
-use Rattle.rbc_railway.specs.History.{is_named, sayings_in, train_at, WasLed, WasSent}
+use Rattle.rbc_railway.specs.History.{AreOfCentres}
+use Rattle.rbc_railway.specs.History.{HaveOwnNames, IsTaken, IsTold, by_centre, ran_to, saying_at, told_at}
+use Rattle.rbc_railway.specs.History.{Leads, loop_after, name_of, obeys}
+use Rattle.rbc_railway.specs.History.{sayings_in, train_at, WasLed, WasSent}
 use Rattle.rbc_spec.specs.Line.{is_centre, Line}
-use Rattle.rbc_spec.specs.Maps.{put}
-use Rattle.rbc_spec.specs.Message.{TrackMessage, TrainMessage}
+use Rattle.rbc_spec.specs.Message.{TrainMessage}
 use Rattle.rbc_spec.specs.Outcome.{Saying}
-use Rattle.rbc_spec.specs.World.{Answer, Answered, Bytes, centre_of, Delivery, Event, new_world, Set, Unset, World}
-use Rattle.rbc_spec.specs.World.{world_run, world_step}
-use Rattle.rbc_world.proofs.Reached.{run_on}
+use Rattle.rbc_spec.specs.World.{Bytes, Event, World}
 use Rattle.rbc_world.specs.declared.event.WorldEvent.{WorldEvent}
 use Rattle.rbc_world.specs.Views.{answer_of, event_of}
 use Rattle.rbc_railway.proofs.Leading.{contains_at, leads_happens, leads_hears, leads_runs, leads_says}

@@ -1,11 +1,13 @@
 //! Events of the centres.
 
-ghost use Rattle.std.specs.Prelude.{◌≡◌, ◌≢◌, false, OnErr, OnOk};
+ghost use Rattle.std.specs.Prelude.{◌≡◌, ◌≢◌, ◌⊎◌, false, IfErr, OnErr, OnOk, true};
 ghost use Rattle.rbc_spec.specs.World as world;
 ghost use Rattle.rbc_msgs.specs.declared.fault.MsgFault.TheVariants as of_message;
 ghost use Rattle.rbc_world.specs.Views.{event_of};
 ghost use Rattle.rbc_world.specs.World.{line_of, state_of};
 ghost use Rattle.rbc_railway.specs.History.{IsFree, IsTaken, obeys};
+ghost use Rattle.rbc_railway.specs.Verdicts.{IsOfItsTrain, IsWhyNotTaken};
+ghost use Rattle.rbc_railway.specs.declared.fault.RailwayFault.TheVariants.{Memory, Name};
 
 use crate::answer::CentreAnswer;
 use crate::fault::RailwayFault;
@@ -18,7 +20,8 @@ use rbc_world::{World, WorldEvent};
 use std::alloc::Global;
 
 impl Railway {
-    ghost use Rattle.std.specs.Prelude.{slice_get, Some};
+    ghost use Rattle.std.specs.Prelude.{Err, None, slice_get, Some};
+    ghost use Rattle.rbc_railway.specs.declared.fault.RailwayFault.TheVariants.{NotSent};
     ghost use Rattle.rbc_railway.specs.Railways.{Happened, IsSafeRailway, IsUnchanged};
     ghost use Rattle.rbc_world.specs.declared.event.WorldEvent.{WorldEvent as SentEvent};
 
@@ -27,6 +30,8 @@ impl Railway {
     pub fn happen(&mut self, event: &WorldEvent) -> Result<(), RailwayFault>
         ensures free { OnOk result (IsFree (obeys self.old.trains.items) (event_of event.now)) }
         ensures moment { OnOk result (Happened self.old self.new (event_of event.now)) }
+        ensures why { IfErr result (λ fault. IsOfItsTrain (obeys self.old.trains.items) (event_of event.now) fault
+            ⊎ IsWhyNotTaken self.old.line (state_of self.old.world) (event_of event.now) fault) }
         ensures safe { IsSafeRailway self.new }
         ensures err { OnErr result (IsUnchanged self.old self.new) }
     {
@@ -40,6 +45,9 @@ impl Railway {
     pub fn arrive(&mut self, message: usize) -> Result<(), RailwayFault>
         ensures moment { OnOk result ((e : SentEvent) → slice_get self.old.sent.items message ≡ Some e
             → Happened self.old self.new (event_of e)) }
+        ensures why { IfErr result (λ fault. (e : SentEvent) → slice_get self.old.sent.items message ≡ Some e
+            → IsWhyNotTaken self.old.line (state_of self.old.world) (event_of e) fault) }
+        ensures not_sent { slice_get self.old.sent.items message ≡ None → result ≡ Err NotSent }
         ensures safe { IsSafeRailway self.new }
         ensures err { OnErr result (IsUnchanged self.old self.new) }
     {
@@ -58,7 +66,9 @@ impl Railway {
 
 // Refuses bytes in the name of a train of the railway.
 fn is_free(alloc: Global, trains: &[RunningTrain], event: &WorldEvent) -> Result<(), RailwayFault>
-    ensures { OnOk result (IsFree (obeys trains.now) (event_of event.now)) }
+    ensures free { OnOk result (IsFree (obeys trains.now) (event_of event.now)) }
+    ensures why { IfErr result (λ fault. IsOfItsTrain (obeys trains.now) (event_of event.now) fault
+        ⊎ (fault ≡ Memory)) }
 {
     let WorldEvent::Train { bytes, .. } = event else {
         return Ok(());
@@ -71,7 +81,8 @@ fn is_free(alloc: Global, trains: &[RunningTrain], event: &WorldEvent) -> Result
 
 // Refuses the name of a train of the railway.
 fn is_foreign(trains: &[RunningTrain], nid_engine: u32) -> Result<(), RailwayFault>
-    ensures { OnOk result (obeys trains.now nid_engine ≡ false) }
+    ensures foreign { OnOk result (obeys trains.now nid_engine ≡ false) }
+    ensures why { IfErr result (λ fault. (fault ≡ Name) × (obeys trains.now nid_engine ≡ true)) }
 {
     match index_of(trains, nid_engine) {
         Some(_) => Err(RailwayFault::Name),
@@ -81,7 +92,8 @@ fn is_foreign(trains: &[RunningTrain], nid_engine: u32) -> Result<(), RailwayFau
 
 // Bytes without a message are in no name, unless memory ran out.
 fn unread(fault: MsgFault) -> Result<(), RailwayFault>
-    ensures { OnOk result (fault ≢ of_message.Memory) }
+    ensures other { OnOk result (fault ≢ of_message.Memory) }
+    ensures why { IfErr result (λ why. why ≡ Memory) }
 {
     match fault {
         MsgFault::Memory => Err(RailwayFault::Memory),
@@ -105,6 +117,8 @@ fn take(
     ensures taken { OnOk result (line_of world.old ≡ line.now
         → IsTaken line.now (state_of world.old) (state_of world.new) told.old.items told.new.items
         (event_of event.now)) }
+    ensures why { IfErr result (λ fault. line_of world.old ≡ line.now
+        → IsWhyNotTaken line.now (state_of world.old) (event_of event.now) fault) }
     ensures line { line_of world.new ≡ line_of world.old }
     ensures world { OnErr result (state_of world.new ≡ state_of world.old) }
     ensures told { OnErr result (told.new.items ≡ told.old.items) }

@@ -10,12 +10,15 @@ impl Railway {
     ghost use Rattle.law_trains.specs.Trains.{Hears, Moment, Train};
     ghost use Rattle.rbc_spec.specs.Outcome.{Saying as TrackSaying};
     ghost use Rattle.rbc_railway.specs.Railways.{HasRun, IsSafeRailway, KeepsMessages};
-    ghost use Rattle.rbc_railway.specs.History.{told_at};
+    ghost use Rattle.rbc_railway.specs.History.{obeys, told_at};
+    ghost use Rattle.rbc_railway.specs.Verdicts.{hear_verdict};
     ghost use Rattle.rbc_world.specs.rbc_train.Sayings.{saying_of};
 
     /// A message of a centre arrives at its train: any message that is on the way, in any order, any number of times.
     /// `answer` is the index of the answer, and `which` the index of the message in it.
     pub fn hear(&mut self, answer: usize, which: usize) -> Result<(), RailwayFault>
+        // It arrives if and only if it was sent, and its train is one of the railway.
+        ensures exact { result ≡ hear_verdict (obeys self.old.trains.items) (told_at self.old.told.items answer which) }
         // It is one moment more of the closed loop.
         ensures moment { OnOk result ((c : ℕ) (p : TrackSaying) → told_at self.old.told.items answer which ≡ Some (c, p)
             → (first : ℕ → Train) (moments : List Moment) → HasRun self.old first moments

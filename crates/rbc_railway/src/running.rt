@@ -4,12 +4,13 @@ use crate::fault::RailwayFault;
 use crate::railway::{Railway, known};
 
 impl Railway {
-    ghost use Rattle.std.specs.Prelude.{◌≡◌, ◌++◌, ◌∷◌, [], List, OnErr, OnOk, set, slice_get, Some, ℕ};
+    ghost use Rattle.std.specs.Prelude.{◌≡◌, ◌++◌, ◌∷◌, [], Err, List, None, OnErr, OnOk, set, slice_get, Some, ℕ};
     ghost use Rattle.law_trains.specs.Trains.{Moment, Runs, Train};
     ghost use Rattle.rbc_railway.specs.declared.train.RunningTrain.{RunningTrain as Running};
     ghost use Rattle.rbc_railway.specs.History.{name_of, ran_to, train_at};
     ghost use Rattle.rbc_railway.specs.Railways.{HasRun, IsSafeRailway, KeepsMessages};
     ghost use Rattle.rbc_railway.specs.Verdicts.{run_verdict};
+    ghost use Rattle.rbc_railway.specs.declared.fault.RailwayFault.TheVariants.{NoTrain};
 
     /// The train of this index runs to these ends, in decimetres from the start of its track. It runs forward, and its
     /// front end to the limit of its on-board unit at most.
@@ -17,6 +18,7 @@ impl Railway {
         // It runs if and only if the rules allow it. An error names the first that does not.
         ensures exact { (x : Running) → slice_get self.old.trains.items train ≡ Some x
             → result ≡ run_verdict front rear (train_at x) }
+        ensures no_train { slice_get self.old.trains.items train ≡ None → result ≡ Err NoTrain }
         ensures ok { OnOk result ((x : Running) → slice_get self.old.trains.items train ≡ Some x
             → self.new.trains.items ≡ set self.old.trains.items train (ran_to front rear x)) }
         // It is one moment more of the closed loop.

@@ -19,7 +19,7 @@ returns-clause-moment c =
     let r = c.args.self.now in
     let e = event_of c.args.event.now in
     let free : IsFree (obeys r.trains.items) e = subst (λ (ts : List RunningTrain). IsFree (obeys ts) e)
-    c.deref.ensures.value c.in_ok-is_free.ensures in
+    c.deref.ensures.value c.in_ok-is_free.ensures.free in
     ok_map c.take.result (λ taken. record {
       taken = taken r.one_line;
       moment =
@@ -32,7 +32,7 @@ invariant_of-self c =
     let r = c.args.self.now in
     let e = event_of c.args.event.now in
     let free : IsFree (obeys r.trains.items) e = subst (λ (ts : List RunningTrain). IsFree (obeys ts) e)
-    c.deref.ensures.value c.in_ok-is_free.ensures in
+    c.deref.ensures.value c.in_ok-is_free.ensures.free in
     let taken = ok_map c.take.result (λ taken. taken r.one_line) c.take.ensures.taken in
     record {
       one_line = c.take.ensures.line ∙ r.one_line;

@@ -8,8 +8,9 @@ use Rattle.rbc_world.specs.rbc_train.Sayings.{saying_of}
 use Rattle.rbc_railway.proofs.Moves.{centre_told, heard, led_heard, one_some}
 use Rattle.rbc_railway.proofs.railway.Railway.hear.Goals as goal
 use Rattle.rbc_railway.proofs.Safe.{is_safe}
-use Rattle.rbc_railway.proofs.Trains.{own_names_set}
-use Rattle.rbc_railway.specs.History.{Leads, name_of, told_at}
+use Rattle.rbc_railway.proofs.Trains.{named_at, none_named, own_names_set}
+use Rattle.rbc_railway.proofs.Verdicts.{arrives, has_no_train}
+use Rattle.rbc_railway.specs.History.{Leads, name_of, obeys, told_at}
 use Rattle.rbc_world.specs.World.{state_of}
 
 pub returns-in_default-clause-safe : goal.returns-in_default-clause-safe
@@ -79,3 +80,26 @@ returns-clause-moment c d q told first_train moments h =
     (heard r.line (state_of r.world) r.trains.items r.sent.items r.told.items r.own_names i x y at within
     c.hears.ensures.name c.args.answer c.args.which c.in-Some.centre p there
     (sym (found.2) ∙ ap name_of (one_some (sym first ∙ at))) c.hears.ensures.exact first_train moments h)
+
+pub returns-in_default-index_of-clause-exact : goal.returns-in_default-index_of-clause-exact
+returns-in_default-index_of-clause-exact c =
+    let r = c.args.self.now in
+    let p = saying_of c.in-Some.saying in
+    let there : told_at r.told.items c.args.answer c.args.which ≡ Some (c.in-Some.centre, p) =
+    sym c.on_the_way.ensures ∙ ap (option_map (λ q. (q.0, saying_of (q.1)))) c.in-Some.is in
+    sym (has_no_train (obeys r.trains.items) (told_at r.told.items c.args.answer c.args.which) (c.in-Some.centre, p) there
+    (none_named r.trains.items p.nid_engine
+    (λ i x at. c.in_default-index_of.ensures.none i x (ap (λ xs. slice_get xs i) c.deref.ensures.value ∙ at))))
+
+pub returns-clause-exact : goal.returns-clause-exact
+returns-clause-exact c =
+    let r = c.args.self.now in
+    let p = saying_of c.in-Some.saying in
+    let found = c.in-Some-index_of.ensures.found in
+    let first : slice_get r.trains.items c.in-Some-index_of.train ≡ Some (found.0) =
+    ap (λ xs. slice_get xs c.in-Some-index_of.train) (sym c.deref.ensures.value) ∙ found.1 in
+    let there : told_at r.told.items c.args.answer c.args.which ≡ Some (c.in-Some.centre, p) =
+    sym c.on_the_way.ensures ∙ ap (option_map (λ q. (q.0, saying_of (q.1)))) c.in-Some.is in
+    sym (arrives (obeys r.trains.items) (told_at r.told.items c.args.answer c.args.which) (c.in-Some.centre, p) there
+    (ap (obeys r.trains.items) (sym (found.2))
+    ∙ named_at r.trains.items c.in-Some-index_of.train (found.0) first))
