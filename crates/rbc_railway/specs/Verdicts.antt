@@ -1,16 +1,17 @@
 -- When a train may send a message, when one arrives at it, and how far it may run.
-use Rattle.std.specs.Prelude.{if◌then◌else◌, ◌&&◌, ◌≡◌, ◌⊎◌, Bool, Err, false, int_le, int_lt, nat_le, None, not, Ok, Option, pos}
-use Rattle.std.specs.Prelude.{Result, Some, ℕ, ℤ}
+use Rattle.std.specs.Prelude.{◌&&◌, ◌≡◌, ◌⊎◌, Bool, Err, false, if◌then◌else◌, int_le, int_lt, nat_le, None, not, Ok}
+use Rattle.std.specs.Prelude.{Option, pos, Result, Some, ℕ, ℤ}
 use Rattle.law_trains.specs.Trains.{may_reach, Train}
-use Rattle.rbc_spec.specs.Outcome.{Saying}
 use Rattle.rbc_railway.specs.declared.fault.RailwayFault.{RailwayFault}
 use Rattle.rbc_railway.specs.declared.fault.RailwayFault.TheVariants.{Backwards, Length, Limit, Memory, Name, NoCentre}
+use Rattle.rbc_railway.specs.declared.fault.RailwayFault.TheVariants.{NoTrain, NotSent, Refused as ByUnit, Step}
+use Rattle.rbc_railway.specs.declared.fault.RailwayFault.TheVariants.{TooLong}
 use Rattle.rbc_railway.specs.History.{IsFree}
-use Rattle.rbc_railway.specs.declared.fault.RailwayFault.TheVariants.{NotSent, NoTrain, Refused as ByUnit, Step, TooLong}
-use Rattle.rbc_world.specs.rbc_centre.declared.fault.StepFault.{StepFault}
 use Rattle.rbc_spec.specs.Line.{is_centre, Line}
+use Rattle.rbc_spec.specs.Outcome.{Saying}
 use Rattle.rbc_spec.specs.World.{centre_of, Event, World, world_step}
 use Rattle.rbc_world.specs.Answers.{IsRefusal}
+use Rattle.rbc_world.specs.rbc_centre.declared.fault.StepFault.{StepFault}
 use Rattle.train_unit.specs.declared.refused.Refused.{Refused}
 
 -- the verdict of the on-board unit

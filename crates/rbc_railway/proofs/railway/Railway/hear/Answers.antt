@@ -1,16 +1,15 @@
 use Rattle.std.proofs.Common.{[], ◌++◌, ◌<◌, ◌∙◌, ◌∷◌, ◌≡◌, ap, length, option_map, refl, rules, set, slice_get, Some}
-use Rattle.std.proofs.Common.{subst}
-use Rattle.std.proofs.Common.{sym, ℕ}
-use Rattle.rbc_spec.specs.Outcome.{Saying}
+use Rattle.std.proofs.Common.{subst, sym, ℕ}
 use Rattle.std.proofs.lemmas.Option.{slice_get_read, slice_get_within}
 use Rattle.law_trains.specs.Trains.{Hears}
-use Rattle.rbc_world.specs.rbc_train.Sayings.{saying_of}
 use Rattle.rbc_railway.proofs.Moves.{centre_told, heard, led_heard, one_some}
 use Rattle.rbc_railway.proofs.railway.Railway.hear.Goals as goal
 use Rattle.rbc_railway.proofs.Safe.{is_safe}
 use Rattle.rbc_railway.proofs.Trains.{named_at, none_named, own_names_set}
 use Rattle.rbc_railway.proofs.Verdicts.{arrives, has_no_train}
 use Rattle.rbc_railway.specs.History.{Leads, name_of, obeys, told_at}
+use Rattle.rbc_spec.specs.Outcome.{Saying}
+use Rattle.rbc_world.specs.rbc_train.Sayings.{saying_of}
 use Rattle.rbc_world.specs.World.{state_of}
 
 pub returns-in_default-clause-safe : goal.returns-in_default-clause-safe
@@ -87,7 +86,8 @@ returns-in_default-index_of-clause-exact c =
     let p = saying_of c.in-Some.saying in
     let there : told_at r.told.items c.args.answer c.args.which ≡ Some (c.in-Some.centre, p) =
     sym c.on_the_way.ensures ∙ ap (option_map (λ q. (q.0, saying_of (q.1)))) c.in-Some.is in
-    sym (has_no_train (obeys r.trains.items) (told_at r.told.items c.args.answer c.args.which) (c.in-Some.centre, p) there
+    sym (has_no_train (obeys r.trains.items) (told_at r.told.items c.args.answer c.args.which)
+    (c.in-Some.centre, p) there
     (none_named r.trains.items p.nid_engine
     (λ i x at. c.in_default-index_of.ensures.none i x (ap (λ xs. slice_get xs i) c.deref.ensures.value ∙ at))))
 
