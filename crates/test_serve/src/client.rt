@@ -1,16 +1,16 @@
 //! A client of the centres: a train, or the interlocking.
 
 use std::alloc::Global;
-use std::io::{ErrorKind, Read, Write};
+use std::io::{Error, ErrorKind, Read, Write};
 use std::net::{Net, SocketAddr, TcpStream};
-use std::thread;
+use std::time::Duration;
 
 /// What a play missed.
 #[derive(Clone, Copy, Debug)]
 pub enum Missed {
     /// An endpoint that is open.
     Endpoint,
-    /// A connection whose reads need not wait.
+    /// A connection whose reads wait no longer than `PATIENCE_S`.
     Waiting,
     /// A connection that takes what is said.
     Taking,
@@ -18,7 +18,7 @@ pub enum Missed {
     Read,
     /// An answer, before the connection ended.
     Ended,
-    /// An answer, for as long as was looked for it.
+    /// An answer, in the seconds of `PATIENCE_S`.
     NoAnswer,
     /// This answer: another came.
     OtherAnswer,
@@ -43,15 +43,17 @@ pub enum Missed {
 /// What comes of a step of a play, or what was missed.
 pub type Done<T> = Result<T, Missed>;
 
-/// How often an answer is looked for at most.
-pub const TURNS: u32 = 10_000_000;
+/// The seconds that a play waits for an answer. It is by the clock, since a busy host may give a centre no processor for
+/// seconds.
+pub const PATIENCE_S: u64 = 60;
 
-/// A connection to an endpoint, which no read holds up.
+/// A connection to an endpoint, whose reads wait for `PATIENCE_S` at most.
 pub fn connect<R: Net<Stream = TcpStream>>(rt: &R, endpoint: SocketAddr) -> Done<TcpStream> {
     let stream = TcpStream::connect(rt, endpoint)
         .ok()
         .ok_or(Missed::Endpoint)?;
-    stream.set_nonblocking(true).ok().ok_or(Missed::Waiting)?;
+    let patience = Duration::from_secs(PATIENCE_S);
+    stream.set_read_timeout(Some(patience)).ok().ok_or(Missed::Waiting)?;
     Ok(stream)
 }
 
@@ -62,23 +64,23 @@ pub fn say(stream: &TcpStream, bytes: &[u8]) -> Done<()> {
     Ok(())
 }
 
-/// Looks for so many bytes.
+/// The next bytes, so many.
 pub fn heard(alloc: Global, stream: &TcpStream, count: usize) -> Done<Vec<u8>> {
-    let mut heard = Vec::new(alloc);
-    let mut piece = [0u8; 1];
+    let mut bytes = vec![in alloc; 0u8; count].ok().ok_or(Missed::Memory)?;
     let mut input = stream;
-    for _ in 0..TURNS {
-        if heard.len() >= count {
-            return Ok(heard);
-        }
-        match input.read(&mut piece) {
-            Ok(0) => return Err(Missed::Ended),
-            Ok(_) => heard.extend_from_slice(&piece).ok().ok_or(Missed::Memory)?,
-            Err(error) if error.kind() == ErrorKind::WouldBlock => thread::yield_now(),
-            Err(_) => return Err(Missed::Read),
-        }
+    match input.read_exact(&mut bytes) {
+        Ok(()) => Ok(bytes),
+        Err(error) => Err(missed_by(&error)),
     }
-    Err(Missed::NoAnswer)
+}
+
+/// What a read missed that failed.
+pub fn missed_by(error: &Error) -> Missed {
+    match error.kind() {
+        ErrorKind::UnexpectedEof => Missed::Ended,
+        ErrorKind::WouldBlock => Missed::NoAnswer,
+        _ => Missed::Read,
+    }
 }
 
 /// Says this, and is answered so.
@@ -94,13 +96,8 @@ pub fn answers(alloc: Global, stream: &TcpStream, said: &str, wanted: &str) -> D
 pub fn is_ended(stream: &TcpStream) -> bool {
     let mut piece = [0u8; 1];
     let mut input = stream;
-    for _ in 0..TURNS {
-        match input.read(&mut piece) {
-            Ok(0) => return true,
-            Ok(_) => return false,
-            Err(error) if error.kind() == ErrorKind::WouldBlock => thread::yield_now(),
-            Err(_) => return true,
-        }
+    match input.read(&mut piece) {
+        Ok(count) => count == 0,
+        Err(error) => error.kind() != ErrorKind::WouldBlock,
     }
-    false
 }

@@ -1,23 +1,27 @@
 //! The order in which a train hears what its centre says, where two threads commit for one train.
 
-use crate::client::{Done, Missed, TURNS, connect, say};
+use crate::client::{Done, Missed, PATIENCE_S, connect, missed_by, say};
 use crate::line::{INITIATION_OF_ONE, VERSION, bytes_of};
 use crate::play::{Act, hear, send};
 use crate::plays::{OPENED_FIRST, Play, ServeMode};
 use crate::railway::Addresses;
 use rbc_msgs::decode_track;
 use std::alloc::Global;
-use std::io::{ErrorKind, Read};
+use std::io::Read;
 use std::net::{Net, Shutdown, TcpListener, TcpStream};
 use std::sync::atomic::{AtomicBool, Ordering};
 use std::thread;
 use std::thread::Threads;
+use std::time::{Clock, Duration};
 
 // How many starts of mission each connection sends: so few that the answers to all may wait for their train at once.
 const STARTS: u16 = 120;
 
 // How many bytes message 40 has.
 const REJECTED: usize = 10;
+
+// How many reads take all that a play's connection brings.
+const MOST_READS: u32 = 1_000_000;
 
 /// What the two connections tell each other.
 #[derive(Drop)]
@@ -37,7 +41,7 @@ pub static PLAYS: [Play<'_>; 1] = [Play {
 
 /// Opens a train's session, and starts its missions over two connections at once, by two threads. All answers come over
 /// the first connection, in order.
-pub fn start_over_two<R: Threads + Sync + Net<Stream = TcpStream, Listener = TcpListener>>(
+pub fn start_over_two<R: Threads + Sync + Net<Stream = TcpStream, Listener = TcpListener> + Clock>(
     rt: &R,
     alloc: Global,
     addresses: Addresses,
@@ -56,7 +60,7 @@ pub fn start_over_two<R: Threads + Sync + Net<Stream = TcpStream, Listener = Tcp
 }
 
 // The train opens its session, and establishes it.
-fn opened<R: Net<Stream = TcpStream>>(
+fn opened<R: Net<Stream = TcpStream, Listener = TcpListener> + Clock>(
     rt: &R,
     alloc: Global,
     addresses: Addresses,
@@ -70,7 +74,7 @@ fn opened<R: Net<Stream = TcpStream>>(
 
 // Opens the train's session, and starts missions that are rejected, while another connection does. What comes after
 // the version is in order.
-fn open_and_start<R: Net<Stream = TcpStream>>(
+fn open_and_start<R: Net<Stream = TcpStream, Listener = TcpListener> + Clock>(
     rt: &R,
     alloc: Global,
     addresses: Addresses,
@@ -79,20 +83,20 @@ fn open_and_start<R: Net<Stream = TcpStream>>(
     let stream = opened(rt, alloc, addresses)?;
     told.is_open.store(true, Ordering::SeqCst);
     say_starts(alloc, &stream, "00")?;
-    wait_for(&told.is_said)?;
+    wait_for(rt, &told.is_said)?;
     stream.shutdown(Shutdown::Write).ok().ok_or(Missed::Taking)?;
     are_counted_from_two(&heard_to_the_end(alloc, &stream)?)
 }
 
 // Starts missions of the train over a connection that does not serve it.
-fn start<R: Net<Stream = TcpStream>>(
+fn start<R: Net<Stream = TcpStream, Listener = TcpListener> + Clock>(
     rt: &R,
     alloc: Global,
     addresses: Addresses,
     told: &Told,
 ) -> Done<()> {
     let stream = connect(rt, addresses.centre)?;
-    wait_for(&told.is_open)?;
+    wait_for(rt, &told.is_open)?;
     say_starts(alloc, &stream, "80")?;
     told.is_said.store(true, Ordering::SeqCst);
     Ok(())
@@ -114,12 +118,13 @@ fn start_of(alloc: Global, fourth: u16, low_bits: &str) -> Done<Vec<u8>> {
     bytes_of(alloc, &digits)
 }
 
-fn wait_for(flag: &AtomicBool) -> Done<()> {
-    for _ in 0..TURNS {
+// Waits for a flag, for `PATIENCE_S` at most.
+fn wait_for<R: Clock>(rt: &R, flag: &AtomicBool) -> Done<()> {
+    for _ in 0..PATIENCE_S.saturating_mul(1000) {
         if flag.load(Ordering::SeqCst) {
             return Ok(());
         }
-        thread::yield_now();
+        thread::sleep(rt, Duration::from_millis(1));
     }
     Err(Missed::NoAnswer)
 }
@@ -129,15 +134,14 @@ pub fn heard_to_the_end(alloc: Global, stream: &TcpStream) -> Done<Vec<u8>> {
     let mut heard = Vec::new(alloc);
     let mut piece = [0u8; 256];
     let mut input = stream;
-    for _ in 0..TURNS {
+    for _ in 0..MOST_READS {
         match input.read(&mut piece) {
             Ok(0) => return Ok(heard),
             Ok(count) => heard
                 .extend_from_slice(&piece[..count])
                 .ok()
                 .ok_or(Missed::Memory)?,
-            Err(error) if error.kind() == ErrorKind::WouldBlock => thread::yield_now(),
-            Err(_) => return Err(Missed::Read),
+            Err(error) => return Err(missed_by(&error)),
         }
     }
     Err(Missed::StillOpen)

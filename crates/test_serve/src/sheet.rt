@@ -1,6 +1,6 @@
 //! The file of a journal, in memory.
 
-use crate::client::{Done, Missed, TURNS};
+use crate::client::{Done, Missed, PATIENCE_S};
 use serve_journal::DurableFile;
 use std::alloc::{AllocError, Global};
 use std::io::ErrorKind;
@@ -44,12 +44,12 @@ impl<'a> Paper<'a> {
 
     /// Waits until these are its bytes, and then a while, for the centre to know that it has no more room.
     pub fn fills<R: Clock>(&self, rt: &R, text: &[u8]) -> Done<()> {
-        for _ in 0..TURNS {
+        for _ in 0..PATIENCE_S.saturating_mul(1000) {
             if self.has(text) {
                 thread::sleep(rt, Duration::from_millis(400));
                 return Ok(());
             }
-            thread::yield_now();
+            thread::sleep(rt, Duration::from_millis(1));
         }
         Err(Missed::Entry)
     }
