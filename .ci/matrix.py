@@ -22,6 +22,7 @@ import os
 import re
 
 import clauses
+import marks
 import tables
 from clauses import TOOL
 from tables import TOP, read
@@ -274,6 +275,7 @@ def faults(write, documents):
     """What is wrong with the rules, their evidence and the page, which `write` makes anew."""
     found, wrong = checked()
     yield from wrong
+    yield from marks.faults(found, spec_files().values(), write)
     if write:
         with open(f"{TOP}/{PAGE}", "w", encoding="utf-8") as it:
             it.write(page(found))

@@ -26,6 +26,7 @@ pub record Shortening : Type 0 where
 -- How far a train may run. `track` is its track. `rear` is its safe rear end in decimetres. `end` is the farthest end
 -- that it was sent, in metres. `since` is T_TRAIN of its last message that was answered by an authority or by an
 -- accepted start. `asked` is the request to shorten that was sent after that.
+-- Rules: CL-8
 pub record Stretch : Type 0 where
   pub track : ℕ
   pub rear : ℤ
@@ -225,6 +226,7 @@ sees_all line events others v = record v { stray = true }
 
 -- No two trains may run over one section. None may run over a section that the interlocking has not released, or has
 -- taken back. Each train could place each message that it was sent.
+-- Rules: CL-9
 pub record IsSafeOutside (line : Line) (v : View) : Type 0 where
   pub one_train : (t u s : ℕ) → may_run_over line v t s ≡ true → may_run_over line v u s ≡ true → t ≡ u
   pub released : (t s : ℕ) → may_run_over line v t s ≡ true → v.released s ≡ true
@@ -236,6 +238,7 @@ spoken_of (Answered o) = Some (record { is_heard = is_none o.silence; sayings = 
 spoken_of answer = None
 
 -- the promise holds after every list of events, even if frames are late, repeated, out of order or lost
+-- Rules: CL-9
 abbrev pub OutsideTheorem : Type 0
 OutsideTheorem = (line : Line) (events : List Event) (answers : List Answer) (w : World)
     → IsLine line → world_run line (new_world line) events ≡ Ok (answers, w)

@@ -73,11 +73,13 @@ position_of (EndOfMission position) = Some position
 position_of (StartOfMission is_valid position) = Some position
 position_of body = None
 
+-- Rules: TR-2
 abbrev pub is_in_place : Train → Place → Bool
 is_in_place x place =
     (place.track == x.track && nat_le x.front place.front)
     && option_map_or (λ rear. int_le rear x.rear) place.rear true
 
+-- Rules: TR-2
 abbrev pub is_true_of : Line → Train → TrainBody → Bool
 is_true_of line x body = option_map_or
     (λ position. option_map_or (is_in_place x) (extent line position) true)
@@ -87,6 +89,7 @@ is_true_of line x body = option_map_or
 -- at the proposed end, and it grants only a request that it received. An end of mission at standstill (5.5) ends its
 -- authority. After both it follows no centre
 
+-- Rules: TR-4
 abbrev pub gives_back : ℕ → Option ℕ → Train → Train
 gives_back stamp left x = record x { end = left; follows = None; gave_back = stamp }
 
@@ -94,17 +97,20 @@ abbrev pub no_farther : Option Asked → Option ℕ → Option ℕ
 no_farther (Some a) (Some e) = Some (min e a.end)
 no_farther asked e = None
 
+-- Rules: TR-3
 abbrev pub before_it_says : ℕ → ℕ → TrainBody → Train → Train
 before_it_says c stamp (ShorteningGranted asked position) x = gives_back stamp (no_farther (x.asked c) x.end) x
 before_it_says c stamp (EndOfMission position) x = if position.v_train == 0 then gives_back stamp None x else x
 before_it_says c stamp (StartOfMission is_valid position) x = record x { has_started = true }
 before_it_says c stamp body x = x
 
+-- Rules: TR-3
 abbrev pub was_asked : ℕ → TrainBody → Train → Bool
 was_asked c (ShorteningGranted asked position) x = has (λ a. a.stamp == asked) (x.asked c)
 was_asked c body x = true
 
 -- the train may send the message to centre c
+-- Rules: TR-1
 abbrev pub may_say : Line → ℕ → TrainMessage → Train → Bool
 may_say line c m x = (nat_lt x.clock m.t_train && is_true_of line x m.body) && was_asked c m.body x
 
@@ -115,6 +121,7 @@ says c m x = record (before_it_says c m.t_train m.body x) { clock = m.t_train }
 -- ## Rule 4: a train follows the centre that acknowledged its train data (3.18.3), if it sent them after it last gave
 -- something back. It takes an authority only from this centre, and only one that was sent after the acknowledgement
 
+-- Rules: TR-4
 abbrev pub takes : ℕ → ℕ → Train → Bool
 takes c stamp x = has (λ f. f.centre == c && nat_lt f.stamp stamp) x.follows
 
@@ -123,6 +130,7 @@ abbrev pub end_from : Line → ℕ → ℕ → Option ℕ
 end_from line group metres = option_map (λ s. start line s + metres) (section_of_group line group)
 
 -- the train after it received a message of centre c
+-- Rules: TR-4
 abbrev pub hears : Line → ℕ → TrackMessage → TrackBody → Train → Train
 hears line c m (DataAcknowledged stamp) x =
     if nat_lt x.gave_back stamp then record x { follows = Some (record { centre = c; stamp = m.t_train }) } else x
@@ -137,9 +145,11 @@ hears line c m body x = x
 -- ## Rule 5: a train runs forward, and to the end of its authority at most (3.13, 4.4.9). Before its first start of
 -- mission others may move it, to any position in advance
 
+-- Rules: TR-5
 abbrev pub may_reach : ℕ → Train → Bool
 may_reach front x = (not x.has_started || nat_le front x.front) || has (λ e. nat_le front (10 * e)) x.end
 
+-- Rules: TR-5
 abbrev pub may_run : ℕ → ℤ → Train → Bool
 may_run front rear x =
     ((nat_le x.front front && int_le x.rear rear) && int_lt rear (pos front)) && may_reach front x
@@ -220,6 +230,7 @@ is_accepted k t = is_some (k.seen.stretch t)
 
 -- No two accepted trains that obey are on one section. None of them is on a section that the interlocking has not
 -- released, or has taken back.
+-- Rules: CL-10
 pub record IsSafeLoop (line : Line) (obeys : ℕ → Bool) (k : Loop) : Type 0 where
   pub never_meet : (t u s : ℕ) → obeys t ≡ true → obeys u ≡ true → is_accepted k t ≡ true → is_accepted k u ≡ true
       → stands_on line (k.train t) s ≡ true → stands_on line (k.train u) s ≡ true → t ≡ u
@@ -227,6 +238,7 @@ pub record IsSafeLoop (line : Line) (obeys : ℕ → Bool) (k : Loop) : Type 0 w
       → k.seen.released s ≡ true
 
 -- for all trains that obey, and all moments, whatever other trains, the radio and frames between centres do
+-- Rules: CL-10
 abbrev pub TrainsTheorem : Type 0
 TrainsTheorem = (line : Line) (obeys : ℕ → Bool) (train : ℕ → Train) (moments : List Moment) (w : World) → IsLine line
     → ((t : ℕ) → IsNew (train t)) → AllMay line obeys (at_first train) moments

@@ -26,6 +26,7 @@ pub record Reply : Type 0 where
   pub sayings : List Saying
   pub words : List Word
 
+-- Rules: AC-1
 abbrev pub Act : Type 0
 Act = Centre → Reply
 
@@ -38,6 +39,7 @@ rest = become (λ k. k)
 
 -- one act, then another from the state that the first leaves
 infixl 5 ◌>>◌
+-- Rules: AC-1
 unfoldable pub ◌>>◌ : Act → Act → Act
 (first >> second) k =
     let a = first k in
@@ -66,10 +68,12 @@ abbrev pub send : ℕ → Body → Act
 send d body k = record { state = k; frames = λ e. if e == d then body ∷ [] else []; sayings = []; words = [] }
 
 -- records T_TRAIN of the message as the last that was received from the train
+-- Rules: SI-4
 abbrev pub hear : TrainMessage → Act
 hear m = become (λ k. record k { heard = put k.heard m.nid_engine (Some m.t_train) })
 
 -- Sends a message to a train. Its T_TRAIN counts the messages of this centre to that train.
+-- Rules: MS-3
 abbrev pub say : ℕ → ℕ → TrackBody → Act
 say t group body k =
     let count = k.said t + 1 in
@@ -83,12 +87,14 @@ say t group body k =
 -- ## The book
 
 -- sets the entry of each section of the run whose entry passes the test
+-- Rules: AC-2
 abbrev pub booked : (Entry → Bool) → Entry → SectionRun → Act
 booked is_meant entry r =
     become (λ k. record k { book = λ s. if within r s && is_meant (k.book s) then entry else k.book s })
 
 -- Gives sections of home c back: those of the run whose entry passes the test. Each becomes open. If it was wished
 -- back, it becomes shut instead, the wish ends, and the interlocking gets a reply `Told`.
+-- Rules: AC-3
 abbrev pub freed : Line → ℕ → (Entry → Bool) → SectionRun → Act
 freed line c is_meant r k =
     let is_freed : ℕ → Bool = λ s. (within r s && is_home line c s) && is_meant (k.book s) in
@@ -104,6 +110,7 @@ freed line c is_meant r k =
 
 -- Returns the lent sections of the run: one frame to each home that has some of them. The sections of one home are
 -- consecutive.
+-- Rules: AC-4
 abbrev pub returned : Line → ℕ → ℕ → ℕ → SectionRun → Act
 returned line c t track r k = record {
   state = k;
@@ -114,6 +121,7 @@ returned line c t track r k = record {
 }
 
 -- takes sections from the train: those of home c are given back, lent ones are returned to their homes
+-- Rules: PR-3
 abbrev pub leave : Line → ℕ → ℕ → ℕ → SectionRun → Act
 leave line c t track r = freed line c (is_taken_for t) r >> returned line c t track r
 
@@ -146,6 +154,7 @@ return_right line c t =
 
 -- Closes a mission, after all sections of its hand and pool have left it. A handover is cancelled, and the right goes
 -- back to the registrar.
+-- Rules: PR-4
 abbrev pub close : Line → ℕ → ℕ → Mission → Act
 close line c t mission = (set_mission t None >> cancel t mission) >> return_right line c t
 
@@ -167,12 +176,14 @@ begun line place =
 -- A request to shorten the authority to the start of section s may be sent if all of this holds. The session is up, the
 -- mission is not ended, and no request is pending. Section s is in the hand, and is not its first. The front is not
 -- past the start of s, and that start is within the range of L_ENDSECTION.
+-- Rules: CS-1
 abbrev pub may_propose : Line → ℕ → ℕ → Mission → Centre → Bool
 may_propose line t s m k =
     ((is_up (k.phase t) && not m.is_ended) && is_none m.proposal)
     && (((within m.hand s && not (s == m.hand.first)) && nat_le m.place.front (10 * start line s))
     && has_room line m.place (start line s))
 
+-- Rules: CS-2
 abbrev pub propose : Line → ℕ → ℕ → Mission → Act
 propose line t s m k =
     (say t m.place.group (ShorteningRequest (start line s - group_start line m.place))
@@ -190,6 +201,7 @@ part_at line d track hand = shared hand (home_run line d track)
 
 -- Announces a handover to centre d: d gets an Announce, and the train gets the distance to the border (packet 131). The
 -- hand has a section of d, and no handover is pending.
+-- Rules: HO-2
 abbrev pub announce : Line → ℕ → ℕ → ℕ → Mission → Act
 announce line t group d m k =
     let number = k.announced + 1 in
@@ -201,6 +213,7 @@ announce line t group d m k =
     $ k
 
 -- asks centre d for the sections in advance of the hand, as many as the hand has room for
+-- Rules: RT-1
 abbrev pub ask_route : ℕ → ℕ → Mission → Act
 ask_route t d m =
     let first = next_after m.hand in
@@ -213,6 +226,7 @@ end_order line c t = where_so (λ k. is_up (k.phase t)) (say t unknown_group (En
 
 -- Hands the supervision over. The pool is returned, own sections of the hand are lent, and one frame carries the
 -- mission. If the hand has no section of home c, the train is ordered to end its session here.
+-- Rules: HO-5, HO-6, HO-7, HO-8
 abbrev pub yield : Line → ℕ → ℕ → Mission → Handing → Act
 yield line c t m h k =
     ((returned line c t m.place.track m.pool >> booked (is_taken_for t) (Out t) m.hand)

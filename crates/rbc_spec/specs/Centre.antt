@@ -12,6 +12,7 @@ use Rattle.rbc_spec.specs.Frame.{Frame}
 -- The entry of a home section in the centre's book (profile). `Shut`: not released by the interlocking. `Open`:
 -- released, and not in use. `Taken`: in use for a train at this centre. `Out`: lent for a train, and now at another
 -- centre or in a frame on the way.
+-- Rules: CE-1
 pub data Entry : Type 0 where
   Shut : Entry
   Open : Entry
@@ -19,6 +20,7 @@ pub data Entry : Type 0 where
   Out : (t : ℕ) → Entry
 
 -- The phase of the communication session with a train (3.5.3): none, initiated by the train, or established.
+-- Rules: CE-1
 pub data Phase : Type 0 where
   Closed : Phase
   Opened : Phase
@@ -26,11 +28,13 @@ pub data Phase : Type 0 where
 
 -- A pending request to shorten the movement authority: T_TRAIN of its message 9, and the last section that the train
 -- would keep.
+-- Rules: CE-3
 pub record Proposal : Type 0 where
   pub stamp : ℕ
   pub last_kept : ℕ
 
 -- a handover that this centre has announced: its number, and the accepting centre
+-- Rules: CE-3
 pub record Handing : Type 0 where
   pub number : ℕ
   pub to : ℕ
@@ -39,6 +43,7 @@ pub record Handing : Type 0 where
 -- its movement authority. `pool` is a run of lent sections that follows the hand at once. `has_data`: the train data
 -- are known. `is_ended`: the train has ended its mission. `proposal` and `handing` are the pending request to shorten
 -- and the pending handover.
+-- Rules: CE-1, CE-3
 pub record Mission : Type 0 where
   pub place : Place
   pub hand : SectionRun
@@ -49,10 +54,12 @@ pub record Mission : Type 0 where
   pub handing : Option Handing
 
 -- A handover that another centre has announced: its number, and whether this centre has replied that it takes over.
+-- Rules: CE-1
 pub record Expectation : Type 0 where
   pub number : ℕ
   pub is_taking : Bool
 
+-- Rules: CE-1
 pub record Centre : Type 0 where
   pub clock : ℕ  -- the stamp of the last step
   pub book : ℕ → Entry  -- the entry of each section
@@ -75,6 +82,7 @@ abbrev pub is_registrar_of : Line → ℕ → ℕ → Bool
 is_registrar_of line c t = has (λ r. r == c) (registrar line t)
 
 -- the initial state: each section is shut, no train is known, and each right is at its registrar
+-- Rules: CE-2, RG-1
 unfoldable pub beginning : Line → ℕ → Centre
 beginning line c = record {
   clock = 0;
@@ -134,6 +142,7 @@ abbrev pub is_free : Line → ℕ → Centre → ℕ → Bool
 is_free line c k s = is_home line c s && is_open (k.book s)
 
 -- some section of home c is in use for the train
+-- Rules: RT-7
 abbrev pub uses_some : Line → ℕ → Centre → ℕ → Bool
 uses_some line c k t =
     list_any (λ s. is_home line c s && is_used_for t (k.book s)) (range_with_len 0 (section_count line))

@@ -7,6 +7,7 @@ use Rattle.rbc_spec.specs.SectionRuns.{SectionRun, most_in_hand}
 use Rattle.rbc_spec.specs.Place.{Place}
 
 -- The place that a Yield carries. Unlike in a `Place`, the safe front end may be before the start of the track.
+-- Rules: HO-13
 pub record YieldedPlace : Type 0 where
   pub track : ℕ
   pub group : ℕ
@@ -23,9 +24,11 @@ place_with_front place (pos front) =
     Some (record { track = place.track; group = place.group; front = front; rear = place.rear })
 place_with_front place (negsuc n) = None
 
+-- Rules: HO-13
 abbrev pub carried_place : YieldedPlace → Option Place
 carried_place place = place_with_front place place.front
 
+-- Rules: LK-1
 pub data Body : Type 0 where
   AskRight : (t : ℕ) → Body  -- asks the registrar for the right to supervise t
   GiveRight : (t : ℕ) → Body  -- gives the right
@@ -94,6 +97,7 @@ abbrev pub last_stamp : ℕ
 last_stamp = 1073741823
 
 -- a link carries at most 65 536 frames, numbered from 1; each has the stamp of its step
+-- Rules: LK-1
 pub record HasFrameRanges (f : Frame) : Type 0 where
   pub number : (1 ≤ f.number) × (f.number ≤ 65536)
   pub stamp : (1 ≤ f.stamp) × (f.stamp ≤ last_stamp)

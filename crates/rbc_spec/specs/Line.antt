@@ -16,6 +16,7 @@ pub record Centre : Type 0 where
 
 -- a section: its track, its length in whole metres, its home centre, and NID_BG of the balise group at its start
 -- (profile)
+-- Rules: LN-3
 pub record Section : Type 0 where
   pub track : ℕ
   pub metres : ℕ
@@ -23,6 +24,7 @@ pub record Section : Type 0 where
   pub balise : ℕ
 
 -- a train: its NID_ENGINE, and the centre at which its supervision right is registered (profile)
+-- Rules: LN-6
 pub record Train : Type 0 where
   pub nid_engine : ℕ
   pub registrar : ℕ
@@ -49,16 +51,19 @@ abbrev pub is_home : Line → ℕ → ℕ → Bool
 is_home line c s = has (λ p. p.home == c) (section line s)
 
 -- the start of a section: the sum of the lengths of the sections before it on its track, in metres
+-- Rules: LN-5
 unfoldable pub start : Line → ℕ → ℕ
 start line s =
     option_map_or (λ p. sum_by (λ q. q.metres) (filter (λ q. q.track == p.track) (take s line.sections)))
     (section line s) 0
 
 -- the end of a section, in metres from the start of its track
+-- Rules: LN-5
 unfoldable pub end : Line → ℕ → ℕ
 end line s = option_map_or (λ p. start line s + p.metres) (section line s) 0
 
 -- NID_LRBG of the balise group at the start of a section: NID_C and NID_BG together (7.5)
+-- Rules: LN-9
 abbrev pub group_of : Line → Section → ℕ
 group_of line p = line.nid_c * 16384 + p.balise
 
@@ -71,6 +76,7 @@ abbrev pub train_number : Line → ℕ → Option ℕ
 train_number line t = position (λ p. p.nid_engine == t) line.trains
 
 -- the centre at which a train's supervision right is registered
+-- Rules: LN-6
 abbrev pub registrar : Line → ℕ → Option ℕ
 registrar line t = option_map (λ p. p.registrar) (find (λ p. p.nid_engine == t) line.trains)
 
@@ -85,10 +91,12 @@ abbrev pub is_joint : Section × Section → Bool
 is_joint seam = seam.0.track == seam.1.track
 
 -- two centres have a link, on which they exchange frames: any two different centres of the line (profile)
+-- Rules: LN-10
 abbrev pub is_linked : Line → ℕ → ℕ → Bool
 is_linked line a b = (is_centre line a && is_centre line b) && not (a == b)
 
 -- the home of the first section of another home that follows a section of home c on the track
+-- Rules: LN-11
 abbrev pub next_centre : Line → ℕ → ℕ → Option ℕ
 next_centre line c track =
     option_map (λ seam. seam.1.home)
@@ -107,6 +115,7 @@ abbrev pub IsName : List ℕ → Type 0
 IsName name = (1 ≤ length name) × (length name ≤ 16) × All (λ c. IsTrue (is_ascii_alphanumeric c)) name
 
 -- how many centres, tracks, sections and trains a line may have
+-- Rules: LN-1, LN-2, LN-6
 pub record HasLimits (line : Line) : Type 0 where
   pub centres : (2 ≤ length line.centres) × (length line.centres ≤ 8)
   pub tracks : (1 ≤ length line.tracks) × (length line.tracks ≤ 4)
@@ -114,6 +123,7 @@ pub record HasLimits (line : Line) : Type 0 where
   pub trains : (1 ≤ length line.trains) × (length line.trains ≤ 64)
 
 -- each value is in its range, and each number of a centre or a track is that of an existing one
+-- Rules: LN-3
 pub record HasRanges (line : Line) : Type 0 where
   pub nid_c : line.nid_c ≤ 1023
   pub centres : All (λ p. IsName p.name × (p.nid_rbc ≤ 16382)) line.centres
@@ -123,6 +133,7 @@ pub record HasRanges (line : Line) : Type 0 where
   pub trains : All (λ p. (p.nid_engine ≤ 16777215) × (p.registrar < length line.centres)) line.trains
 
 -- names, NID_RBC, balise groups and engines are unique
+-- Rules: LN-7
 pub record HasDistinctNames (line : Line) : Type 0 where
   pub centres : AreDistinct (λ p. p.name) line.centres
   pub tracks : AreDistinct (λ name. name) line.tracks
@@ -131,12 +142,14 @@ pub record HasDistinctNames (line : Line) : Type 0 where
   pub engines : AreDistinct (λ p. p.nid_engine) line.trains
 
 -- sections are numbered track by track, and each track has at least one
+-- Rules: LN-2
 pub record FollowsTracks (line : Line) : Type 0 where
   pub in_order : (s e : ℕ) (p q : Section) → s ≤ e → section line s ≡ Some p → section line e ≡ Some q
       → p.track ≤ q.track
   pub each : (k : ℕ) → k < length line.tracks → (s : ℕ) × (p : Section) × (section line s ≡ Some p) × (p.track ≡ k)
 
 -- the sections of one home on one track are consecutive: each section between two of them has the same home
+-- Rules: LN-4
 abbrev pub HasConsecutiveHomes : Line → Type 0
 HasConsecutiveHomes line =
     (s m e : ℕ) (p n q : Section) → s ≤ m → m ≤ e → section line s ≡ Some p → section line m ≡ Some n
@@ -144,6 +157,7 @@ HasConsecutiveHomes line =
     → p.track ≡ q.track → p.home ≡ q.home → n.home ≡ p.home
 
 -- a valid line: it keeps all these rules
+-- Rules: LN-8
 pub record IsLine (line : Line) : Type 0 where
   pub limits : HasLimits line
   pub ranges : HasRanges line

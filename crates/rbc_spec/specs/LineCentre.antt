@@ -38,6 +38,7 @@ pub record LineMission : Type 0 where
 -- The state of the line. Each section has a mark, and a wish if the interlocking wishes it back. Each train has at most
 -- one mission. For each train and centre it has the phase of the session, the last T_TRAIN received and the number of
 -- messages sent. It also has the place of a waiting start of mission.
+-- Rules: LC-1
 pub record LineState : Type 0 where
   pub mark : ℕ → Mark
   pub wish : ℕ → Bool
@@ -74,6 +75,7 @@ is_mark_open Open = true
 is_mark_open m = false
 
 -- the hand of a train is a run of consecutive sections: exactly those that are given to the train
+-- Rules: LC-2
 pub record IsHand (v : LineState) (t : ℕ) (hand : SectionRun) : Type 0 where
   pub each : (s : ℕ) → is_given_to t (v.mark s) ≡ within hand s
 
@@ -97,6 +99,7 @@ is_waiting line v t s = list_any (λ c. is_waiting_at line v t c s) (range_with_
 
 -- Frees sections: each becomes open. If it was wished back, it becomes shut instead, its wish ends, and the
 -- interlocking gets a reply `Told`.
+-- Rules: LC-11
 abbrev pub free : (ℕ → Bool) → LineState → LineState
 free is_freed v = record v {
   mark = λ s. if is_freed s then (if v.wish s then Shut else Open) else v.mark s;
@@ -104,6 +107,7 @@ free is_freed v = record v {
 }
 
 -- the replies `Told` for freed sections, in the order of sections
+-- Rules: LC-11
 abbrev pub told : Line → (ℕ → Bool) → LineState → List Word
 told line is_freed v = map (λ s. Told s) (filter (λ s. is_freed s && v.wish s) (range_with_len 0 (section_count line)))
 
@@ -112,6 +116,7 @@ abbrev pub mark_all : (ℕ → Bool) → Mark → LineState → LineState
 mark_all test mark v = record v { mark = λ s. if test s then mark else v.mark s }
 
 -- sections stop being given to train t: those of home c are freed, the others are kept for t
+-- Rules: LC-9
 abbrev pub release : Line → ℕ → ℕ → (ℕ → Bool) → LineState → LineState
 release line c t is_released v =
     free (λ s. is_released s && is_home line c s) (mark_all (λ s. is_released s && not (is_home line c s)) (Kept t) v)
@@ -123,6 +128,7 @@ abbrev pub change_mission : ℕ → (LineMission → LineMission) → LineState 
 change_mission t change v = set_mission t (option_map change (v.mission t)) v
 
 -- a mission ends if no section is given to its train
+-- Rules: LC-10
 abbrev pub close_if_empty : Line → ℕ → LineState → LineState
 close_if_empty line t v =
     if list_any (λ s. is_given_to t (v.mark s)) (range_with_len 0 (section_count line)) then v else set_mission t None v

@@ -5,6 +5,7 @@ use Rattle.std.specs.Prelude.{ℕ, Bool, Option, nat_le}
 use Rattle.rbc_spec.specs.Maps.{has}
 use Rattle.rbc_spec.specs.Place.{Position}
 
+-- Rules: MS-1
 pub data TrainBody : Type 0 where
   TrainData : (position : Position) → TrainBody  -- 129 Validated Train Data
   Request : (position : Position) → TrainBody  -- 132 MA Request
@@ -18,15 +19,18 @@ pub data TrainBody : Type 0 where
   StartOfMission : (is_valid : Bool) (position : Position) → TrainBody  -- 157 SoM Position Report: Q_STATUS is 1 (5.4)
   SessionEstablished : TrainBody  -- 159 Session Established (3.5.3)
 
+-- Rules: MS-1
 pub record TrainMessage : Type 0 where
   pub t_train : ℕ
   pub nid_engine : ℕ
   pub body : TrainBody
 
 -- T_TRAIN is not above the last that was received: the message is late or repeated (3.16.3)
+-- Rules: SI-5
 abbrev pub is_stale : ℕ → Option ℕ → Bool
 is_stale stamp heard = has (λ last. nat_le stamp last) heard
 
+-- Rules: MS-5
 pub data TrackBody : Type 0 where
   Authority : (l_endsection : ℕ) → TrackBody  -- 3 Movement Authority: its end, in metres from the group (3.8)
   DataAcknowledged : (stamp : ℕ) → TrackBody  -- 8 Acknowledgement of Train Data: T_TRAIN of the train data
@@ -38,12 +42,14 @@ pub data TrackBody : Type 0 where
   TrainRejected : TrackBody  -- 40 Train Rejected
   TrainAccepted : TrackBody  -- 41 Train Accepted
 
+-- Rules: MS-2
 pub record TrackMessage : Type 0 where
   pub t_train : ℕ
   pub nid_lrbg : ℕ
   pub body : TrackBody
 
 -- NID_LRBG if no balise group is meant (7.5)
+-- Rules: MS-4
 abbrev pub unknown_group : ℕ
 unknown_group = 16777215
 

@@ -20,6 +20,7 @@ pub data Reason : Type 0 where
   WrongPhase : Reason  -- 10 the session is in the wrong phase for it
 
 -- the reasons that are checked for a message, in this order; the first that holds is given
+-- Rules: SI-2, SI-3
 abbrev pub reasons_of : TrainBody → List Reason
 reasons_of InitiationOfSession = ForeignEngine ∷ StaleStamp ∷ []
 reasons_of SessionEstablished = ForeignEngine ∷ StaleStamp ∷ NoSession ∷ WrongPhase ∷ []
@@ -45,6 +46,7 @@ pub record Saying : Type 0 where
 
 -- A reply to the interlocking: `Done`, `Asked` or `NotHome` answer a set or an unset of section s. `Told` reports that
 -- a section which was wished back is given back (profile).
+-- Rules: CL-4
 pub data Word : Type 0 where
   Done : (s : ℕ) → Word
   Asked : (s : ℕ) → Word
@@ -62,6 +64,7 @@ pub data Taken : Type 0 where
 -- The outcome of a step: its stamp, the messages to trains, the frames to each centre, and the replies to the
 -- interlocking, each in order. `link` is the answer of the link if the event is a frame. `silence` is the reason if the
 -- event is a silent message.
+-- Rules: CL-4
 pub record Outcome : Type 0 where
   pub stamp : ℕ
   pub sayings : List Saying

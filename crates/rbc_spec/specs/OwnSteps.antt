@@ -43,6 +43,7 @@ without_proposal c m = if is_at c m.supervisor then record m { proposal = None }
 
 -- A session ends. A pending request to shorten is dropped. So is a start of mission that waits here, and its sections
 -- are freed. The mark of a given section does not change.
+-- Rules: LC-3
 abbrev pub session_ends : Line → ℕ → ℕ → LineState → LineState
 session_ends line t c v =
     change_mission t (without_proposal c)
@@ -81,6 +82,7 @@ Accepts t c v changed = Says t c unknown_group TrainAccepted [] v changed
 
 -- A start at the registrar is accepted only if the train has no mission. It may be rejected in any case, since the
 -- right may be elsewhere.
+-- Rules: LC-4
 abbrev pub StartsHere : Line → ℕ → ℕ → Place → LineState → Said → LineState → Type 0
 StartsHere line t c place v said new =
     ((v.mission t ≡ None) × Accepts t c v (begins line t c place v) said new) ⊎ Rejects t c v said new
@@ -93,6 +95,7 @@ Restarts line t c place v said new =
 
 -- Any other start is rejected if a section of its place is not open here. If all are open, the registrar accepts or
 -- rejects it, and another centre lets it wait.
+-- Rules: LC-4
 abbrev pub StartsNew : Line → ℕ → ℕ → Place → LineState → Said → LineState → Type 0
 StartsNew line t c place v said new =
     MatchBool (may_start line v c place)
@@ -109,6 +112,7 @@ Starts line t c (Some place) v said new =
 
 -- The reasons why the next section may not extend the hand at centre c. It is not on the track. It is not open with
 -- home c. The hand has its 32 sections. Or the section ends farther from the group than L_ENDSECTION can name.
+-- Rules: LC-5
 pub data Ends (line : Line) (v : LineState) (c : ℕ) (place : Place) (hand : SectionRun) : Type 0 where
   off_track : is_on line place.track (next_after hand) ≡ false → Ends line v c place hand
   not_free : (is_home line c (next_after hand) && is_mark_open (v.mark (next_after hand))) ≡ false
@@ -118,12 +122,14 @@ pub data Ends (line : Line) (v : LineState) (c : ℕ) (place : Place) (hand : Se
 
 -- A section may be given to the train in two cases. It is open with home c, or it is kept for the train and no start
 -- waits for it.
+-- Rules: LC-5
 abbrev pub may_be_given : Line → LineState → ℕ → ℕ → ℕ → Bool
 may_be_given line v c t s =
     (is_home line c s && is_mark_open (v.mark s)) || (is_kept_for t (v.mark s) && not (is_waiting line v t s))
 
 -- The hand is extended by a run that follows it at once, and it ends for one of the reasons `Ends`. The train gets the
 -- authority for the extended hand.
+-- Rules: LC-5
 pub record Extends (line : Line) (v : LineState) (t c : ℕ) (place : Place) (said : Said)
     (new : LineState) : Type 0 where
   pub hand : SectionRun
@@ -145,6 +151,7 @@ abbrev pub is_cleared_of : Line → LineState → ℕ → Place → ℕ → Bool
 is_cleared_of line v t place s = is_given_to t (v.mark s) && is_cleared line place s
 
 -- the mission gets the new place, and the sections that it clears stop being given
+-- Rules: LC-6, LC-9
 abbrev pub reported : Line → ℕ → ℕ → Place → LineState → LineState
 reported line t c place v =
     close_if_empty line t (change_mission t (λ m. record m { place = place })
@@ -165,6 +172,7 @@ abbrev pub is_ahead_of : Line → LineState → ℕ → Place → ℕ → Bool
 is_ahead_of line v t place s = is_given_to t (v.mark s) && nat_le place.front (10 * start line s)
 
 -- if the train has reached its hand, the sections ahead of the train stop being given
+-- Rules: LC-8, LC-9
 abbrev pub stopped : Line → ℕ → ℕ → Place → LineState → LineState
 stopped line t c place v = if has_reached line v t place then release line c t (is_ahead_of line v t place) v else v
 
@@ -183,6 +191,7 @@ abbrev pub without_ask : ℕ → LineState → LineState
 without_ask t v = change_mission t (λ m. record m { proposal = None }) v
 
 -- A granted shortening cuts the hand, if the report has a place and its front is not past the proposed end.
+-- Rules: LC-7, LC-9
 abbrev pub shortened : Line → ℕ → ℕ → Option Place → ℕ → LineState → LineState
 shortened line t c None last_kept v = v
 shortened line t c (Some place) last_kept v =
@@ -255,12 +264,14 @@ set_mark s mark v = record v { mark = put v.mark s mark; wish = put v.wish s fal
 abbrev pub wished_back : ℕ → Bool → LineState → LineState
 wished_back s wish v = record v { wish = put v.wish s wish }
 
+-- Rules: LC-12
 abbrev pub Sets : Line → LineState → ℕ → ℕ → Said → LineState → Type 0
 Sets line v c s said new =
     MatchBool (is_home line c s)
     (Tells (Done s ∷ []) (if is_unused_mark (v.mark s) then set_mark s Open v else wished_back s false v) said new)
     (Tells (NotHome s ∷ []) v said new)
 
+-- Rules: LC-12
 abbrev pub Unsets : Line → LineState → ℕ → ℕ → Said → LineState → Type 0
 Unsets line v c s said new =
     MatchBool (is_home line c s)

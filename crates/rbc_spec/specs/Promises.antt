@@ -23,6 +23,7 @@ abbrev pub is_given : Line → World → ℕ → ℕ → Bool
 is_given line w t s = has (λ h. within h.hand s) (held line w t)
 
 -- the world is safe, whichever state represents it
+-- Rules: CL-2
 pub record IsSafe (line : Line) (w : World) : Type 0 where
   -- a train has at most one supervising centre
   pub one_supervisor : (t c d : ℕ) (m n : centre.Mission) → (w.at c).mission t ≡ Some m → (w.at d).mission t ≡ Some n
@@ -56,6 +57,7 @@ carried_for s (Yield number t heard has_data is_ended place hand) = once (within
 carried_for s body = []
 
 -- the trains that have the section, over all centres and all frames on the way
+-- Rules: CL-5
 abbrev pub holders : Line → World → ℕ → List ℕ
 holders line w s =
     flat_map (λ c. flat_map (held_for line s (w.at c)) (map (λ p. p.nid_engine) line.trains)) (centres_of line)
@@ -75,6 +77,7 @@ carries_right t (Yield number u heard has_data is_ended place hand) = u == t
 carries_right t body = false
 
 -- each thing that may be only in one place is in one place
+-- Rules: CL-5
 pub record HasOnePlace (line : Line) (w : World) : Type 0 where
   -- a section in use is in one place, for the train that its home names; a section not in use is in none
   pub sections : (s c : ℕ) → is_home line c s ≡ true → holders line w s ≡ user ((w.at c).book s)
@@ -87,6 +90,7 @@ pub record HasOnePlace (line : Line) (w : World) : Type 0 where
   pub missions : (t : ℕ) → length (all_held line w t) ≤ 1
 
 -- the facts that hold of each world after a list of events
+-- Rules: CL-6
 pub record IsSound (line : Line) (w : World) : Type 0 where
   -- a state of the one line centre represents it: the one that is read off
   pub stands : StandsFor line w (read_off line w)
@@ -100,6 +104,7 @@ pub record IsSound (line : Line) (w : World) : Type 0 where
 -- request, which keeps only sections before this one, and its front is not past the kept part. `stopped`: the train
 -- ends its mission at standstill, has reached its hand, and the section starts at the front or past it. It has reached
 -- its hand if a section of the hand starts before the front, and the same message does not clear that section.
+-- Rules: CL-3
 pub data MayFree (line : Line) (w : World) (t s : ℕ) : Event → Type 0 where
   cleared : (c : ℕ) (m : TrainMessage) (position : Position) (n : centre.Mission) (place : Place)
       → m.nid_engine ≡ t → step.silence line c (w.at c) m ≡ None → (w.at c).mission t ≡ Some n
@@ -119,6 +124,7 @@ pub data MayFree (line : Line) (w : World) (t s : ℕ) : Event → Type 0 where
       → place.front ≤ 10 * start line s → MayFree line w t s (Bytes c (Ok m))
 
 -- the effect of an event on the sections in hands, and its replies to the interlocking
+-- Rules: CL-3, CL-4
 pub record KeepsPromises (line : Line) (w : World) (event : Event) (answer : Answer) (new : World) : Type 0 where
   -- a section leaves a train's hand only by a message of that train
   pub freed : (t s : ℕ) → is_given line w t s ≡ true → is_given line new t s ≡ false → MayFree line w t s event

@@ -16,6 +16,7 @@ use Rattle.rbc_spec.specs.Place.{farthest, group_start, Place}
 use Rattle.rbc_spec.specs.SectionRuns.{SectionRun, within}
 use Rattle.rbc_spec.specs.Sections.{nid_rbc, section_count}
 
+-- Rules: LC-17
 pub data Quiet : Type 0 where
   Keep : (t s : ℕ) → Quiet  -- keeps an open section for t
   Unkeep : (t s : ℕ) → Quiet  -- frees a section that is kept for t
@@ -28,6 +29,7 @@ pub data Quiet : Type 0 where
   EndOrder : (t c : ℕ) → Quiet  -- c orders t to end its session
 
 -- the step is of centre c: its section has home c, or its centre is c
+-- Rules: LC-17
 abbrev pub is_of_centre : Line → ℕ → Quiet → Bool
 is_of_centre line c (Keep t s) = is_home line c s
 is_of_centre line c (Unkeep t s) = is_home line c s
@@ -100,6 +102,7 @@ pub record Proposes (line : Line) (v : LineState) (t c s : ℕ) (said : Said) (n
 
 -- `Order`: message 24 with packet 131 (3.15.1) names the next centre of the track and the distance to its first section
 -- in the hand. The start of that section is not in rear of the group, and is within the range of D_RBCTR.
+-- Rules: LC-15
 pub record Orders (line : Line) (v : LineState) (t c : ℕ) (said : Said) (new : LineState) : Type 0 where
   pub mission : LineMission
   pub next : ℕ
@@ -135,6 +138,7 @@ pub record Unkeeps (line : Line) (v : LineState) (t s : ℕ) (said : Said) (new 
 
 -- from state v the line centre may take this quiet step, with these messages and replies, and be in state `new` after
 -- it
+-- Rules: LC-13, LC-14
 abbrev pub TakesQuiet : Line → LineState → Quiet → Said → LineState → Type 0
 TakesQuiet line v (Keep t s) said new = Keeps v t s said new
 TakesQuiet line v (Unkeep t s) said new = Unkeeps line v t s said new

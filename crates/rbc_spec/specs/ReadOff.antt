@@ -79,6 +79,7 @@ mark_of None (centre.Out t) = Kept t
 -- State v represents the world w. No state does if a section is in two hands, or if a train has two missions. Nor does
 -- one if a centre that is not of the line has a mission. A hand is exactly the set of sections that are given to its
 -- train.
+-- Rules: LC-20, LC-21, LC-22
 pub record StandsFor (line : Line) (w : World) (v : LineState) : Type 0 where
   pub phase : (t c : ℕ) → v.phase t c ≡ (w.at c).phase t
   pub heard : (t c : ℕ) → v.heard t c ≡ (w.at c).heard t
@@ -94,6 +95,7 @@ pub record StandsFor (line : Line) (w : World) (v : LineState) : Type 0 where
   pub hands : (t : ℕ) (h : Held) → held line w t ≡ Some h → IsHand v t h.hand
 
 -- the state that is read off a world; a number that is not of a section is shut
+-- Rules: LC-22
 unfoldable pub read_off : Line → World → LineState
 read_off line w = record {
   mark = λ s. option_map_or (λ p. mark_of (holder line w s) ((w.at p.home).book s)) (section line s) Shut;
@@ -109,6 +111,7 @@ read_off line w = record {
 
 -- The main theorem for a list of events and the answers to them. They are a run of the one line centre from its initial
 -- state, and the last state of the run represents the world after them.
+-- Rules: CL-1
 pub record IsLineRun (line : Line) (events : List Event) (answers : List Answer) (w : World) : Type 0 where
   pub last : LineState
   pub is_run : run.Run line line_beginning events answers last

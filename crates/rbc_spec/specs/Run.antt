@@ -70,11 +70,13 @@ holds line v c m (ShorteningRejected stamp position) Unasked = not (has_here v c
 holds line v c m body Unasked = false
 holds line v c m body MissionEnded = has_here v c m.nid_engine (λ n. n.is_ended)
 
+-- Rules: LC-16
 abbrev pub silence : Line → LineState → ℕ → TrainMessage → Option Reason
 silence line v c m = find (holds line v c m m.body) (reasons_of m.body)
 
 -- A report that would be silent for this reason may be accepted nevertheless. If its front is in a section of home c,
 -- the line centre may listen to a train that it does not supervise at c.
+-- Rules: LC-16
 abbrev pub may_listen : Line → ℕ → TrainBody → Option Reason → Bool
 may_listen line c (Report position) (Some NotSupervised) = has_front_at line c position
 may_listen line c body reason = false
@@ -101,6 +103,7 @@ OwnStep line v (Delivery from to number) said new why = (said ≡ nothing) × (n
 OwnStep line v event said new why = ⊥
 
 -- sections are reported back in the order of their numbers
+-- Rules: LC-17
 abbrev pub TellsInOrder : List Word → Type 0
 TellsInOrder words =
     (i j s e : ℕ) → i < j → slice_get words i ≡ Some (Told s) → slice_get words j ≡ Some (Told e) → s < e
@@ -108,6 +111,7 @@ TellsInOrder words =
 -- The piece of an event: its own step, then quiet steps of the centre at which it happens. No quiet step follows a
 -- silent message. The messages and replies of the outcome are those of the piece, and sections are reported back in the
 -- order of their numbers. The piece of a delivery consists only of quiet steps.
+-- Rules: LC-17, LC-18
 pub record Piece (line : Line) (v : LineState) (event : Event) (outcome : Outcome) (new : LineState) : Type 0 where
   pub own : Said
   pub mid : LineState
@@ -122,6 +126,7 @@ pub record Piece (line : Line) (v : LineState) (event : Event) (outcome : Outcom
 
 -- From state v the one line centre may give this answer to the event, and be in state `new` after it. Nothing changes
 -- if the bytes spell no message, the centre is not of the line, or the frame was never sent.
+-- Rules: LC-18
 abbrev pub Goes : Line → LineState → Event → Answer → LineState → Type 0
 Goes line v event (Answered outcome) new = Piece line v event outcome new
 Goes line v (Bytes c (Err number)) (Fault n) new = (is_centre line c ≡ true) × (n ≡ number) × (new ≡ v)
@@ -132,6 +137,7 @@ Goes line v (Delivery from to number) NotSent new = new ≡ v
 Goes line v event answer new = ⊥
 
 -- the answers to the events, in order, lead from state v to state `new`
+-- Rules: LC-19
 abbrev pub Run : Line → LineState → List Event → List Answer → LineState → Type 0
 Run line v [] [] new = new ≡ v
 Run line v (event ∷ events) (answer ∷ answers) new =

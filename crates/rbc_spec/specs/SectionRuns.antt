@@ -4,6 +4,7 @@ use Rattle.std.specs.List.{list_all, range_with_len}
 use Rattle.std.specs.Prelude.{[], if◌then◌else◌, ◌&&◌, ◌+◌, ◌-◌, ◌==◌, ◌∷◌, Bool, length, List, max, min, nat_le}
 use Rattle.std.specs.Prelude.{nat_lt, suc, zero, ℕ}
 
+-- Rules: LN-12
 pub record SectionRun : Type 0 where
   pub first : ℕ
   pub count : ℕ
@@ -21,6 +22,7 @@ run_of [] = no_run
 run_of (s ∷ ss) = record { first = s; count = length ss + 1 }
 
 -- the section is in the run
+-- Rules: LN-12
 unfoldable pub within : SectionRun → ℕ → Bool
 within r s = nat_le r.first s && nat_lt s (r.first + r.count)
 
@@ -36,21 +38,26 @@ abbrev pub is_empty : SectionRun → Bool
 is_empty r = r.count == 0
 
 -- the sections of the run with a number less than s
+-- Rules: LN-12
 abbrev pub part_before : ℕ → SectionRun → SectionRun
 part_before s r = record { first = r.first; count = min r.count (s - r.first) }
 
+-- Rules: LN-12
 abbrev pub part_from : ℕ → SectionRun → SectionRun
 part_from s r = record { first = max r.first s; count = next_after r - max r.first s }
 
 -- the sections that are in both runs
+-- Rules: LN-12
 abbrev pub shared : SectionRun → SectionRun → SectionRun
 shared a b = part_from b.first (part_before (next_after b) a)
 
 -- Two runs, of which the second follows the first at once, as one run. If the first is empty, the result is the second.
+-- Rules: LN-12
 abbrev pub joined : SectionRun → SectionRun → SectionRun
 joined a b = if is_empty a then b else record { first = a.first; count = a.count + b.count }
 
 -- the length of the longest run of numbers from `first` on that all pass the test, up to a limit
+-- Rules: LN-13
 unfoldable pub longest : (ℕ → Bool) → ℕ → ℕ → ℕ
 longest test first zero = 0
 longest test first (suc most) = if test first then suc (longest test (first + 1) most) else 0

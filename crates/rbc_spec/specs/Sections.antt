@@ -19,10 +19,12 @@ abbrev pub is_on : Line → ℕ → ℕ → Bool
 is_on line track s = has (λ p. p.track == track) (section line s)
 
 -- The run of the sections of the line that pass a test. It is meant for tests that consecutive sections pass.
+-- Rules: LN-13
 abbrev pub run_where : Line → (ℕ → Bool) → SectionRun
 run_where line test = run_of (filter test (range_with_len 0 (section_count line)))
 
 -- the run of the sections of one home on one track, which are consecutive
+-- Rules: LN-13
 abbrev pub home_run : Line → ℕ → ℕ → SectionRun
 home_run line c track = run_where line (λ s. is_home line c s && is_on line track s)
 

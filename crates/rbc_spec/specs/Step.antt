@@ -34,6 +34,7 @@ mission_has test mission = has test mission
 
 -- A report concerns a centre without a mission of the train if it expects the train, and its front is in a home
 -- section.
+-- Rules: SI-8
 abbrev pub is_awaited : Line → ℕ → Centre → ℕ → Position → Bool
 is_awaited line c k t position = is_expected line k t
     && has (λ place. list_any (λ s. is_home line c s && has_front line place s) (range_with_len 0 (section_count line)))
@@ -41,6 +42,7 @@ is_awaited line c k t position = is_expected line k t
 
 -- A request has a place on the mission's track. The front is not past the end of the hand, and that end is within the
 -- range of L_ENDSECTION.
+-- Rules: SI-7
 abbrev pub may_request : Line → Mission → Position → Bool
 may_request line m position = option_map_or
     (λ place. nat_le place.front (10 * end line (next_after m.hand - 1))
@@ -53,6 +55,7 @@ is_unsupervised line c k t (Report position) = is_none (k.mission t) && not (is_
 is_unsupervised line c k t body = is_none (k.mission t)
 
 -- a request, or a report to the supervisor, without a place at which it can be taken
+-- Rules: SI-6
 abbrev pub has_no_place : Line → Option Mission → TrainBody → Bool
 has_no_place line mission (Request position) = mission_has (λ m. not (may_request line m position)) mission
 has_no_place line mission (Report position) = mission_has (λ m. is_none (place_on line m.place.track position)) mission
@@ -74,6 +77,7 @@ is_unasked mission (ShorteningRejected stamp position) =
 is_unasked mission body = false
 
 -- the reason holds of the message
+-- Rules: SI-3
 abbrev pub holds : Line → ℕ → Centre → TrainMessage → Reason → Bool
 holds line c k m StaleStamp = is_stale m.t_train (k.heard m.nid_engine)
 holds line c k m NoSession = is_closed (k.phase m.nid_engine)
@@ -86,12 +90,14 @@ holds line c k m Unasked = is_unasked (k.mission m.nid_engine) m.body
 holds line c k m MissionEnded = mission_has (λ n. n.is_ended) (k.mission m.nid_engine)
 holds line c k m WrongPhase = is_out_of_phase k m.nid_engine m.body
 
+-- Rules: SI-1
 abbrev pub silence : Line → ℕ → Centre → TrainMessage → Option Reason
 silence line c k m = find (holds line c k m) (reasons_of m.body)
 
 -- ## The interlocking
 
 -- asks each other centre for a section that is lent; the home does not know which centre has it
+-- Rules: IL-5
 abbrev pub withdraw : Line → ℕ → ℕ → ℕ → Act
 withdraw line c t s k =
     record {
@@ -104,6 +110,7 @@ withdraw line c t s k =
 
 -- A section in use is wished back. If it is here, a request to shorten is sent, if it may be. If it is lent, the other
 -- centres are asked for it.
+-- Rules: IL-4, IL-5
 abbrev pub wished : Line → ℕ → ℕ → Entry → Act
 wished line c s (Taken t) = propose_if_so line t s
 wished line c s (Out t) = withdraw line c t s
@@ -112,12 +119,14 @@ wished line c s e = rest
 abbrev pub make : ℕ → Entry → Bool → Act
 make s entry wish = become (λ k. record k { book = put k.book s entry; wish = put k.wish s wish })
 
+-- Rules: IL-1, IL-7
 abbrev pub set : Line → ℕ → ℕ → Act
 set line c s k =
     if not (is_home line c s) then tell (NotHome s) k
     else (become (λ j. record j { wish = put j.wish s false })
     >> ((if is_unused (k.book s) then make s Open false else rest) >> tell (Done s))) k
 
+-- Rules: IL-2, IL-3, IL-6, IL-7
 abbrev pub unset : Line → ℕ → ℕ → Act
 unset line c s k =
     if not (is_home line c s) then tell (NotHome s) k
@@ -127,6 +136,7 @@ unset line c s k =
 -- ## Links
 
 -- the answer of a link to frame n, after `count` frames were taken: only frame `count + 1` is the next
+-- Rules: LK-3
 abbrev pub offered : ℕ → ℕ → LinkAnswer
 offered count n = if n == count + 1 then Next else (if nat_le n count then Old else Early)
 
@@ -134,6 +144,7 @@ abbrev pub link_answer : Line → ℕ → Centre → ℕ → Frame → LinkAnswe
 link_answer line c k d f = if is_linked line c d then offered (k.taken d) f.number else NoLink
 
 -- only the next frame of a link is taken; others change nothing
+-- Rules: LK-3
 abbrev pub taken_by : Line → ℕ → ℕ → Frame → LinkAnswer → Act
 taken_by line c d f Next = become (λ k. record k { taken = put k.taken d f.number }) >> received line c d f.body
 taken_by line c d f answer = rest
@@ -141,6 +152,7 @@ taken_by line c d f answer = rest
 -- ## The step
 
 -- an answered message: its stamp is recorded, then its rule is applied
+-- Rules: SI-4
 abbrev pub hear_and_answer : Line → ℕ → TrainMessage → Act
 hear_and_answer line c m = hear m >> answered line c m m.body
 
@@ -162,6 +174,7 @@ effect line c k (Deliver d f) =
     in record { reply = taken_by line c d f answer k; link = Some answer; silence = None }
 
 -- the stamp of a step: one above the last; for a frame, one above the greater of the last and the frame's stamp
+-- Rules: ST-1
 abbrev pub stamp_of : Centre → Event → ℕ
 stamp_of k (Deliver d f) = max k.clock f.stamp + 1
 stamp_of k event = k.clock + 1
@@ -176,6 +189,7 @@ pub data Refusal : Type 0 where
   ClockEnd : Refusal
   LinkFull : Refusal
 
+-- Rules: ST-2, ST-3
 abbrev pub refusal : Line → ℕ → Centre → Event → Option Refusal
 refusal line c k event =
     if nat_lt last_stamp (stamp_of k event) then Some ClockEnd
@@ -187,6 +201,7 @@ numbered stamp count [] = []
 numbered stamp count (body ∷ bodies) =
     record { number = count + 1; stamp = stamp; body = body } ∷ numbered stamp (count + 1) bodies
 
+-- Rules: LK-4
 abbrev pub frames_of : ℕ → Centre → Reply → ℕ → List Frame
 frames_of stamp k reply d = numbered stamp (length (k.sent d)) (reply.frames d)
 
@@ -214,5 +229,6 @@ taken line c event k =
     let e = effect line c (ticked stamp k) event in
     (outcome_of stamp k e, state_after stamp k e)
 
+-- Rules: ST-4
 unfoldable pub step : Line → ℕ → Event → Centre → Result (Outcome × Centre) Refusal
 step line c event k = option_map_or (λ why. Err why) (refusal line c k event) (Ok (taken line c event k))

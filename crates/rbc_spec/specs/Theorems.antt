@@ -18,6 +18,7 @@ use Rattle.rbc_spec.specs.Promises.{KeepsPromises, IsSound}
 
 -- The main theorem, for every line and every list of events: the answers and the last world are a run of the one line
 -- centre.
+-- Rules: CL-1
 abbrev pub WholeLineTheorem : Type 0
 WholeLineTheorem = (line : Line) (events : List Event) (answers : List Answer) (w : World)
     → IsLine line → world_run line (new_world line) events ≡ Ok (answers, w) → IsLineRun line events answers w
@@ -25,6 +26,7 @@ WholeLineTheorem = (line : Line) (events : List Event) (answers : List Answer) (
 -- For every list of events, and for the next event that is answered: the one line centre may give the same answer. It
 -- does so between the two states that are read off. The event keeps its promises, and the new world is sound. A refused
 -- event changes nothing, so this holds after refused events too.
+-- Rules: CL-6
 abbrev pub EachEventTheorem : Type 0
 EachEventTheorem =
     (line : Line) (w new : World) (events : List Event) (answers : List Answer) (event : Event) (answer : Answer)
@@ -36,11 +38,13 @@ EachEventTheorem =
 -- ## A line with one centre
 
 -- c is the home of all sections, and the registrar of all trains
+-- Rules: CL-7
 pub record IsOneCentreLine (line : Line) (c : ℕ) : Type 0 where
   pub homes : All (λ p. p.home ≡ c) line.sections
   pub registrars : All (λ p. p.registrar ≡ c) line.trains
 
 -- a start at the registrar is accepted if the train has no mission and the sections are open
+-- Rules: CL-7
 abbrev pub IsStartAccepted : Line → LineState → ℕ → TrainMessage → TrainBody → Said → LineState → Type 0
 IsStartAccepted line v c m (StartOfMission is_valid position) said new =
     (place : Place) → fit_place line is_valid position ≡ Some place → may_start line v c place ≡ true
@@ -50,6 +54,7 @@ IsStartAccepted line v c m body said new = Unit {0}
 
 -- The own step of a message leaves no choice. It is silent if and only if a reason of silence holds, also for a report
 -- of a train that is not supervised. A start is accepted whenever it may be.
+-- Rules: CL-7
 pub record ForcedMessageStep (line : Line) (v : LineState) (c : ℕ) (m : TrainMessage) (said : Said) (new : LineState)
     (why : Option Reason) : Type 0 where
   pub silent : why ≡ silence line v c m
@@ -60,11 +65,13 @@ abbrev pub MayPropose : Line → LineState → ℕ → ℕ → ℕ → Type 0
 MayPropose line v t c s = (said : Said) × (new : LineState) × Proposes line v t c s said new
 
 -- after an unset, message 9 is sent if and only if it may be; it is the only quiet step
+-- Rules: CL-7
 pub data Asks (line : Line) (v : LineState) (c s : ℕ) : List Quiet → Type 0 where
   asked : (t : ℕ) → MayPropose line v t c s → Asks line v c s (Propose t c s ∷ [])
   not_asked : ((t : ℕ) → MayPropose line v t c s → ⊥) → Asks line v c s []
 
 -- the quiet steps after the own step of an event: message 9 if an unset asks for it, and no other
+-- Rules: CL-7
 abbrev pub ForcedQuietSteps : Line → LineState → Event → List Quiet → Type 0
 ForcedQuietSteps line mid (Unset c s) quiets = Asks line mid c s quiets
 ForcedQuietSteps line mid event quiets = quiets ≡ []
@@ -85,6 +92,7 @@ GoesForced line v event (Answered outcome) new = ForcedPiece line v event outcom
 GoesForced line v event answer new = Goes line v event answer new
 
 -- the answers to the events lead from state v to state `new` without a choice
+-- Rules: CL-7
 abbrev pub ForcedRun : Line → LineState → List Event → List Answer → LineState → Type 0
 ForcedRun line v [] [] new = new ≡ v
 ForcedRun line v (event ∷ events) (answer ∷ answers) new =
@@ -98,6 +106,7 @@ pub record IsOneCentreRun (line : Line) (events : List Event) (answers : List An
   pub stands : StandsFor line w last
 
 -- If one centre has all sections and is the registrar of all trains, the run leaves no choice.
+-- Rules: CL-7
 abbrev pub OneCentreTheorem : Type 0
 OneCentreTheorem = (line : Line) (c : ℕ) (events : List Event) (answers : List Answer) (w : World)
     → IsLine line → IsOneCentreLine line c → world_run line (new_world line) events ≡ Ok (answers, w)

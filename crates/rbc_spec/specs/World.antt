@@ -16,6 +16,7 @@ use Rattle.rbc_spec.specs.Step.{Refusal, step}
 -- number of their fault. `Set` and `Unset`: the interlocking sets or unsets section s at centre c. `Delivery`: the
 -- frame of this number from centre `from` is delivered to centre `to`. A frame that was ever sent may be delivered, at
 -- any time and more than once.
+-- Rules: WO-2
 pub data Event : Type 0 where
   Bytes : (c : ℕ) → (read : Result TrainMessage ℕ) → Event
   Set : (c s : ℕ) → Event
@@ -39,6 +40,7 @@ pub data Answer : Type 0 where
   Fault : (number : ℕ) → Answer
 
 -- the state of each centre, and the trains of the line that messages have named, in the order of first mention
+-- Rules: WO-1
 pub record World : Type 0 where
   pub at : ℕ → Centre
   pub trains : List ℕ
@@ -47,6 +49,7 @@ unfoldable pub new_world : Line → World
 new_world line = record { at = beginning line; trains = [] }
 
 -- the frame of this number that a sent to b; numbers start from 1
+-- Rules: WO-3
 abbrev pub frame_sent : World → ℕ → ℕ → ℕ → Option Frame
 frame_sent w a b number = if number == 0 then None else slice_get ((w.at a).sent b) (number - 1)
 
@@ -55,6 +58,7 @@ abbrev pub way : World → ℕ → ℕ → List Frame
 way w a b = drop ((w.at b).taken a) ((w.at a).sent b)
 
 -- the list of named trains after one more mention; an engine that is not of the line is not listed
+-- Rules: WO-1
 abbrev pub mention : Line → ℕ → List ℕ → List ℕ
 mention line t trains =
     if is_none (train_number line t) then trains
@@ -78,6 +82,7 @@ reads line w c (Ok m) = takes line w c (mention line m.nid_engine w.trains) (cen
 reads line w c (Err number) = Ok (Fault number, w)
 
 -- the effect of one event
+-- Rules: WO-4
 unfoldable pub world_step : Line → World → Event → Result (Answer × World) Refusal
 world_step line w (Bytes c read) = at_centre line w c (reads line w c read)
 world_step line w (Set c s) = at_centre line w c (takes line w c w.trains (centre.Set s))
@@ -91,6 +96,7 @@ abbrev pub ◌>>=◌ : {A B : Type 0} → Result A Refusal → (A → Result B R
 (Err why) >>= next = Err why
 
 -- the answers to the events in order, and the world after them; or the first refusal
+-- Rules: WO-5
 unfoldable pub world_run : Line → World → List Event → Result (List Answer × World) Refusal
 world_run line w [] = Ok ([], w)
 world_run line w (event ∷ events) = do
