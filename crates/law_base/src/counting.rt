@@ -6,12 +6,14 @@
 //!
 //! No code. The statements of `laws.rt` have to stay; their proofs may change.
 
-ghost use Rattle.std.specs.Prelude.{◌≡◌, ℕ, ◌+◌, ◌<◌, ◌&&◌, Bool, false, List, [], ◌∷◌, Some, All, if◌then◌else◌, flat_map, filter};
+ghost use Rattle.std.specs.Prelude.{◌≡◌, ℕ, ◌+◌, ◌<◌, ◌&&◌, Bool, false, List, [], ◌∷◌, Some, All, if◌then◌else◌};
+ghost use Rattle.std.specs.Prelude.{flat_map, filter};
 ghost use Rattle.law_base.specs.Counting.Network.{numbered};
 ghost use Rattle.rbc_spec.specs.SectionRuns.{SectionRun, within};
 ghost use Rattle.law_base.specs.Counting.Sections.{sections};
 ghost use Rattle.law_base.specs.Counting.Sweep.{sweep, at_section};
-ghost use Rattle.law_base.specs.Counting.Coin.{Event, Letter, is_loss, run, start, IsInOnePlace, IsInOnePlaceAtMost, IsInTurn};
+ghost use Rattle.law_base.specs.Counting.Coin.{Event, Letter, is_loss, run, start, IsInOnePlace, IsInOnePlaceAtMost};
+ghost use Rattle.law_base.specs.Counting.Coin.{IsInTurn};
 ghost use Rattle.law_base.specs.Counting.Coin.Event.{Writes, Comes};
 
 /// One coin travels in letters between any number of centres. Letters may arrive again, late or early. The coin is in

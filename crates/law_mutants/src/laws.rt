@@ -16,9 +16,12 @@ ghost use Rattle.rbc_spec.specs.Step.{unset};
 ghost use Rattle.law_invariants.specs.Flow.Counts.{rights, tokens};
 ghost use Rattle.law_invariants.specs.Flow.Flow.{Flow, centre_count};
 ghost use Rattle.law_invariants.specs.Flow.Leads.{replied};
-ghost use Rattle.law_mutants.specs.Small.{small, only, in_section_0, in_section_1, flow, at_the_other, pooled, returning, taking, expecting};
+ghost use Rattle.law_mutants.specs.Small.{small, only, in_section_0, in_section_1, flow, at_the_other, pooled};
+ghost use Rattle.law_mutants.specs.Small.{returning, taking, expecting};
 ghost use Rattle.law_mutants.specs.Past.{GoesPast};
-ghost use Rattle.law_mutants.specs.Rules.{lending_again, shutting_at_once, giving_back_all, keeping_pool, starting_at_once, keeping_yield, keeping_older, cancelling_any, handed_over_by, sent_home_by};
+ghost use Rattle.law_mutants.specs.Rules.{lending_again, shutting_at_once, giving_back_all, keeping_pool};
+ghost use Rattle.law_mutants.specs.Rules.{starting_at_once, keeping_yield, keeping_older, cancelling_any};
+ghost use Rattle.law_mutants.specs.Rules.{handed_over_by, sent_home_by};
 
 /// After each request for sections, no section is held for a train more often than its home allows. The wrong rule
 /// lends a section that is out again, to another train. The first train still has it in a pool, and its home does not

@@ -2,7 +2,11 @@
 
 ghost use Rattle.std.specs.Prelude.{◌≡◌, true, false};
 ghost use Rattle.law_outside.specs.Outside.{IsSafeOutside, may_run_over};
-ghost use Rattle.law_outside.specs.Scenes.{line, seen_of, side_by_side, train_1_runs, reported, granted, ended, longer_than_the_hand, over_a_waiting_start, unset_of_a_kept_section_is_done, out_of_nothing, shortened_by_an_authority, granted_before_it_was_told, a_late_report, accepted_in_advance, another_is_done, accepted_after_a_rejection};
+ghost use Rattle.law_outside.specs.Scenes.{line, seen_of, side_by_side, train_1_runs, reported, granted, ended};
+ghost use Rattle.law_outside.specs.Scenes.{longer_than_the_hand, over_a_waiting_start};
+ghost use Rattle.law_outside.specs.Scenes.{unset_of_a_kept_section_is_done, out_of_nothing};
+ghost use Rattle.law_outside.specs.Scenes.{shortened_by_an_authority, granted_before_it_was_told, a_late_report};
+ghost use Rattle.law_outside.specs.Scenes.{accepted_in_advance, another_is_done, accepted_after_a_rejection};
 
 /// Two trains side by side may each run over their own section, and not over the other's.
 pub fn trains_side_by_side_are_seen()

@@ -1,4 +1,5 @@
-ghost use Rattle.std.specs.Prelude.{◌≡◌, ◌+◌, ◌-◌, ◌++◌, ◌≤◌, ◌<◌, ◌&&◌, ℕ, length, replicate, true, false, if◌then◌else◌, ◌^◌};
+ghost use Rattle.std.specs.Prelude.{◌≡◌, ◌+◌, ◌-◌, ◌++◌, ◌≤◌, ◌<◌, ◌&&◌, ℕ, length, replicate, true, false};
+ghost use Rattle.std.specs.Prelude.{if◌then◌else◌, ◌^◌};
 ghost use Rattle.rbc_spec.specs.SectionRuns.{within, next_after, is_empty};
 ghost use Rattle.rbc_spec.specs.Centre.{is_open, is_taken_for};
 ghost use Rattle.rbc_book.specs.Book.{is_own, entry_at, wish_at};
@@ -6,7 +7,8 @@ ghost use Rattle.rbc_line.specs.SectionRuns.{run_of};
 ghost use Rattle.rbc_hand.specs.Tokens.{Held, Own, token_of};
 ghost use Rattle.rbc_hand.specs.Hands.{run, one};
 ghost use Rattle.rbc_allocation.specs.Marks.{marked};
-ghost use Rattle.rbc_allocation.specs.Sections.{TakesRun, FreesRun, front_of, rest_of, wished, hand_rest, hand_front, is_held_as, IsHeldBy};
+ghost use Rattle.rbc_allocation.specs.Sections.{TakesRun, FreesRun, front_of, rest_of, wished, hand_rest, hand_front};
+ghost use Rattle.rbc_allocation.specs.Sections.{is_held_as, IsHeldBy};
 
 use crate::told::Told;
 use rbc_book::{Back, Book};

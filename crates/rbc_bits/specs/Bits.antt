@@ -1,6 +1,7 @@
 -- The bits of a radio message (SUBSET-026 chapter 7): fields follow each other bit by bit, highest bit first.
-use Rattle.std.specs.Prelude.{ℕ, zero, suc, ◌+◌, ◌-◌, ◌/◌, ◌%◌, ◌^◌, ◌==◌, Bool, false, List, [], ◌∷◌, ◌++◌, length, replicate, if◌then◌else◌}
 use Rattle.std.specs.List.{flat_map}
+use Rattle.std.specs.Prelude.{[], ◌%◌, ◌++◌, ◌+◌, ◌-◌, ◌/◌, ◌==◌, ◌^◌, ◌∷◌, Bool, false, if◌then◌else◌, length, List}
+use Rattle.std.specs.Prelude.{replicate, suc, zero, ℕ}
 
 -- the lowest binary digit of a number is 1
 abbrev pub is_odd : ℕ → Bool

@@ -1,4 +1,5 @@
-ghost use Rattle.std.specs.Prelude.{◌≡◌, ◌<◌, ◌≤◌, ◌∷◌, ◌++◌, [], false, length, max, vec_capacity, IfOk, IfSome, IfNone};
+ghost use Rattle.std.specs.Prelude.{◌≡◌, ◌<◌, ◌≤◌, ◌∷◌, ◌++◌, [], false, length, max, vec_capacity, IfOk, IfSome};
+ghost use Rattle.std.specs.Prelude.{IfNone};
 ghost use Rattle.rbc_spec.specs.Frame.{Frame};
 ghost use Rattle.rbc_board.specs.InStep.{found, Mem};
 ghost use Rattle.rbc_board.specs.Ties.{IsTied};

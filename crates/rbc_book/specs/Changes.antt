@@ -1,13 +1,13 @@
 -- The changes of a section, as the rules have them.
-use Rattle.std.specs.Prelude.{◌≡◌, ◌≤◌, ℕ, Bool, not, true, false, Some, if◌then◌else◌}
-use Rattle.rbc_spec.specs.SectionRuns.{SectionRun, within}
-use Rattle.rbc_spec.specs.Centre.{Entry, Shut, Open, Taken, Out, is_open, is_unused, is_taken_for, is_out_for}
-use Rattle.rbc_book.specs.Entries.{entry_of}
-use Rattle.rbc_book.specs.Book.{Pages, is_own, entry_at, wish_at}
-use Rattle.rbc_book.specs.Sheet.{Sheet, page_on}
-use Rattle.rbc_book.specs.declared.page.Page.{Page}
+use Rattle.std.specs.Prelude.{◌≡◌, ◌≤◌, Bool, false, if◌then◌else◌, not, Some, true, ℕ}
+use Rattle.rbc_book.specs.Book.{entry_at, is_own, Pages, wish_at}
 use Rattle.rbc_book.specs.declared.change.Change.{Change}
-use Rattle.rbc_book.specs.declared.change.Change.TheVariants.{Set, Unset, Take, GiveBack, Lend, Reclaim}
+use Rattle.rbc_book.specs.declared.change.Change.TheVariants.{GiveBack, Lend, Reclaim, Set, Take, Unset}
+use Rattle.rbc_book.specs.declared.page.Page.{Page}
+use Rattle.rbc_book.specs.Entries.{entry_of}
+use Rattle.rbc_book.specs.Sheet.{page_on, Sheet}
+use Rattle.rbc_spec.specs.Centre.{Entry, is_open, is_out_for, is_taken_for, is_unused, Open, Out, Shut, Taken}
+use Rattle.rbc_spec.specs.SectionRuns.{SectionRun, within}
 
 -- the page of a section
 pub record IsPageOf (pages : Pages) (s : ℕ) (page : Page) : Type 0 where
@@ -50,4 +50,5 @@ pub record IsPartChanged (s most : ℕ) (change : Change) (page : Page) (size : 
   pub had : (k : ℕ) → within (record { first = s; count = size }) k ≡ true → page_on old k ≡ Some page
   pub next : Page
   pub after : IsAfter change page next
-  pub pages : (k : ℕ) → page_on new k ≡ (if within (record { first = s; count = size }) k then Some next else page_on old k)
+  pub pages : (k : ℕ)
+      → page_on new k ≡ (if within (record { first = s; count = size }) k then Some next else page_on old k)

@@ -1,15 +1,16 @@
 -- Changes of a list of runs.
-use Rattle.std.specs.Prelude.{◌≡◌, ◌≢◌, ℕ, zero, suc, ◌+◌, ◌⊎◌, ◌<◌, ◌≤◌, ◌==◌, Some, List, [], ◌∷◌, if◌then◌else◌}
 use Rattle.std.specs.List.{All}
-use Rattle.rbc_book.specs.Runs.{run_page, GoesOnAt, AreInOrder, AreApart, sections_in, spot_at}
-use Rattle.rbc_spec.specs.SectionRuns.{SectionRun, within}
-use Rattle.rbc_book.specs.Sheet.{Spot, page_in, track_in}
+use Rattle.std.specs.Prelude.{[], ◌+◌, ◌<◌, ◌==◌, ◌∷◌, ◌≡◌, ◌≢◌, ◌≤◌, ◌⊎◌, if◌then◌else◌, List, Some, suc, zero, ℕ}
 use Rattle.rbc_book.specs.declared.page.Page.{Page}
 use Rattle.rbc_book.specs.declared.run.Run.{Run}
+use Rattle.rbc_book.specs.Runs.{AreApart, AreInOrder, GoesOnAt, run_page, sections_in, spot_at}
+use Rattle.rbc_book.specs.Sheet.{page_in, Spot, track_in}
+use Rattle.rbc_spec.specs.SectionRuns.{SectionRun, within}
 
 -- a run and the next as one
 abbrev pub joined : Run → Run → Run
-joined r next = record { first = r.first; count = r.count + next.count; track = r.track; is_wished = r.is_wished; entry = r.entry }
+joined r next =
+    record { first = r.first; count = r.count + next.count; track = r.track; is_wished = r.is_wished; entry = r.entry }
 
 abbrev pub joined_with : Run → List Run → List Run
 joined_with r [] = r ∷ []
@@ -33,11 +34,13 @@ changed_at f (suc i) (r ∷ rs) = r ∷ changed_at f i rs
 
 -- the run with other ends
 abbrev pub resized : ℕ → ℕ → Run → Run
-resized first count r = record { first = first; count = count; track = r.track; is_wished = r.is_wished; entry = r.entry }
+resized first count r =
+    record { first = first; count = count; track = r.track; is_wished = r.is_wished; entry = r.entry }
 
 -- the run with another page
 abbrev pub with_page : Page → Run → Run
-with_page page r = record { first = r.first; count = r.count; track = r.track; is_wished = page.is_wished; entry = page.entry }
+with_page page r =
+    record { first = r.first; count = r.count; track = r.track; is_wished = page.is_wished; entry = page.entry }
 
 -- the run of `size` sections from s on
 abbrev pub stretch : ℕ → ℕ → SectionRun
@@ -80,5 +83,6 @@ pub record IsWritten (s size : ℕ) (page : Page) (old new : List Run) : Type 0 
   pub order : AreInOrder 0 new
   pub apart : AreApart new
   pub count : sections_in new ≡ sections_in old
-  pub pages : (k : ℕ) → page_in (spot_at new k) ≡ (if within (stretch s size) k then Some page else page_in (spot_at old k))
+  pub pages : (k : ℕ)
+      → page_in (spot_at new k) ≡ (if within (stretch s size) k then Some page else page_in (spot_at old k))
   pub tracks : (k : ℕ) → track_in (spot_at new k) ≡ track_in (spot_at old k)

@@ -1,10 +1,11 @@
 -- The sheet of runs: the page and track of each section, by its number over the whole line.
-use Rattle.std.specs.Prelude.{ℕ, ◌==◌, Bool, false, List, map, slice_get, Option, Some, None, option_map, option_and_then, if◌then◌else◌}
 use Rattle.std.specs.Option.{option_map_or}
-use Rattle.rbc_spec.specs.Line.{Line, section}
-use Rattle.rbc_spec.specs.Centre.{is_open, is_used_for}
-use Rattle.rbc_book.specs.Entries.{entry_of}
+use Rattle.std.specs.Prelude.{◌==◌, Bool, false, if◌then◌else◌, List, map, None, Option, option_and_then, option_map}
+use Rattle.std.specs.Prelude.{slice_get, Some, ℕ}
 use Rattle.rbc_book.specs.declared.page.Page.{Page}
+use Rattle.rbc_book.specs.Entries.{entry_of}
+use Rattle.rbc_spec.specs.Centre.{is_open, is_used_for}
+use Rattle.rbc_spec.specs.Line.{Line, section}
 
 -- a section that has a page, and its track
 pub record Spot : Type 0 where

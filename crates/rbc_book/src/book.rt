@@ -1,4 +1,5 @@
-ghost use Rattle.std.specs.Prelude.{◌≡◌, ℕ, ◌+◌, ◌≤◌, ◌==◌, ◌&&◌, not, true, false, if◌then◌else◌, IfOk, OnErr, MatchResult, IfSome, None, is_some};
+ghost use Rattle.std.specs.Prelude.{◌≡◌, ℕ, ◌+◌, ◌≤◌, ◌==◌, ◌&&◌, not, true, false, if◌then◌else◌, IfOk, OnErr};
+ghost use Rattle.std.specs.Prelude.{MatchResult, IfSome, None, is_some};
 ghost use Rattle.rbc_spec.specs.Centre as spec;
 ghost use Rattle.rbc_spec.specs.Line.{is_home};
 ghost use Rattle.rbc_spec.specs.SectionRuns.{longest, within};

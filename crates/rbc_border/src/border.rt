@@ -1,4 +1,5 @@
-ghost use Rattle.std.specs.Prelude.{◌≡◌, ◌+◌, ◌-◌, ◌++◌, ◌<◌, ◌≤◌, ◌&&◌, ◌==◌, ℕ, min, true, false, Some, None, option_map, if◌then◌else◌, replicate, IfOk, IfSome};
+ghost use Rattle.std.specs.Prelude.{◌≡◌, ◌+◌, ◌-◌, ◌++◌, ◌<◌, ◌≤◌, ◌&&◌, ◌==◌, ℕ, min, true, false, Some, None};
+ghost use Rattle.std.specs.Prelude.{option_map, if◌then◌else◌, replicate, IfOk, IfSome};
 ghost use Rattle.std.specs.Option.{option_map_or};
 ghost use Rattle.rbc_spec.specs.Maps.{has};
 ghost use Rattle.rbc_spec.specs.Line as track;
@@ -50,7 +51,8 @@ impl Model for Border {
 }
 
 impl Border {
-    ghost use Rattle.rbc_border.specs.Border.{nothing_lent, HasBorder, with_border, IsWayOf, GoesOn, is_due, answers, wants};
+    ghost use Rattle.rbc_border.specs.Border.{nothing_lent, HasBorder, with_border, IsWayOf, GoesOn, is_due, answers};
+    ghost use Rattle.rbc_border.specs.Border.{wants};
 
     /// Of the train with this NID_ENGINE: nothing is lent to it, and nothing is asked for.
     pub fn new(alloc: Global, nid_engine: u32) -> Result<Border, AllocError>

@@ -1,9 +1,10 @@
 -- Hands: consecutive sections, and the token of each.
-use Rattle.std.specs.Prelude.{◌≡◌, ℕ, zero, suc, ◌+◌, ◌-◌, ◌≤◌, ◌==◌, Bool, ◌&&◌, ◌||◌, List, [], ◌∷◌, ◌++◌, length, map, take, drop, if◌then◌else◌, Option, option_map, nat_lt, slice_get}
 use Rattle.std.specs.List.{AllByRecursion}
-use Rattle.rbc_spec.specs.SectionRuns.{SectionRun, next_after, is_empty}
+use Rattle.std.specs.Prelude.{[], ◌&&◌, ◌++◌, ◌+◌, ◌-◌, ◌==◌, ◌||◌, ◌∷◌, ◌≡◌, ◌≤◌, Bool, drop, if◌then◌else◌, length}
+use Rattle.std.specs.Prelude.{List, map, nat_lt, Option, option_map, slice_get, suc, take, zero, ℕ}
 use Rattle.rbc_hand.specs.declared.token.Token.{Token}
-use Rattle.rbc_hand.specs.Tokens.{Held, Own, section_of, held_of, token_of}
+use Rattle.rbc_hand.specs.Tokens.{Held, held_of, Own, section_of, token_of}
+use Rattle.rbc_spec.specs.SectionRuns.{is_empty, next_after, SectionRun}
 
 -- The first section, and the tokens of it and of each section after it. An empty hand keeps the first that it had when
 -- it became empty.

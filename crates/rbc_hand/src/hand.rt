@@ -1,4 +1,5 @@
-ghost use Rattle.std.specs.Prelude.{◌≡◌, ◌==◌, ◌<◌, ℕ, ◌+◌, ◌-◌, ◌≤◌, ◌++◌, length, replicate, true, not, is_some, if◌then◌else◌, Ok, Err, IsOk, IsSome, IfOk, IfSome};
+ghost use Rattle.std.specs.Prelude.{◌≡◌, ◌==◌, ◌<◌, ℕ, ◌+◌, ◌-◌, ◌≤◌, ◌++◌, length, replicate, true, not, is_some};
+ghost use Rattle.std.specs.Prelude.{if◌then◌else◌, Ok, Err, IsOk, IsSome, IfOk, IfSome};
 ghost use Rattle.std.specs.VecDeque.{deque_capacity};
 ghost use Rattle.rbc_spec.specs.SectionRuns.{next_after};
 ghost use Rattle.rbc_book.specs.Claim.{claimed, claims_train};
@@ -50,7 +51,9 @@ fn push_claims(tokens: &mut VecDeque<Token>, mut claims: Claims)
 impl Hand {
     ghost use Rattle.rbc_hand.specs.Tokens.{section_of, held_of, Own, token_of};
     ghost use Rattle.rbc_line.specs.SectionRuns.{run_of};
-    ghost use Rattle.rbc_hand.specs.Hands.{run, nothing, front, back, without_front, without_back, run_without_front, run_without_back, shorter_in_front, takes, extended, one, longer, IsAllOwn};
+    ghost use Rattle.rbc_hand.specs.Hands.{run, nothing, front, back, without_front, without_back, run_without_front};
+    ghost use Rattle.rbc_hand.specs.Hands.{run_without_back, shorter_in_front, takes, extended, one, longer};
+    ghost use Rattle.rbc_hand.specs.Hands.{IsAllOwn};
     ghost use Rattle.rbc_spec.specs.SectionRuns.{no_run, is_empty, joined};
 
     /// The most sections that a hand has.

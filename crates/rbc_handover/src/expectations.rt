@@ -1,4 +1,5 @@
-ghost use Rattle.std.specs.Prelude.{◌≡◌, ℕ, ◌<◌, ◌≤◌, None, length, map, slice_get, is_some, option_map, option_and_then, IfOk};
+ghost use Rattle.std.specs.Prelude.{◌≡◌, ℕ, ◌<◌, ◌≤◌, None, length, map, slice_get, is_some, option_map};
+ghost use Rattle.std.specs.Prelude.{option_and_then, IfOk};
 ghost use Rattle.std.specs.List.{list_any};
 ghost use Rattle.rbc_spec.specs.Maps.{put};
 ghost use Rattle.rbc_spec.specs.Line as track;
@@ -37,7 +38,9 @@ impl Model for Expectations {
 }
 
 impl Expectations {
-    ghost use Rattle.rbc_handover.specs.Expectations.{expected_from, announced_as, ended_under, is_taking_under, is_to_be_told, is_told, HasExpectations, with_expectations, telling};
+    ghost use Rattle.rbc_handover.specs.Expectations.{expected_from, announced_as, ended_under, is_taking_under};
+    ghost use Rattle.rbc_handover.specs.Expectations.{is_to_be_told, is_told, HasExpectations, with_expectations};
+    ghost use Rattle.rbc_handover.specs.Expectations.{telling};
 
     /// Of a train on this line: nothing is expected.
     pub fn new(alloc: Global, line: &Line) -> Result<Expectations, AllocError>

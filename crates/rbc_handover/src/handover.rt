@@ -25,7 +25,8 @@ pub enum Handover {
 
 impl Handover {
     ghost use Rattle.rbc_handover.specs.Handings.{handing_of, handover_name, kept_as};
-    ghost use Rattle.rbc_handover.specs.Giving.{begun, is_due, HasMission, with_handover, with_count, announcing, cancelling};
+    ghost use Rattle.rbc_handover.specs.Giving.{begun, is_due, HasMission, with_handover, with_count, announcing};
+    ghost use Rattle.rbc_handover.specs.Giving.{cancelling};
 
     /// The name of the pending handover; `None` if and only if none is pending.
     pub fn name(&self) -> Option<HandoverName>

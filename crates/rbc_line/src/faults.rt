@@ -4,7 +4,8 @@ ghost use Rattle.std.specs.List.{list_any};
 ghost use Rattle.std.specs.Ordering.{int_eq};
 ghost use Rattle.std.specs.Str.{bytes_eq};
 ghost use Rattle.rbc_line.specs.DraftViews.{centre_view, section_view, train_view, file_view};
-ghost use Rattle.rbc_line.specs.Faults.{is_outside, is_name, has_twice, is_centre_name, HasSectionsFault, has_length_fault, has_number_fault, has_twice_fault, has_home_fault};
+ghost use Rattle.rbc_line.specs.Faults.{is_outside, is_name, has_twice, is_centre_name, HasSectionsFault};
+ghost use Rattle.rbc_line.specs.Faults.{has_length_fault, has_number_fault, has_twice_fault, has_home_fault};
 
 use crate::draft::{Draft, DraftCentre, DraftSection, DraftTrain};
 use crate::limits::{is_name, is_outside};

@@ -1,6 +1,7 @@
 ghost use Rattle.std.specs.Prelude.{◌≡◌, ◌+◌, ◌<◌, ◌≤◌, ◌==◌, length, option_map, slice_get, IfSome, IfOk, position};
 ghost use Rattle.std.specs.Str.{bytes_eq};
-ghost use Rattle.rbc_spec.specs.Line.{IsLine, is_home, section_of_group, train_number, registrar, is_linked, next_centre};
+ghost use Rattle.rbc_spec.specs.Line.{IsLine, is_home, section_of_group, train_number, registrar, is_linked};
+ghost use Rattle.rbc_spec.specs.Line.{next_centre};
 ghost use Rattle.rbc_line.specs.Views.{placed_section, listed_train};
 
 use crate::guesses::Guesses;

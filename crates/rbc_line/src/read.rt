@@ -2,8 +2,10 @@
 ghost use Rattle.std.specs.Prelude.{◌≡◌, map, option_map, IfOk};
 ghost use Rattle.toml.specs.Data.{as_integer, as_str, as_array};
 ghost use Rattle.toml.specs.View.{view, items_view, array_view, table_view};
-ghost use Rattle.rbc_line.specs.LineFile.{at, with_keys, table_with, each_of, file_centre, file_section, file_track, track_parts, file_train, tracks_from, file_parts, line_file};
-ghost use Rattle.rbc_line.specs.DraftViews.{centre_view, section_view, track_view, train_view, tracks_view, parts_view, file_view};
+ghost use Rattle.rbc_line.specs.LineFile.{at, with_keys, table_with, each_of, file_centre, file_section, file_track};
+ghost use Rattle.rbc_line.specs.LineFile.{track_parts, file_train, tracks_from, file_parts, line_file};
+ghost use Rattle.rbc_line.specs.DraftViews.{centre_view, section_view, track_view, train_view, tracks_view};
+ghost use Rattle.rbc_line.specs.DraftViews.{parts_view, file_view};
 
 use crate::draft::{Draft, DraftCentre, DraftSection, DraftTrack, DraftTracks, DraftTrain, Parts};
 use std::alloc::{AllocError, Global};

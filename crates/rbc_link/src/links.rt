@@ -1,4 +1,5 @@
-ghost use Rattle.std.specs.Prelude.{◌≡◌, ℕ, ◌+◌, ◌≤◌, ◌<◌, ◌==◌, ◌&&◌, true, if◌then◌else◌, [], ◌∷◌, ◌++◌, length, nat_lt, option_copied, IfOk, OnOk, IsOk, IsTrue};
+ghost use Rattle.std.specs.Prelude.{◌≡◌, ℕ, ◌+◌, ◌≤◌, ◌<◌, ◌==◌, ◌&&◌, true, if◌then◌else◌, [], ◌∷◌, ◌++◌, length};
+ghost use Rattle.std.specs.Prelude.{nat_lt, option_copied, IfOk, OnOk, IsOk, IsTrue};
 ghost use Rattle.std.specs.List.{list_any, range_with_len};
 ghost use Rattle.rbc_spec.specs.Frame as spec;
 ghost use Rattle.rbc_spec.specs.Line.{is_linked};

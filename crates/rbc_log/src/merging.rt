@@ -5,7 +5,8 @@ ghost use Rattle.law_logs.specs.Logs.{IsInOrder};
 ghost use Rattle.rbc_centre.specs.States.{number_of};
 ghost use Rattle.rbc_log.specs.Entries.{entry_of, written_of};
 ghost use Rattle.rbc_log.specs.Log.{IsReplaying};
-ghost use Rattle.rbc_log.specs.Merge.{AreOfCentres, AreOfLine, AreOfOneLine, all_entries as entries_of_all, IsMerged, MakesOneRun, IsMergeRefusal};
+ghost use Rattle.rbc_log.specs.Merge.{AreOfCentres, AreOfLine, AreOfOneLine, all_entries as entries_of_all, IsMerged};
+ghost use Rattle.rbc_log.specs.Merge.{MakesOneRun, IsMergeRefusal};
 
 use crate::entry::Entry;
 use crate::log::CentreLog;

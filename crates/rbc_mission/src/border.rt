@@ -19,7 +19,8 @@ use rbc_border::{Question, Way};
 use rbc_line::{Line, SectionRun};
 
 impl Supervision {
-    ghost use Rattle.rbc_mission.specs.Supervisions.{pool_of, with_pool, without_section, HasSupervision, with_supervision};
+    ghost use Rattle.rbc_mission.specs.Supervisions.{pool_of, with_pool, without_section, HasSupervision};
+    ghost use Rattle.rbc_mission.specs.Supervisions.{with_supervision};
 
     /// Asks the next centre for the sections in advance of the hand of the mission, if that is due. It is if the first
     /// of them is of its home and on the track, and the hand has fewer than 32. Besides, the pool is empty, and no

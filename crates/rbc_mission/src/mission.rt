@@ -1,4 +1,5 @@
-ghost use Rattle.std.specs.Prelude.{◌≡◌, ◌≤◌, ◌+◌, ℕ, Bool, Some, None, option_map, option_and_then, is_some, true, false};
+ghost use Rattle.std.specs.Prelude.{◌≡◌, ◌≤◌, ◌+◌, ℕ, Bool, Some, None, option_map, option_and_then, is_some, true};
+ghost use Rattle.std.specs.Prelude.{false};
 ghost use Rattle.rbc_spec.specs.Centre as spec;
 ghost use Rattle.rbc_right.specs.Rights.{right_of};
 ghost use Rattle.rbc_pending_start.specs.Waits.{nothing_waits};
@@ -19,8 +20,11 @@ use rbc_right::Right;
 use rbc_shorten::Proposal;
 
 impl Supervision {
-    ghost use Rattle.rbc_mission.specs.Supervisions.{hand_of, mission_at, claims_on, with_next, next_sections, without_front, with_front, cleared_run, cut_run, right_left, handover_left, MayGrow};
-    ghost use Rattle.rbc_allocation.specs.Sections.{TakesRun, FreesRun, wished, front_of, rest_of, hand_rest, hand_front, IsAllOpen, IsHeldAt, IsHeldBy};
+    ghost use Rattle.rbc_mission.specs.Supervisions.{hand_of, mission_at, claims_on, with_next, next_sections};
+    ghost use Rattle.rbc_mission.specs.Supervisions.{without_front, with_front, cleared_run, cut_run, right_left};
+    ghost use Rattle.rbc_mission.specs.Supervisions.{handover_left, MayGrow};
+    ghost use Rattle.rbc_allocation.specs.Sections.{TakesRun, FreesRun, wished, front_of, rest_of, hand_rest};
+    ghost use Rattle.rbc_allocation.specs.Sections.{hand_front, IsAllOpen, IsHeldAt, IsHeldBy};
 
     /// A mission begins at this place, with these sections, which are open, and with the right to supervise the train.
     pub fn begin(&mut self, place: Place, sections: SectionRun, book: &mut Book, right: Right)

@@ -43,7 +43,8 @@ impl Model for Supervision {
 }
 
 impl Supervision {
-    ghost use Rattle.rbc_mission.specs.Supervisions.{no_mission, mission_of, hand_of, pool_of, handing_in, HasRouteForm};
+    ghost use Rattle.rbc_mission.specs.Supervisions.{no_mission, mission_of, hand_of, pool_of, handing_in};
+    ghost use Rattle.rbc_mission.specs.Supervisions.{HasRouteForm};
 
     /// A train with this place in the line file and this NID_ENGINE, without a mission.
     pub fn new(alloc: Global, number: u8, nid_engine: u32) -> Result<Supervision, AllocError>

@@ -1,7 +1,8 @@
 //! NID_MESSAGE: which messages are read and written, and how long each is at least (SUBSET-026 8.6, 8.7).
 
 ghost use Rattle.std.specs.Prelude.{◌≡◌, IfOk};
-ghost use Rattle.rbc_msgs.specs.Numbers.{train_of_number, train_number_value, least_train_length, track_of_number, track_number_value, least_track_length};
+ghost use Rattle.rbc_msgs.specs.Numbers.{train_of_number, train_number_value, least_train_length, track_of_number};
+ghost use Rattle.rbc_msgs.specs.Numbers.{track_number_value, least_track_length};
 
 use crate::fault::MsgFault;
 

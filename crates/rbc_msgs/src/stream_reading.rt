@@ -1,6 +1,7 @@
 //! Consecutive messages of a train. Whole ones are read in place, and only the rest of a piece is copied.
 
-ghost use Rattle.std.specs.Prelude.{◌≡◌, ◌≢◌, ◌⊎◌, ◌<◌, ◌≤◌, ◌++◌, ◌∷◌, [], Err, length, take, drop, max, IfOk, IfErr, OnOk, OnErr, IsOkUnless};
+ghost use Rattle.std.specs.Prelude.{◌≡◌, ◌≢◌, ◌⊎◌, ◌<◌, ◌≤◌, ◌++◌, ◌∷◌, [], Err, length, take, drop, max, IfOk};
+ghost use Rattle.std.specs.Prelude.{IfErr, OnOk, OnErr, IsOkUnless};
 ghost use Rattle.rbc_msgs.specs.Layout.{length_limit};
 ghost use Rattle.rbc_msgs.specs.TrainText.{TrainText};
 ghost use Rattle.rbc_msgs.specs.TrainSpelling.{SpellsTrain};

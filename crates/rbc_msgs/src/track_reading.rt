@@ -8,7 +8,8 @@ ghost use Rattle.rbc_packets.specs.Steps.{Takes};
 ghost use Rattle.rbc_msgs.specs.Bodies.{track_body};
 ghost use Rattle.rbc_msgs.specs.Numbers.{track_number_value};
 ghost use Rattle.rbc_msgs.specs.TrackSpelling.{track_number, track_body_fields, TrackBodyFits};
-ghost use Rattle.rbc_msgs.specs.TrackReading.{end_of_authority_at, transition_order_at, end_of_session_at, general_at, track_body_at};
+ghost use Rattle.rbc_msgs.specs.TrackReading.{end_of_authority_at, transition_order_at, end_of_session_at};
+ghost use Rattle.rbc_msgs.specs.TrackReading.{general_at, track_body_at};
 
 use crate::fault::MsgFault;
 use crate::number::TrackNumber;

@@ -7,9 +7,12 @@ ghost use Rattle.rbc_packets.specs.Packet.{PacketFits};
 ghost use Rattle.rbc_packets.specs.PositionSpelling.{PositionFits};
 ghost use Rattle.rbc_packets.specs.Steps.{Takes, TakesUnless};
 ghost use Rattle.rbc_msgs.specs.Numbers.{train_number_value};
-ghost use Rattle.rbc_msgs.specs.TrainSpelling.{train_number, train_body_bits, position_packet, packet_bits, TrainBodyFits, IsFurther};
+ghost use Rattle.rbc_msgs.specs.TrainSpelling.{train_number, train_body_bits, position_packet, packet_bits};
+ghost use Rattle.rbc_msgs.specs.TrainSpelling.{TrainBodyFits, IsFurther};
 ghost use Rattle.rbc_msgs.specs.Kept.{data_packets, MayKeep};
-ghost use Rattle.rbc_msgs.specs.TrainReading.{position_packet_at, data_packet_at, train_data_at, request_at, answered_at, start_of_mission_at, train_body_at, further_packet_at, further_at};
+ghost use Rattle.rbc_msgs.specs.TrainReading.{position_packet_at, data_packet_at, train_data_at, request_at};
+ghost use Rattle.rbc_msgs.specs.TrainReading.{answered_at, start_of_mission_at, train_body_at, further_packet_at};
+ghost use Rattle.rbc_msgs.specs.TrainReading.{further_at};
 
 use crate::fault::MsgFault;
 use crate::number::TrainNumber;

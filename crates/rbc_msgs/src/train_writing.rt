@@ -7,7 +7,8 @@ ghost use Rattle.rbc_packets.specs.Layout.{joined};
 ghost use Rattle.rbc_packets.specs.PositionSpelling.{PositionFits};
 ghost use Rattle.rbc_spec.specs.Message.{unknown_time};
 ghost use Rattle.rbc_msgs.specs.Layout.{length_limit};
-ghost use Rattle.rbc_msgs.specs.TrainSpelling.{train_number, train_header, position_packet, train_body_bits, packet_bits, train_length, TrainFits, IsFurther};
+ghost use Rattle.rbc_msgs.specs.TrainSpelling.{train_number, train_header, position_packet, train_body_bits};
+ghost use Rattle.rbc_msgs.specs.TrainSpelling.{packet_bits, train_length, TrainFits, IsFurther};
 
 use crate::fault::EncodeFault;
 use crate::number::TrainNumber;

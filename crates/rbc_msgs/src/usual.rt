@@ -9,7 +9,8 @@ ghost use Rattle.rbc_packets.specs.Layout.{joined};
 ghost use Rattle.rbc_packets.specs.PositionSpelling.{PositionFits};
 ghost use Rattle.rbc_msgs.specs.Layout.{IsFilling, length_limit};
 ghost use Rattle.rbc_msgs.specs.Numbers.{train_number_value};
-ghost use Rattle.rbc_msgs.specs.TrainSpelling.{position_packet, train_number, train_body_bits, TrainBodyFits, SpellsTrain};
+ghost use Rattle.rbc_msgs.specs.TrainSpelling.{position_packet, train_number, train_body_bits, TrainBodyFits};
+ghost use Rattle.rbc_msgs.specs.TrainSpelling.{SpellsTrain};
 ghost use Rattle.rbc_msgs.specs.TrainReading.{read_train};
 
 use crate::fault::MsgFault;

@@ -1,7 +1,8 @@
 ghost use Rattle.std.specs.Prelude.{◌≡◌, ◌<◌, ◌↔◌, IsTrue, All, length, IfOk, IfErr, OnOk, OnErr, vec_len};
 ghost use Rattle.rbc_log.specs.Log.{IsReplaying};
 ghost use Rattle.rbc_log.specs.Merge.{all_entries};
-ghost use Rattle.rbc_node.specs.Gather.{AreAtPlaces, AreCentres, IsOrdered, StandIn, Rises, IsFound, AreShared, IsFamily, IsGatherFault, Unites, Gathers};
+ghost use Rattle.rbc_node.specs.Gather.{AreAtPlaces, AreCentres, IsOrdered, StandIn, Rises, IsFound, AreShared};
+ghost use Rattle.rbc_node.specs.Gather.{IsFamily, IsGatherFault, Unites, Gathers};
 ghost use Rattle.rbc_node.specs.Receipts.{Has};
 ghost use Rattle.rbc_node.specs.Sent.{IsSent, TakesSent, AllTakeSent};
 

@@ -1,4 +1,5 @@
-ghost use Rattle.std.specs.Prelude.{◌≡◌, ℕ, ◌+◌, ◌≤◌, length, true, false, not, Some, None, option_map, if◌then◌else◌, IfOk, IfSome};
+ghost use Rattle.std.specs.Prelude.{◌≡◌, ℕ, ◌+◌, ◌≤◌, length, true, false, not, Some, None, option_map};
+ghost use Rattle.std.specs.Prelude.{if◌then◌else◌, IfOk, IfSome};
 ghost use Rattle.rbc_spec.specs.Line as track;
 ghost use Rattle.rbc_spec.specs.Place as spec;
 ghost use Rattle.rbc_spec.specs.Place.{covered};
@@ -43,7 +44,8 @@ impl Model for WaitingStart {
 }
 
 impl WaitingStart {
-    ghost use Rattle.rbc_pending_start.specs.Waits.{nothing_waits, waits_at, HasWait, with_wait, telling, asking, rejecting};
+    ghost use Rattle.rbc_pending_start.specs.Waits.{nothing_waits, waits_at, HasWait, with_wait, telling, asking};
+    ghost use Rattle.rbc_pending_start.specs.Waits.{rejecting};
     ghost use Rattle.rbc_allocation.specs.Sections.{TakesRun, FreesRun, IsAllOpen, IsAllTaken, wished};
 
     /// Of the train with this NID_ENGINE: none waits, and nobody is asked.

@@ -5,7 +5,8 @@ ghost use Rattle.rbc_spec.specs.Centre as spec;
 ghost use Rattle.rbc_spec.specs.Acts.{may_propose};
 ghost use Rattle.rbc_line.specs.SectionRuns.{run_of};
 ghost use Rattle.rbc_shorten.specs.Facts.{AreFactsOf};
-ghost use Rattle.rbc_shorten.specs.Requests.{may_shorten, may_shorten_at, shortening, shortening_at, is_free, is_cut_after_first};
+ghost use Rattle.rbc_shorten.specs.Requests.{may_shorten, may_shorten_at, shortening, shortening_at, is_free};
+ghost use Rattle.rbc_shorten.specs.Requests.{is_cut_after_first};
 
 use crate::facts::{Shortening, ShorteningFacts};
 use rbc_line::{Line, SectionRun};

@@ -12,7 +12,8 @@ ghost use Rattle.rbc_msgs.specs.declared.train_body.TrainBody.TheVariants.{Initi
 ghost use Rattle.rbc_pending_start.specs.Waits.{IsCovered};
 ghost use Rattle.rbc_session.specs.Sessions.{HasRoom};
 ghost use Rattle.rbc_session.specs.SessionStates.{session_phase, StandsFor};
-ghost use Rattle.rbc_train.specs.Desk.{HasParts, IsKeptAt, IsOnTrack, IsHeld, KeepsTrain, KeepsDesk, with_parts, effect_left};
+ghost use Rattle.rbc_train.specs.Desk.{HasParts, IsKeptAt, IsOnTrack, IsHeld, KeepsTrain, KeepsDesk, with_parts};
+ghost use Rattle.rbc_train.specs.Desk.{effect_left};
 ghost use Rattle.rbc_handover.specs.Giving.{with_count};
 ghost use Rattle.rbc_train.specs.Desks.{IsBookOf};
 ghost use Rattle.rbc_train.specs.Letters.{tells_others};

@@ -6,7 +6,8 @@ ghost use Rattle.rbc_spec.specs.Line as track;
 ghost use Rattle.rbc_spec.specs.Links as links;
 ghost use Rattle.rbc_book.specs.Book.{Pages, is_own};
 ghost use Rattle.rbc_right.specs.Rights.{Rights};
-ghost use Rattle.rbc_train.specs.Desk.{KeepsRights, nothing, unsaid, IsReady, KeepsItself, Does, HasParts, last_said, with_parts, reply_left};
+ghost use Rattle.rbc_train.specs.Desk.{KeepsRights, nothing, unsaid, IsReady, KeepsItself, Does, HasParts, last_said};
+ghost use Rattle.rbc_train.specs.Desk.{with_parts, reply_left};
 ghost use Rattle.rbc_train.specs.Homes.{GoesHome};
 ghost use Rattle.rbc_train.specs.Letters.{cancel_of, mail_home};
 

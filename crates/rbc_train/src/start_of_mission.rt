@@ -13,7 +13,8 @@ ghost use Rattle.rbc_right.specs.Rights.{Rights};
 ghost use Rattle.rbc_place.specs.Places.{place_of};
 ghost use Rattle.rbc_pending_start.specs.Waits.{IsCovered};
 ghost use Rattle.rbc_allocation.specs.Sections.{IsAllOpen};
-ghost use Rattle.rbc_train.specs.Desk.{HasParts, IsAtBook, KeepsTrain, KeepsDesk, with_parts, DoesMessage, IsReady, KeepsAtDesk, KeepsItself};
+ghost use Rattle.rbc_train.specs.Desk.{HasParts, IsAtBook, KeepsTrain, KeepsDesk, with_parts, DoesMessage, IsReady};
+ghost use Rattle.rbc_train.specs.Desk.{KeepsAtDesk, KeepsItself};
 ghost use Rattle.rbc_train.specs.Starts.{started};
 ghost use Rattle.rbc_train.specs.Written.{written};
 

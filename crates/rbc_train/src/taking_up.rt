@@ -1,6 +1,7 @@
 //! A mission arrives from the handing-over centre (3.15.1).
 
-ghost use Rattle.std.specs.Prelude.{◌≡◌, ◌+◌, ◌<◌, ◌≤◌, ◌&&◌, ◌*◌, ℕ, true, None, is_none, nat_le, not, length, max, option_map};
+ghost use Rattle.std.specs.Prelude.{◌≡◌, ◌+◌, ◌<◌, ◌≤◌, ◌&&◌, ◌*◌, ℕ, true, None, is_none, nat_le, not, length, max};
+ghost use Rattle.std.specs.Prelude.{option_map};
 ghost use Rattle.std.specs.Option.{option_map_or};
 ghost use Rattle.std.specs.List.{find, range_with_len};
 ghost use Rattle.rbc_spec.specs.Centre as spec;

@@ -2,10 +2,25 @@
 
 ghost use Rattle.std.specs.Prelude.{◌≡◌};
 ghost use Rattle.test_scenes.specs.Scene.{line, seen};
-ghost use Rattle.test_scenes.specs.Races.{withdrawn_from_the_pool, withdrawn_from_the_pool_shows, first_of_the_pool_withdrawn, first_of_the_pool_withdrawn_shows, last_of_the_pool_withdrawn, last_of_the_pool_withdrawn_shows, route_for_an_ended_mission, route_for_an_ended_mission_shows, end_of_mission_with_a_pool, end_of_mission_with_a_pool_shows, awaited, awaited_shows, route_after_the_yield, route_after_the_yield_shows, wish_at_the_yield, wish_at_the_yield_shows, cleared_elsewhere, cleared_elsewhere_shows, cleared_with_a_pool, cleared_with_a_pool_shows, cleared_over_the_border, cleared_over_the_border_shows, whole_hand_is_cut, whole_hand_is_cut_shows, session_opens_over_a_waiting_start, session_opens_over_a_waiting_start_shows};
+ghost use Rattle.test_scenes.specs.Races.{withdrawn_from_the_pool, withdrawn_from_the_pool_shows};
+ghost use Rattle.test_scenes.specs.Races.{first_of_the_pool_withdrawn, first_of_the_pool_withdrawn_shows};
+ghost use Rattle.test_scenes.specs.Races.{last_of_the_pool_withdrawn, last_of_the_pool_withdrawn_shows};
+ghost use Rattle.test_scenes.specs.Races.{route_for_an_ended_mission, route_for_an_ended_mission_shows};
+ghost use Rattle.test_scenes.specs.Races.{end_of_mission_with_a_pool, end_of_mission_with_a_pool_shows, awaited};
+ghost use Rattle.test_scenes.specs.Races.{awaited_shows, route_after_the_yield, route_after_the_yield_shows};
+ghost use Rattle.test_scenes.specs.Races.{wish_at_the_yield, wish_at_the_yield_shows, cleared_elsewhere};
+ghost use Rattle.test_scenes.specs.Races.{cleared_elsewhere_shows, cleared_with_a_pool, cleared_with_a_pool_shows};
+ghost use Rattle.test_scenes.specs.Races.{cleared_over_the_border, cleared_over_the_border_shows, whole_hand_is_cut};
+ghost use Rattle.test_scenes.specs.Races.{whole_hand_is_cut_shows, session_opens_over_a_waiting_start};
+ghost use Rattle.test_scenes.specs.Races.{session_opens_over_a_waiting_start_shows};
 ghost use Rattle.test_scenes.specs.Pieces.{IsMetByRun};
 ghost use Rattle.test_scenes.specs.SceneMoves.{plain};
-ghost use Rattle.test_scenes.specs.LateMoves.{awaited_moves, cleared_elsewhere_moves, cleared_over_the_border_moves, cleared_with_a_pool_moves, end_of_mission_with_a_pool_moves, first_of_the_pool_withdrawn_moves, last_of_the_pool_withdrawn_moves, route_after_the_yield_moves, route_for_an_ended_mission_moves, whole_hand_is_cut_moves, wish_at_the_yield_moves, withdrawn_from_the_pool_moves};
+ghost use Rattle.test_scenes.specs.LateMoves.{awaited_moves, cleared_elsewhere_moves, cleared_over_the_border_moves};
+ghost use Rattle.test_scenes.specs.LateMoves.{cleared_with_a_pool_moves, end_of_mission_with_a_pool_moves};
+ghost use Rattle.test_scenes.specs.LateMoves.{first_of_the_pool_withdrawn_moves, last_of_the_pool_withdrawn_moves};
+ghost use Rattle.test_scenes.specs.LateMoves.{route_after_the_yield_moves, route_for_an_ended_mission_moves};
+ghost use Rattle.test_scenes.specs.LateMoves.{whole_hand_is_cut_moves, wish_at_the_yield_moves};
+ghost use Rattle.test_scenes.specs.LateMoves.{withdrawn_from_the_pool_moves};
 
 /// What comes of frames that are late, with a wish, an end or a yield meanwhile.
 pub fn late_frames()

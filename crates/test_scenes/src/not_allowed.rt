@@ -8,7 +8,11 @@ ghost use Rattle.rbc_spec.specs.Run.{Piece};
 ghost use Rattle.rbc_spec.specs.World.{Event, Set};
 ghost use Rattle.rbc_spec.specs.ReadOff.{StandsFor};
 ghost use Rattle.test_scenes.specs.Scene.{line};
-ghost use Rattle.test_scenes.specs.NotAllowed.{shown_at, kept_at_home, kept_at_home_shows, kept_elsewhere, kept_elsewhere_shows, silent_alone, silent_alone_shows, kept_after_silence, kept_after_silence_shows, told_in_order, told_in_order_shows, told_out_of_order, told_out_of_order_shows, one_yield, two_yields, missions_in};
+ghost use Rattle.test_scenes.specs.NotAllowed.{shown_at, kept_at_home, kept_at_home_shows, kept_elsewhere};
+ghost use Rattle.test_scenes.specs.NotAllowed.{kept_elsewhere_shows, silent_alone, silent_alone_shows};
+ghost use Rattle.test_scenes.specs.NotAllowed.{kept_after_silence, kept_after_silence_shows, told_in_order};
+ghost use Rattle.test_scenes.specs.NotAllowed.{told_in_order_shows, told_out_of_order, told_out_of_order_shows};
+ghost use Rattle.test_scenes.specs.NotAllowed.{one_yield, two_yields, missions_in};
 
 /// No quiet step of another centre is in an event's piece, none follows a silent message, and no section is told before
 /// a lower one.

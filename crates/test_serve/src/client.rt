@@ -43,8 +43,8 @@ pub enum Missed {
 /// What comes of a step of a play, or what was missed.
 pub type Done<T> = Result<T, Missed>;
 
-/// The seconds that a play waits for an answer. It is by the clock, since a busy host may give a centre no processor for
-/// seconds.
+/// The seconds that a play waits for an answer. A busy host may give a centre no processor for seconds, so that turns
+/// are not counted.
 pub const PATIENCE_S: u64 = 60;
 
 /// A connection to an endpoint, whose reads wait for `PATIENCE_S` at most.

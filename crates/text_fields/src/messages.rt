@@ -5,7 +5,8 @@ ghost use Rattle.std.specs.List.{AllByRecursion};
 ghost use Rattle.text_fields.specs.Shown.{all_bits};
 ghost use Rattle.text_fields.specs.Named.{Named};
 ghost use Rattle.text_fields.specs.Messages.{PacketFields, packet_shown, packets_shown, filling_fields, numbered};
-ghost use Rattle.text_fields.specs.Walks.{Next, Shows, Takes, IsHead, IsOwn, IsLaid, IsLaidPacket, IsLaidMessage, count_of, side_of};
+ghost use Rattle.text_fields.specs.Walks.{Next, Shows, Takes, IsHead, IsOwn, IsLaid, IsLaidPacket, IsLaidMessage};
+ghost use Rattle.text_fields.specs.Walks.{count_of, side_of};
 
 use crate::bodies::{Body, Own, Required, body_of};
 use crate::kind::Kind;

@@ -7,7 +7,9 @@ ghost use Rattle.rbc_packets.specs.declared.level.Level.{Level};
 ghost use Rattle.rbc_packets.specs.declared.position.Position.{Position};
 ghost use Rattle.text_fields.specs.Shown.{all_bits};
 ghost use Rattle.text_fields.specs.Named.{with_names};
-ghost use Rattle.text_fields.specs.Messages.{location_shown, length_shown, running_shown, level_shown, position_content, sections_shown, authority_content, transition_content, end_of_session_content};
+ghost use Rattle.text_fields.specs.Messages.{location_shown, length_shown, running_shown, level_shown};
+ghost use Rattle.text_fields.specs.Messages.{position_content, sections_shown, authority_content, transition_content};
+ghost use Rattle.text_fields.specs.Messages.{end_of_session_content};
 ghost use Rattle.text_fields.specs.Walks.{Takes};
 
 use crate::kind::Kind;

@@ -1,9 +1,10 @@
 -- An example: one coin that travels between centres, in letters that may arrive again, late or early.
-use Rattle.std.specs.Prelude.{◌≡◌, ℕ, ◌+◌, ◌-◌, ◌<◌, ◌==◌, ◌⊎◌, ◌&&◌, Bool, true, false, if◌then◌else◌, nat_lt, List, [], ◌∷◌, Option, Some, None, slice_get}
-use Rattle.law_base.specs.Counting.Sums.{put, one_if}
-use Rattle.law_base.specs.Counting.Network.{Net, way, numbered, came, acted, to_one}
-use Rattle.law_base.specs.Counting.Resource.{Resource, OnlyHeld, OnlyOnTheWay}
+use Rattle.std.specs.Prelude.{[], ◌&&◌, ◌+◌, ◌-◌, ◌<◌, ◌==◌, ◌∷◌, ◌≡◌, ◌⊎◌, Bool, false, if◌then◌else◌, List, nat_lt}
+use Rattle.std.specs.Prelude.{None, Option, slice_get, Some, true, ℕ}
 use Rattle.law_base.specs.Counting.Chain.{Chain}
+use Rattle.law_base.specs.Counting.Network.{acted, came, Net, numbered, to_one, way}
+use Rattle.law_base.specs.Counting.Resource.{OnlyHeld, OnlyOnTheWay, Resource}
+use Rattle.law_base.specs.Counting.Sums.{one_if, put}
 
 -- a centre: its coins, how many letters it wrote to each other, and how many it opened from each
 pub record Purse : Type 0 where

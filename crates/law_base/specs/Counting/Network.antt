@@ -1,6 +1,7 @@
 -- Centres and the links between them. A link keeps every frame that was ever sent over it, and counts those that were
 -- taken. So a frame may be delivered again, late or early, and is taken only if it is the next.
-use Rattle.std.specs.Prelude.{◌≡◌, ℕ, zero, suc, ◌+◌, ◌≤◌, ◌==◌, if◌then◌else◌, List, [], ◌∷◌, ◌++◌, length, drop, Option, None, slice_get, All}
+use Rattle.std.specs.Prelude.{[], ◌++◌, ◌+◌, ◌==◌, ◌∷◌, ◌≡◌, ◌≤◌, All, drop, if◌then◌else◌, length, List, None, Option}
+use Rattle.std.specs.Prelude.{slice_get, suc, zero, ℕ}
 use Rattle.law_base.specs.Counting.Sums.{put, put_link}
 
 -- each centre's state, the frames sent from one to another so far, and how many of them were taken

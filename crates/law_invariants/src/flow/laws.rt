@@ -1,6 +1,7 @@
 //! Laws of the flow between the centres of a line.
 
-ghost use Rattle.std.specs.Prelude.{◌≡◌, ◌≤◌, ℕ, ◌+◌, ◌==◌, ◌&&◌, not, if◌then◌else◌, Bool, true, List, [], All, Some, Ok};
+ghost use Rattle.std.specs.Prelude.{◌≡◌, ◌≤◌, ℕ, ◌+◌, ◌==◌, ◌&&◌, not, if◌then◌else◌, Bool, true, List, [], All};
+ghost use Rattle.std.specs.Prelude.{Some, Ok};
 ghost use Rattle.law_base.specs.Counting.Sums.{one_if};
 ghost use Rattle.law_base.specs.Counting.Network.{took, acted, TakesHead, IsCounted};
 ghost use Rattle.law_base.specs.Counting.Resource.{sent_by};
@@ -26,7 +27,8 @@ ghost use Rattle.law_invariants.specs.Flow.Numbers.{IsNumbered, taken_after};
 ghost use Rattle.law_invariants.specs.Flow.Neighbours.{AreNeighbours};
 ghost use Rattle.law_invariants.specs.Flow.Counts.{tokens};
 ghost use Rattle.law_invariants.specs.Flow.Pairs.{IsPaired};
-ghost use Rattle.law_invariants.specs.Flow.Keeping.{nothing_came, came_with, IsFairAct, LeavesSound, IsNeutral, IsApart, IsAside};
+ghost use Rattle.law_invariants.specs.Flow.Keeping.{nothing_came, came_with, IsFairAct, LeavesSound, IsNeutral};
+ghost use Rattle.law_invariants.specs.Flow.Keeping.{IsApart, IsAside};
 ghost use Rattle.law_invariants.specs.Flow.Sound.{ArePaired, IsFlowSound, LosesNothing};
 ghost use Rattle.law_invariants.specs.Flow.Shows.{Shows};
 ghost use Rattle.law_invariants.specs.Flow.Leads.{replied, Leads, LeadsOn};

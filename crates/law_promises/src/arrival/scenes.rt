@@ -2,11 +2,14 @@
 
 ghost use Rattle.std.specs.Prelude.{◌≡◌, true, false};
 ghost use Rattle.law_outside.specs.Outside.{may_run_over, nothing_seen, IsSafeOutside};
-ghost use Rattle.law_outside.specs.Scenes.{line, events_of, spoken_after, seen_of, side_by_side, train_1_runs, the_authority_is_lost, granted};
+ghost use Rattle.law_outside.specs.Scenes.{line, events_of, spoken_after, seen_of, side_by_side, train_1_runs};
+ghost use Rattle.law_outside.specs.Scenes.{the_authority_is_lost, granted};
 ghost use Rattle.law_promises.specs.Arrival.Arrival.{Arrive, IsSafeByWhatCame};
 ghost use Rattle.law_promises.specs.Arrival.Received.{AreReceived, nothing_known};
 ghost use Rattle.law_promises.specs.Arrival.Meeting.{is_over, IsTruthful};
-ghost use Rattle.law_promises.specs.Arrival.Scenes.{accepted_twice, the_acceptance_is_lost, accepted_at_last, moved_on, the_second_acceptance_is_lost, the_request_is_lost, in_1, in_2, two_trains};
+ghost use Rattle.law_promises.specs.Arrival.Scenes.{accepted_twice, the_acceptance_is_lost, accepted_at_last};
+ghost use Rattle.law_promises.specs.Arrival.Scenes.{moved_on, the_second_acceptance_is_lost, the_request_is_lost};
+ghost use Rattle.law_promises.specs.Arrival.Scenes.{in_1, in_2, two_trains};
 
 /// If an authority is lost, the train runs by the rest of its messages: it stays in the section of its start.
 pub fn a_lost_authority_is_seen()

@@ -1,6 +1,7 @@
 //! Laws of the state that the one line centre shows.
 
-ghost use Rattle.std.specs.Prelude.{◌≡◌, ◌≢◌, ◌≤◌, ◌<◌, ℕ, ◌+◌, Bool, true, false, List, [], ◌∷◌, ◌++◌, Option, Some, None, Contains};
+ghost use Rattle.std.specs.Prelude.{◌≡◌, ◌≢◌, ◌≤◌, ◌<◌, ℕ, ◌+◌, Bool, true, false, List, [], ◌∷◌, ◌++◌, Option, Some};
+ghost use Rattle.std.specs.Prelude.{None, Contains};
 ghost use Rattle.law_base.specs.Counting.Network.{way, took, acted, to_one, TakesHead, IsCounted};
 ghost use Rattle.law_base.specs.Counting.Resource.{Resource, placed, sent_by};
 ghost use Rattle.rbc_spec.specs.SectionRuns.{SectionRun};
@@ -22,8 +23,10 @@ ghost use Rattle.law_invariants.specs.Flow.Counts.{tokens, hands, missions};
 ghost use Rattle.law_invariants.specs.Flow.Keeping.{nothing_came, came_with};
 ghost use Rattle.law_invariants.specs.Flow.Sound.{IsFlowSound};
 ghost use Rattle.law_invariants.specs.Flow.Shows.{Shows, shown, is_in_hand, parted};
-ghost use Rattle.law_refinement.specs.Abstraction.Acts.{IsAct, SendsNone, IsMissionHere, hand_before, hand_after, rights_alone, tokens_aside};
-ghost use Rattle.law_refinement.specs.Abstraction.After.{IsUnseen, PartAfter, PartStays, PartChanges, MarkAfter, ShowsMission, MissionAfter, ShowsAfter};
+ghost use Rattle.law_refinement.specs.Abstraction.Acts.{IsAct, SendsNone, IsMissionHere, hand_before, hand_after};
+ghost use Rattle.law_refinement.specs.Abstraction.Acts.{rights_alone, tokens_aside};
+ghost use Rattle.law_refinement.specs.Abstraction.After.{IsUnseen, PartAfter, PartStays, PartChanges, MarkAfter};
+ghost use Rattle.law_refinement.specs.Abstraction.After.{ShowsMission, MissionAfter, ShowsAfter};
 
 /// An act of one centre by itself, and one at the head of a link, are acts of one centre (`IsAct`).
 pub fn an_act_of_one_centre()

@@ -15,7 +15,8 @@ ghost use Rattle.law_invariants.specs.Flow.Flow.{Flow};
 ghost use Rattle.law_invariants.specs.Flow.Sound.{IsFlowSound};
 ghost use Rattle.law_invariants.specs.Flow.Shows.{Shows};
 ghost use Rattle.law_invariants.specs.Flow.Leads.{LeadsHeard};
-ghost use Rattle.law_refinement.specs.Missions.Parts.{own_report, own_end, own_granted, own_request, at_border_then, of_train, IsOwnStep, IsWhole, IsInParts, LeadsOnward};
+ghost use Rattle.law_refinement.specs.Missions.Parts.{own_report, own_end, own_granted, own_request, at_border_then};
+ghost use Rattle.law_refinement.specs.Missions.Parts.{of_train, IsOwnStep, IsWhole, IsInParts, LeadsOnward};
 
 /// A position report: the cleared sections leave the hand, and a hand that became empty closes the mission. A report of
 /// a train that is not supervised here changes nothing that the one line centre shows: it listens. No act follows.

@@ -3,7 +3,8 @@
 ghost use Rattle.std.specs.Prelude.{◌≡◌, ℕ, true};
 ghost use Rattle.rbc_spec.specs.SectionRuns.{SectionRun};
 ghost use Rattle.rbc_spec.specs.Line.{Line, IsLine, is_centre};
-ghost use Rattle.rbc_spec.specs.Frame.Body.{AskRight, GiveRight, RefuseRight, ReturnRight, RouteAsk, RouteInfo, RouteReturn, RouteWithdraw};
+ghost use Rattle.rbc_spec.specs.Frame.Body.{AskRight, GiveRight, RefuseRight, ReturnRight, RouteAsk, RouteInfo};
+ghost use Rattle.rbc_spec.specs.Frame.Body.{RouteReturn, RouteWithdraw};
 ghost use Rattle.rbc_spec.specs.Centre.{Centre};
 ghost use Rattle.rbc_spec.specs.Step.{set, unset};
 ghost use Rattle.rbc_spec.specs.LineCentre.{LineState};

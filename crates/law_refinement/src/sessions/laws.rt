@@ -2,7 +2,8 @@
 
 ghost use Rattle.std.specs.Prelude.{ℕ, Bool};
 ghost use Rattle.rbc_spec.specs.Place.{Position};
-ghost use Rattle.rbc_spec.specs.Message.{TrainData, ShorteningRejected, SessionEstablished, InitiationOfSession, TerminationOfSession, StartOfMission};
+ghost use Rattle.rbc_spec.specs.Message.{TrainData, ShorteningRejected, SessionEstablished, InitiationOfSession};
+ghost use Rattle.rbc_spec.specs.Message.{TerminationOfSession, StartOfMission};
 ghost use Rattle.law_refinement.specs.Sessions.Heard.{IsHeardAs};
 
 /// A session that is established is up on the line too.

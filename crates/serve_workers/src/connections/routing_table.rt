@@ -1,4 +1,5 @@
-ghost use Rattle.std.specs.Prelude.{◌≡◌, ◌↔◌, IsTrue, Contains, IfOk, Some, None, replicate, slice_get, slice_set, option_and_then};
+ghost use Rattle.std.specs.Prelude.{◌≡◌, ◌↔◌, IsTrue, Contains, IfOk, Some, None, replicate, slice_get, slice_set};
+ghost use Rattle.std.specs.Prelude.{option_and_then};
 ghost use Rattle.serve_workers.specs.Connections.Serving.{freed, released};
 ghost use Rattle.serve_workers.specs.Connections.Routes.{directed, other_than, served_by, serving_after};
 

@@ -1,6 +1,7 @@
 ghost use Rattle.std.specs.Prelude.{◌≡◌, ℕ, List, ◌++◌, All};
 ghost use Rattle.rbc_spec.specs.Message.{TrackMessage};
-ghost use Rattle.serve_workers.specs.Writing.Turns.{Act, Call, Goes, IsCounted, IsSaidBy, Rises, Takes, all_out, handed_in, release};
+ghost use Rattle.serve_workers.specs.Writing.Turns.{Act, Call, Goes, IsCounted, IsSaidBy, Rises, Takes, all_out};
+ghost use Rattle.serve_workers.specs.Writing.Turns.{handed_in, release};
 
 /// Let a centre have sent these messages to a train since the order began, counted from its first turn. Let only these
 /// messages, and those sent before, be submitted. Then, for any order of acts, the released messages are a beginning of

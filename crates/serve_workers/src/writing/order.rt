@@ -1,4 +1,5 @@
-ghost use Rattle.std.specs.Prelude.{◌≡◌, ◌≢◌, ◌↔◌, ◌+◌, ◌<◌, ◌≤◌, [], map, length, All, HoldsAt, is_some, if◌then◌else◌, IsTrue, OnOk, OnErr, IfSome, IfNone};
+ghost use Rattle.std.specs.Prelude.{◌≡◌, ◌≢◌, ◌↔◌, ◌+◌, ◌<◌, ◌≤◌, [], map, length, All, HoldsAt, is_some};
+ghost use Rattle.std.specs.Prelude.{if◌then◌else◌, IsTrue, OnOk, OnErr, IfSome, IfNone};
 ghost use Rattle.serve_workers.specs.Writing.Turns.{kept, kept_from, message_of, turn_from, IsTurn};
 
 use crate::writing::reply::Reply;
