@@ -124,45 +124,42 @@ impl Line {
         ensures { option_map (λ name. name.now) result
             ≡ option_map (λ p. p.name) (slice_get self.now.centres c) }
     {
-        match self.rows.centres.get(c as usize) {
-            Some(centre) => Some(centre.name.as_str()),
-            None => None,
-        }
+        self.rows
+            .centres
+            .get(c as usize)
+            .map(|centre| centre.name.as_str())
     }
 
     /// The centre of this name.
     pub fn centre_named(&self, name: &str) -> Option<u8>
         ensures { result ≡ position (λ p. bytes_eq p.name name.now) self.now.centres }
     {
-        match self
+        let c = self
             .rows
             .centres
             .iter()
-            .position(|centre| centre.name.as_str() == name)
-        {
-            Some(c) => Some(c as u8),
-            None => None,
-        }
+            .position(|centre| centre.name.as_str() == name)?;
+        Some(c as u8)
     }
 
     /// The NID_RBC of a centre.
     pub fn nid_rbc(&self, c: u8) -> Option<u16>
         ensures { result ≡ option_map (λ p. p.nid_rbc) (slice_get self.now.centres c) }
     {
-        match self.rows.centres.get(c as usize) {
-            Some(centre) => Some(centre.nid_rbc),
-            None => None,
-        }
+        self.rows
+            .centres
+            .get(c as usize)
+            .map(|centre| centre.nid_rbc)
     }
 
     /// The name of a track.
     pub fn track_name(&self, track: u8) -> Option<&str>
         ensures { option_map (λ name. name.now) result ≡ slice_get self.now.tracks track }
     {
-        match self.rows.tracks.get(track as usize) {
-            Some(name) => Some(name.as_str()),
-            None => None,
-        }
+        self.rows
+            .tracks
+            .get(track as usize)
+            .map(|name| name.as_str())
     }
 
     /// The section of this number.
@@ -224,15 +221,12 @@ impl Line {
     fn listed_number(&self, nid_engine: u32) -> Option<u8>
         ensures { result ≡ train_number self.now nid_engine }
     {
-        match self
+        let i = self
             .rows
             .trains
             .iter()
-            .position(|train| train.nid_engine == nid_engine)
-        {
-            Some(i) => Some(i as u8),
-            None => None,
-        }
+            .position(|train| train.nid_engine == nid_engine)?;
+        Some(i as u8)
     }
 
     /// The train at this place of the line file.
@@ -246,13 +240,9 @@ impl Line {
     pub fn registrar(&self, nid_engine: u32) -> Option<u8>
         ensures { result ≡ registrar self.now nid_engine }
     {
-        match self.train_number(nid_engine) {
-            Some(i) => match self.train(i) {
-                Some(train) => Some(train.registrar),
-                None => None,
-            },
-            None => None,
-        }
+        let i = self.train_number(nid_engine)?;
+        let train = self.train(i)?;
+        Some(train.registrar)
     }
 
     /// Whether two centres exchange frames: any two of the line do.

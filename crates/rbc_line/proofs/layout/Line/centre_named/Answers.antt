@@ -7,16 +7,17 @@ use Rattle.rbc_line.proofs.layout.Line.centre_named.Goals as goal
 use Rattle.rbc_line.proofs.Lists.{position-map}
 use Rattle.rbc_line.specs.Views.{centre_of}
 
-pub returns-in-Some : goal.returns-in-Some
-returns-in-Some c =
+pub returns : goal.returns
+returns c =
     position_from_yields_List (λ centre. bytes_eq (string_bytes centre.name) c.args.name.now) _ _ _
-    c.in-Some.ensures.ran (YieldsList-from_slice c.self.inside.rows.centres.items cc) (λ x b q k. search (rules, tests))
+    c.in_ok-c.ensures.ran (YieldsList-from_slice c.self.inside.rows.centres.items cc) (λ x b q k. search (rules, tests))
     ∙ sym (position-map (λ p. bytes_eq p.name c.args.name.now) centre_of c.self.inside.rows.centres.items)
     ∙ ap (λ line. position (λ p. bytes_eq p.name c.args.name.now) line.centres) c.self.view_is
 
-pub returns-in-None : goal.returns-in-None
-returns-in-None c =
-    position_from_yields_List (λ centre. bytes_eq (string_bytes centre.name) c.args.name.now) _ _ _
-    c.in-None.ensures.ran (YieldsList-from_slice c.self.inside.rows.centres.items cc) (λ x b q k. search (rules, tests))
+pub returns-in_err-c : goal.returns-in_err-c
+returns-in_err-c c =
+    c.from_residual.ensures
+    ∙ position_from_yields_List (λ centre. bytes_eq (string_bytes centre.name) c.args.name.now) _ _ _
+    c.in_err-c.ensures.ran (YieldsList-from_slice c.self.inside.rows.centres.items cc) (λ x b q k. search (rules, tests))
     ∙ sym (position-map (λ p. bytes_eq p.name c.args.name.now) centre_of c.self.inside.rows.centres.items)
     ∙ ap (λ line. position (λ p. bytes_eq p.name c.args.name.now) line.centres) c.self.view_is
