@@ -79,10 +79,7 @@ impl Carrier for CellBoard {
         let at = (number - 1) as usize;
         let cell = self.cells.get(at)?;
         let note = seen.notes.get_mut(at)?;
-        match cell.get_as(note) {
-            Some(frame) => Some(*frame),
-            None => None,
-        }
+        cell.get_as(note).copied()
     }
 
     fn compare(&self, mine: &mut CellSeen, other: CellSeen, number: u32) {

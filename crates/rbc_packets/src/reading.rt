@@ -242,8 +242,5 @@ pub(crate) fn usual_field(reader: &mut BitReader, n: u32) -> Option<u64>
     ensures taken { IfSome result (λ v. reader.old ≡ field n v ++ reader.new) }
     ensures fits { IfSome result (λ v. v < 2 ^ n) }
 {
-    match reader.take(n) {
-        Ok(value) => Some(value),
-        Err(_) => None,
-    }
+    reader.take(n).ok()
 }

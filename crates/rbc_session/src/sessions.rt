@@ -55,10 +55,7 @@ impl Sessions {
         ensures train { result ≡ train_at self.now (key_of session.now) }
         ensures one { AtMostOneATrain self.now }
     {
-        match record_at(&self.records, session.key) {
-            Some(record) => Some(record.nid_engine),
-            None => None,
-        }
+        record_at(&self.records, session.key).map(|record| record.nid_engine)
     }
 
     /// Makes room for one more session, so that opening one takes no memory.

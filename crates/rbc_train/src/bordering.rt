@@ -138,10 +138,7 @@ fn transition(line: &Line, to: u8, border: u16, place: &Place) -> Transition
         (nid_rbc line.now to) }
 {
     let metres = section_start(line, border).saturating_sub(group_start(line, place));
-    let nid_rbc = match line.nid_rbc(to) {
-        Some(nid_rbc) => nid_rbc,
-        None => 0,
-    };
+    let nid_rbc = line.nid_rbc(to).unwrap_or(0);
     Transition {
         d_rbctr: DRbctr::new(u64::from(metres)),
         nid_c: NidC::new(u64::from(line.nid_c())),

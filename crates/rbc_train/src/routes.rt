@@ -186,10 +186,7 @@ pub(crate) fn session_order(line: &Line, centre: u8) -> SessionOrder
     ensures { track_body (code.EndSession result) ≡ message.EndSession line.now.nid_c (nid_rbc line.now centre) }
 {
     let nid_c = line.nid_c();
-    let nid_rbc = match line.nid_rbc(centre) {
-        Some(nid_rbc) => nid_rbc,
-        None => 0,
-    };
+    let nid_rbc = line.nid_rbc(centre).unwrap_or(0);
     SessionOrder {
         nid_c: NidC::new(u64::from(nid_c)),
         nid_rbc: NidRbc::new(u64::from(nid_rbc)),

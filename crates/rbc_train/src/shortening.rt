@@ -98,8 +98,5 @@ impl TrainState {
 fn front_on(line: &Line, track: u8, position: &Position) -> Option<u32>
     ensures { result ≡ option_map (λ p. p.front) (place.place_on line.now track (position_of position.now)) }
 {
-    match place_on(line, track, position) {
-        Some(place) => Some(place.front),
-        None => None,
-    }
+    place_on(line, track, position).map(|place| place.front)
 }

@@ -27,8 +27,10 @@ engine = 2
 registrar = \"B\"
 ";
 
+/// The number of centre A.
 pub const A: u8 = 0;
 
+/// The number of centre B.
 pub const B: u8 = 1;
 
 /// The NID_ENGINE of the train that A registers.

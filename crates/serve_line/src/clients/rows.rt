@@ -24,6 +24,7 @@ pub(crate) enum Came {
 }
 
 impl<R: Read + Drop> RowReader<R> {
+    /// A reader of lines that has read nothing yet.
     pub fn new(alloc: Global, reader: R) -> RowReader<R> {
         RowReader {
             reader,

@@ -34,10 +34,7 @@ fn next_of(entries: &[Committed], written: usize) -> &[Committed]
     let Some(left) = entries.get(written..) else {
         return &[];
     };
-    match left.get(..MOST_AT_ONCE) {
-        Some(first) => first,
-        None => left,
-    }
+    left.get(..MOST_AT_ONCE).unwrap_or(left)
 }
 
 fn entries_from(alloc: Global, log: &CentreLog, written: usize) -> Result<Vec<Entry>, AllocError>

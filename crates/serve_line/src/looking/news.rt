@@ -26,6 +26,7 @@ pub(crate) struct News {
 }
 
 impl News {
+    /// No event of any centre was looked at yet.
     pub fn new(alloc: Global, line: &Line) -> Result<News, AllocError> {
         Ok(News {
             looked: vec![in alloc; 0usize; line.centre_count() as usize]?,

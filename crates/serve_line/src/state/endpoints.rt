@@ -117,18 +117,12 @@ impl Endpoints {
 
     /// The address of centre `number`; after the centres, that of the control endpoint, if it is a port.
     pub fn address(&self, number: usize) -> Option<SocketAddr> {
-        match self.ports.get(number) {
-            Some(endpoint) => Some(endpoint.address),
-            None => None,
-        }
+        self.ports.get(number).map(|endpoint| endpoint.address)
     }
 
     /// The address of the page, if there is one.
     pub fn page_address(&self) -> Option<SocketAddr> {
-        match &self.page {
-            Some(page) => Some(page.address),
-            None => None,
-        }
+        self.page.as_ref().map(|page| page.address)
     }
 
     /// The ports of the centres, in the order of their numbers, and then that of the control endpoint, if it has one.

@@ -35,6 +35,7 @@ pub const ENTRIES: &str = "
 5000362a 8 > train B 9B028000000040000040
 ";
 
+/// The number of centre B.
 pub const B: u8 = 1;
 
 /// Centre A with section 0, and centre B with section 1.

@@ -144,10 +144,9 @@ fn words_hold(event: &WorldEvent, outcome: &Outcome, view: &LineView) -> bool {
 }
 
 fn mark_of(view: &LineView, section: u16) -> Option<Mark> {
-    match view.sections.get(section as usize) {
-        Some(section) => Some(section.mark),
-        None => None,
-    }
+    view.sections
+        .get(section as usize)
+        .map(|section| section.mark)
 }
 
 fn is_told(view: &LineView, section: u16) -> bool {

@@ -27,6 +27,7 @@ pub struct Tally {
 }
 
 impl Tally {
+    /// Nothing is counted yet.
     pub fn new() -> Tally {
         Tally {
             accepted: 0,

@@ -16,8 +16,10 @@ use std::alloc::Global;
 use std::sync::Wait;
 use std::test::*;
 
+/// The number of centre A.
 pub const A: u8 = 0;
 
+/// The number of centre B.
 pub const B: u8 = 1;
 
 const NID_C: u32 = 5;

@@ -14,6 +14,7 @@ pub struct Narrow<C: Carrier + Drop> {
 }
 
 impl<C: Carrier + Drop> Narrow<C> {
+    /// A narrow carrier over this one.
     pub fn new(inner: C) -> Narrow<C>
         ensures { result.inner ≡ inner }
     {

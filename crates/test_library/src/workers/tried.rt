@@ -16,6 +16,7 @@ pub struct Tried<'a> {
 }
 
 impl<'a> Tried<'a> {
+    /// A carrier that was asked for no frame yet.
     pub fn new(is_over: &'a AtomicBool) -> Tried<'a> {
         Tried {
             inner: InOrder::new(),

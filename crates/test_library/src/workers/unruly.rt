@@ -15,6 +15,7 @@ pub struct Unruly<'a> {
 }
 
 impl<'a> Unruly<'a> {
+    /// A carrier that will hand over frames in the order of these numbers.
     pub fn new(numbers: [u32; ASKED], is_over: &'a AtomicBool) -> Unruly<'a> {
         Unruly {
             numbers,
