@@ -18,6 +18,7 @@ pub returns-in_err-c : goal.returns-in_err-c
 returns-in_err-c c =
     c.from_residual.ensures
     ∙ position_from_yields_List (λ centre. bytes_eq (string_bytes centre.name) c.args.name.now) _ _ _
-    c.in_err-c.ensures.ran (YieldsList-from_slice c.self.inside.rows.centres.items cc) (λ x b q k. search (rules, tests))
+    c.in_err-c.ensures.ran (YieldsList-from_slice c.self.inside.rows.centres.items cc)
+    (λ x b q k. search (rules, tests))
     ∙ sym (position-map (λ p. bytes_eq p.name c.args.name.now) centre_of c.self.inside.rows.centres.items)
     ∙ ap (λ line. position (λ p. bytes_eq p.name c.args.name.now) line.centres) c.self.view_is
