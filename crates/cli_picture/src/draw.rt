@@ -19,6 +19,10 @@ const ROW: u64 = 18;
 
 const AXIS: u64 = 76;
 
+// The words below the title of a text without events.
+const NO_EVENT: &str =
+    "No line of the text begins with an event of a print: is it a script or a line file?";
+
 /// Draws the whole diagram of a run.
 pub fn draw(alloc: Global, run: &Run<'_>) -> Result<String, AllocError> {
     let axis = LEGEND.saturating_add(ROW.saturating_mul(legend_rows(run)));
@@ -78,8 +82,13 @@ fn draw_title(svg: &mut String, run: &Run<'_>) -> Result<(), AllocError> {
     } else {
         write!(svg, "{drawn} events")?;
     }
+    let below = if run.event_count == 0 {
+        NO_EVENT
+    } else {
+        "Distance to the right, events downward"
+    };
     writeln!(
         svg,
-        "</text>\n<text x=\"20\" y=\"48\" class=\"small\">Distance to the right, events downward</text>"
+        "</text>\n<text x=\"20\" y=\"48\" class=\"small\">{below}</text>"
     )
 }

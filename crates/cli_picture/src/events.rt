@@ -2,8 +2,12 @@
 
 use crate::run::{Event, Kind, Run};
 use crate::scale::{LEFT, RIGHT, Scale};
+use rbc_line::Line;
 use std::alloc::AllocError;
 use text_words::name_of_number;
+
+// The most letters of centres' names beside an event.
+const MOST_NAMES: usize = 10;
 
 pub fn draw_events(svg: &mut String, scale: &Scale<'_>, run: &Run<'_>) -> Result<(), AllocError> {
     let stride = scale.stride();
@@ -47,20 +51,52 @@ fn draw_words(
         "small"
     };
     write!(svg, "<text x=\"52\" y=\"{y}\" class=\"{class}\">")?;
-    draw_kind(svg, event.kind)?;
+    draw_kind(svg, scale.line, event.kind)?;
     writeln!(svg, "</text>")
 }
 
-fn draw_kind(svg: &mut String, kind: Kind) -> Result<(), AllocError> {
-    let (what, number) = match kind {
-        Kind::Set { section } => ("set", u32::from(section)),
-        Kind::Unset { section } => ("unset", u32::from(section)),
-        Kind::Delivery { number } => ("frame", number),
-        Kind::NoMessage => return svg.push_str("no message"),
+fn draw_kind(svg: &mut String, line: &Line, kind: Kind) -> Result<(), AllocError> {
+    match kind {
+        Kind::Set { centre, section } => draw_order(svg, line, centre, "set", section),
+        Kind::Unset { centre, section } => draw_order(svg, line, centre, "unset", section),
+        Kind::Delivery { from, to, number } => draw_frame(svg, line, from, to, number),
+        Kind::NoMessage => svg.push_str("no message"),
         Kind::Message { number, nid_engine } => {
             let name = name_of_number(number);
-            return write!(svg, "{number} of train {nid_engine}<title>{name}</title>");
+            write!(svg, "{number} of train {nid_engine}<title>{name}</title>")
         }
-    };
-    write!(svg, "{what} {number}")
+    }
+}
+
+/// Draws an order of the interlocking to a centre. A long name is shown to a reader who points.
+fn draw_order(
+    svg: &mut String,
+    line: &Line,
+    centre: u8,
+    word: &str,
+    section: u16,
+) -> Result<(), AllocError> {
+    let name = line.centre_name(centre).unwrap_or("?");
+    if name.len() <= MOST_NAMES {
+        write!(svg, "{name} {word} {section}")
+    } else {
+        write!(svg, "{word} {section}<title>{name}</title>")
+    }
+}
+
+/// Draws a frame from a centre to another one. Long names are shown to a reader who points.
+fn draw_frame(
+    svg: &mut String,
+    line: &Line,
+    from: u8,
+    to: u8,
+    number: u32,
+) -> Result<(), AllocError> {
+    let from = line.centre_name(from).unwrap_or("?");
+    let to = line.centre_name(to).unwrap_or("?");
+    if from.len().saturating_add(to.len()) <= MOST_NAMES {
+        write!(svg, "{from}→{to} frame {number}")
+    } else {
+        write!(svg, "frame {number}<title>{from}→{to}</title>")
+    }
 }

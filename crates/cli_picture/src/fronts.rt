@@ -65,6 +65,16 @@ fn front_in(run: &Run<'_>, event: usize, train: u8) -> Option<Front> {
     })
 }
 
+/// Whether the last front of a train up to an event is at another place than this one.
+pub fn has_left(run: &Run<'_>, event: usize, train: u8, place: &Place) -> bool {
+    for back in 0..=event {
+        if let Some(front) = front_in(run, event.saturating_sub(back), train) {
+            return front.place != *place;
+        }
+    }
+    false
+}
+
 fn draw_path(svg: &mut String, scale: &Scale<'_>, fronts: &[Front]) -> Result<(), AllocError> {
     let mut track = None;
     for front in fronts {

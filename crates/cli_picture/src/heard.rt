@@ -33,9 +33,27 @@ fn kind_of(
 ) -> Result<(Kind, Option<Report>), AllocError> {
     match event {
         WorldEvent::Train { bytes, .. } => heard_in(alloc, line, bytes),
-        WorldEvent::Set { section, .. } => Ok((Kind::Set { section: *section }, None)),
-        WorldEvent::Unset { section, .. } => Ok((Kind::Unset { section: *section }, None)),
-        WorldEvent::Deliver { number, .. } => Ok((Kind::Delivery { number: *number }, None)),
+        other => Ok((kind_of_other(other), None)),
+    }
+}
+
+// The kind of an order of the interlocking, or of a frame.
+fn kind_of_other(event: &WorldEvent) -> Kind {
+    match event {
+        WorldEvent::Train { .. } => Kind::NoMessage,
+        WorldEvent::Set { centre, section } => Kind::Set {
+            centre: *centre,
+            section: *section,
+        },
+        WorldEvent::Unset { centre, section } => Kind::Unset {
+            centre: *centre,
+            section: *section,
+        },
+        WorldEvent::Deliver { from, to, number } => Kind::Delivery {
+            from: *from,
+            to: *to,
+            number: *number,
+        },
     }
 }
 

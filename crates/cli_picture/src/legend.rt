@@ -136,7 +136,21 @@ fn draw_looks(svg: &mut String, y: u64) -> Result<(), AllocError> {
         svg,
         "<g class=\"seat\"><circle cx=\"604\" cy=\"{y}\" r=\"4\"/><text x=\"604\" y=\"{y}\" dx=\"7\" dy=\"4\">A</text></g>"
     )?;
-    draw_words(svg, 630, y, "A supervises it from here on")
+    draw_words(svg, 630, y, "A supervises it from here on")?;
+    write!(
+        svg,
+        "<g class=\"seat old\"><circle cx=\"816\" cy=\"{y}\" r=\"4\"/></g>"
+    )?;
+    write!(
+        svg,
+        "<rect class=\"way old\" x=\"828\" y=\"{y}\" width=\"22\" height=\"10\" transform=\"translate(0 -9)\"/>"
+    )?;
+    draw_words(
+        svg,
+        856,
+        y,
+        "these at the place in its mission: it reported a later one",
+    )
 }
 
 fn draw_sign(svg: &mut String, sign: Sign, x: u64, y: u64, words: &str) -> Result<(), AllocError> {

@@ -8,14 +8,14 @@ use text_script::{LineView, MissionView};
 /// The kind of an event.
 #[derive(Clone, Copy)]
 pub enum Kind {
-    Set { section: u16 },
-    Unset { section: u16 },
+    Set { centre: u8, section: u16 },
+    Unset { centre: u8, section: u16 },
     /// A message of a train, by its NID_MESSAGE.
     Message { number: u64, nid_engine: u32 },
     /// Bytes that are not a message.
     NoMessage,
-    /// A frame reaches a centre.
-    Delivery { number: u32 },
+    /// A frame of a centre reaches another one.
+    Delivery { from: u8, to: u8, number: u32 },
 }
 
 /// A train at a place that it has reported.

@@ -1,5 +1,6 @@
 //! Draws the supervisor of each train, and the starts of mission that wait for the right to supervise it.
 
+use crate::fronts::has_left;
 use crate::run::{Run, waiting_in};
 use crate::scale::Scale;
 use crate::style::colour_of;
@@ -54,18 +55,19 @@ fn draw_rings(
         if let Some(mission) = after {
             let centre = centre_of(&mission);
             if e == 0 || centre != centre_in(before) {
-                draw_ring(svg, scale, train, e, &mission.facts.place, centre)?;
+                draw_ring(svg, scale, run, (train, e), &mission.facts.place, centre)?;
             }
         }
     }
     Ok(())
 }
 
+// The ring is dashed, and has words, if the mission has an older place than the train has reported.
 fn draw_ring(
     svg: &mut String,
     scale: &Scale<'_>,
-    train: u8,
-    event: usize,
+    run: &Run<'_>,
+    (train, event): (u8, usize),
     place: &Place,
     centre: Option<u8>,
 ) -> Result<(), AllocError> {
@@ -76,13 +78,19 @@ fn draw_ring(
     let x = scale.front(place);
     let y = scale.y(event);
     let name = scale.line.centre_name(centre).unwrap_or("?");
+    let (old, words) = if has_left(run, event, train, place) {
+        (" old", ": place in its mission")
+    } else {
+        ("", "")
+    };
     writeln!(
         svg,
-        "<g class=\"seat c{colour}\"><circle cx=\"{x}\" cy=\"{y}\" r=\"4\"/><text x=\"{x}\" y=\"{y}\" dx=\"7\" dy=\"4\">{name}</text></g>"
+        "<g class=\"seat{old} c{colour}\"><circle cx=\"{x}\" cy=\"{y}\" r=\"4\"/><text x=\"{x}\" y=\"{y}\" dx=\"7\" dy=\"4\">{name}{words}</text></g>"
     )
 }
 
-/// Draws a thick line while a mission is on the way from one centre to the next.
+/// Draws a box while a mission is on the way from one centre to the next. It is hollow if the mission has an older
+/// place than the train has reported by its end.
 fn draw_ways(
     svg: &mut String,
     scale: &Scale<'_>,
@@ -90,12 +98,19 @@ fn draw_ways(
     train: u8,
 ) -> Result<(), AllocError> {
     let mut way = None;
-    for e in 0..run.events.len() {
+    for e in 0..=run.events.len() {
         let (_, after) = run.missions(e, train);
         let place = way_in(after);
-        way = follow(svg, scale, train, WAY, way, place, e)?;
+        if let Some((since, place)) = ended(way, place) {
+            let look = if has_left(run, e, train, &place) {
+                OLD_WAY
+            } else {
+                WAY
+            };
+            draw_box(svg, scale, train, look, (since, e), &place)?;
+        }
+        way = followed(way, place, e);
     }
-    follow(svg, scale, train, WAY, way, None, run.events.len())?;
     Ok(())
 }
 
@@ -108,55 +123,68 @@ fn draw_waits(
     centre: u8,
 ) -> Result<(), AllocError> {
     let mut wait = None;
-    for (e, view) in run.views.iter().enumerate() {
-        wait = follow(
-            svg,
-            scale,
-            train,
-            WAIT,
-            wait,
-            waiting_in(view, train, centre),
-            e,
-        )?;
+    for e in 0..=run.views.len() {
+        let place = match run.views.get(e) {
+            Some(view) => waiting_in(view, train, centre),
+            None => None,
+        };
+        if let Some((since, place)) = ended(wait, place) {
+            draw_box(svg, scale, train, WAIT, (since, e), &place)?;
+        }
+        wait = followed(wait, place, e);
     }
-    follow(svg, scale, train, WAIT, wait, None, run.views.len())?;
     Ok(())
 }
 
-// The classes and the descriptions of the two.
+// The classes and the descriptions of the boxes.
 const WAY: (&str, &str) = ("way", "on the way from one centre to the next");
+
+const OLD_WAY: (&str, &str) = (
+    "way old",
+    "on the way from one centre to the next, at the place in its mission",
+);
 
 const WAIT: (&str, &str) = ("wait", "a start of mission that waits");
 
-/// Follows a mark that has lasted at a place since an event. It continues in this event, or it ends here and is
-/// drawn.
-fn follow(
+/// The mark that has lasted at a place since an event, if it is not there any more.
+fn ended(was: Option<(usize, Place)>, place: Option<Place>) -> Option<(usize, Place)> {
+    let mark = was?;
+    if place == Some(mark.1) {
+        None
+    } else {
+        Some(mark)
+    }
+}
+
+/// The mark that is at this place in an event. It goes on if it was there before.
+fn followed(
+    was: Option<(usize, Place)>,
+    place: Option<Place>,
+    event: usize,
+) -> Option<(usize, Place)> {
+    let place = place?;
+    match was {
+        Some(mark) if mark.1 == place => Some(mark),
+        _ => Some((event, place)),
+    }
+}
+
+/// Draws a box at a place, from an event to another one.
+fn draw_box(
     svg: &mut String,
     scale: &Scale<'_>,
     train: u8,
     (class, words): (&str, &str),
-    was: Option<(usize, Place)>,
-    place: Option<Place>,
-    event: usize,
-) -> Result<Option<(usize, Place)>, AllocError> {
-    if let (Some(was), Some(place)) = (was, place) {
-        if was.1 == place {
-            return Ok(Some(was));
-        }
-    }
-    if let Some((since, place)) = was {
-        let colour = colour_of(train);
-        let right = scale.front(&place);
-        let left = scale.rear(&place);
-        let y = scale.y(since);
-        let bottom = scale.until(event);
-        writeln!(
-            svg,
-            "<path class=\"{class} c{colour}\" d=\"M{right} {y}V{bottom}H{left}V{y}z\"><title>{words}</title></path>"
-        )?;
-    }
-    Ok(match place {
-        Some(place) => Some((event, place)),
-        None => None,
-    })
+    (since, until): (usize, usize),
+    place: &Place,
+) -> Result<(), AllocError> {
+    let colour = colour_of(train);
+    let right = scale.front(place);
+    let left = scale.rear(place);
+    let y = scale.y(since);
+    let bottom = scale.until(until);
+    writeln!(
+        svg,
+        "<path class=\"{class} c{colour}\" d=\"M{right} {y}V{bottom}H{left}V{y}z\"><title>{words}</title></path>"
+    )
 }

@@ -9,6 +9,8 @@ pub const STYLE: &str = ".bar{fill:currentColor;fill-opacity:.3;stroke:currentCo
 .wait{fill:none;stroke:currentColor;stroke-width:2;stroke-dasharray:2 2}
 .way{fill:#111;fill-opacity:.5;stroke:#111;stroke-width:3;stroke-dasharray:3 2}
 .seat circle{fill:#fff;stroke:currentColor;stroke-width:2}
+.old circle{stroke-dasharray:2 2}
+.way.old{fill:none;stroke-width:2}
 .seat text,.name{font-size:11px;font-weight:bold;fill:currentColor;stroke:#fff;stroke-width:3px;paint-order:stroke}
 .front{fill:none;stroke:currentColor;stroke-width:2;stroke-linejoin:round}
 .sign{fill:currentColor;stroke:currentColor;stroke-width:1.5}
@@ -21,9 +23,9 @@ pub const STYLE: &str = ".bar{fill:currentColor;fill-opacity:.3;stroke:currentCo
 .event{stroke:#e4e8ed}
 text{fill:#222}
 .small{font-size:11px;fill:#555}
-.silent{fill:#aaa;font-style:italic}
-.c0{color:#1f6fb4}.c1{color:#d96b00}.c2{color:#2a9134}.c3{color:#c8282d}
-.c4{color:#7d4fb3}.c5{color:#8a5a3c}.c6{color:#d0468f}.c7{color:#0b8f99}
+.silent{fill:#666;font-style:italic}
+.c0{color:#1f6fb4}.c1{color:#ab4f00}.c2{color:#1f7a29}.c3{color:#c8282d}
+.c4{color:#7d4fb3}.c5{color:#8a5a3c}.c6{color:#b3317a}.c7{color:#08747d}
 .d1{stroke-dasharray:8 3}.d2{stroke-dasharray:3 3}.d3{stroke-dasharray:10 3 2 3}.d4{stroke-dasharray:1 3}
 .d5{stroke-dasharray:14 4}.d6{stroke-dasharray:6 2 2 2}.d7{stroke-dasharray:2 6}
 ";

@@ -5,12 +5,16 @@
 //! Bodies are free. docs/FORMATS.md fixes the contents of the page.
 #![tactic(auto)]
 
-mod look;
+mod draw;
+mod follow;
+mod heads;
 mod page;
+mod replay;
 mod rows;
 mod run;
 mod sections;
 mod sheet;
+mod style;
 mod view;
 
 pub use page::{line_json, live_page, now_json};

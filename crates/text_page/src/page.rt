@@ -1,9 +1,11 @@
 //! The page of a running line, and the data that its script requests.
 
-use crate::look::{DRAW, FOLLOW, HEAD, REFRESH, STYLE};
+use crate::draw::DRAW;
+use crate::follow::FOLLOW;
 use crate::rows::{add_now, name_of};
 use crate::sections::add_places;
 use crate::sheet::{Form, Sheet};
+use crate::style::{HEAD, REFRESH, STYLE};
 use crate::view::{Layout, LineNow};
 use std::alloc::{AllocError, Global};
 
@@ -60,6 +62,6 @@ pub fn live_page(alloc: Global, layout: &Layout, now: &LineNow) -> Result<String
     let events = now.events;
     let tables = sheet.into_text();
     format!(in alloc;
-        "{HEAD}{REFRESH}{STYLE}<h1>Line of NID_C {nid_c}</h1><p id=\"lost\" role=\"alert\"></p></header><main><p>{events} events so far. Each centre is shown at a moment of its own.</p>{tables}</main><script>{DRAW}{FOLLOW}</script></body></html>\n"
+        "{HEAD}Line of NID_C {nid_c}{REFRESH}{STYLE}<h1>Line of NID_C {nid_c}</h1><p id=\"lost\" role=\"alert\"></p></header><main><p>{events} events so far. Each centre is shown at a moment of its own.</p>{tables}</main><script>{DRAW}{FOLLOW}</script></body></html>\n"
     )
 }

@@ -85,7 +85,7 @@ pub(crate) fn cells_of<'a>(layout: &'a Layout, mission: &MissionNow) -> [Cell<'a
         lent_first,
         lent_last,
         section(mission.asked),
-        Cell::Number(u64::from(mission.is_ended)),
+        Cell::Flag(mission.is_ended),
     ]
 }
 
@@ -156,7 +156,7 @@ fn add_centres(sheet: &mut Sheet, layout: &Layout, now: &LineNow) -> Result<(), 
             Cell::Number(u64::from(centre.clock)),
             Cell::Number(centre.taken),
             Cell::Number(centre.seats),
-            Cell::Number(u64::from(centre.is_stuck)),
+            Cell::Flag(centre.is_stuck),
         ])?;
     }
     sheet.end()

@@ -1,10 +1,12 @@
 //! The page of a print: the line after each of its events, in one file that loads nothing.
 
-use crate::look::{DRAW, HEAD, REPLAY, SEALED, SLIDER, STYLE};
+use crate::draw::DRAW;
 use crate::page::add_line;
+use crate::replay::REPLAY;
 use crate::rows::{MISSION, add_last, add_state, cells_of, name_of, number_of, words_of};
 use crate::sections::state_of;
 use crate::sheet::{Cell, Form, Sheet};
+use crate::style::{HEAD, SEALED, SLIDER, STYLE};
 use crate::view::{Layout, LineNow, MissionNow, Phase, SectionNow};
 use std::alloc::{AllocError, Global};
 
@@ -133,7 +135,7 @@ impl RunSheet {
         let nid_c = layout.nid_c;
         let rest = self.sheet.into_text();
         format!(in alloc;
-            "{HEAD}{SEALED}{STYLE}<h1>Run on the line of NID_C {nid_c}</h1><p id=\"lost\"></p></header>{SLIDER}<main><p>Behind event {last} of {all}.</p>{tables}</main><script type=\"application/json\" id=\"run\">{head}{rest}}}</script><script>{DRAW}{REPLAY}</script></body></html>\n"
+            "{HEAD}Run on the line of NID_C {nid_c}{SEALED}{STYLE}<h1>Run on the line of NID_C {nid_c}</h1><p id=\"lost\"></p></header>{SLIDER}<main><p>After event {last} of {all}.</p>{tables}</main><script type=\"application/json\" id=\"run\">{head}{rest}}}</script><script>{DRAW}{REPLAY}</script></body></html>\n"
         )
     }
 }

@@ -106,7 +106,7 @@ pub(crate) fn state_of(now: SectionNow) -> [Cell<'static>; 3] {
     [
         Cell::Text(state),
         number_of(train),
-        Cell::Number(u64::from(now.is_wished)),
+        Cell::Flag(now.is_wished),
     ]
 }
 

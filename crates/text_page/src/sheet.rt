@@ -1,6 +1,7 @@
 //! Writes tables as JSON for a program or as HTML for a person. As JSON a table is a list of lists. The first list
-//! has the names of the columns.
+//! has the names of the columns. As HTML the columns are named in words.
 
+use crate::heads::{title_of, words_of};
 use std::alloc::{AllocError, Global};
 
 #[derive(Clone, Copy)]
@@ -16,6 +17,8 @@ pub(crate) enum Cell<'a> {
     Number(u64),
     /// A number of tenths.
     Tenths(u64),
+    /// Whether a thing is so.
+    Flag(bool),
     Text(&'a str),
 }
 
@@ -80,15 +83,19 @@ impl Sheet {
     fn name(&mut self, name: &str) -> Result<(), AllocError> {
         match self.form {
             Form::Json => write!(self.text, ",\n\"{name}\":[["),
-            Form::Html => write!(self.text, "<h2>{name}</h2><table><tr>"),
+            Form::Html => {
+                let title = title_of(name);
+                write!(self.text, "<h2>{title}</h2><table><tr>")
+            }
         }
     }
 
     // Writes names of columns; the first of them has this number.
     fn heads(&mut self, first: usize, columns: &[&str]) -> Result<(), AllocError> {
+        let form = self.form;
         for (number, column) in columns.iter().enumerate() {
-            self.between(first.saturating_add(number), "<th>")?;
-            self.cell(Cell::Text(column))?;
+            self.between(first.saturating_add(number), "<th scope='col'>")?;
+            self.cell(Cell::Text(head_of(form, column)))?;
         }
         Ok(())
     }
@@ -130,10 +137,16 @@ impl Sheet {
             (Cell::Nothing, Form::Json) => self.text.push_str("null"),
             (Cell::Nothing, Form::Html) => Ok(()),
             (Cell::Number(number), _) => write!(self.text, "{number}"),
-            (Cell::Tenths(tenths), _) => {
+            (Cell::Tenths(tenths), form) => {
                 let (ones, rest) = (tenths / 10, tenths % 10);
-                write!(self.text, "{ones}.{rest}")
+                match (rest, form) {
+                    (0, Form::Html) => write!(self.text, "{ones}"),
+                    _ => write!(self.text, "{ones}.{rest}"),
+                }
             }
+            (Cell::Flag(is_so), Form::Json) => self.text.push(if is_so { '1' } else { '0' }),
+            (Cell::Flag(true), Form::Html) => self.text.push_str("yes"),
+            (Cell::Flag(false), Form::Html) => Ok(()),
             (Cell::Text(text), Form::Html) => self.put(text),
             (Cell::Text(text), Form::Json) => {
                 self.text.push('"')?;
@@ -157,5 +170,13 @@ impl Sheet {
             }
         }
         Ok(())
+    }
+}
+
+// The head of a column.
+fn head_of(form: Form, column: &str) -> &str {
+    match form {
+        Form::Json => column,
+        Form::Html => words_of(column),
     }
 }

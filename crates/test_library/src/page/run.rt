@@ -82,9 +82,9 @@ fn no_event_ends_its_element(rt: HostRuntime) -> Result<(), Fail> {
 }
 
 static LAST_STATE: [&str; 3] = [
-    "<p>Behind event 7 of 7.</p>",
+    "<p>After event 7 of 7.</p>",
     "<tr><td>19<td>A<td>B<td>main<td><td>123.4<td>0<td>1<td>",
-    "<tr><td>2<td>2<td>main<td>200<td>300<td>B<td>kept<td>19<td>0",
+    "<tr><td>2<td>2<td>main<td>200<td>300<td>B<td>kept<td>19<td>\n",
 ];
 
 #[test]

@@ -113,9 +113,9 @@ fn the_line_has_its_sections(rt: HostRuntime) -> Result<(), Fail> {
 }
 
 static OF_PAGE: [&str; 4] = [
-    "<h2>trains</h2><table><tr><th>train<th>supervisor",
+    "<h2>Trains</h2><table><tr><th scope='col'>Train<th scope='col'>Supervisor",
     "<tr><td>19<td>A<td>B<td>main<td><td>123.4<td>0<td>1<td>",
-    "<tr><td>0<td>1<td>main<td>0<td>200<td>A<td>given<td>19<td>0",
+    "<tr><td>0<td>1<td>main<td>0<td>200<td>A<td>given<td>19<td>\n",
     "<noscript><meta http-equiv='refresh'",
 ];
 
