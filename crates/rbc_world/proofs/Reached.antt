@@ -12,14 +12,13 @@ use Rattle.rbc_centre.specs.declared.event.Event.TheVariants as of_centre
 use Rattle.rbc_centre.specs.declared.fault.StepFault.{StepFault}
 use Rattle.rbc_centre.specs.States as one
 use Rattle.rbc_centre.specs.Views.{event_of as one_event}
-use Rattle.rbc_spec.specs.Line.{is_centre, Line, train_number}
+use Rattle.rbc_spec.specs.Line.{is_centre, Line}
 use Rattle.rbc_spec.specs.Message.{TrainMessage}
 use Rattle.rbc_spec.specs.Outcome.{Outcome}
 use Rattle.rbc_spec.specs.Step as step
 use Rattle.rbc_spec.specs.Step.{Refusal}
 use Rattle.rbc_spec.specs.World.{Answer, Answered, at_centre as told_at, Bytes, Delivery, Event, mention, new_world}
 use Rattle.rbc_spec.specs.World.{Set, takes, Unset, World, world_run, world_step}
-use Rattle.rbc_world.proofs.Mentions.{foreign_mention}
 use Rattle.rbc_world.proofs.Steps.{at_centre, delivered, is_centre_within, set_told, step_ok, told_ok, unset_told}
 use Rattle.rbc_world.proofs.Steps.{world_kept}
 use Rattle.rbc_world.specs.Reached.{MayBeTold, WasReached}
@@ -125,14 +124,3 @@ module _ (line : Line) (cs : List Centre) (trains : List ℕ) (c : ℕ) (k new :
       (at_centre line (stands_for line cs trains) cs c (Ok m) each within
       ∙ step_ok line cs trains (step.Train m) c k new at within of_line of_number outcome
       (mention line m.nid_engine trains) after s named) before
-
-  -- after a message of no train of the line, or its refusal
-  pub reached_by_foreign : {X : Type 0} (outcome : X → Outcome) (m : TrainMessage) (result : Result X StepFault)
-      → train_number line m.nid_engine ≡ None
-      → Steps (λ x. (outcome x, one.state_of new)) result
-      (step.step (one.line_of k) (one.number_of k) (step.Train m) (one.state_of k))
-      → OnErr result (one.state_of new ≡ one.state_of k)
-      → ∥ WasReached line (stands_for line (set cs c new) trains) ∥₁
-  reached_by_foreign outcome m (Ok x) none s kept =
-      reached_by_message m (outcome x) trains s (sym (foreign_mention line trains m.nid_engine none))
-  reached_by_foreign outcome m (Err fault) none s kept = reached_still trains refl kept

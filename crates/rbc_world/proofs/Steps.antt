@@ -148,15 +148,6 @@ pub fault_step : (line : Line) (w : World) (cs : List Centre) (c : ℕ) (read : 
 fault_step line w cs c read fault each within e =
     at_centre line w cs c (numbered read) each within ∙ ap (λ r. reads line w c (numbered r)) e
 
-pub unread_gives : (line : Line) (w : World) (cs : List Centre) (c : ℕ) (read : Result TrainText MsgFault)
-    (fault : MsgFault) (result : Result Reply StepFault) (out : OutcomeInMemory) → length cs ≡ length line.centres
-    → c < length cs
-    → (fault ≢ of_message.Memory → read ≡ Err fault) → IfOk result (IsFaultOf fault) → IfErr result (λ e. e ≡ Memory)
-    → Gives (λ r. (answer_by r out, w)) result (world_step line w (Bytes c (numbered read)))
-unread_gives line w cs c read fault (Ok r) out each within shows ok err =
-    fault_step line w cs c read fault each within (shows ok.1) ∙ ap (λ (x : Reply). Ok (answer_by x out, w)) (sym ok.0)
-unread_gives line w cs c read fault (Err e) out each within shows ok err = rw err tt
-
 -- ## Deliveries
 
 -- a frame that was sent is delivered to its receiver, which is a centre of the line

@@ -1,114 +1,73 @@
 //! A train's message arrives at a centre of the line.
 
-ghost use Rattle.std.specs.Prelude.{◌≡◌, ◌<◌, Some, None, true, not, if◌then◌else◌, nat_eq, length, slice_get, OnOk, OnErr};
-ghost use Rattle.std.proofs.Math.ListN.{set};
+ghost use Rattle.std.specs.Prelude.{◌≡◌, ◌==◌, ◌<◌, ◌&&◌, true, not, is_none, if◌then◌else◌, nat_eq, length};
+ghost use Rattle.std.specs.Prelude.{OnOk, OnErr};
+ghost use Rattle.std.specs.List.{list_any};
 ghost use Rattle.indexmap.specs.IndexSet.{spare, insert_key};
 ghost use Rattle.rbc_spec.specs.Line.{train_number};
 ghost use Rattle.rbc_spec.specs.World.{takes, mention};
 ghost use Rattle.rbc_spec.specs.Step.{Train};
 ghost use Rattle.rbc_msgs.specs.StepMessage.{step_message};
 ghost use Rattle.rbc_world.specs.World.{line_of, state_of};
-ghost use Rattle.rbc_world.specs.Views.{answer_by};
+ghost use Rattle.rbc_world.specs.Named.{AreOfLine};
+ghost use Rattle.rbc_world.specs.Views.{answer_of};
 ghost use Rattle.rbc_world.specs.Answers.{Gives, MakesRoom, IfWanted};
 
-use crate::event::Reply;
+use crate::event::Answer;
 use crate::world::World;
 use indexmap::IndexSet;
-use rbc_centre::{Outcome, StepFault};
+use rbc_centre::{Event, StepFault};
+use rbc_line::Line;
 use rbc_msgs::TrainMsg;
 use std::alloc::AllocError;
 
 impl World {
-    // A message arrives at a centre of the line.
+    // A message arrives at a centre of the line. If it is the first mention of its train, room for that is made first.
     #[inline(always)]
     pub(crate) fn hear(
         &mut self,
         c: usize,
-        message: &TrainMsg,
-        out: &mut Outcome,
-    ) -> Result<Reply, StepFault>
+        message: TrainMsg,
+        answer: &mut Answer,
+    ) -> Result<(), StepFault>
         requires { c < length self.old.centres.items }
         ensures line { line_of self.new ≡ line_of self.old }
-        ensures exact { Gives (λ r. (answer_by r out.new, state_of self.new)) result
+        ensures exact { Gives (λ u. (answer_of answer.new, state_of self.new)) result
             (takes (line_of self.old) (state_of self.old) c
-            (mention (line_of self.old) message.now.nid_engine (state_of self.old).trains)
-            (Train (step_message message.now))) }
+            (mention (line_of self.old) message.nid_engine (state_of self.old).trains)
+            (Train (step_message message))) }
         // Memory is needed only for a session, a frame or a first mention.
         ensures memory { IfWanted result
-            (MakesRoom (line_of self.old) (state_of self.old).trains (step_message message.now)) }
+            (MakesRoom (line_of self.old) (state_of self.old).trains (step_message message)) }
         ensures err { OnErr result (state_of self.new ≡ state_of self.old) }
     {
-        match self.line.train_number(message.nid_engine()) {
-            Some(i) => self.hear_from(c, i, message, out),
-            None => self.hear_foreign(c, message, out),
-        }
-    }
-
-    // The message is from the train at this position in the line file. If it is the first mention of the train, room
-    // for that is made first.
-    #[inline(always)]
-    fn hear_from(
-        &mut self,
-        c: usize,
-        i: u8,
-        message: &TrainMsg,
-        out: &mut Outcome,
-    ) -> Result<Reply, StepFault>
-        requires centre { c < length self.old.centres.items }
-        requires number { train_number (line_of self.old) message.now.nid_engine ≡ Some i }
-        ensures line { line_of self.new ≡ line_of self.old }
-        ensures exact { Gives (λ r. (answer_by r out.new, state_of self.new)) result
-            (takes (line_of self.old) (state_of self.old) c
-            (mention (line_of self.old) message.now.nid_engine (state_of self.old).trains)
-            (Train (step_message message.now))) }
-        ensures memory { IfWanted result
-            (MakesRoom (line_of self.old) (state_of self.old).trains (step_message message.now)) }
-        ensures err { OnErr result (state_of self.new ≡ state_of self.old) }
-    {
-        let is_first = is_first_mention(&self.named, i as usize);
-        make_room(&mut self.trains, is_first)?;
-        self.centres[c].hear_from(i, message, out)?;
         let nid_engine = message.nid_engine();
-        add_mention(
-            &mut self.trains,
-            &mut self.named,
-            i as usize,
-            nid_engine,
-            is_first,
-        );
-        Ok(Reply::Outcome)
-    }
-
-    // The message is from an engine that is not of the line.
-    fn hear_foreign(
-        &mut self,
-        c: usize,
-        message: &TrainMsg,
-        out: &mut Outcome,
-    ) -> Result<Reply, StepFault>
-        requires centre { c < length self.old.centres.items }
-        requires foreign { train_number (line_of self.old) message.now.nid_engine ≡ None }
-        ensures line { line_of self.new ≡ line_of self.old }
-        ensures exact { Gives (λ r. (answer_by r out.new, state_of self.new)) result
-            (takes (line_of self.old) (state_of self.old) c
-            (mention (line_of self.old) message.now.nid_engine (state_of self.old).trains)
-            (Train (step_message message.now))) }
-        ensures memory { IfWanted result
-            (MakesRoom (line_of self.old) (state_of self.old).trains (step_message message.now)) }
-        ensures err { OnErr result (state_of self.new ≡ state_of self.old) }
-    {
-        self.centres[c].hear(message, out)?;
-        Ok(Reply::Outcome)
+        let is_first = is_first_mention(&self.line, &self.trains, nid_engine);
+        make_room(&mut self.trains, is_first)?;
+        answer.make_outcome();
+        let Answer::Outcome(out) = answer else {
+            unreachable!()
+        };
+        self.centres[c].step_to(&Event::Train(message), out)?;
+        add_mention(&mut self.trains, nid_engine, is_first);
+        Ok(())
     }
 }
 
-// Whether no message has named the train at this position in the line file before.
+// Whether this is a train of the line that no message has named before. Once all have been named, none is looked up.
 #[inline(always)]
-fn is_first_mention(named: &Vec<bool>, i: usize) -> bool
-    requires { i < length named.now.items }
-    ensures { slice_get named.now.items i ≡ Some (not result) }
+fn is_first_mention(line: &Line, trains: &IndexSet<u32>, nid_engine: u32) -> bool
+    requires { AreOfLine line.now trains.now.keys }
+    ensures { result
+        ≡ not (is_none (train_number line.now nid_engine)) && not (list_any (λ u. nid_engine == u) trains.now.keys) }
 {
-    !named[i]
+    if trains.len() >= line.train_count() as usize {
+        return false;
+    }
+    if trains.contains(&nid_engine) {
+        return false;
+    }
+    line.train_number(nid_engine).is_some()
 }
 
 // Room for a first mention.
@@ -124,25 +83,16 @@ fn make_room(trains: &mut IndexSet<u32>, is_first: bool) -> Result<(), AllocErro
     Ok(())
 }
 
-// Notes the message of the train at this position in the line file, which is perhaps its first mention.
+// Notes the message of a train, which is perhaps its first mention.
 #[inline(always)]
-fn add_mention(
-    trains: &mut IndexSet<u32>,
-    named: &mut Vec<bool>,
-    i: usize,
-    nid_engine: u32,
-    is_first: bool,
-)
-    requires room { is_first ≡ true → 0 < spare trains.old }
-    requires number { i < length named.old.items }
-    ensures trains { trains.new.keys
+fn add_mention(trains: &mut IndexSet<u32>, nid_engine: u32, is_first: bool)
+    requires { is_first ≡ true → 0 < spare trains.old }
+    ensures { trains.new.keys
         ≡ (if is_first then insert_key nat_eq trains.old.keys nid_engine else trains.old.keys) }
-    ensures named { named.new.items ≡ (if is_first then set named.old.items i true else named.old.items) }
 {
     if is_first {
         let Ok(_) = trains.insert(nid_engine) else {
             unreachable!()
         };
-        named[i] = true;
     }
 }

@@ -10,9 +10,7 @@ use Rattle.rbc_world.proofs.Centres.{each_kept}
 use Rattle.rbc_world.proofs.Reached.{reached_by_word}
 use Rattle.rbc_world.proofs.Shown.{seen_at}
 use Rattle.rbc_world.proofs.Steps.{told_err, told_ok, world_kept}
-use Rattle.rbc_world.proofs.Wanted.{fault_wants}
 use Rattle.rbc_world.proofs.world.World.tell.Goals as goal
-use Rattle.rbc_world.specs.declared.event.Reply.{Reply}
 use Rattle.rbc_world.specs.States.{stands_for}
 
 pub returns-in_err-step_to-clause-exact : goal.returns-in_err-step_to-clause-exact
@@ -42,12 +40,10 @@ returns-in_err-step_to-clause-memory c =
     let within : c.args.c < length w.centres.items = search rules in
     let at : slice_get w.centres.items c.args.c ≡ Some c.index_mut.result.now =
     slice_get_read _ _ _ _ refl within c.index_mut.ensures.value in
-    rw (p.1, p.2) (fault_wants (Unit {0}) Reply ((stands_for w.line w.centres.items w.trains.keys).at c.args.c)
-    (one_event c.args.event.now) c.in_err-step_to.field-0.0
-    (subst (λ (x : centre.Centre). IsWantedBy {X = Unit {0}} x (one_event c.args.event.now)
+    rw (p.1, p.2) (subst (λ (x : centre.Centre). IsWantedBy {X = Unit {0}} x (one_event c.args.event.now)
     (Err c.in_err-step_to.field-0.0))
     (seen_at w.line w.centres.items w.trains.keys c.args.c (λ k. k) c.index_mut.result.now at)
-    c.in_err-step_to.ensures.memory))
+    c.in_err-step_to.ensures.memory)
 
 pub invariant_of-self : goal.invariant_of-self
 invariant_of-self c =
@@ -58,8 +54,7 @@ invariant_of-self c =
     slice_get_read _ _ _ _ refl within c.index_mut.ensures.value in
     record {
       each_centre = simp length-set w.each_centre;
-      each_train = w.each_train;
-      are_named = w.are_named;
+      are_of_line = w.are_of_line;
       one_line =
           each_kept (λ d k. one.line_of k ≡ w.line) cs c.args.c c.step_to.new.self within
           (c.step_to.ensures.line ∙ w.one_line _ _ at) w.one_line;
