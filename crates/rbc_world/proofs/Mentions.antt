@@ -1,5 +1,5 @@
 -- Trains that messages name for the first time.
-use Rattle.std.proofs.Common.{[], ◌&&◌, ◌++◌, ◌==◌, ◌||◌, ◌∙◌, ◌∷◌, ◌≡◌, ◌≢◌, ◌≤◌, ap, arith, Bool, false}
+use Rattle.std.proofs.Common.{[], ◌++◌, ◌==◌, ◌||◌, ◌∙◌, ◌∷◌, ◌≡◌, ◌≢◌, ◌≤◌, ap, arith, Bool, false}
 use Rattle.std.proofs.Common.{if◌then◌else◌, inl, inr, is_none, length, List, map, nat_eq, None, not, Option, refl}
 use Rattle.std.proofs.Common.{Some, subst, sym, true, ℕ}
 use Rattle.std.proofs.lemmas.Bool.Decides.{eqb_tells, nat_tests}
@@ -11,32 +11,43 @@ use Rattle.std.proofs.lemmas.Map.Keys.{IsDistinct-cons}
 use Rattle.std.proofs.lemmas.Map.Steps.{length-le_from_keys}
 use Rattle.std.specs.List.{AllByRecursion, IsDistinct, list_any, position}
 use Rattle.std.specs.Map.{lookup}
-use Rattle.std.specs.Option.{IsSome}
-use Rattle.indexmap.specs.IndexSet.{insert_key}
+use Rattle.std.specs.Option.{IfSome, IsSome}
+use Rattle.rbc_centre.specs.declared.event.Event.{Event}
+use Rattle.rbc_centre.specs.declared.event.Event.TheVariants as code
 use Rattle.rbc_spec.specs.Line.{Line, Train, train_number}
 use Rattle.rbc_spec.specs.World.{mention}
-use Rattle.rbc_world.specs.Named.{AreOfLine}
+use Rattle.rbc_world.specs.Named.{AreOfLine, mentioned, NamesFirst, with_first}
 
-by_cases : {T : Type 0} (foreign listed first : Bool) (old new : T) → first ≡ not foreign && not listed
-    → (if first then (if listed then old else new) else old) ≡ (if foreign then old else (if listed then old else new))
-by_cases true listed first old new is = rw is refl
-by_cases false true first old new is = rw is refl
-by_cases false false first old new is = rw is refl
+-- ## A mention and the list
 
-is_new : {T : Type 0} (foreign listed first : Bool) (old new : T) → first ≡ not foreign && not listed → first ≡ true
-    → (if foreign then old else (if listed then old else new)) ≡ new
-is_new true listed first old new is so = absurd (let wrong : false ≡ true = sym is ∙ so in cc)
-is_new false true first old new is so = absurd (let wrong : false ≡ true = sym is ∙ so in cc)
-is_new false false first old new is so = refl
+pub foreign_mention : (line : Line) (t : ℕ) (trains : List ℕ) → train_number line t ≡ None → mention line t trains ≡ trains
+foreign_mention line t trains none = rw none refl
 
-module _ (line : Line) (t : ℕ) (trains : List ℕ) (first : Bool)
-    (is : first ≡ not (is_none (train_number line t)) && not (list_any (λ u. t == u) trains)) where
-  pub named : (if first then insert_key nat_eq trains t else trains) ≡ mention line t trains
-  named = by_cases (is_none (train_number line t)) (list_any (λ u. t == u) trains) first trains (trains ++ t ∷ []) is
+pub first_names : (line : Line) (t i : ℕ) (trains : List ℕ) → train_number line t ≡ Some i
+    → list_any (λ u. t == u) trains ≡ false → mention line t trains ≡ trains ++ t ∷ []
+first_names line t i trains at new = rw (at, new) refl
 
-  pub named_first : first ≡ true → mention line t trains ≡ trains ++ t ∷ []
-  named_first =
-      is_new (is_none (train_number line t)) (list_any (λ u. t == u) trains) first trains (trains ++ t ∷ []) is
+pub first_inserted : (line : Line) (t i : ℕ) (trains : List ℕ) → train_number line t ≡ Some i
+    → list_any (λ u. t == u) trains ≡ false → with_first (Some t) trains ≡ mention line t trains
+first_inserted line t i trains at new = rw (at, new) refl
+
+kept_if : {T : Type 0} (foreign listed : Bool) (old new : T) → (foreign ≡ false → listed ≡ false → ⊥)
+    → (if foreign then old else (if listed then old else new)) ≡ old
+kept_if true listed old new never = refl
+kept_if false true old new never = refl
+kept_if false false old new never = absurd (never refl refl)
+
+pub listed_mention : (line : Line) (t : ℕ) (trains : List ℕ) → list_any (λ u. t == u) trains ≡ true
+    → mention line t trains ≡ trains
+listed_mention line t trains listed =
+    kept_if (is_none (train_number line t)) (list_any (λ u. t == u) trains) trains (trains ++ t ∷ [])
+    (λ here new. let wrong : true ≡ false = sym listed ∙ new in cc)
+
+-- the first mention that was looked for needs memory
+pub named_if : (line : Line) (event : Event) (trains : List ℕ) (first : Option ℕ) → IsSome first
+    → IfSome first (λ t. NamesFirst line event trains) → NamesFirst line event trains
+named_if line event trains (Some t) some names = names
+named_if line event trains None some names = cc
 
 -- ## The trains of the line
 
@@ -70,10 +81,17 @@ by_mention line t trains true listed is are = are
 by_mention line t trains false true is are = are
 by_mention line t trains false false is are = more_of_line line t trains is are
 
-pub still_of_line : (line : Line) (t : ℕ) (trains : List ℕ) → AreOfLine line trains
+still_of_line : (line : Line) (t : ℕ) (trains : List ℕ) → AreOfLine line trains
     → AreOfLine line (mention line t trains)
 still_of_line line t trains are =
     by_mention line t trains (is_none (train_number line t)) (list_any (λ u. t == u) trains) refl are
+
+pub still_mentioned : (line : Line) (event : Event) (trains : List ℕ) → AreOfLine line trains
+    → AreOfLine line (mentioned line event trains)
+still_mentioned line (code.Train m) trains are = still_of_line line m.nid_engine trains are
+still_mentioned line (code.Set s) trains are = are
+still_mentioned line (code.Unset s) trains are = are
+still_mentioned line (code.Deliver from frame) trains are = are
 
 -- no train was named
 pub none_named : (line : Line) (trains : List ℕ) → trains ≡ [] → AreOfLine line trains
@@ -127,18 +145,16 @@ module _ (line : Line) (t : ℕ) (trains : List ℕ) (here : is_none (train_numb
       length-le_from_keys nat_eq_equiv (t ∷ trains) (paired line.trains)
       (IsDistinct-cons nat_eq t trains (apart_from t trains new) distinct) of_line
 
-no_first : (foreign listed : Bool) → (foreign ≡ false → listed ≡ false → ⊥) → false ≡ not foreign && not listed
-no_first true listed never = refl
-no_first false true never = refl
-no_first false false never = absurd (never refl refl)
-
 -- where as many were named as the line has, no mention is a first one
-pub all_named : (line : Line) (t : ℕ) (trains : List ℕ) → IsDistinct nat_eq trains → AreOfLine line trains
-    → length line.trains ≤ length trains
-    → false ≡ not (is_none (train_number line t)) && not (list_any (λ u. t == u) trains)
-all_named line t trains distinct are all =
-    no_first (is_none (train_number line t)) (list_any (λ u. t == u) trains)
+pub all_named : (line : Line) (event : Event) (trains : List ℕ) → IsDistinct nat_eq trains → AreOfLine line trains
+    → length line.trains ≤ length trains → trains ≡ mentioned line event trains
+all_named line (code.Train m) trains distinct are all =
+    let t = m.nid_engine in
+    sym (kept_if (is_none (train_number line t)) (list_any (λ u. t == u) trains) trains (trains ++ t ∷ [])
     (λ here new.
     let more = one_more line t trains here are new distinct in
     let same = length-map line.trains (λ (p : Train). (p.nid_engine, p.registrar)) in
-    omega (arith, more, same, all))
+    omega (arith, more, same, all)))
+all_named line (code.Set s) trains distinct are all = refl
+all_named line (code.Unset s) trains distinct are all = refl
+all_named line (code.Deliver from frame) trains distinct are all = refl

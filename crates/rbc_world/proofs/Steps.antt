@@ -96,32 +96,30 @@ pub at_centre : (line : Line) (w : World) (cs : List Centre) (c : ℕ) (read : R
 unfolding world_step
 at_centre line w cs c read each within = rw (is_centre_within line cs c each within) refl
 
-pub told_within : (line : Line) (w : World) (cs : List Centre) (c : ℕ) (event : step.Event)
+told_within : (line : Line) (w : World) (cs : List Centre) (c : ℕ) (named : List ℕ) (event : step.Event)
     → length cs ≡ length line.centres → c < length cs
-    → told_at line w c (takes line w c w.trains event) ≡ takes line w c w.trains event
-told_within line w cs c event each within = rw (is_centre_within line cs c each within) refl
+    → told_at line w c (takes line w c named event) ≡ takes line w c named event
+told_within line w cs c named event each within = rw (is_centre_within line cs c each within) refl
 
-pub told_ok : (line : Line) (cs : List Centre) (trains : List ℕ) (event : step.Event) (c : ℕ) (k new : Centre)
-    → slice_get cs c ≡ Some k → c < length cs → one.line_of k ≡ line → one.number_of k ≡ c
-    → length cs ≡ length line.centres → (outcome : Outcome)
-    → step.step (one.line_of k) (one.number_of k) event (one.state_of k) ≡ Ok (outcome, one.state_of new)
-    → told_at line (stands_for line cs trains) c
-    (takes line (stands_for line cs trains) c (stands_for line cs trains).trains event)
-    ≡ Ok (Answered outcome, stands_for line (set cs c new) trains)
-unfolding stands_for
-told_ok line cs trains event c k new at within of_line of_number each outcome s =
-    told_within line (stands_for line cs trains) cs c event each within
-    ∙ step_ok line cs trains event c k new at within of_line of_number outcome trains trains s refl
+module _ (line : Line) (cs : List Centre) (trains : List ℕ) (event : step.Event) (c : ℕ) (k new : Centre)
+    (at : slice_get cs c ≡ Some k) (within : c < length cs)
+    (of_line : one.line_of k ≡ line) (of_number : one.number_of k ≡ c) (each : length cs ≡ length line.centres) where
+  pub told_ok : (outcome : Outcome) (named after : List ℕ)
+      → step.step (one.line_of k) (one.number_of k) event (one.state_of k) ≡ Ok (outcome, one.state_of new)
+      → after ≡ named
+      → told_at line (stands_for line cs trains) c (takes line (stands_for line cs trains) c named event)
+      ≡ Ok (Answered outcome, stands_for line (set cs c new) after)
+  told_ok outcome named after s same =
+      told_within line (stands_for line cs trains) cs c named event each within
+      ∙ step_ok line cs trains event c k new at within of_line of_number outcome named after s same
 
-pub told_err : (line : Line) (cs : List Centre) (trains : List ℕ) (event : step.Event) (c : ℕ) (k new : Centre)
-    → slice_get cs c ≡ Some k → c < length cs → one.line_of k ≡ line → one.number_of k ≡ c
-    → length cs ≡ length line.centres → (fault : StepFault)
-    → one_step.IsRefusal fault (step.step (one.line_of k) (one.number_of k) event (one.state_of k))
-    → IsRefusal fault (told_at line (stands_for line cs trains) c
-    (takes line (stands_for line cs trains) c (stands_for line cs trains).trains event))
-told_err line cs trains event c k new at within of_line of_number each fault s =
-    rw (told_within line (stands_for line cs trains) cs c event each within)
-    (step_err line cs trains event c k new at within of_line of_number (stands_for line cs trains).trains fault s)
+  pub told_err : (named : List ℕ) (fault : StepFault)
+      → one_step.IsRefusal fault (step.step (one.line_of k) (one.number_of k) event (one.state_of k))
+      → IsRefusal fault (told_at line (stands_for line cs trains) c
+      (takes line (stands_for line cs trains) c named event))
+  told_err named fault s =
+      rw (told_within line (stands_for line cs trains) cs c named event each within)
+      (step_err line cs trains event c k new at within of_line of_number named fault s)
 
 pub set_told : (line : Line) (w : World) (c s : ℕ)
     → world_step line w (Set c s) ≡ told_at line w c (takes line w c w.trains (step.Set s))
@@ -135,12 +133,17 @@ unset_told line w c s = refl
 
 -- ## Bytes that were read
 
-pub message_step : (line : Line) (w : World) (cs : List Centre) (c : ℕ) (read : Result TrainText MsgFault)
-    (m : TrainText) → length cs ≡ length line.centres → c < length cs → read ≡ Ok m
+pub bytes_told : (line : Line) (w : World) (c : ℕ) (m : TrainMessage)
+    → world_step line w (Bytes c (Ok m))
+    ≡ told_at line w c (takes line w c (mention line m.nid_engine w.trains) (step.Train m))
+unfolding world_step
+bytes_told line w c m = refl
+
+pub message_step : (line : Line) (w : World) (c : ℕ) (read : Result TrainText MsgFault) (m : TrainText) → read ≡ Ok m
     → world_step line w (Bytes c (numbered read))
-    ≡ takes line w c (mention line m.nid_engine w.trains) (step.Train (step_message m))
-message_step line w cs c read m each within e =
-    at_centre line w cs c (numbered read) each within ∙ ap (λ r. reads line w c (numbered r)) e
+    ≡ told_at line w c (takes line w c (mention line m.nid_engine w.trains) (step.Train (step_message m)))
+message_step line w c read m e =
+    ap (λ r. world_step line w (Bytes c (numbered r))) e ∙ bytes_told line w c (step_message m)
 
 pub fault_step : (line : Line) (w : World) (cs : List Centre) (c : ℕ) (read : Result TrainText MsgFault)
     (fault : MsgFault) → length cs ≡ length line.centres → c < length cs → read ≡ Err fault

@@ -5,13 +5,13 @@ ghost use Rattle.rbc_msgs.specs.TrainReading.{read_train};
 ghost use Rattle.rbc_world.specs.States.{AtBeginning, stands_for};
 ghost use Rattle.rbc_world.specs.Reached.{WasReached, MayBeTold};
 ghost use Rattle.rbc_world.specs.Stepped.{KeepsTheorems, IsWorldOf};
-ghost use Rattle.rbc_world.specs.Named.{AreOfLine};
+ghost use Rattle.rbc_world.specs.Named.{AreOfLine, mentioned};
 ghost use Rattle.rbc_centre.specs.declared.centre.Centre.{Centre};
 ghost use Rattle.rbc_centre.specs.States as one;
-ghost use Rattle.rbc_centre.specs.Answer as one_step;
 ghost use Rattle.rbc_centre.specs.Views.{event_of as one_event};
 
 use crate::event::{Answer, WorldEvent};
+use crate::hearing::{add_mention, first_mention, make_room};
 use indexmap::IndexSet;
 use rbc_centre::{Centre, Event, Frame, StepFault};
 use rbc_line::Line;
@@ -36,7 +36,7 @@ pub struct World {
 impl World {
     ghost use Rattle.rbc_world.specs.World.{line_of, state_of};
     ghost use Rattle.rbc_world.specs.Views.{event_of, answer_of, nothing_answered, numbered};
-    ghost use Rattle.rbc_world.specs.Answers.{Gives, TakesMemory, BytesTakeMemory, IsNextSent, IfWanted};
+    ghost use Rattle.rbc_world.specs.Answers.{Gives, TakesMemory, BytesTakeMemory, EventTakesMemory, IsNextSent, IfWanted};
 
     /// The centres of the line in their initial state. A copy of the line is kept.
     pub fn new(alloc: Global, line: &Line) -> Result<World, AllocError>
@@ -141,26 +141,31 @@ impl World {
         }
     }
 
-    // A centre takes an event that it may get, such as a frame that was sent to it.
+    // A centre takes an event that it may get, such as a frame that was sent to it. Room for a first mention is made
+    // first.
     #[inline(always)]
     fn tell(&mut self, c: u8, event: &Event, answer: &mut Answer) -> Result<(), StepFault>
         requires { MayBeTold (state_of self.old) c event.now }
         ensures line { line_of self.new ≡ line_of self.old }
         ensures exact { Gives (λ u. (answer_of answer.new, state_of self.new)) result
             (at_centre (line_of self.old) (state_of self.old) c
-            (takes (line_of self.old) (state_of self.old) c (state_of self.old).trains (one_event event.now))) }
-        ensures memory { one_step.IsWantedBy ((state_of self.old).at c) (one_event event.now) result }
+            (takes (line_of self.old) (state_of self.old) c
+            (mentioned (line_of self.old) event.now (state_of self.old).trains) (one_event event.now))) }
+        ensures memory { IfWanted result (EventTakesMemory (line_of self.old) (state_of self.old) c event.now) }
         ensures err { OnErr result (state_of self.new ≡ state_of self.old) }
     {
         if c as usize >= self.centres.len() {
             *answer = Answer::NoCentre;
             return Ok(());
         }
+        let first = first_mention(&self.line, &self.trains, event);
+        make_room(&mut self.trains, first)?;
         answer.make_outcome();
         let Answer::Outcome(out) = answer else {
             unreachable!()
         };
         self.centres[c as usize].step_to(event, out)?;
+        add_mention(&mut self.trains, first);
         Ok(())
     }
 
@@ -216,7 +221,7 @@ impl World {
             return Ok(());
         }
         match decode_train(self.alloc, bytes) {
-            Ok(message) => self.hear(c as usize, message, answer),
+            Ok(message) => self.tell(c, &Event::Train(message), answer),
             Err(MsgFault::Memory) => Err(StepFault::Memory),
             Err(fault) => {
                 *answer = Answer::Fault(fault);

@@ -23,7 +23,7 @@ returns-in-Some-clause-exact c =
 pub returns-in-Some-clause-memory : goal.returns-in-Some-clause-memory
 returns-in-Some-clause-memory c =
     let w = c.args.self.now in
-    delivery_wants ((state_of w).at c.args.to) c.args.from c.in-Some.frame
+    delivery_wants w.line (state_of w) c.args.to c.args.from c.in-Some.frame
     (frame_sent (state_of w) c.args.from c.args.to c.args.number) c.tell.result
     (sym c.frame_sent.ensures.value ∙ c.in-Some.is) c.tell.ensures.memory
 
