@@ -20,7 +20,8 @@ use Rattle.rbc_world.specs.Named.{AreOfLine, mentioned, NamesFirst, with_first}
 
 -- ## A mention and the list
 
-pub foreign_mention : (line : Line) (t : ℕ) (trains : List ℕ) → train_number line t ≡ None → mention line t trains ≡ trains
+pub foreign_mention : (line : Line) (t : ℕ) (trains : List ℕ) → train_number line t ≡ None
+    → mention line t trains ≡ trains
 foreign_mention line t trains none = rw none refl
 
 pub first_names : (line : Line) (t i : ℕ) (trains : List ℕ) → train_number line t ≡ Some i
@@ -145,7 +146,7 @@ module _ (line : Line) (t : ℕ) (trains : List ℕ) (here : is_none (train_numb
       length-le_from_keys nat_eq_equiv (t ∷ trains) (paired line.trains)
       (IsDistinct-cons nat_eq t trains (apart_from t trains new) distinct) of_line
 
--- where as many were named as the line has, no mention is a first one
+-- if as many were named as the line has, no mention is a first one
 pub all_named : (line : Line) (event : Event) (trains : List ℕ) → IsDistinct nat_eq trains → AreOfLine line trains
     → length line.trains ≤ length trains → trains ≡ mentioned line event trains
 all_named line (code.Train m) trains distinct are all =

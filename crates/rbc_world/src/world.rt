@@ -36,7 +36,8 @@ pub struct World {
 impl World {
     ghost use Rattle.rbc_world.specs.World.{line_of, state_of};
     ghost use Rattle.rbc_world.specs.Views.{event_of, answer_of, nothing_answered, numbered};
-    ghost use Rattle.rbc_world.specs.Answers.{Gives, TakesMemory, BytesTakeMemory, EventTakesMemory, IsNextSent, IfWanted};
+    ghost use Rattle.rbc_world.specs.Answers.{Gives, TakesMemory, BytesTakeMemory, EventTakesMemory};
+    ghost use Rattle.rbc_world.specs.Answers.{IsNextSent, IfWanted};
 
     /// The centres of the line in their initial state. A copy of the line is kept.
     pub fn new(alloc: Global, line: &Line) -> Result<World, AllocError>

@@ -1,11 +1,11 @@
-use Rattle.std.proofs.Common.{◌<◌, ◌∙◌, ◌≡◌, ap, Err, inl, inr, length, List, refl, rules, slice_get, Some, subst, sym, ℕ}
+use Rattle.std.proofs.Common.{◌<◌, ◌∙◌, ◌≡◌, ap, inr, length, refl, rules, slice_get, Some, subst, sym}
 use Rattle.std.proofs.lemmas.Option.{slice_get_read}
 use Rattle.std.proofs.lemmas.Result.{err_from_is_err_and}
 use Rattle.std.proofs.Math.ListN.{length-set}
 use Rattle.rbc_centre.specs.States as one
 use Rattle.rbc_centre.specs.Views.{event_of as one_event}
 use Rattle.rbc_world.proofs.Centres.{each_kept}
-use Rattle.rbc_world.proofs.Mentions.{still_mentioned}
+use Rattle.rbc_world.proofs.Mentions.{named_if, still_mentioned}
 use Rattle.rbc_world.proofs.Reached.{reached_by, reached_still}
 use Rattle.rbc_world.proofs.Shown.{seen_at}
 use Rattle.rbc_world.proofs.Steps.{told_err, told_ok, world_kept}
@@ -50,8 +50,8 @@ pub returns-in_err-make_room-clause-memory : goal.returns-in_err-make_room-claus
 unfolding stands_for
 returns-in_err-make_room-clause-memory c =
     let p = err_from_is_err_and c.from_residual.result c.from_residual.ensures.1 in
-    rw (p.1, p.2) (inr (named_if c.args.self.now.line c.args.event.now c.args.self.now.trains.keys c.first_mention-first.result c.in_err-make_room.ensures.wanted
-    c.first_mention-first.ensures.some))
+    rw (p.1, p.2) (inr (named_if c.args.self.now.line c.args.event.now c.args.self.now.trains.keys
+    c.first_mention-first.result c.in_err-make_room.ensures.wanted c.first_mention-first.ensures.some))
 
 pub invariant_of-self-2 : goal.invariant_of-self-2
 invariant_of-self-2 c =
