@@ -154,7 +154,7 @@ all_named line (code.Train m) trains distinct are all =
     sym (kept_if (is_none (train_number line t)) (list_any (λ u. t == u) trains) trains (trains ++ t ∷ [])
     (λ here new.
     let more = one_more line t trains here are new distinct in
-    let same = length-map line.trains (λ (p : Train). (p.nid_engine, p.registrar)) in
+    let same = length-map {B = ℕ × ℕ} line.trains (λ (p : Train). (p.nid_engine, p.registrar)) in
     omega (arith, more, same, all)))
 all_named line (code.Set s) trains distinct are all = refl
 all_named line (code.Unset s) trains distinct are all = refl

@@ -3,17 +3,15 @@ use Rattle.std.proofs.Common.{◌<◌, ◌∙◌, ◌≡◌, ◌≢◌, ◌≤�
 use Rattle.std.proofs.Common.{Result, set, slice_get, Some, sym, true, ℕ}
 use Rattle.std.proofs.lemmas.Bool.Decides.{nat_tests}
 use Rattle.std.specs.Option.{option_map_or}
-use Rattle.std.specs.Result.{IfErr, IfOk}
+use Rattle.std.specs.Result.{IfOk}
 use Rattle.law_reached.proofs.Known.{goes, promises}
 use Rattle.law_reached.proofs.Missions.{forced}
 use Rattle.rbc_centre.specs.Answer as one_step
 use Rattle.rbc_centre.specs.declared.centre.Centre.{Centre}
 use Rattle.rbc_centre.specs.declared.fault.StepFault.{StepFault}
 use Rattle.rbc_centre.specs.declared.fault.StepFault.TheVariants.{ClockEnd, LinkFull, Memory}
-use Rattle.rbc_centre.specs.declared.outcome.Outcome.{Outcome as OutcomeInMemory}
 use Rattle.rbc_centre.specs.States as one
 use Rattle.rbc_msgs.specs.declared.fault.MsgFault.{MsgFault}
-use Rattle.rbc_msgs.specs.declared.fault.MsgFault.TheVariants as of_message
 use Rattle.rbc_msgs.specs.Faults.{fault_number}
 use Rattle.rbc_msgs.specs.StepMessage.{step_message}
 use Rattle.rbc_msgs.specs.TrainText.{TrainText}
@@ -31,11 +29,10 @@ use Rattle.rbc_spec.specs.World.{NoCentre, NotSent, reads, Set, stepped, takes, 
 use Rattle.rbc_world.proofs.Centres.{centre_at, centres_of-kept, centres_of-set}
 use Rattle.rbc_world.proofs.Known.{world_known, world_local}
 use Rattle.rbc_world.specs.Answers.{Gives, IsRefusal}
-use Rattle.rbc_world.specs.declared.event.Reply.{Reply}
 use Rattle.rbc_world.specs.declared.event.WorldEvent.{WorldEvent}
 use Rattle.rbc_world.specs.Reached.{WasReached}
 use Rattle.rbc_world.specs.States.{centres_of, stands_for}
-use Rattle.rbc_world.specs.Views.{answer_by, event_of, IsFaultOf, numbered}
+use Rattle.rbc_world.specs.Views.{event_of, numbered}
 
 -- ## An event that centre c takes
 

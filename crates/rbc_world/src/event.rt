@@ -49,7 +49,7 @@ impl Answer {
         match self {
             Answer::Outcome(_) => {}
             Answer::NoCentre | Answer::NotSent | Answer::Fault(_) => {
-                *self = Answer::nothing();
+                *self = Answer::Outcome(Outcome::nothing());
             }
         }
     }
