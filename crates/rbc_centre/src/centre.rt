@@ -9,7 +9,6 @@ ghost use Rattle.rbc_book.specs.Entries.{entry_of};
 ghost use Rattle.rbc_line.specs.SectionRuns.{run_of};
 ghost use Rattle.rbc_train.specs.rbc_place.Places.{place_of};
 ghost use Rattle.rbc_train.specs.Desks.{mission_by};
-ghost use Rattle.rbc_msgs.specs.StepMessage.{step_message};
 ghost use Rattle.rbc_session.specs.SessionStates.{phase_of};
 ghost use Rattle.rbc_centre.specs.Answer.{Steps, IsWantedBy, IsRefusalOf};
 ghost use Rattle.rbc_centre.specs.Kept.{IsCentre};
@@ -27,7 +26,6 @@ use rbc_handover::HandoverCount;
 use rbc_line::{Line, SectionRun};
 use rbc_link::Links;
 use rbc_linkmsg::{Body, Frame};
-use rbc_msgs::TrainMsg;
 use rbc_right::Registrar;
 use rbc_session::{Phase, Sessions};
 use rbc_train::{TrainPage, TrainState};
@@ -241,6 +239,7 @@ impl Centre {
 
     /// The same step, which writes its outcome over `out`, and uses its list of frames again. If it is refused, `out`
     /// has no meaning.
+    #[inline(always)]
     pub fn step_to(&mut self, event: &Event, out: &mut Outcome) -> Result<(), StepFault>
         ensures line { line_of self.new ≡ line_of self.old }
         ensures number { number_of self.new ≡ number_of self.old }
@@ -257,20 +256,5 @@ impl Centre {
             Event::Deliver { from, frame } => self.deliver(*from, frame, out)?,
         }
         Ok(())
-    }
-
-    /// Takes a train's message: the step of that event.
-    #[inline(always)]
-    pub fn hear(&mut self, message: &TrainMsg, out: &mut Outcome) -> Result<(), StepFault>
-        ensures line { line_of self.new ≡ line_of self.old }
-        ensures number { number_of self.new ≡ number_of self.old }
-        ensures exact { Steps (λ u. (outcome_of out.new, state_of self.new)) result
-            (spec.step (line_of self.old) (number_of self.old) (spec.Train (step_message message.now))
-            (state_of self.old)) }
-        ensures memory { IsWantedBy (state_of self.old) (spec.Train (step_message message.now)) result }
-        ensures err { OnErr result (state_of self.new ≡ state_of self.old) }
-    {
-        self.may_take(self.clock)?;
-        Ok(self.take(message, out)?)
     }
 }

@@ -42,27 +42,6 @@ impl Centre {
         self.take_from(i, message, out)
     }
 
-    /// Takes a message of the train at this position in the line file: the step of that event.
-    #[inline(always)]
-    pub fn hear_from(
-        &mut self,
-        number: u8,
-        message: &TrainMsg,
-        out: &mut Outcome,
-    ) -> Result<(), StepFault>
-        requires { train_number (line_of self.old) message.now.nid_engine ≡ Some number }
-        ensures line { line_of self.new ≡ line_of self.old }
-        ensures number { number_of self.new ≡ number_of self.old }
-        ensures exact { Steps (λ u. (outcome_of out.new, state_of self.new)) result
-            (spec.step (line_of self.old) (number_of self.old) (spec.Train (step_message message.now))
-            (state_of self.old)) }
-        ensures memory { IsWantedBy (state_of self.old) (spec.Train (step_message message.now)) result }
-        ensures err { OnErr result (state_of self.new ≡ state_of self.old) }
-    {
-        self.may_take(self.clock)?;
-        Ok(self.take_from(number, message, out)?)
-    }
-
     // The step of a message of train number i of the line, at a centre that refuses none.
     #[inline(always)]
     fn take_from(&mut self, i: u8, message: &TrainMsg, out: &mut Outcome) -> Result<(), AllocError>

@@ -20,37 +20,7 @@ use rbc_linkmsg::Body;
 use std::alloc::AllocError;
 
 impl Centre {
-    /// The interlocking releases a section: the step of that event.
-    #[inline(always)]
-    pub fn step_set(&mut self, s: u16, out: &mut Outcome) -> Result<(), StepFault>
-        ensures line { line_of self.new ≡ line_of self.old }
-        ensures number { number_of self.new ≡ number_of self.old }
-        ensures exact { Steps (λ u. (outcome_of out.new, state_of self.new)) result
-            (step.step (line_of self.old) (number_of self.old) (step.Set s) (state_of self.old)) }
-        ensures memory { IsWantedBy (state_of self.old) (step.Set s) result }
-        ensures err { OnErr result (state_of self.new ≡ state_of self.old) }
-    {
-        self.may_take(self.clock)?;
-        self.set(s, out);
-        Ok(())
-    }
-
-    /// The interlocking takes a section back: the step of that event.
-    #[inline(always)]
-    pub fn step_unset(&mut self, s: u16, out: &mut Outcome) -> Result<(), StepFault>
-        ensures line { line_of self.new ≡ line_of self.old }
-        ensures number { number_of self.new ≡ number_of self.old }
-        ensures exact { Steps (λ u. (outcome_of out.new, state_of self.new)) result
-            (step.step (line_of self.old) (number_of self.old) (step.Unset s) (state_of self.old)) }
-        ensures memory { IsWantedBy (state_of self.old) (step.Unset s) result }
-        ensures err { OnErr result (state_of self.new ≡ state_of self.old) }
-    {
-        self.may_take(self.clock)?;
-        Ok(self.unset(s, out)?)
-    }
-
     /// The interlocking releases a section.
-    #[inline(always)]
     pub(crate) fn set(&mut self, s: u16, out: &mut Outcome)
         requires allowed { MayTake self.old (step.Set s) }
         ensures place { KeepsPlace self.old self.new }
@@ -65,7 +35,6 @@ impl Centre {
 
     /// The interlocking takes a section back. A train with the section in its movement authority gets a request to
     /// shorten. If the section is out, each other centre is asked for it. Room for the frames is made first.
-    #[inline(always)]
     pub(crate) fn unset(&mut self, s: u16, out: &mut Outcome) -> Result<(), AllocError>
         requires allowed { MayTake self.old (step.Unset s) }
         ensures place { KeepsPlace self.old self.new }

@@ -1,135 +1,161 @@
 -- Trains that messages name for the first time.
-use Rattle.std.proofs.Common.{[], ◌&&◌, ◌++◌, ◌<◌, ◌==◌, ◌||◌, ◌∙◌, ◌∷◌, ◌≡◌, ◌≢◌, ap, arith, Bool, false}
-use Rattle.std.proofs.Common.{if◌then◌else◌, inl, inr, is_none, length, List, nat_eq, None, not, refl, set, slice_get}
+use Rattle.std.proofs.Common.{[], ◌++◌, ◌==◌, ◌||◌, ◌∙◌, ◌∷◌, ◌≡◌, ◌≢◌, ◌≤◌, ap, arith, Bool, false}
+use Rattle.std.proofs.Common.{if◌then◌else◌, inl, inr, is_none, length, List, map, nat_eq, None, not, Option, refl}
 use Rattle.std.proofs.Common.{Some, subst, sym, true, ℕ}
 use Rattle.std.proofs.lemmas.Bool.Decides.{eqb_tells, nat_tests}
-use Rattle.std.proofs.lemmas.List.{get_or-replicate}
-use Rattle.std.proofs.lemmas.List.Folds.{list_any-append}
+use Rattle.std.proofs.lemmas.Cmp.{nat_eq_equiv}
+use Rattle.std.proofs.lemmas.List.{length-map}
+use Rattle.std.proofs.lemmas.List.Folds.{list_any-append, list_any_at}
 use Rattle.std.proofs.lemmas.List.Quantifiers.{position-Some}
-use Rattle.std.proofs.lemmas.Option.{get_or_from_slice_get, slice_get_within}
-use Rattle.std.proofs.Math.ListN.{length-replicate, length-set, replicate}
-use Rattle.std.specs.List.{list_any}
-use Rattle.indexmap.specs.IndexSet.{insert_key}
-use Rattle.rbc_centre.proofs.States.{other_train, same_train, slice_get-set_other, slice_get-set_same}
+use Rattle.std.proofs.lemmas.Map.Keys.{IsDistinct-cons}
+use Rattle.std.proofs.lemmas.Map.Steps.{length-le_from_keys}
+use Rattle.std.specs.List.{AllByRecursion, IsDistinct, list_any, position}
+use Rattle.std.specs.Map.{lookup}
+use Rattle.std.specs.Option.{IfSome, IsSome}
+use Rattle.rbc_centre.specs.declared.event.Event.{Event}
+use Rattle.rbc_centre.specs.declared.event.Event.TheVariants as code
 use Rattle.rbc_spec.specs.Line.{Line, Train, train_number}
 use Rattle.rbc_spec.specs.World.{mention}
-use Rattle.rbc_world.specs.Named.{AreNamed}
+use Rattle.rbc_world.specs.Named.{AreOfLine, mentioned, NamesFirst, with_first}
 
-by_cases : {T : Type 0} (foreign listed first : Bool) (old new : T) → first ≡ not foreign && not listed
-    → (if first then (if listed then old else new) else old) ≡ (if foreign then old else (if listed then old else new))
-by_cases true listed first old new is = rw is refl
-by_cases false true first old new is = rw is refl
-by_cases false false first old new is = rw is refl
+-- ## A mention and the list
 
-is_new : {T : Type 0} (foreign listed first : Bool) (old new : T) → first ≡ not foreign && not listed → first ≡ true
-    → (if foreign then old else (if listed then old else new)) ≡ new
-is_new true listed first old new is so = absurd (let wrong : false ≡ true = sym is ∙ so in cc)
-is_new false true first old new is so = absurd (let wrong : false ≡ true = sym is ∙ so in cc)
-is_new false false first old new is so = refl
+pub foreign_mention : (line : Line) (t : ℕ) (trains : List ℕ) → train_number line t ≡ None
+    → mention line t trains ≡ trains
+foreign_mention line t trains none = rw none refl
 
-module _ (line : Line) (t : ℕ) (trains : List ℕ) (first : Bool)
-    (is : first ≡ not (is_none (train_number line t)) && not (list_any (λ u. t == u) trains)) where
-  pub named : (if first then insert_key nat_eq trains t else trains) ≡ mention line t trains
-  named = by_cases (is_none (train_number line t)) (list_any (λ u. t == u) trains) first trains (trains ++ t ∷ []) is
+pub first_names : (line : Line) (t i : ℕ) (trains : List ℕ) → train_number line t ≡ Some i
+    → list_any (λ u. t == u) trains ≡ false → mention line t trains ≡ trains ++ t ∷ []
+first_names line t i trains at new = rw (at, new) refl
 
-  pub named_first : first ≡ true → mention line t trains ≡ trains ++ t ∷ []
-  named_first =
-      is_new (is_none (train_number line t)) (list_any (λ u. t == u) trains) first trains (trains ++ t ∷ []) is
+pub first_inserted : (line : Line) (t i : ℕ) (trains : List ℕ) → train_number line t ≡ Some i
+    → list_any (λ u. t == u) trains ≡ false → with_first (Some t) trains ≡ mention line t trains
+first_inserted line t i trains at new = rw (at, new) refl
 
--- ## The marks of the trains that were named
+kept_if : {T : Type 0} (foreign listed : Bool) (old new : T) → (foreign ≡ false → listed ≡ false → ⊥)
+    → (if foreign then old else (if listed then old else new)) ≡ old
+kept_if true listed old new never = refl
+kept_if false true old new never = refl
+kept_if false false old new never = absurd (never refl refl)
 
-or_true : (b : Bool) → (b || true) ≡ true
-or_true true = refl
-or_true false = refl
+pub listed_mention : (line : Line) (t : ℕ) (trains : List ℕ) → list_any (λ u. t == u) trains ≡ true
+    → mention line t trains ≡ trains
+listed_mention line t trains listed =
+    kept_if (is_none (train_number line t)) (list_any (λ u. t == u) trains) trains (trains ++ t ∷ [])
+    (λ here new. let wrong : true ≡ false = sym listed ∙ new in cc)
+
+-- the first mention that was looked for needs memory
+pub named_if : (line : Line) (event : Event) (trains : List ℕ) (first : Option ℕ) → IsSome first
+    → IfSome first (λ t. NamesFirst line event trains) → NamesFirst line event trains
+named_if line event trains (Some t) some names = names
+named_if line event trains None some names = cc
+
+-- ## The trains of the line
 
 or_false : (b : Bool) → (b || false) ≡ b
 or_false true = refl
 or_false false = refl
 
--- a train is in the list after it was added, and any other is as before
-listed : (u t : ℕ) (trains : List ℕ) (b : Bool) → (u == t) ≡ b
-    → list_any (λ v. u == v) (trains ++ t ∷ []) ≡ (list_any (λ v. u == v) trains || b)
-listed u t trains b is =
-    list_any-append (λ v. u == v) trains (t ∷ []) ∙ ap (λ x. list_any (λ v. u == v) trains || x) (last b is)
-  where
-    last : (x : Bool) → (u == t) ≡ x → list_any (λ v. u == v) (t ∷ []) ≡ x
-    last true e = rw e refl
-    last false e = rw e refl
+neither : (a b : Bool) → (a || b) ≡ false → (a ≡ false) × (b ≡ false)
+neither true b h = cc
+neither false b h = (refl, h)
 
-marked : (line : Line) (marks : List Bool) (trains : List ℕ) (t i : ℕ) → train_number line t ≡ Some i → i < length marks
-    → AreNamed line marks trains → AreNamed line (set marks i true) (trains ++ t ∷ [])
-marked line marks trains t i at within are u j b at_u found =
-    elim (eqb_tells j i) as (λ _. b ≡ list_any (λ v. u == v) (trains ++ t ∷ [])) [
-      | inl e ↦
-          let is : Some true ≡ Some b =
-          sym (slice_get-set_same marks i true within) ∙ ap (slice_get (set marks i true)) (sym (e.1)) ∙ found in
-          let so : b ≡ true = cc in
-          let same : u ≡ t = same_train line t u i at (at_u ∙ ap (λ k. Some k) (e.1)) in
-          let yes : (u == t) ≡ true = grind (arith, nat_tests) in
-          so ∙ sym (listed u t trains true yes ∙ or_true (list_any (λ v. u == v) trains))
-      | inr e ↦
-          let apart : u ≢ t = other_train line t u i j at at_u (e.1) in
-          let no : (u == t) ≡ false = grind (arith, nat_tests) in
-          are u j b at_u (sym (slice_get-set_other marks i j true (e.1)) ∙ found)
-          ∙ sym (listed u t trains false no ∙ or_false (list_any (λ v. u == v) trains))
-    ]
+-- no train that was named is of another line, after a mention too
+listed_other : (u t : ℕ) (trains : List ℕ) → (u == t) ≡ false
+    → list_any (λ v. u == v) (trains ++ t ∷ []) ≡ list_any (λ v. u == v) trains
+listed_other u t trains apart =
+    list_any-append (λ v. u == v) trains (t ∷ [])
+    ∙ ap (λ x. list_any (λ v. u == v) trains || x) (ap (λ b. b || false) apart)
+    ∙ or_false (list_any (λ v. u == v) trains)
 
-pub marks_kept : (marks : List Bool) (i : ℕ) (first : Bool)
-    → length (if first then set marks i true else marks) ≡ length marks
-marks_kept marks i true = simp length-set refl
-marks_kept marks i false = refl
+more_of_line : (line : Line) (t : ℕ) (trains : List ℕ) → is_none (train_number line t) ≡ false → AreOfLine line trains
+    → AreOfLine line (trains ++ t ∷ [])
+more_of_line line t trains here are u listed = elim (eqb_tells u t) as (λ _. is_none (train_number line u) ≡ false) [
+  | inl e ↦ ap (λ v. is_none (train_number line v)) (e.1) ∙ here
+  | inr e ↦ are u (sym (listed_other u t trains (e.0)) ∙ listed)
+]
 
--- the place of a train of the line has a mark
-pub place_within : (line : Line) (marks : List Bool) (t i : ℕ) → train_number line t ≡ Some i
-    → length marks ≡ length line.trains → i < length marks
-place_within line marks t i at each =
-    let within = position-Some (λ (p : Train). p.nid_engine == t) line.trains i
-    (record { nid_engine = 0; registrar = 0 }) at in omega (arith, within.0)
+by_mention : (line : Line) (t : ℕ) (trains : List ℕ) (foreign listed : Bool) → is_none (train_number line t) ≡ foreign
+    → AreOfLine line trains
+    → AreOfLine line (if foreign then trains else (if listed then trains else trains ++ t ∷ []))
+by_mention line t trains true listed is are = are
+by_mention line t trains false true is are = are
+by_mention line t trains false false is are = more_of_line line t trains is are
 
--- the key goes after the others
-new_key : {T : Type 0} (listed : Bool) (old new : T) → true ≡ not listed → (if listed then old else new) ≡ new
-new_key true old new is = absurd (let wrong : true ≡ false = is in cc)
-new_key false old new is = refl
+still_of_line : (line : Line) (t : ℕ) (trains : List ℕ) → AreOfLine line trains
+    → AreOfLine line (mention line t trains)
+still_of_line line t trains are =
+    by_mention line t trains (is_none (train_number line t)) (list_any (λ u. t == u) trains) refl are
 
-pub marked_named : (line : Line) (marks : List Bool) (trains : List ℕ) (t i : ℕ) (first : Bool)
-    → train_number line t ≡ Some i → i < length marks → AreNamed line marks trains
-    → first ≡ not (list_any (λ u. t == u) trains)
-    → AreNamed line (if first then set marks i true else marks) (if first then insert_key nat_eq trains t else trains)
-marked_named line marks trains t i true at within are is =
-    subst (AreNamed line (set marks i true))
-    (sym (new_key (list_any (λ u. t == u) trains) trains (trains ++ t ∷ []) is))
-    (marked line marks trains t i at within are)
-marked_named line marks trains t i false at within are is = are
+pub still_mentioned : (line : Line) (event : Event) (trains : List ℕ) → AreOfLine line trains
+    → AreOfLine line (mentioned line event trains)
+still_mentioned line (code.Train m) trains are = still_of_line line m.nid_engine trains are
+still_mentioned line (code.Set s) trains are = are
+still_mentioned line (code.Unset s) trains are = are
+still_mentioned line (code.Deliver from frame) trains are = are
 
 -- no train was named
-none_marked : (line : Line) (n : ℕ) → AreNamed line (replicate n false) []
-none_marked line n t i b at found =
-    let within : i < length (replicate n false) = slice_get_within (replicate n false) i b found in
-    sym (get_or_from_slice_get (replicate n false) i b false found)
-    ∙ get_or-replicate n i false false (subst (λ (m : ℕ). i < m) (length-replicate n false) within)
+pub none_named : (line : Line) (trains : List ℕ) → trains ≡ [] → AreOfLine line trains
+none_named line trains none = subst (AreOfLine line) (sym none) (λ t listed. cc)
 
-pub none_named : (line : Line) (marks : List Bool) (trains : List ℕ) (n : ℕ) → marks ≡ replicate n false → trains ≡ []
-    → AreNamed line marks trains
-none_named line marks trains n is none =
-    subst (λ (bs : List Bool). AreNamed line bs trains) (sym is)
-    (subst (AreNamed line (replicate n false)) (sym none) (none_marked line n))
+-- ## All trains of the line were named
 
--- the mark of a train and whether it is a first mention
-unmarked : (first listed : Bool) → not first ≡ listed → first ≡ not listed
-unmarked true listed is = ap not is
-unmarked false listed is = ap not is
+-- the trains of a line with their NID_ENGINEs as keys
+abbrev paired : List Train → List (ℕ × ℕ)
+paired ts = map (λ (p : Train). (p.nid_engine, p.registrar)) ts
 
-pub marked_first : (line : Line) (marks : List Bool) (trains : List ℕ) (t i : ℕ) (first : Bool)
-    → train_number line t ≡ Some i → AreNamed line marks trains → slice_get marks i ≡ Some (not first)
-    → first ≡ not (list_any (λ u. t == u) trains)
-marked_first line marks trains t i first at are found =
-    unmarked first (list_any (λ u. t == u) trains) (are t i (not first) at found)
+abbrev IsPaired : ℕ → List Train → Type 0
+IsPaired q ts = IsSome (lookup (λ u. q == u) (paired ts))
 
-pub first_of_line : (line : Line) (trains : List ℕ) (t i : ℕ) (first : Bool) → train_number line t ≡ Some i
-    → first ≡ not (list_any (λ u. t == u) trains)
-    → first ≡ not (is_none (train_number line t)) && not (list_any (λ u. t == u) trains)
-first_of_line line trains t i first at is = rw at is
+looked_up : (q : ℕ) (ts : List Train) → list_any (λ p. p.nid_engine == q) ts ≡ true → IsPaired q ts
+looked_up q [] h = cc
+looked_up q (p ∷ ts) h = elim (eqb_tells q p.nid_engine) as (λ _. IsPaired q (p ∷ ts)) [
+  | inl e ↦ rw (e.0) refl
+  | inr e ↦
+      let differ : q ≢ p.nid_engine = e.1 in
+      let apart : (p.nid_engine == q) ≡ false = grind (arith, nat_tests) in
+      rw (e.0) (looked_up q ts (rw apart at h))
+]
 
-pub foreign_mention : (line : Line) (trains : List ℕ) (t : ℕ) → train_number line t ≡ None
-    → mention line t trains ≡ trains
-foreign_mention line trains t none = rw none refl
+at_place : (q : ℕ) (ts : List Train) (o : Option ℕ) → position (λ p. p.nid_engine == q) ts ≡ o → is_none o ≡ false
+    → list_any (λ p. p.nid_engine == q) ts ≡ true
+at_place q ts None at some = cc
+at_place q ts (Some i) at some =
+    let none : Train = record { nid_engine = 0; registrar = 0 } in
+    let found = position-Some (λ (p : Train). p.nid_engine == q) ts i none at in
+    list_any_at (λ (p : Train). p.nid_engine == q) ts i none found.0 found.1
+
+apart_from : (t : ℕ) (us : List ℕ) → list_any (λ u. t == u) us ≡ false → AllByRecursion (λ u. (t == u) ≡ false) us
+apart_from t [] h = tt
+apart_from t (u ∷ us) h = let both = neither (t == u) (list_any (λ v. t == v) us) h in (both.0, apart_from t us both.1)
+
+module _ (line : Line) (t : ℕ) (trains : List ℕ) (here : is_none (train_number line t) ≡ false)
+    (are : AreOfLine line trains) where
+  of_line : (q : ℕ) → list_any (λ u. q == u) (t ∷ trains) ≡ true → IsPaired q line.trains
+  of_line q listed = elim (eqb_tells q t) as (λ _. IsPaired q line.trains) [
+    | inl e ↦
+        looked_up q line.trains (at_place q line.trains (train_number line q) refl
+        (ap (λ v. is_none (train_number line v)) (e.1) ∙ here))
+    | inr e ↦ looked_up q line.trains (at_place q line.trains (train_number line q) refl (are q (rw (e.0) at listed)))
+  ]
+
+  -- a train that is not in the list is one more than the list has
+  one_more : list_any (λ u. t == u) trains ≡ false → IsDistinct nat_eq trains
+      → length (t ∷ trains) ≤ length (paired line.trains)
+  one_more new distinct =
+      length-le_from_keys nat_eq_equiv (t ∷ trains) (paired line.trains)
+      (IsDistinct-cons nat_eq t trains (apart_from t trains new) distinct) of_line
+
+-- if as many were named as the line has, no mention is a first one
+pub all_named : (line : Line) (event : Event) (trains : List ℕ) → IsDistinct nat_eq trains → AreOfLine line trains
+    → length line.trains ≤ length trains → trains ≡ mentioned line event trains
+all_named line (code.Train m) trains distinct are all =
+    let t = m.nid_engine in
+    sym (kept_if (is_none (train_number line t)) (list_any (λ u. t == u) trains) trains (trains ++ t ∷ [])
+    (λ here new.
+    let more = one_more line t trains here are new distinct in
+    let same = length-map {B = ℕ × ℕ} line.trains (λ (p : Train). (p.nid_engine, p.registrar)) in
+    omega (arith, more, same, all)))
+all_named line (code.Set s) trains distinct are all = refl
+all_named line (code.Unset s) trains distinct are all = refl
+all_named line (code.Deliver from frame) trains distinct are all = refl

@@ -2,26 +2,23 @@
 use Rattle.std.proofs.Common.{[], ◌++◌, ◌<◌, ◌∙◌, ◌∷◌, ◌≡◌, ap, Err, length, List, None, Ok, refl, Result, set}
 use Rattle.std.proofs.Common.{slice_get, Some, subst, sym, true, ℕ}
 use Rattle.std.proofs.Math.Logic.{∥∥₁_map}
-use Rattle.std.specs.Result.{OnErr}
 use Rattle.law_base.proofs.Worlds.{bind_ok}
 use Rattle.law_reached.proofs.Known.{run_of_cons, run_of_none, whole_run}
-use Rattle.rbc_centre.specs.Answer.{Steps}
 use Rattle.rbc_centre.specs.declared.centre.Centre.{Centre}
 use Rattle.rbc_centre.specs.declared.event.Event.{Event as CentreEvent}
 use Rattle.rbc_centre.specs.declared.event.Event.TheVariants as of_centre
-use Rattle.rbc_centre.specs.declared.fault.StepFault.{StepFault}
 use Rattle.rbc_centre.specs.States as one
 use Rattle.rbc_centre.specs.Views.{event_of as one_event}
-use Rattle.rbc_spec.specs.Line.{is_centre, Line, train_number}
-use Rattle.rbc_spec.specs.Message.{TrainMessage}
+use Rattle.rbc_msgs.specs.StepMessage.{step_message}
+use Rattle.rbc_spec.specs.Line.{is_centre, Line}
 use Rattle.rbc_spec.specs.Outcome.{Outcome}
 use Rattle.rbc_spec.specs.Step as step
 use Rattle.rbc_spec.specs.Step.{Refusal}
-use Rattle.rbc_spec.specs.World.{Answer, Answered, at_centre as told_at, Bytes, Delivery, Event, mention, new_world}
+use Rattle.rbc_spec.specs.World.{Answer, Answered, at_centre as told_at, Bytes, Delivery, Event, new_world}
 use Rattle.rbc_spec.specs.World.{Set, takes, Unset, World, world_run, world_step}
-use Rattle.rbc_world.proofs.Mentions.{foreign_mention}
-use Rattle.rbc_world.proofs.Steps.{at_centre, delivered, is_centre_within, set_told, step_ok, told_ok, unset_told}
+use Rattle.rbc_world.proofs.Steps.{bytes_told, delivered, is_centre_within, set_told, told_ok, unset_told}
 use Rattle.rbc_world.proofs.Steps.{world_kept}
+use Rattle.rbc_world.specs.Named.{mentioned}
 use Rattle.rbc_world.specs.Reached.{MayBeTold, WasReached}
 use Rattle.rbc_world.specs.States.{stands_for}
 
@@ -78,9 +75,10 @@ goes_on line w new event answer s before = ∥∥₁_map before (led_on line w n
 -- an event of a centre of the line leads on
 told_on : (line : Line) (w new : World) (c : ℕ) (event : CentreEvent) (answer : Answer) → is_centre line c ≡ true
     → MayBeTold w c event
-    → told_at line w c (takes line w c w.trains (one_event event)) ≡ Ok (answer, new) → ∥ WasReached line w ∥₁
-    → ∥ WasReached line new ∥₁
-told_on line w new c (of_centre.Train m) answer here never s before = absurd never
+    → told_at line w c (takes line w c (mentioned line event w.trains) (one_event event)) ≡ Ok (answer, new)
+    → ∥ WasReached line w ∥₁ → ∥ WasReached line new ∥₁
+told_on line w new c (of_centre.Train m) answer here said s before =
+    goes_on line w new (Bytes c (Ok (step_message m))) answer (bytes_told line w c (step_message m) ∙ s) before
 told_on line w new c (of_centre.Set n) answer here said s before =
     goes_on line w new (Set c n) answer (set_told line w c n ∙ s) before
 told_on line w new c (of_centre.Unset n) answer here said s before =
@@ -102,37 +100,13 @@ module _ (line : Line) (cs : List Centre) (trains : List ℕ) (c : ℕ) (k new :
       (sym (ap (stands_for line (set cs c new)) same ∙ world_kept line cs trains c k new at within kept)) before
 
   -- after the event of the centre
-  pub reached_by_word : {X : Type 0} (outcome : X → Outcome) (event : CentreEvent) (result : Result X StepFault)
+  pub reached_by : (event : CentreEvent) (outcome : Outcome) (after : List ℕ)
       → MayBeTold (stands_for line cs trains) c event
-      → Steps (λ x. (outcome x, one.state_of new)) result
-      (step.step (one.line_of k) (one.number_of k) (one_event event) (one.state_of k))
-      → OnErr result (one.state_of new ≡ one.state_of k)
-      → ∥ WasReached line (stands_for line (set cs c new) trains) ∥₁
-  reached_by_word outcome event (Ok x) said s kept =
-      told_on line (stands_for line cs trains) (stands_for line (set cs c new) trains) c event (Answered (outcome x))
-      (is_centre_within line cs c each within) said
-      (told_ok line cs trains (one_event event) c k new at within of_line of_number each (outcome x) s) before
-  reached_by_word outcome event (Err fault) said s kept = reached_still trains refl kept
-
-  -- after a train's message
-  pub reached_by_message : (m : TrainMessage) (outcome : Outcome) (after : List ℕ)
-      → step.step (one.line_of k) (one.number_of k) (step.Train m) (one.state_of k) ≡ Ok (outcome, one.state_of new)
-      → after ≡ mention line m.nid_engine trains → ∥ WasReached line (stands_for line (set cs c new) after) ∥₁
+      → step.step (one.line_of k) (one.number_of k) (one_event event) (one.state_of k) ≡ Ok (outcome, one.state_of new)
+      → after ≡ mentioned line event trains → ∥ WasReached line (stands_for line (set cs c new) after) ∥₁
   unfolding stands_for
-  reached_by_message m outcome after s named =
-      goes_on line (stands_for line cs trains) (stands_for line (set cs c new) after) (Bytes c (Ok m))
-      (Answered outcome)
-      (at_centre line (stands_for line cs trains) cs c (Ok m) each within
-      ∙ step_ok line cs trains (step.Train m) c k new at within of_line of_number outcome
-      (mention line m.nid_engine trains) after s named) before
-
-  -- after a message of no train of the line, or its refusal
-  pub reached_by_foreign : {X : Type 0} (outcome : X → Outcome) (m : TrainMessage) (result : Result X StepFault)
-      → train_number line m.nid_engine ≡ None
-      → Steps (λ x. (outcome x, one.state_of new)) result
-      (step.step (one.line_of k) (one.number_of k) (step.Train m) (one.state_of k))
-      → OnErr result (one.state_of new ≡ one.state_of k)
-      → ∥ WasReached line (stands_for line (set cs c new) trains) ∥₁
-  reached_by_foreign outcome m (Ok x) none s kept =
-      reached_by_message m (outcome x) trains s (sym (foreign_mention line trains m.nid_engine none))
-  reached_by_foreign outcome m (Err fault) none s kept = reached_still trains refl kept
+  reached_by event outcome after said s named =
+      told_on line (stands_for line cs trains) (stands_for line (set cs c new) after) c event (Answered outcome)
+      (is_centre_within line cs c each within) said
+      (told_ok line cs trains (one_event event) c k new at within of_line of_number each outcome
+      (mentioned line event trains) after s named) before

@@ -3,17 +3,15 @@ use Rattle.std.proofs.Common.{◌<◌, ◌∙◌, ◌≡◌, ◌≢◌, ◌≤�
 use Rattle.std.proofs.Common.{Result, set, slice_get, Some, sym, true, ℕ}
 use Rattle.std.proofs.lemmas.Bool.Decides.{nat_tests}
 use Rattle.std.specs.Option.{option_map_or}
-use Rattle.std.specs.Result.{IfErr, IfOk}
+use Rattle.std.specs.Result.{IfOk}
 use Rattle.law_reached.proofs.Known.{goes, promises}
 use Rattle.law_reached.proofs.Missions.{forced}
 use Rattle.rbc_centre.specs.Answer as one_step
 use Rattle.rbc_centre.specs.declared.centre.Centre.{Centre}
 use Rattle.rbc_centre.specs.declared.fault.StepFault.{StepFault}
 use Rattle.rbc_centre.specs.declared.fault.StepFault.TheVariants.{ClockEnd, LinkFull, Memory}
-use Rattle.rbc_centre.specs.declared.outcome.Outcome.{Outcome as OutcomeInMemory}
 use Rattle.rbc_centre.specs.States as one
 use Rattle.rbc_msgs.specs.declared.fault.MsgFault.{MsgFault}
-use Rattle.rbc_msgs.specs.declared.fault.MsgFault.TheVariants as of_message
 use Rattle.rbc_msgs.specs.Faults.{fault_number}
 use Rattle.rbc_msgs.specs.StepMessage.{step_message}
 use Rattle.rbc_msgs.specs.TrainText.{TrainText}
@@ -31,11 +29,10 @@ use Rattle.rbc_spec.specs.World.{NoCentre, NotSent, reads, Set, stepped, takes, 
 use Rattle.rbc_world.proofs.Centres.{centre_at, centres_of-kept, centres_of-set}
 use Rattle.rbc_world.proofs.Known.{world_known, world_local}
 use Rattle.rbc_world.specs.Answers.{Gives, IsRefusal}
-use Rattle.rbc_world.specs.declared.event.Reply.{Reply}
 use Rattle.rbc_world.specs.declared.event.WorldEvent.{WorldEvent}
 use Rattle.rbc_world.specs.Reached.{WasReached}
 use Rattle.rbc_world.specs.States.{centres_of, stands_for}
-use Rattle.rbc_world.specs.Views.{answer_by, event_of, IsFaultOf, numbered}
+use Rattle.rbc_world.specs.Views.{event_of, numbered}
 
 -- ## An event that centre c takes
 
@@ -96,32 +93,30 @@ pub at_centre : (line : Line) (w : World) (cs : List Centre) (c : ℕ) (read : R
 unfolding world_step
 at_centre line w cs c read each within = rw (is_centre_within line cs c each within) refl
 
-pub told_within : (line : Line) (w : World) (cs : List Centre) (c : ℕ) (event : step.Event)
+told_within : (line : Line) (w : World) (cs : List Centre) (c : ℕ) (named : List ℕ) (event : step.Event)
     → length cs ≡ length line.centres → c < length cs
-    → told_at line w c (takes line w c w.trains event) ≡ takes line w c w.trains event
-told_within line w cs c event each within = rw (is_centre_within line cs c each within) refl
+    → told_at line w c (takes line w c named event) ≡ takes line w c named event
+told_within line w cs c named event each within = rw (is_centre_within line cs c each within) refl
 
-pub told_ok : (line : Line) (cs : List Centre) (trains : List ℕ) (event : step.Event) (c : ℕ) (k new : Centre)
-    → slice_get cs c ≡ Some k → c < length cs → one.line_of k ≡ line → one.number_of k ≡ c
-    → length cs ≡ length line.centres → (outcome : Outcome)
-    → step.step (one.line_of k) (one.number_of k) event (one.state_of k) ≡ Ok (outcome, one.state_of new)
-    → told_at line (stands_for line cs trains) c
-    (takes line (stands_for line cs trains) c (stands_for line cs trains).trains event)
-    ≡ Ok (Answered outcome, stands_for line (set cs c new) trains)
-unfolding stands_for
-told_ok line cs trains event c k new at within of_line of_number each outcome s =
-    told_within line (stands_for line cs trains) cs c event each within
-    ∙ step_ok line cs trains event c k new at within of_line of_number outcome trains trains s refl
+module _ (line : Line) (cs : List Centre) (trains : List ℕ) (event : step.Event) (c : ℕ) (k new : Centre)
+    (at : slice_get cs c ≡ Some k) (within : c < length cs)
+    (of_line : one.line_of k ≡ line) (of_number : one.number_of k ≡ c) (each : length cs ≡ length line.centres) where
+  pub told_ok : (outcome : Outcome) (named after : List ℕ)
+      → step.step (one.line_of k) (one.number_of k) event (one.state_of k) ≡ Ok (outcome, one.state_of new)
+      → after ≡ named
+      → told_at line (stands_for line cs trains) c (takes line (stands_for line cs trains) c named event)
+      ≡ Ok (Answered outcome, stands_for line (set cs c new) after)
+  told_ok outcome named after s same =
+      told_within line (stands_for line cs trains) cs c named event each within
+      ∙ step_ok line cs trains event c k new at within of_line of_number outcome named after s same
 
-pub told_err : (line : Line) (cs : List Centre) (trains : List ℕ) (event : step.Event) (c : ℕ) (k new : Centre)
-    → slice_get cs c ≡ Some k → c < length cs → one.line_of k ≡ line → one.number_of k ≡ c
-    → length cs ≡ length line.centres → (fault : StepFault)
-    → one_step.IsRefusal fault (step.step (one.line_of k) (one.number_of k) event (one.state_of k))
-    → IsRefusal fault (told_at line (stands_for line cs trains) c
-    (takes line (stands_for line cs trains) c (stands_for line cs trains).trains event))
-told_err line cs trains event c k new at within of_line of_number each fault s =
-    rw (told_within line (stands_for line cs trains) cs c event each within)
-    (step_err line cs trains event c k new at within of_line of_number (stands_for line cs trains).trains fault s)
+  pub told_err : (named : List ℕ) (fault : StepFault)
+      → one_step.IsRefusal fault (step.step (one.line_of k) (one.number_of k) event (one.state_of k))
+      → IsRefusal fault (told_at line (stands_for line cs trains) c
+      (takes line (stands_for line cs trains) c named event))
+  told_err named fault s =
+      rw (told_within line (stands_for line cs trains) cs c named event each within)
+      (step_err line cs trains event c k new at within of_line of_number named fault s)
 
 pub set_told : (line : Line) (w : World) (c s : ℕ)
     → world_step line w (Set c s) ≡ told_at line w c (takes line w c w.trains (step.Set s))
@@ -135,27 +130,23 @@ unset_told line w c s = refl
 
 -- ## Bytes that were read
 
-pub message_step : (line : Line) (w : World) (cs : List Centre) (c : ℕ) (read : Result TrainText MsgFault)
-    (m : TrainText) → length cs ≡ length line.centres → c < length cs → read ≡ Ok m
+pub bytes_told : (line : Line) (w : World) (c : ℕ) (m : TrainMessage)
+    → world_step line w (Bytes c (Ok m))
+    ≡ told_at line w c (takes line w c (mention line m.nid_engine w.trains) (step.Train m))
+unfolding world_step
+bytes_told line w c m = refl
+
+pub message_step : (line : Line) (w : World) (c : ℕ) (read : Result TrainText MsgFault) (m : TrainText) → read ≡ Ok m
     → world_step line w (Bytes c (numbered read))
-    ≡ takes line w c (mention line m.nid_engine w.trains) (step.Train (step_message m))
-message_step line w cs c read m each within e =
-    at_centre line w cs c (numbered read) each within ∙ ap (λ r. reads line w c (numbered r)) e
+    ≡ told_at line w c (takes line w c (mention line m.nid_engine w.trains) (step.Train (step_message m)))
+message_step line w c read m e =
+    ap (λ r. world_step line w (Bytes c (numbered r))) e ∙ bytes_told line w c (step_message m)
 
 pub fault_step : (line : Line) (w : World) (cs : List Centre) (c : ℕ) (read : Result TrainText MsgFault)
     (fault : MsgFault) → length cs ≡ length line.centres → c < length cs → read ≡ Err fault
     → world_step line w (Bytes c (numbered read)) ≡ Ok (Fault (fault_number fault), w)
 fault_step line w cs c read fault each within e =
     at_centre line w cs c (numbered read) each within ∙ ap (λ r. reads line w c (numbered r)) e
-
-pub unread_gives : (line : Line) (w : World) (cs : List Centre) (c : ℕ) (read : Result TrainText MsgFault)
-    (fault : MsgFault) (result : Result Reply StepFault) (out : OutcomeInMemory) → length cs ≡ length line.centres
-    → c < length cs
-    → (fault ≢ of_message.Memory → read ≡ Err fault) → IfOk result (IsFaultOf fault) → IfErr result (λ e. e ≡ Memory)
-    → Gives (λ r. (answer_by r out, w)) result (world_step line w (Bytes c (numbered read)))
-unread_gives line w cs c read fault (Ok r) out each within shows ok err =
-    fault_step line w cs c read fault each within (shows ok.1) ∙ ap (λ (x : Reply). Ok (answer_by x out, w)) (sym ok.0)
-unread_gives line w cs c read fault (Err e) out each within shows ok err = rw err tt
 
 -- ## Deliveries
 

@@ -1,8 +1,11 @@
 -- The answers of a world's calls, beside their definitions.
 use Rattle.std.specs.Prelude.{[], ◌++◌, ◌+◌, ◌∷◌, ◌≡◌, ◌≢◌, ◌⊎◌, Err, List, Ok, Result, Some, true, ℕ}
+use Rattle.rbc_centre.specs.Answer as one_step
+use Rattle.rbc_centre.specs.declared.event.Event.{Event as CentreEvent}
 use Rattle.rbc_centre.specs.declared.fault.StepFault.{StepFault}
 use Rattle.rbc_centre.specs.declared.fault.StepFault.TheVariants.{ClockEnd, LinkFull, Memory}
 use Rattle.rbc_centre.specs.rbc_train.Letters.{tells_others}
+use Rattle.rbc_centre.specs.Views.{event_of}
 use Rattle.rbc_msgs.specs.declared.fault.MsgFault.{MsgFault}
 use Rattle.rbc_msgs.specs.Kept.{IsAfterPackets, kept_packets}
 use Rattle.rbc_msgs.specs.StepMessage.{step_message}
@@ -16,6 +19,7 @@ use Rattle.rbc_spec.specs.Step.{ClockEnd as AtClockEnd, LinkFull as AtLinkFull, 
 use Rattle.rbc_spec.specs.World.{Event, frame_sent, IsRefused, mention, new_world, World}
 use Rattle.rbc_world.specs.declared.event.WorldEvent.{WorldEvent}
 use Rattle.rbc_world.specs.declared.event.WorldEvent.TheVariants as event
+use Rattle.rbc_world.specs.Named.{NamesFirst}
 
 -- while memory suffices, the fault is the refusal of the definition
 abbrev pub IsRefusal : {Y : Type 0} → StepFault → Result Y Refusal → Type 0
@@ -40,6 +44,10 @@ MakesRoom line trains m =
 abbrev pub BytesTakeMemory : Line → List ℕ → Result TrainText MsgFault → Type 0
 BytesTakeMemory line trains (Ok m) = (kept_packets m ≢ []) ⊎ MakesRoom line trains (step_message m)
 BytesTakeMemory line trains (Err fault) = IsAfterPackets fault
+
+-- An event of a centre needs memory there, or since it is the first to name a train of the line.
+abbrev pub EventTakesMemory : Line → World → ℕ → CentreEvent → Type 0
+EventTakesMemory line w c event = one_step.TakesMemory (w.at c) (event_of event) ⊎ NamesFirst line event w.trains
 
 -- a frame was sent under this number, and is the next that its receiver takes of its sender
 abbrev pub IsNextSent : World → ℕ → ℕ → ℕ → Type 0

@@ -11,9 +11,10 @@ pub record WasReached (line : Line) (w : World) : Type 0 where
   pub answers : List Answer
   pub run : world_run line (new_world line) events ≡ Ok (answers, w)
 
--- Centre c of this world may get this event: a set, an unset, or a frame that was sent to the centre with a number.
+-- Centre c of this world may get this event: a message, a set or an unset. It may get a frame that was sent to it with
+-- a number.
 abbrev pub MayBeTold : World → ℕ → CentreEvent → Type 0
-MayBeTold w c (of_centre.Train m) = ⊥
+MayBeTold w c (of_centre.Train m) = Unit {0}
 MayBeTold w c (of_centre.Set s) = Unit {0}
 MayBeTold w c (of_centre.Unset s) = Unit {0}
 MayBeTold w c (of_centre.Deliver from frame) = (number : ℕ) × (frame_sent w from c number ≡ Some frame)

@@ -1,11 +1,10 @@
 -- The plain data of events and answers.
-use Rattle.std.specs.Prelude.{[], ◌++◌, ◌≡◌, ◌≢◌, Err, is_none, map, None, Ok, Option, Result, Some, ℕ}
+use Rattle.std.specs.Prelude.{[], ◌++◌, ◌≡◌, Err, is_none, map, None, Ok, Option, Result, Some, ℕ}
 use Rattle.law_outside.specs.Outside.{Spoken}
 use Rattle.rbc_centre.specs.declared.outcome.Outcome.{Outcome}
 use Rattle.rbc_centre.specs.rbc_train.Sayings.{saying_of}
 use Rattle.rbc_centre.specs.Views.{outcome_of, words_of}
 use Rattle.rbc_msgs.specs.declared.fault.MsgFault.{MsgFault}
-use Rattle.rbc_msgs.specs.declared.fault.MsgFault.TheVariants.{Memory}
 use Rattle.rbc_msgs.specs.Faults.{fault_number}
 use Rattle.rbc_msgs.specs.StepMessage.{step_message}
 use Rattle.rbc_msgs.specs.TrainReading.{read_train}
@@ -16,8 +15,6 @@ use Rattle.rbc_spec.specs.World as world
 use Rattle.rbc_spec.specs.World.{Bytes, Delivery, Event, Set, Unset}
 use Rattle.rbc_world.specs.declared.event.Answer.{Answer}
 use Rattle.rbc_world.specs.declared.event.Answer.TheVariants as answer
-use Rattle.rbc_world.specs.declared.event.Reply.{Reply}
-use Rattle.rbc_world.specs.declared.event.Reply.TheVariants as reply
 use Rattle.rbc_world.specs.declared.event.WorldEvent.{WorldEvent}
 use Rattle.rbc_world.specs.declared.event.WorldEvent.TheVariants as event
 
@@ -58,14 +55,3 @@ nothing_answered = world.Answered (record {
   link = None;
   silence = None;
 })
-
--- the answer that a reply makes with the outcome that was written
-abbrev pub answer_by : Reply → Outcome → world.Answer
-answer_by reply.Outcome o = world.Answered (outcome_of o)
-answer_by reply.NoCentre o = world.NoCentre
-answer_by reply.NotSent o = world.NotSent
-answer_by (reply.Fault fault) o = world.Fault (fault_number fault)
-
--- the reply to bytes that show this fault, which is not that memory ran out
-abbrev pub IsFaultOf : MsgFault → Reply → Type 0
-IsFaultOf fault r = (r ≡ reply.Fault fault) × (fault ≢ Memory)

@@ -18,19 +18,6 @@ pub enum WorldEvent {
     Deliver { from: u8, to: u8, number: u32 },
 }
 
-/// Whether a centre took a step, or why none did.
-#[derive(Clone, Copy, Debug, PartialEq, Eq)]
-pub(crate) enum Reply {
-    /// A centre took a step, and its outcome was written.
-    Outcome,
-    /// The centre is not of the line. Nothing changes.
-    NoCentre,
-    /// No frame was sent under that number. Nothing changes.
-    NotSent,
-    /// The bytes spell no message. Nothing changes.
-    Fault(MsgFault),
-}
-
 /// The answer to an event.
 #[derive(Debug, Drop)]
 pub enum Answer {
@@ -45,7 +32,7 @@ pub enum Answer {
 }
 
 impl Answer {
-    ghost use Rattle.rbc_world.specs.Views.{answer_of, answer_by, nothing_answered};
+    ghost use Rattle.rbc_world.specs.Views.{answer_of, nothing_answered};
 
     /// The empty outcome, under stamp 0. A step writes its answer over it.
     pub fn nothing() -> Answer
@@ -64,19 +51,6 @@ impl Answer {
             Answer::NoCentre | Answer::NotSent | Answer::Fault(_) => {
                 *self = Answer::Outcome(Outcome::nothing());
             }
-        }
-    }
-
-    /// Makes the answer of a step that gave this reply, and that wrote its outcome over the one here.
-    #[inline(always)]
-    pub(crate) fn finish(&mut self, reply: Reply)
-        ensures { (o : Outcome) → self.old ≡ answer.Outcome o → answer_of self.new ≡ answer_by reply o }
-    {
-        match reply {
-            Reply::Outcome => {}
-            Reply::NoCentre => *self = Answer::NoCentre,
-            Reply::NotSent => *self = Answer::NotSent,
-            Reply::Fault(fault) => *self = Answer::Fault(fault),
         }
     }
 }

@@ -27,7 +27,6 @@
 
 mod event;
 mod hearing;
-mod interlocking;
 mod missions;
 mod run;
 mod view;

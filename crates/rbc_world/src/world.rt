@@ -1,22 +1,19 @@
-ghost use Rattle.std.specs.Prelude.{◌≡◌, ◌<◌, ℕ, true, false, length, slice_get, IfOk, IfErr, IfSome, OnErr, Some};
+ghost use Rattle.std.specs.Prelude.{◌≡◌, ◌<◌, ℕ, true, length, slice_get, IfOk, IfSome, OnErr, Some};
 ghost use Rattle.rbc_spec.specs.Line.{IsLine, is_centre};
 ghost use Rattle.rbc_spec.specs.World.{new_world, world_step, at_centre, takes, frame_sent, Bytes, Delivery};
 ghost use Rattle.rbc_msgs.specs.TrainReading.{read_train};
 ghost use Rattle.rbc_world.specs.States.{AtBeginning, stands_for};
 ghost use Rattle.rbc_world.specs.Reached.{WasReached, MayBeTold};
 ghost use Rattle.rbc_world.specs.Stepped.{KeepsTheorems, IsWorldOf};
-ghost use Rattle.rbc_world.specs.Views.{IsFaultOf};
-ghost use Rattle.rbc_world.specs.Named.{AreNamed};
-ghost use Rattle.std.proofs.Math.ListN.{replicate};
-ghost use Rattle.rbc_centre.specs.declared.fault.StepFault.TheVariants.{Memory};
+ghost use Rattle.rbc_world.specs.Named.{AreOfLine, mentioned};
 ghost use Rattle.rbc_centre.specs.declared.centre.Centre.{Centre};
 ghost use Rattle.rbc_centre.specs.States as one;
-ghost use Rattle.rbc_centre.specs.Answer as one_step;
 ghost use Rattle.rbc_centre.specs.Views.{event_of as one_event};
 
-use crate::event::{Answer, Reply, WorldEvent};
+use crate::event::{Answer, WorldEvent};
+use crate::hearing::{add_mention, first_mention, make_room};
 use indexmap::IndexSet;
-use rbc_centre::{Centre, Event, Frame, Outcome, StepFault};
+use rbc_centre::{Centre, Event, Frame, StepFault};
 use rbc_line::Line;
 use rbc_msgs::{MsgFault, decode_train};
 use std::alloc::{AllocError, Global};
@@ -29,20 +26,18 @@ pub struct World {
     pub(crate) centres: Vec<Centre>,
     /// The trains of the line that messages have named, in the order of first mention.
     pub(crate) trains: IndexSet<u32>,
-    /// Whether messages have named a train, by its position in the line file.
-    pub(crate) named: Vec<bool>,
     ghost each_centre: { length centres.items ≡ length line.centres },
     ghost one_line: { (c : ℕ) → (k : Centre) → slice_get centres.items c ≡ Some k → one.line_of k ≡ line },
     ghost in_order: { (c : ℕ) → (k : Centre) → slice_get centres.items c ≡ Some k → one.number_of k ≡ c },
-    ghost each_train: { length named.items ≡ length line.trains },
-    ghost are_named: { AreNamed line named.items trains.keys },
+    ghost are_of_line: { AreOfLine line trains.keys },
     ghost reached: { ∥ WasReached line (stands_for line centres.items trains.keys) ∥₁ },
 }
 
 impl World {
     ghost use Rattle.rbc_world.specs.World.{line_of, state_of};
-    ghost use Rattle.rbc_world.specs.Views.{event_of, answer_of, answer_by, nothing_answered, numbered};
-    ghost use Rattle.rbc_world.specs.Answers.{Gives, TakesMemory, BytesTakeMemory, IsNextSent, IfWanted};
+    ghost use Rattle.rbc_world.specs.Views.{event_of, answer_of, nothing_answered, numbered};
+    ghost use Rattle.rbc_world.specs.Answers.{Gives, TakesMemory, BytesTakeMemory, EventTakesMemory};
+    ghost use Rattle.rbc_world.specs.Answers.{IsNextSent, IfWanted};
 
     /// The centres of the line in their initial state. A copy of the line is kept.
     pub fn new(alloc: Global, line: &Line) -> Result<World, AllocError>
@@ -55,7 +50,6 @@ impl World {
             line: line.copied(alloc)?,
             centres: centres_of(alloc, line)?,
             trains: IndexSet::new(alloc),
-            named: none_named(alloc, line)?,
         })
     }
 
@@ -119,15 +113,8 @@ impl World {
         ensures err { OnErr result (state_of self.new ≡ state_of self.old) }
         ensures refused { OnErr result (answer_of answer.new ≡ nothing_answered) }
     {
-        answer.make_outcome();
-        let Answer::Outcome(out) = answer else {
-            unreachable!()
-        };
-        match self.take(event, out) {
-            Ok(reply) => {
-                answer.finish(reply);
-                Ok(())
-            }
+        match self.take(event, answer) {
+            Ok(()) => Ok(()),
             Err(fault) => {
                 *answer = Answer::nothing();
                 Err(fault)
@@ -136,36 +123,51 @@ impl World {
     }
 
     #[inline(always)]
-    fn take(&mut self, event: &WorldEvent, out: &mut Outcome) -> Result<Reply, StepFault>
+    fn take(&mut self, event: &WorldEvent, answer: &mut Answer) -> Result<(), StepFault>
         ensures line { line_of self.new ≡ line_of self.old }
-        ensures exact { Gives (λ r. (answer_by r out.new, state_of self.new)) result
+        ensures exact { Gives (λ u. (answer_of answer.new, state_of self.new)) result
             (world_step (line_of self.old) (state_of self.old) (event_of event.now)) }
         ensures memory { IfWanted result (TakesMemory (line_of self.old) (state_of self.old) event.now) }
         ensures err { OnErr result (state_of self.new ≡ state_of self.old) }
     {
         match event {
-            WorldEvent::Train { centre, bytes } => self.receive(*centre, bytes, out),
-            WorldEvent::Set { centre, section } => self.set(*centre, *section, out),
-            WorldEvent::Unset { centre, section } => self.unset(*centre, *section, out),
-            WorldEvent::Deliver { from, to, number } => self.deliver(*from, *to, *number, out),
+            WorldEvent::Train { centre, bytes } => self.receive(*centre, bytes, answer),
+            WorldEvent::Set { centre, section } => {
+                self.tell(*centre, &Event::Set(*section), answer)
+            }
+            WorldEvent::Unset { centre, section } => {
+                self.tell(*centre, &Event::Unset(*section), answer)
+            }
+            WorldEvent::Deliver { from, to, number } => self.deliver(*from, *to, *number, answer),
         }
     }
 
-    // A centre takes an event that it may get, such as a frame that was sent to it.
-    fn tell(&mut self, c: u8, event: &Event, out: &mut Outcome) -> Result<Reply, StepFault>
+    // A centre takes an event that it may get, such as a frame that was sent to it. Room for a first mention is made
+    // first.
+    #[inline(always)]
+    fn tell(&mut self, c: u8, event: &Event, answer: &mut Answer) -> Result<(), StepFault>
         requires { MayBeTold (state_of self.old) c event.now }
         ensures line { line_of self.new ≡ line_of self.old }
-        ensures exact { Gives (λ r. (answer_by r out.new, state_of self.new)) result
+        ensures exact { Gives (λ u. (answer_of answer.new, state_of self.new)) result
             (at_centre (line_of self.old) (state_of self.old) c
-            (takes (line_of self.old) (state_of self.old) c (state_of self.old).trains (one_event event.now))) }
-        ensures memory { one_step.IsWantedBy ((state_of self.old).at c) (one_event event.now) result }
+            (takes (line_of self.old) (state_of self.old) c
+            (mentioned (line_of self.old) event.now (state_of self.old).trains) (one_event event.now))) }
+        ensures memory { IfWanted result (EventTakesMemory (line_of self.old) (state_of self.old) c event.now) }
         ensures err { OnErr result (state_of self.new ≡ state_of self.old) }
     {
         if c as usize >= self.centres.len() {
-            return Ok(Reply::NoCentre);
+            *answer = Answer::NoCentre;
+            return Ok(());
         }
+        let first = first_mention(&self.line, &self.trains, event);
+        make_room(&mut self.trains, first)?;
+        answer.make_outcome();
+        let Answer::Outcome(out) = answer else {
+            unreachable!()
+        };
         self.centres[c as usize].step_to(event, out)?;
-        Ok(Reply::Outcome)
+        add_mention(&mut self.trains, first);
+        Ok(())
     }
 
     // The frame that one centre sent to another under this number is delivered.
@@ -174,17 +176,20 @@ impl World {
         from: u8,
         to: u8,
         number: u32,
-        out: &mut Outcome,
-    ) -> Result<Reply, StepFault>
+        answer: &mut Answer,
+    ) -> Result<(), StepFault>
         ensures line { line_of self.new ≡ line_of self.old }
-        ensures exact { Gives (λ r. (answer_by r out.new, state_of self.new)) result
+        ensures exact { Gives (λ u. (answer_of answer.new, state_of self.new)) result
             (world_step (line_of self.old) (state_of self.old) (Delivery from to number)) }
         ensures memory { IfWanted result (IsNextSent (state_of self.old) from to number) }
         ensures err { OnErr result (state_of self.new ≡ state_of self.old) }
     {
         match self.frame_sent(from, to, number) {
-            Some(frame) => self.tell(to, &Event::Deliver { from, frame }, out),
-            None => Ok(Reply::NotSent),
+            Some(frame) => self.tell(to, &Event::Deliver { from, frame }, answer),
+            None => {
+                *answer = Answer::NotSent;
+                Ok(())
+            }
         }
     }
 
@@ -203,9 +208,9 @@ impl World {
 
     // Bytes from a train arrive at a centre.
     #[inline(always)]
-    fn receive(&mut self, c: u8, bytes: &[u8], out: &mut Outcome) -> Result<Reply, StepFault>
+    fn receive(&mut self, c: u8, bytes: &[u8], answer: &mut Answer) -> Result<(), StepFault>
         ensures line { line_of self.new ≡ line_of self.old }
-        ensures exact { Gives (λ r. (answer_by r out.new, state_of self.new)) result
+        ensures exact { Gives (λ u. (answer_of answer.new, state_of self.new)) result
             (world_step (line_of self.old) (state_of self.old) (Bytes c (numbered (read_train bytes.now)))) }
         ensures memory { IfWanted result
             ((is_centre (line_of self.old) c ≡ true)
@@ -213,11 +218,16 @@ impl World {
         ensures err { OnErr result (state_of self.new ≡ state_of self.old) }
     {
         if c as usize >= self.centres.len() {
-            return Ok(Reply::NoCentre);
+            *answer = Answer::NoCentre;
+            return Ok(());
         }
         match decode_train(self.alloc, bytes) {
-            Ok(message) => self.hear(c as usize, &message, out),
-            Err(fault) => unread(fault),
+            Ok(message) => self.tell(c, &Event::Train(message), answer),
+            Err(MsgFault::Memory) => Err(StepFault::Memory),
+            Err(fault) => {
+                *answer = Answer::Fault(fault);
+                Ok(())
+            }
         }
     }
 }
@@ -227,13 +237,6 @@ pub(crate) fn known_line(line: &Line)
     ensures { IsLine line.now }
 {
     line.centre_count();
-}
-
-// No train of the line is named yet.
-fn none_named(alloc: Global, line: &Line) -> Result<Vec<bool>, AllocError>
-    ensures { IfOk result (λ named. named.items ≡ replicate (length line.now.trains) false) }
-{
-    vec![in alloc; false; line.train_count() as usize]
 }
 
 // The centres of the line, in order.
@@ -247,22 +250,4 @@ fn centres_of(alloc: Global, line: &Line) -> Result<Vec<Centre>, AllocError>
         centres.push(Centre::new(alloc, line, c)?)?;
     }
     Ok(centres)
-}
-
-// The answer to bytes without a message.
-fn unread(fault: MsgFault) -> Result<Reply, StepFault>
-    ensures ok { IfOk result (IsFaultOf fault) }
-    ensures err { IfErr result (λ e. e ≡ Memory) }
-    ensures wanted { OnErr result (fault ≡ MsgFault.Memory) }
-{
-    match fault {
-        MsgFault::Memory => Err(StepFault::Memory),
-        MsgFault::Short
-        | MsgFault::Length
-        | MsgFault::Padding
-        | MsgFault::UnknownNumber
-        | MsgFault::Packet
-        | MsgFault::Missing
-        | MsgFault::Value => Ok(Reply::Fault(fault)),
-    }
 }

@@ -1,5 +1,4 @@
-use Rattle.std.proofs.Common.{◌∙◌, ap, Bool, false, length, List, sym}
-use Rattle.std.proofs.Math.ListN.{length-replicate}
+use Rattle.std.proofs.Common.{◌∙◌, ap, length, sym}
 use Rattle.rbc_spec.specs.Line.{Line}
 use Rattle.rbc_world.proofs.Centres.{new_world_stands}
 use Rattle.rbc_world.proofs.Mentions.{none_named}
@@ -12,13 +11,7 @@ invariant_of-result c = record {
       c.in_ok-centres_of.ensures.count ∙ ap (λ (l : Line). length l.centres) (sym c.in_ok-copied.ensures.value);
   one_line = λ d k at. (c.in_ok-centres_of.ensures.each d k at).line_of ∙ sym c.in_ok-copied.ensures.value;
   in_order = λ d k at. (c.in_ok-centres_of.ensures.each d k at).number_of;
-  each_train =
-      ap (λ (bs : List Bool). length bs) c.in_ok-none_named.ensures
-      ∙ length-replicate (length c.args.line.now.trains) false
-      ∙ ap (λ (l : Line). length l.trains) (sym c.in_ok-copied.ensures.value);
-  are_named =
-      none_named c.in_ok-copied.field-0 _ _ (length c.args.line.now.trains) c.in_ok-none_named.ensures
-      c.new.ensures.empty;
+  are_of_line = none_named c.in_ok-copied.field-0 _ c.new.ensures.empty;
   reached =
       begins c.args.line.now _ _ c.in_ok-copied.ensures.value
       (new_world_stands _ c.args.line.now _ _ c.in_ok-copied.ensures.value c.in_ok-centres_of.ensures.each

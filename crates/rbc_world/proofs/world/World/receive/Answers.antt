@@ -1,11 +1,11 @@
 use Rattle.std.proofs.Common.{◌<◌, ◌≤◌, length, Result, rules, subst, sym}
 use Rattle.rbc_spec.specs.Step.{Refusal}
 use Rattle.rbc_spec.specs.World.{Answer, World}
-use Rattle.rbc_world.proofs.Steps.{message_step, no_centre, unread_gives}
+use Rattle.rbc_world.proofs.Steps.{message_step, no_centre, fault_step}
 use Rattle.rbc_world.proofs.Wanted.{heard_wants, unread_wants}
 use Rattle.rbc_world.proofs.world.World.receive.Goals as goal
 use Rattle.rbc_world.specs.Answers.{Gives}
-use Rattle.rbc_world.specs.Views.{answer_by}
+use Rattle.rbc_world.specs.Views.{answer_of}
 use Rattle.rbc_world.specs.World.{state_of}
 
 pub returns-then-c-len-clause-exact : goal.returns-then-c-len-clause-exact
@@ -15,27 +15,14 @@ returns-then-c-len-clause-exact c =
 
 pub returns-in-Ok-clause-exact : goal.returns-in-Ok-clause-exact
 returns-in-Ok-clause-exact c =
-    let within : c.args.c < length c.args.self.now.centres.items = search rules in
-    let same = message_step c.args.self.now.line (state_of c.args.self.now) c.args.self.now.centres.items c.args.c _
-    c.in-Ok.message c.args.self.now.each_centre within c.in-Ok.ensures.exact in
+    let same = message_step c.args.self.now.line (state_of c.args.self.now) c.args.c _ c.in-Ok.message
+    c.in-Ok.ensures.exact in
     subst (λ (step : Result (Answer × World) Refusal).
-    Gives (λ r. (answer_by r c.hear.new.out, state_of c.hear.new.self)) c.hear.result step) (sym same)
-    c.hear.ensures.exact
-
-pub returns-in-Err-clause-exact : goal.returns-in-Err-clause-exact
-returns-in-Err-clause-exact c =
-    let within : c.args.c < length c.args.self.now.centres.items = search rules in
-    unread_gives c.args.self.now.line _ c.args.self.now.centres.items c.args.c _ c.in-Err.fault c.unread.result
-    c.args.out.now c.args.self.now.each_centre within c.in-Err.ensures.exact c.unread.ensures.ok c.unread.ensures.err
+    Gives (λ u. (answer_of c.tell.new.answer, state_of c.tell.new.self)) c.tell.result step) (sym same)
+    c.tell.ensures.exact
 
 pub returns-in-Ok-clause-memory : goal.returns-in-Ok-clause-memory
 returns-in-Ok-clause-memory c =
     let within : c.args.c < length c.args.self.now.centres.items = search rules in
     heard_wants c.args.self.now.line c.args.self.now.centres.items (state_of c.args.self.now).trains c.args.c _
-    c.args.self.now.each_centre within _ c.hear.result c.in-Ok.ensures.exact c.hear.ensures.memory
-
-pub returns-in-Err-clause-memory : goal.returns-in-Err-clause-memory
-returns-in-Err-clause-memory c =
-    let within : c.args.c < length c.args.self.now.centres.items = search rules in
-    unread_wants c.args.self.now.line c.args.self.now.centres.items (state_of c.args.self.now).trains c.args.c _
-    c.args.self.now.each_centre within c.in-Err.fault c.unread.result c.in-Err.ensures.memory c.unread.ensures.wanted
+    c.args.self.now.each_centre within _ c.tell.result c.in-Ok.ensures.exact c.tell.ensures.memory
