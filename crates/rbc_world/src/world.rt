@@ -223,11 +223,13 @@ impl World {
         }
         match decode_train(self.alloc, bytes) {
             Ok(message) => self.tell(c, &Event::Train(message), answer),
-            Err(MsgFault::Memory) => Err(StepFault::Memory),
-            Err(fault) => {
-                *answer = Answer::Fault(fault);
-                Ok(())
-            }
+            Err(fault) => match fault {
+                MsgFault::Memory => Err(StepFault::Memory),
+                _ => {
+                    *answer = Answer::Fault(fault);
+                    Ok(())
+                }
+            },
         }
     }
 }

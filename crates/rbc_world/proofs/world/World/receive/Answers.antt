@@ -1,4 +1,4 @@
-use Rattle.std.proofs.Common.{◌<◌, ◌≤◌, length, Result, rules, subst, sym}
+use Rattle.std.proofs.Common.{◌<◌, ◌≤◌, length, refl, Result, rules, subst, sym}
 use Rattle.rbc_spec.specs.Step.{Refusal}
 use Rattle.rbc_spec.specs.World.{Answer, World}
 use Rattle.rbc_world.proofs.Steps.{message_step, no_centre, fault_step}
@@ -26,3 +26,15 @@ returns-in-Ok-clause-memory c =
     let within : c.args.c < length c.args.self.now.centres.items = search rules in
     heard_wants c.args.self.now.line c.args.self.now.centres.items (state_of c.args.self.now).trains c.args.c _
     c.args.self.now.each_centre within _ c.tell.result c.in-Ok.ensures.exact c.tell.ensures.memory
+
+pub returns-in_default : goal.returns-in_default
+returns-in_default c =
+    let within : c.args.c < length c.args.self.now.centres.items = search rules in
+    record {
+      line = refl;
+      exact =
+          fault_step c.args.self.now.line (state_of c.args.self.now) c.args.self.now.centres.items c.args.c _
+          c.in-Err.fault c.args.self.now.each_centre within (c.in-Err.ensures.exact c.in_default.not-Memory);
+      memory = tt;
+      err = tt;
+    }

@@ -15,6 +15,7 @@ use Rattle.rbc_world.specs.Named.{AreOfLine, mentioned, with_first}
 use Rattle.rbc_world.specs.States.{stands_for}
 
 pub returns-in_err-step_to-clause-exact : goal.returns-in_err-step_to-clause-exact
+unfolding stands_for
 returns-in_err-step_to-clause-exact c =
     let w = c.args.self.now in
     let p = err_from_is_err_and c.from_residual-in_err-step_to.result c.from_residual-in_err-step_to.ensures.1 in
