@@ -24,7 +24,7 @@ const SCRIPT: (&str, &str) = (
     "The script, one event a line; `-` is standard input",
 );
 
-static FORMS: [Form; 11] = [
+static FORMS: [Form; 12] = [
     Form {
         name: "check",
         about: "Read a line file, and say how many centres, tracks, sections and trains it has",
@@ -39,6 +39,17 @@ static FORMS: [Form; 11] = [
         name: "run",
         about: "Run a script of events, and print each event, its answers, and the line at the end",
         words: &[FILE, SCRIPT],
+    },
+    Form {
+        name: "script",
+        about: "Print the script of a text in words",
+        words: &[
+            FILE,
+            (
+                "WORDS",
+                "The text in words, one event a line; `-` is standard input",
+            ),
+        ],
     },
     Form {
         name: "storm",

@@ -27,6 +27,7 @@ mod printed;
 pub mod rerunning;
 pub mod run;
 pub mod running;
+mod scenarios;
 mod script_faults;
 mod storm;
 pub mod words;

@@ -27,6 +27,11 @@ pub enum Request<'a> {
         file: &'a str,
         script: &'a str,
     },
+    /// print the script of a text in words.
+    Script {
+        file: &'a str,
+        text: &'a str,
+    },
     /// Run the script on the line, with drawn deliveries after each event.
     Storm {
         file: &'a str,
@@ -154,6 +159,7 @@ fn named_of_file<'a>(command: &str, words: &ArgMatches<'a>) -> Option<Request<'a
             script: words.get_str("SCRIPT"),
         }),
         "run" => named_run(file, words),
+        "script" => named_script(file, words),
         "storm" => named_storm(file, words),
         "print" => named_print(file, words),
         _ => named_of_print(command, file, words),
@@ -163,6 +169,11 @@ fn named_of_file<'a>(command: &str, words: &ArgMatches<'a>) -> Option<Request<'a
 fn named_run<'a>(file: &'a str, words: &ArgMatches<'a>) -> Option<Request<'a>> {
     let script = words.get_str("SCRIPT")?;
     Some(Request::Run { file, script })
+}
+
+fn named_script<'a>(file: &'a str, words: &ArgMatches<'a>) -> Option<Request<'a>> {
+    let text = words.get_str("WORDS")?;
+    Some(Request::Script { file, text })
 }
 
 fn named_storm<'a>(file: &'a str, words: &ArgMatches<'a>) -> Option<Request<'a>> {
