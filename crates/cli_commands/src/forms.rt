@@ -24,7 +24,7 @@ const SCRIPT: (&str, &str) = (
     "The script, one event a line; `-` is standard input",
 );
 
-static FORMS: [Form; 11] = [
+static FORMS: [Form; 12] = [
     Form {
         name: "check",
         about: "Read a line file, and say how many centres, tracks, sections and trains it has",
@@ -51,6 +51,11 @@ static FORMS: [Form; 11] = [
                 "A number below 2^64; the same draws the same deliveries",
             ),
         ],
+    },
+    Form {
+        name: "demo",
+        about: "Run trains that obey on a line, with messages lost by lot, and print where they are",
+        words: &[],
     },
     Form {
         name: "serve",
@@ -148,6 +153,9 @@ fn command_of<'a>(alloc: Global, form: &Form) -> Result<Command<'a>, AllocError>
         let word = Arg::new(alloc, name).required(true).help(help);
         command = command.arg(bounded(word, name))?;
     }
+    if form.name == "demo" {
+        command = command.arg(line_of_demo(alloc))?;
+    }
     if form.name == "explain" {
         command = command.arg(script(alloc))?;
     }
@@ -168,6 +176,10 @@ fn bytes<'a>(alloc: Global) -> Arg<'a> {
 
 fn script<'a>(alloc: Global) -> Arg<'a> {
     Arg::new(alloc, "SCRIPT").help("Print each faulty line of this script in place of the line")
+}
+
+fn line_of_demo<'a>(alloc: Global) -> Arg<'a> {
+    Arg::new(alloc, "FILE").help("The line file [default: a line of three centres]")
 }
 
 fn message<'a>(alloc: Global) -> Arg<'a> {
