@@ -9,6 +9,9 @@ const REPORT: u32 = 600;
 /// After this time without a message of a centre a train opens its session again.
 const SILENCE: u32 = 3_000;
 
+/// How often a train sends the end of its mission, which no centre acknowledges.
+const ENDS: u8 = 20;
+
 /// How far from the end of its authority, or from its goal, a train stops, in decimetres.
 pub(crate) const MARGIN: u32 = 20;
 
@@ -39,8 +42,8 @@ pub(crate) struct Driver {
     pub(crate) gave_back: u32,
     /// A centre has accepted it.
     pub(crate) is_accepted: bool,
-    /// It has ended its mission at its goal.
-    pub(crate) is_done: bool,
+    /// How often it has sent the end of its mission at its goal.
+    pub(crate) ended: u8,
     talks: [Option<Talk>; 8],
 }
 
@@ -53,7 +56,7 @@ impl Driver {
             followed: None,
             gave_back: 0,
             is_accepted: false,
-            is_done: false,
+            ended: 0,
             talks: [None; 8],
         }
     }
@@ -61,6 +64,11 @@ impl Driver {
     /// Whether the train stands at its goal.
     pub(crate) fn has_arrived(&self, ends: Ends) -> bool {
         ends.front.saturating_add(MARGIN) >= self.goal
+    }
+
+    /// Whether the train has ended its mission at its goal.
+    pub(crate) fn is_done(&self) -> bool {
+        self.ended > 0
     }
 
     pub(crate) fn talk(&self, centre: u8) -> Option<Talk> {
@@ -89,7 +97,8 @@ impl Driver {
 
     /// A session in which nothing was received for long is opened again, or is over if it was to end.
     pub(crate) fn reopen(&mut self, centre: u8, now: u32) {
-        if let Some(talk) = self.talk(centre)
+        if !self.is_done()
+            && let Some(talk) = self.talk(centre)
             && talk.heard.saturating_add(SILENCE) < now
         {
             let again = if talk.is_ending {
@@ -115,8 +124,9 @@ impl Driver {
         if talk.is_ending {
             return is_due.then_some(Speech::EndOfSession);
         }
-        if self.has_arrived(ends) && home == centre && (self.is_done || self.follows == Some(centre)) {
-            return is_due.then_some(Speech::EndOfMission);
+        if self.is_done() || (self.has_arrived(ends) && home == centre && self.follows == Some(centre)) {
+            let is_end = is_due && home == centre && self.ended < ENDS;
+            return is_end.then_some(Speech::EndOfMission);
         }
         if is_due && self.follows.is_some() && is_established(talk.contact.session) {
             return Some(Speech::Report);
@@ -144,7 +154,7 @@ impl Driver {
                 talk.reported = stamp;
                 self.gave_back = stamp;
                 self.follows = None;
-                self.is_done = true;
+                self.ended = self.ended.saturating_add(1);
             }
             Speech::Report | Speech::EndOfSession => talk.reported = stamp,
         }

@@ -39,7 +39,7 @@ impl Driver {
 
     // The centre has acknowledged train data with this T_TRAIN.
     fn acknowledged(&mut self, centre: u8, stamp: u64) -> bool {
-        if stamp <= u64::from(self.gave_back) || self.is_done {
+        if stamp <= u64::from(self.gave_back) || self.is_done() {
             return false;
         }
         let is_other = self.followed != Some(centre);

@@ -90,7 +90,11 @@ fn next_body(alloc: Global, next: NextMessage, position: Position) -> Result<Tra
 fn train_data(alloc: Global) -> Result<Opaque, DemoFault>
     ensures { IfOk result (λ p. p.nid_packet ≡ 11) }
 {
-    match Opaque::new(alloc, 11, BitReader::new(&[])) {
+    let none = BitReader::new(&[]);
+    if none.remaining() > 0 {
+        return Err(DemoFault::Step(StepFault::Memory));
+    }
+    match Opaque::new(alloc, 11, none) {
         Ok(packet) => Ok(packet),
         Err(_) => Err(DemoFault::Step(StepFault::Memory)),
     }

@@ -6,7 +6,7 @@ use crate::driver::MARGIN;
 use crate::fault::{DemoFault, happened};
 use crate::interlocking::Interlocking;
 use crate::lots::{below, in_hundred};
-use crate::message::{LENGTH, message, position};
+use crate::message::{LENGTH, Speech, message, position};
 use crate::radio::Flight;
 use rbc_line::Section;
 use std::io::Write;
@@ -86,7 +86,10 @@ impl Demo {
     }
 
     // Whether a train that no centre has accepted is on this section.
-    fn is_hidden(&self, section: &Section) -> bool {
+    fn is_hidden(&self, section: usize) -> bool {
+        let Some(section) = self.interlocking.sections.get(section) else {
+            return false;
+        };
         for train in 0..self.drivers.len() {
             if !self.drivers[train].is_accepted
                 && let Some(ends) = self.ends(train)
@@ -102,26 +105,42 @@ impl Demo {
     // own, and ahead of others none on which such a train is.
     fn release<W: Write>(&mut self, out: &mut W) -> Result<(), DemoFault> {
         for train in 0..self.drivers.len() {
-            if let Some(first) = self.section_of(train) {
-                let ahead = if self.drivers[train].is_accepted { AHEAD } else { 0 };
-                self.release_one(first, out)?;
-                for s in first..first.saturating_add(ahead) {
-                    let Some(next) = self.next_free(s) else {
-                        break;
-                    };
-                    self.release_one(next, out)?;
+            if let Some(section) = self.section_of(train) {
+                self.release_one(section, out)?;
+                if self.is_accepted(train) {
+                    self.release_ahead(section, out)?;
                 }
             }
         }
         Ok(())
     }
 
-    // The section after this one on its track, if no train is on it that no centre has accepted.
+    fn release_ahead<W: Write>(&mut self, section: usize, out: &mut W) -> Result<(), DemoFault> {
+        for s in section..section.saturating_add(AHEAD) {
+            let Some(next) = self.next_free(s) else {
+                break;
+            };
+            self.release_one(next, out)?;
+        }
+        Ok(())
+    }
+
+    fn is_accepted(&self, train: usize) -> bool {
+        match self.drivers.get(train) {
+            Some(driver) => driver.is_accepted,
+            None => false,
+        }
+    }
+
+    // The section after this one on its track. None if a train that no centre has accepted is on it or on the next: that
+    // train's own section is released, so the one in rear of it has to be shut.
     fn next_free(&self, s: usize) -> Option<usize> {
         let next = s.saturating_add(1);
-        let section = self.interlocking.sections.get(next)?;
-        let is_free = section.start > 0 && !self.is_hidden(section);
-        is_free.then_some(next)
+        let is_first = self.interlocking.sections.get(next)?.start == 0;
+        if is_first || self.is_hidden(next) || self.is_hidden(next.saturating_add(1)) {
+            return None;
+        }
+        Some(next)
     }
 
     // Releases a section that is not released, by lot.
@@ -198,7 +217,8 @@ impl Demo {
         let Some(speech) = driver.speech(running.unit(), centre, section.home, stamp, ends) else {
             return Ok(());
         };
-        let position = position(self.railway.line().nid_c(), section, ends.front, driver.is_done);
+        let is_still = matches!(speech, Speech::EndOfMission);
+        let position = position(self.railway.line().nid_c(), section, ends.front, is_still);
         let message = message(self.alloc, stamp, running.nid_engine(), speech, position)?;
         if happened(self.railway.send(train, centre, &message))? {
             driver.has_sent(centre, speech, stamp);
@@ -245,18 +265,16 @@ impl Demo {
         Ok(())
     }
 
-    // Looks at the true places of all accepted trains.
+    // Looks at the true places of all trains.
     fn check(&mut self) -> Result<(), DemoFault> {
-        let mut accepted = Vec::new(self.alloc);
+        let mut trains = Vec::new(self.alloc);
         for train in 0..self.drivers.len() {
-            if self.drivers[train].is_accepted
-                && let Some(ends) = self.ends(train)
-            {
-                accepted.push(ends)?;
+            if let Some(ends) = self.ends(train) {
+                trains.push((ends, self.drivers[train].is_accepted))?;
             }
         }
         let Interlocking { sections, released } = &self.interlocking;
-        if !is_safe(sections, released, &accepted) {
+        if !is_safe(sections, released, &trains) {
             self.tally.is_safe = false;
         }
         Ok(())
