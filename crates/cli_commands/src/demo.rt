@@ -9,7 +9,7 @@ use std::io::{BufWriter, Write};
 use text_script::status::Fault;
 
 /// Runs trains on the line of this file, or on the built-in line. If the check of the true places fails, the print
-/// says so, and the fault is `Differs`.
+/// has that, and the fault is `Differs`.
 pub fn run_demo<'a, F: Files, O: Write>(
     alloc: Global,
     file: Option<&'a str>,

@@ -7,7 +7,9 @@ use train_unit::Ends;
 pub(crate) fn covers(section: &Section, ends: Ends) -> bool {
     let start = 10 * u64::from(section.start);
     let end = start + 10 * u64::from(section.metres);
-    section.track == ends.track && start < u64::from(ends.front) && i64::from(ends.rear) < end as i64
+    section.track == ends.track
+        && start < u64::from(ends.front)
+        && i64::from(ends.rear) < end as i64
 }
 
 /// Whether no two of these trains are on one section, and each section under an accepted one is released.

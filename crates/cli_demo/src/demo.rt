@@ -51,7 +51,11 @@ impl Demo {
     }
 
     /// A message of a train arrives at its centre.
-    pub(crate) fn arrive<W: Write>(&mut self, message: usize, out: &mut W) -> Result<(), DemoFault> {
+    pub(crate) fn arrive<W: Write>(
+        &mut self,
+        message: usize,
+        out: &mut W,
+    ) -> Result<(), DemoFault> {
         if !happened(self.railway.arrive(message))? {
             return Ok(());
         }
@@ -64,7 +68,11 @@ impl Demo {
     }
 
     /// An event of the interlocking or of a link happens.
-    pub(crate) fn happen<W: Write>(&mut self, event: &WorldEvent, out: &mut W) -> Result<(), DemoFault> {
+    pub(crate) fn happen<W: Write>(
+        &mut self,
+        event: &WorldEvent,
+        out: &mut W,
+    ) -> Result<(), DemoFault> {
         if !happened(self.railway.happen(event))? {
             return Ok(());
         }
@@ -87,8 +95,13 @@ impl Demo {
             return Ok(());
         };
         self.links.send(last.centre, &outcome.frames);
-        self.radio.answer(&mut self.draws, number, outcome.sayings.len())?;
-        accept(&mut self.drivers, self.railway.trains(), outcome.sayings.as_slice());
+        self.radio
+            .answer(&mut self.draws, number, outcome.sayings.len())?;
+        accept(
+            &mut self.drivers,
+            self.railway.trains(),
+            outcome.sayings.as_slice(),
+        );
         if let Some(event) = event {
             self.interlocking.replied(event, outcome);
             self.links.answered(event, outcome.link);
@@ -102,8 +115,10 @@ fn accept(drivers: &mut [Driver], trains: &[RunningTrain], sayings: &[Saying]) {
     for saying in sayings {
         if saying.message.body() == TrackBody::TrainAccepted {
             for i in 0..trains.len() {
-                if trains[i].nid_engine() == saying.nid_engine && i < drivers.len() {
-                    drivers[i].is_accepted = true;
+                if trains[i].nid_engine() == saying.nid_engine
+                    && let Some(driver) = drivers.get_mut(i)
+                {
+                    driver.is_accepted = true;
                 }
             }
         }

@@ -1,4 +1,4 @@
-//! A train's driver: which centres it has sessions with, and what it sends next to each.
+//! A train's driver: its sessions with centres, and its next message to each.
 
 use crate::message::{DOUBT, Speech};
 use train_unit::{Contact, Ends, NextMessage, OnBoardUnit, Session};
@@ -15,7 +15,7 @@ const ENDS: u8 = 20;
 /// How far from the end of its authority, or from its goal, a train stops, in decimetres.
 pub(crate) const MARGIN: u32 = 20;
 
-/// What a train knows of a centre.
+/// The knowledge of a train about a centre.
 #[derive(Clone, Copy, Debug)]
 pub(crate) struct Talk {
     pub(crate) contact: Contact,
@@ -27,10 +27,10 @@ pub(crate) struct Talk {
     pub(crate) is_ending: bool,
 }
 
-/// What a train knows besides its on-board unit.
+/// The knowledge of a train besides that of its on-board unit.
 #[derive(Clone, Copy, Debug)]
 pub(crate) struct Driver {
-    /// Where its front end arrives, in decimetres from the start of the track.
+    /// The goal of its front end, in decimetres from the start of the track.
     pub(crate) goal: u32,
     /// T_TRAIN of its last message.
     pub(crate) clock: u32,
@@ -61,7 +61,7 @@ impl Driver {
         }
     }
 
-    /// Whether the train stands at its goal.
+    /// Whether the train is at its goal.
     pub(crate) fn has_arrived(&self, ends: Ends) -> bool {
         ends.front.saturating_add(MARGIN) >= self.goal
     }
@@ -110,7 +110,7 @@ impl Driver {
         }
     }
 
-    /// What the train sends to a centre with this T_TRAIN. `home` is the home of the section of its front end.
+    /// The next message of the train to a centre, with this T_TRAIN. `home` is the home of the section of its front end.
     pub(crate) fn speech(
         &self,
         unit: &OnBoardUnit,
@@ -124,7 +124,9 @@ impl Driver {
         if talk.is_ending {
             return is_due.then_some(Speech::EndOfSession);
         }
-        if self.is_done() || (self.has_arrived(ends) && home == centre && self.follows == Some(centre)) {
+        if self.is_done()
+            || (self.has_arrived(ends) && home == centre && self.follows == Some(centre))
+        {
             let is_end = is_due && home == centre && self.ended < ENDS;
             return is_end.then_some(Speech::EndOfMission);
         }

@@ -1,4 +1,4 @@
-//! What a driver learns from a message of a centre.
+//! The effects of a centre's message on a driver.
 
 use crate::driver::{Driver, Talk};
 use rbc_line::Line;

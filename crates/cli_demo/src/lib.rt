@@ -1,9 +1,10 @@
 //! A line that lives: the centres of a line, an interlocking, and trains that obey, in one process without a clock. All
 //! that is drawn by lot comes from one seed.
 //!
-//! [`Demo::new`] puts trains on a line ([`Settings`]). [`Demo::run`] lets seconds pass until each train has arrived, and
-//! writes a table or a script ([`Report`]). Trains, centres and messages are a `Railway`, so no two accepted trains are
-//! ever on one section (`IsSafeRailway`). The module `check` looks at the true places again, without the centres.
+//! [`Demo::new`] puts trains on a line ([`Settings`]). [`Demo::run`] lets seconds pass until each train has arrived. It
+//! writes a table of the trains, or a script of the events. Trains, centres and messages are a `Railway`, so no two
+//! accepted trains are ever on one section (`IsSafeRailway`). The module `check` looks at the true places again, without
+//! the centres.
 //!
 //! ```
 //! let line = Line::from_toml(alloc, BUILT_IN)?;

@@ -70,26 +70,34 @@ impl Links {
     }
 
     /// A frame of the link that is delivered now, by lot: mostly the next one, else any.
-    pub(crate) fn delivery(
-        &self,
-        draws: &mut Draws,
-        loss: u8,
-        link: usize,
-    ) -> Option<WorldEvent> {
+    pub(crate) fn delivery(&self, draws: &mut Draws, loss: u8, link: usize) -> Option<WorldEvent> {
         let link = self.links.get(link)?;
-        let is_late = link.taken < link.sent;
-        if link.sent == 0 || (!is_late && in_hundred(draws, 98)) || in_hundred(draws, loss) {
+        if link.sent == 0 {
             return None;
         }
-        let number = if is_late && in_hundred(draws, 75) {
-            link.taken.saturating_add(1)
-        } else {
-            (below(draws, link.sent as usize) as u32).saturating_add(1)
-        };
+        let is_late = link.taken < link.sent;
+        if (!is_late && in_hundred(draws, 98)) || in_hundred(draws, loss) {
+            return None;
+        }
+        let number = link.number(draws)?;
         Some(WorldEvent::Deliver {
             from: link.from,
             to: link.to,
             number,
         })
+    }
+}
+
+impl Link {
+    // The number of a frame: mostly the next one that was not taken, else any. None if none was sent.
+    fn number(&self, draws: &mut Draws) -> Option<u32> {
+        if self.taken < self.sent && in_hundred(draws, 75) {
+            return Some(self.taken.saturating_add(1));
+        }
+        if self.sent == 0 {
+            return None;
+        }
+        let place = below(draws, self.sent as usize);
+        Some((place as u32).saturating_add(1))
     }
 }

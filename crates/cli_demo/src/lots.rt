@@ -1,6 +1,6 @@
-//! What is drawn by lot.
+//! Draws by lot.
 
-ghost use Rattle.std.specs.Prelude.{◌<◌};
+ghost use Rattle.std.specs.Prelude.{◌≡◌, ◌<◌, ◌≤◌, false, true};
 
 use cli_storm::Draws;
 
@@ -12,7 +12,10 @@ pub(crate) fn below(draws: &mut Draws, bound: usize) -> usize
     draws.draw() as usize % bound
 }
 
-/// True in so many of 100 draws.
-pub(crate) fn in_hundred(draws: &mut Draws, chance: u8) -> bool {
+/// True with this chance, in per cent.
+pub(crate) fn in_hundred(draws: &mut Draws, chance: u8) -> bool
+    ensures never { chance ≡ 0 → result ≡ false }
+    ensures always { 100 ≤ chance → result ≡ true }
+{
     draws.draw() % 100 < u32::from(chance)
 }

@@ -28,7 +28,7 @@ const REPORTED_LENGTH: u64 = 81;
 /// A message that a train is about to send.
 #[derive(Clone, Copy, Debug)]
 pub(crate) enum Speech {
-    /// What the policy of the on-board unit proposes.
+    /// A message that the policy of the on-board unit proposes.
     Next(NextMessage),
     /// Message 136, Train Position Report.
     Report,
@@ -46,15 +46,21 @@ pub(crate) fn message(
     speech: Speech,
     position: Position,
 ) -> Result<TrainMsg, DemoFault> {
-    let body = match speech {
-        Speech::Report => TrainBody::Report { position },
-        Speech::EndOfMission => TrainBody::EndOfMission { position },
-        Speech::EndOfSession => TrainBody::TerminationOfSession,
-        Speech::Next(next) => next_body(alloc, next, position)?,
-    };
+    let body = body(alloc, speech, position)?;
     let t_train = t_train.min(4_000_000_000);
     let nid_engine = nid_engine.min(16_777_215);
     Ok(TrainMsg::new(t_train, nid_engine, body, Packets::none()))
+}
+
+fn body(alloc: Global, speech: Speech, position: Position) -> Result<TrainBody, DemoFault>
+    ensures { IfOk result HasItsPackets }
+{
+    match speech {
+        Speech::Report => Ok(TrainBody::Report { position }),
+        Speech::EndOfMission => Ok(TrainBody::EndOfMission { position }),
+        Speech::EndOfSession => Ok(TrainBody::TerminationOfSession),
+        Speech::Next(next) => next_body(alloc, next, position),
+    }
 }
 
 fn next_body(alloc: Global, next: NextMessage, position: Position) -> Result<TrainBody, DemoFault>
@@ -100,7 +106,7 @@ fn train_data(alloc: Global) -> Result<Opaque, DemoFault>
     }
 }
 
-/// The position report of a train whose front end is in this section: so many decimetres from its start.
+/// The position report of a train whose front end is in this section.
 pub(crate) fn position(nid_c: u16, section: Section, front: u32, is_still: bool) -> Position {
     let group = u64::from(nid_c) * 16_384 + u64::from(section.balise);
     let start = 10 * u64::from(section.start);

@@ -1,4 +1,4 @@
-//! Where the trains begin, and where they arrive.
+//! The first places of trains, and their goals.
 
 use crate::driver::Driver;
 use crate::fault::{DemoFault, happened};
@@ -8,7 +8,7 @@ use rbc_railway::Fleet;
 use std::alloc::Global;
 use train_unit::Ends;
 
-/// Where in its section a train begins, in decimetres from the start of the section.
+/// The first place of a front end, in decimetres from the start of its section.
 const BEGINNING: u32 = 900;
 
 /// The trains of a demo, and their drivers.
@@ -18,8 +18,8 @@ pub(crate) struct Placed {
     pub(crate) drivers: Vec<Driver>,
 }
 
-/// Places trains on the tracks in turn. On one track each has a free section ahead, and each arrives a section behind
-/// the train ahead. A train for which there is no room is left out.
+/// Places trains on the tracks in turn. On one track each has a free section in advance. Its goal is a section in
+/// rear of that of the train ahead. A train without room is left out.
 pub(crate) fn place_all(
     alloc: Global,
     line: &Line,
@@ -34,7 +34,9 @@ pub(crate) fn place_all(
     let count = usize::from(line.train_count().min(most));
     for number in 0..line.train_count() {
         let place = usize::from(number);
-        if place < count && let Some(train) = line.train(number) {
+        if place < count
+            && let Some(train) = line.train(number)
+        {
             let track = part_of(sections, place % tracks);
             let here = count.saturating_sub(place % tracks).div_ceil(tracks);
             placed.place(sections, track, train.nid_engine, place / tracks, here)?;
@@ -44,7 +46,7 @@ pub(crate) fn place_all(
 }
 
 impl Placed {
-    // Places one of so many trains that are to be on a track: its place is counted from the last.
+    // Places one of the trains of a track: its place is counted from the last.
     fn place(
         &mut self,
         sections: &[Section],

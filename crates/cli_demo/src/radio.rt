@@ -1,4 +1,4 @@
-//! The radio: messages between trains and centres are on the way for any time. They arrive in any order, and some twice.
+//! The radio: messages between trains and centres are on the way for any time. They arrive in any order, some twice.
 
 use crate::lots::{below, in_hundred};
 use cli_storm::Draws;
@@ -50,7 +50,7 @@ impl Radio {
         Ok(())
     }
 
-    /// So many messages of the centre's answer of this number are sent.
+    /// The messages of the centre's answer of this number are sent.
     pub(crate) fn answer(
         &mut self,
         draws: &mut Draws,
@@ -65,10 +65,14 @@ impl Radio {
 
     /// A message on the way that arrives now, by lot. One in eight that arrive will arrive again.
     pub(crate) fn arrival(&mut self, draws: &mut Draws) -> Option<Flight> {
-        if self.flights.is_empty() || in_hundred(draws, 50) {
+        let count = self.flights.len();
+        if count == 0 {
             return None;
         }
-        let place = below(draws, self.flights.len());
+        if in_hundred(draws, 50) {
+            return None;
+        }
+        let place = below(draws, count);
         if in_hundred(draws, 12) {
             return Some(self.flights[place]);
         }

@@ -44,7 +44,10 @@ impl Demo {
             self.receive(out)?;
         }
         for link in 0..self.links.count() {
-            if let Some(event) = self.links.delivery(&mut self.draws, self.settings.loss, link) {
+            if let Some(event) = self
+                .links
+                .delivery(&mut self.draws, self.settings.loss, link)
+            {
                 self.happen(&event, out)?;
             }
         }
@@ -91,7 +94,7 @@ impl Demo {
             return false;
         };
         for train in 0..self.drivers.len() {
-            if !self.drivers[train].is_accepted
+            if !self.is_accepted(train)
                 && let Some(ends) = self.ends(train)
                 && covers(section, ends)
             {
@@ -101,8 +104,7 @@ impl Demo {
         false
     }
 
-    // The interlocking releases sections under and ahead of trains: under a train that no centre has accepted only its
-    // own, and ahead of others none on which such a train is.
+    // The interlocking releases the section of each train, and sections in advance of a train that is accepted.
     fn release<W: Write>(&mut self, out: &mut W) -> Result<(), DemoFault> {
         for train in 0..self.drivers.len() {
             if let Some(section) = self.section_of(train) {
@@ -132,8 +134,8 @@ impl Demo {
         }
     }
 
-    // The section after this one on its track. None if a train that no centre has accepted is on it or on the next: that
-    // train's own section is released, so the one in rear of it has to be shut.
+    // The section after this one on its track. None if a train that no centre has accepted is on it or on the next. The
+    // own section of that train is released, so the one in rear of it has to be shut.
     fn next_free(&self, s: usize) -> Option<usize> {
         let next = s.saturating_add(1);
         let is_first = self.interlocking.sections.get(next)?.start == 0;
@@ -157,7 +159,10 @@ impl Demo {
     // Takes a section back, by lot.
     fn take_back<W: Write>(&mut self, out: &mut W) -> Result<(), DemoFault> {
         let count = self.interlocking.sections.len();
-        if count == 0 || !in_hundred(&mut self.draws, 10) {
+        if count == 0 {
+            return Ok(());
+        }
+        if !in_hundred(&mut self.draws, 10) {
             return Ok(());
         }
         let section = below(&mut self.draws, count);
@@ -172,14 +177,19 @@ impl Demo {
 
     // A train runs as far as it may, at a speed by lot.
     fn drive(&mut self, train: usize) -> Result<(), DemoFault> {
-        let (Some(running), Some(driver)) = (self.railway.trains().get(train), self.drivers.get(train)) else {
+        let (Some(running), Some(driver)) = (
+            self.railway.trains().get(train),
+            self.drivers.get(train),
+        ) else {
             return Ok(());
         };
         let ends = running.ends();
         let Some(limit) = running.unit().may_reach(ends.front) else {
             return Ok(());
         };
-        let most = (limit.min(20_000_000) as u32).min(driver.goal).saturating_sub(MARGIN);
+        let most = (limit.min(20_000_000) as u32)
+            .min(driver.goal)
+            .saturating_sub(MARGIN);
         let speed = below(&mut self.draws, 400) as u32 + 200;
         let front = ends.front.saturating_add(speed).min(most);
         if front > ends.front {
@@ -189,7 +199,7 @@ impl Demo {
         Ok(())
     }
 
-    // A train sends what is due to each centre.
+    // A train sends the message that is due to each centre.
     fn speak(&mut self, train: usize) -> Result<(), DemoFault> {
         let Some(section) = self.section_of(train) else {
             return Ok(());
@@ -238,7 +248,12 @@ impl Demo {
     }
 
     // A train receives a message, and its driver learns from it.
-    fn hear<W: Write>(&mut self, answer: usize, which: usize, out: &mut W) -> Result<(), DemoFault> {
+    fn hear<W: Write>(
+        &mut self,
+        answer: usize,
+        which: usize,
+        out: &mut W,
+    ) -> Result<(), DemoFault> {
         if !happened(self.railway.hear(answer, which))? {
             return Ok(());
         }
@@ -254,8 +269,8 @@ impl Demo {
         for train in 0..self.drivers.len() {
             if let Some(running) = self.railway.trains().get(train)
                 && running.nid_engine() == saying.nid_engine
+                && let Some(driver) = self.drivers.get_mut(train)
             {
-                let driver = &mut self.drivers[train];
                 let is_first = driver.followed.is_none();
                 if driver.hears(self.railway.line(), told.centre, &saying.message, self.now) {
                     return self.follows_other(train, is_first, out);
@@ -270,7 +285,7 @@ impl Demo {
         let mut trains = Vec::new(self.alloc);
         for train in 0..self.drivers.len() {
             if let Some(ends) = self.ends(train) {
-                trains.push((ends, self.drivers[train].is_accepted))?;
+                trains.push((ends, self.is_accepted(train)))?;
             }
         }
         let Interlocking { sections, released } = &self.interlocking;
