@@ -1,5 +1,8 @@
 //! The seconds of a demo.
 
+ghost use Rattle.std.specs.Prelude.{OnOk};
+ghost use Rattle.rbc_railway.specs.Railways.{IsSafeRailway};
+
 use crate::check::{covers, is_safe};
 use crate::demo::Demo;
 use crate::driver::MARGIN;
@@ -9,6 +12,7 @@ use crate::lots::{below, in_hundred};
 use crate::message::{LENGTH, Speech, message, position};
 use crate::radio::Flight;
 use rbc_line::Section;
+use rbc_railway::each_railway_is_safe;
 use std::io::Write;
 use text_script::Answer;
 use train_unit::Ends;
@@ -19,7 +23,10 @@ const AHEAD: usize = 4;
 impl Demo {
     /// Seconds pass until each train has arrived, or there are enough events. Returns whether the check of the true
     /// places never failed.
-    pub fn run<W: Write>(&mut self, out: &mut W) -> Result<bool, DemoFault> {
+    pub fn run<W: Write>(&mut self, out: &mut W) -> Result<bool, DemoFault>
+        // Whatever was drawn, no two accepted trains are on one section, and none is on a section that is not released.
+        ensures safe { OnOk result (IsSafeRailway self.new.railway) }
+    {
         self.begin(out)?;
         for _ in 0..self.settings.events {
             if self.tally.events >= self.settings.events || self.have_all_arrived() {
@@ -28,6 +35,7 @@ impl Demo {
             self.second(out)?;
         }
         self.end(out)?;
+        each_railway_is_safe(&self.railway);
         Ok(self.tally.is_safe)
     }
 
