@@ -97,7 +97,7 @@ impl Driver {
 
     /// A session in which nothing was received for long is opened again, or is over if it was to end.
     pub(crate) fn reopen(&mut self, centre: u8, now: u32) {
-        if !self.is_done()
+        if self.ended < ENDS
             && let Some(talk) = self.talk(centre)
             && talk.heard.saturating_add(SILENCE) < now
         {
@@ -124,11 +124,12 @@ impl Driver {
         if talk.is_ending {
             return is_due.then_some(Speech::EndOfSession);
         }
-        if self.is_done()
-            || (self.has_arrived(ends) && home == centre && self.follows == Some(centre))
-        {
-            let is_end = is_due && home == centre && self.ended < ENDS;
-            return is_end.then_some(Speech::EndOfMission);
+        let is_last = self.has_arrived(ends) && home == centre && self.follows == Some(centre);
+        if self.is_done() && (home != centre || self.ended >= ENDS) {
+            return None;
+        }
+        if (self.is_done() || is_last) && is_established(talk.contact.session) {
+            return is_due.then_some(Speech::EndOfMission);
         }
         if is_due && self.follows.is_some() && is_established(talk.contact.session) {
             return Some(Speech::Report);
