@@ -110,7 +110,7 @@ impl Driver {
         }
     }
 
-    /// The next message of the train to a centre, with this T_TRAIN. `home` is the home of the section of its front end.
+    /// The next message of the train to a centre, with this T_TRAIN. `home` is the home of its front end's section.
     pub(crate) fn speech(
         &self,
         unit: &OnBoardUnit,
