@@ -20,8 +20,8 @@ use text_script::status::{Fault, ended};
 
 /// Runs the command of the arguments after the program's name, and returns the exit status. It is 0 for success, and 1
 /// if an audit found a difference, `decode` a fault, or `demo` an unsafe place. It is 2 for refused arguments (help
-/// too), and 3 for an unreadable file, a script fault or journals. It is 4 for a line fault, 5 for a refused step, and 7
-/// for a message fault. It is 6 for a refused write, or for a command that needs sockets.
+/// too), and 3 for an unreadable file, a script fault or journals. It is 4 for a line fault, 5 for a refused step, and
+/// 7 for a message fault. It is 6 for a refused write, or for a command that needs sockets.
 pub fn command<S: AsStr, F: Files, O: Write, E: Write>(
     alloc: Global,
     words: &[S],
