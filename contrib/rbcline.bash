@@ -12,10 +12,11 @@ _rbcline() {
         mapfile -t COMPREPLY < <(compgen -d -- "$word")
         return
         ;;
-    --page | --rate | --burst | --timeout | --message | --from | --to | --train) return ;;
+    --trains | --loss | --seed | --events | --page | --rate | --burst | --timeout | --message | --from | --to | --train) return ;;
     esac
     if [[ "$word" == --* ]]; then
         case "${COMP_WORDS[1]}" in
+        demo) options+=" --script --trains --loss --seed --events" ;;
         serve) options+=" --quiet --tell --life --bind --no-sync --page --control --rate --burst --journal --resume" ;;
         drive) options+=" --timeout" ;;
         words) options+=" --message" ;;

@@ -64,6 +64,11 @@ static FORMS: [Form; 12] = [
         ],
     },
     Form {
+        name: "demo",
+        about: "Run trains that obey on a line, with messages lost by lot, and print where they are",
+        words: &[],
+    },
+    Form {
         name: "serve",
         about: "Run the centres of a line on this host for trains and the interlocking, and print the run after `stop`",
         words: &[
@@ -159,6 +164,9 @@ fn command_of<'a>(alloc: Global, form: &Form) -> Result<Command<'a>, AllocError>
         let word = Arg::new(alloc, name).required(true).help(help);
         command = command.arg(bounded(word, name))?;
     }
+    if form.name == "demo" {
+        command = command.arg(line_of_demo(alloc))?;
+    }
     if form.name == "explain" {
         command = command.arg(script(alloc))?;
     }
@@ -179,6 +187,10 @@ fn bytes<'a>(alloc: Global) -> Arg<'a> {
 
 fn script<'a>(alloc: Global) -> Arg<'a> {
     Arg::new(alloc, "SCRIPT").help("Print each faulty line of this script in place of the line")
+}
+
+fn line_of_demo<'a>(alloc: Global) -> Arg<'a> {
+    Arg::new(alloc, "FILE").help("The line file [default: a line of three centres]")
 }
 
 fn message<'a>(alloc: Global) -> Arg<'a> {

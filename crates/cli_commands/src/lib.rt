@@ -9,6 +9,7 @@ mod audit;
 pub mod auditing;
 pub mod command;
 mod decode;
+mod demo;
 mod diagram;
 pub mod disk;
 mod explain;

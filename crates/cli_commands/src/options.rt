@@ -78,12 +78,37 @@ static DRIVE: [(&str, &str, &str); 1] = [(
     "How long to wait for the centre at most [default: no limit]",
 )];
 
+// The options of `demo` with a value.
+static DEMO: [(&str, &str, &str); 4] = [
+    (
+        "trains",
+        "N",
+        "The most trains [default: all of the line file]",
+    ),
+    (
+        "loss",
+        "PERCENT",
+        "How many of 100 messages and deliveries are lost [default: 0]",
+    ),
+    (
+        "seed",
+        "SEED",
+        "A number below 2^64; the same draws the same run [default: 0]",
+    ),
+    (
+        "events",
+        "N",
+        "The most events at the centres, and the most seconds [default: 20000]",
+    ),
+];
+
 /// The options of a command with a value: the name, the name of the value, and the meaning.
 pub fn parts_of(command: &str) -> &'static [(&'static str, &'static str, &'static str)] {
     match command {
         "picture" => &CUT,
         "serve" => &DOORS,
         "drive" => &DRIVE,
+        "demo" => &DEMO,
         _ => &[],
     }
 }
@@ -91,6 +116,11 @@ pub fn parts_of(command: &str) -> &'static [(&'static str, &'static str, &'stati
 static PICTURE: [(&str, &str); 1] = [(
     "html",
     "Draw it in an HTML page with a slider over the events",
+)];
+
+static LIVING: [(&str, &str); 1] = [(
+    "script",
+    "Print the events as a script of `run`, in place of the table",
 )];
 
 static DECODE: [(&str, &str); 2] = [
@@ -124,6 +154,7 @@ pub fn flags_of(command: &str) -> &'static [(&'static str, &'static str)] {
         "picture" => &PICTURE,
         "serve" => &SERVE,
         "decode" => &DECODE,
+        "demo" => &LIVING,
         _ => &[],
     }
 }

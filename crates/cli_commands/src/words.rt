@@ -3,6 +3,7 @@ use crate::forms::rbcline;
 use crate::numbers::signed_number;
 use clap::error::ErrorKind;
 use clap::{ArgMatches, Error};
+use cli_demo::Settings;
 use std::alloc::{AllocError, Global};
 use std::convert::AsStr;
 use text_replay::Cut;
@@ -37,6 +38,11 @@ pub enum Request<'a> {
         file: &'a str,
         script: &'a str,
         seed: u64,
+    },
+    /// Run trains on the line of this file, or on a built-in line.
+    Demo {
+        file: Option<&'a str>,
+        settings: Settings,
     },
     /// Print the run of the journals in the folder.
     Print {
@@ -146,6 +152,7 @@ fn named<'a>(matches: &ArgMatches<'a>) -> Option<Request<'a>> {
         "decode" => Some(named_decode(words)),
         "serve" => named_serve(words),
         "drive" => named_drive(words),
+        "demo" => Some(named_demo(words)),
         _ => named_of_file(command, words),
     }
 }
@@ -255,6 +262,19 @@ fn named_drive<'a>(words: &ArgMatches<'a>) -> Option<Request<'a>> {
         file: words.get_str("FILE")?,
         timeout_s: words.get_one("timeout"),
     })
+}
+
+fn named_demo<'a>(words: &ArgMatches<'a>) -> Request<'a> {
+    Request::Demo {
+        file: words.get_str("FILE"),
+        settings: Settings {
+            trains: words.get_one("trains").unwrap_or(64),
+            loss: words.get_one("loss").unwrap_or(0),
+            seed: words.get_one("seed").unwrap_or(0),
+            events: words.get_one("events").unwrap_or(20_000),
+            is_script: words.get_flag("script"),
+        },
+    }
 }
 
 // The part of a run that `picture` draws.

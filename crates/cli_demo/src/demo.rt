@@ -1,0 +1,126 @@
+use crate::driver::Driver;
+use crate::fault::{DemoFault, happened};
+use crate::interlocking::Interlocking;
+use crate::links::Links;
+use crate::placing::place_all;
+use crate::radio::Radio;
+use crate::report::{Tally, print_event};
+use crate::settings::Settings;
+use cli_storm::Draws;
+use rbc_line::Line;
+use rbc_msgs::TrackBody;
+use rbc_railway::{Railway, RunningTrain};
+use std::alloc::Global;
+use std::io::Write;
+use text_script::{Answer, Saying, WorldEvent};
+
+/// A line that lives.
+#[derive(Drop)]
+pub struct Demo {
+    pub(crate) alloc: Global,
+    pub(crate) settings: Settings,
+    pub(crate) railway: Railway,
+    /// A driver for each train of the railway.
+    pub(crate) drivers: Vec<Driver>,
+    pub(crate) interlocking: Interlocking,
+    pub(crate) radio: Radio,
+    pub(crate) links: Links,
+    pub(crate) draws: Draws,
+    /// The time, in units of 10 ms.
+    pub(crate) now: u32,
+    pub(crate) tally: Tally,
+}
+
+impl Demo {
+    /// A line before its first second, with trains on it.
+    pub fn new(alloc: Global, line: &Line, settings: Settings) -> Result<Demo, DemoFault> {
+        let interlocking = Interlocking::new(alloc, line)?;
+        let placed = place_all(alloc, line, &interlocking.sections, settings.trains)?;
+        Ok(Demo {
+            alloc,
+            settings,
+            railway: Railway::new(alloc, line, placed.fleet)?,
+            drivers: placed.drivers,
+            interlocking,
+            radio: Radio::new(alloc, settings.loss),
+            links: Links::new(alloc, line)?,
+            draws: Draws { x: settings.seed },
+            now: 1_000,
+            tally: Tally::new(),
+        })
+    }
+
+    /// A message of a train arrives at its centre.
+    pub(crate) fn arrive<W: Write>(
+        &mut self,
+        message: usize,
+        out: &mut W,
+    ) -> Result<(), DemoFault> {
+        if !happened(self.railway.arrive(message))? {
+            return Ok(());
+        }
+        if self.settings.is_script
+            && let Some(event) = self.railway.sent().get(message)
+        {
+            print_event(self.alloc, self.railway.line(), event, out)?;
+        }
+        self.answered(None)
+    }
+
+    /// An event of the interlocking or of a link happens.
+    pub(crate) fn happen<W: Write>(
+        &mut self,
+        event: &WorldEvent,
+        out: &mut W,
+    ) -> Result<(), DemoFault> {
+        if !happened(self.railway.happen(event))? {
+            return Ok(());
+        }
+        if self.settings.is_script {
+            print_event(self.alloc, self.railway.line(), event, out)?;
+        }
+        self.answered(Some(event))
+    }
+
+    // The centres answered an event: their messages and frames are on the way.
+    fn answered(&mut self, event: Option<&WorldEvent>) -> Result<(), DemoFault> {
+        self.tally.events = self.tally.events.saturating_add(1);
+        let Some(number) = self.railway.answers().len().checked_sub(1) else {
+            return Ok(());
+        };
+        let Some(last) = self.railway.answers().get(number) else {
+            return Ok(());
+        };
+        let Answer::Outcome(outcome) = &last.answer else {
+            return Ok(());
+        };
+        self.links.send(last.centre, &outcome.frames);
+        self.radio
+            .answer(&mut self.draws, number, outcome.sayings.len())?;
+        accept(
+            &mut self.drivers,
+            self.railway.trains(),
+            outcome.sayings.as_slice(),
+        );
+        if let Some(event) = event {
+            self.interlocking.replied(event, outcome);
+            self.links.answered(event, outcome.link);
+        }
+        Ok(())
+    }
+}
+
+// Each train that was sent message 41 is accepted from now on.
+fn accept(drivers: &mut [Driver], trains: &[RunningTrain], sayings: &[Saying]) {
+    for saying in sayings {
+        if saying.message.body() == TrackBody::TrainAccepted {
+            for i in 0..trains.len() {
+                if trains[i].nid_engine() == saying.nid_engine
+                    && let Some(driver) = drivers.get_mut(i)
+                {
+                    driver.is_accepted = true;
+                }
+            }
+        }
+    }
+}

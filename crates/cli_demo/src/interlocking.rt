@@ -1,0 +1,61 @@
+//! The interlocking: it releases the sections ahead of trains, and takes one back by lot.
+
+use rbc_line::{Line, Section};
+use std::alloc::{AllocError, Global};
+use text_script::{Outcome, Word, WorldEvent};
+
+/// The sections of a line, and which of them are released, by the answers of the centres.
+#[derive(Debug, Drop)]
+pub(crate) struct Interlocking {
+    pub(crate) sections: Vec<Section>,
+    pub(crate) released: Vec<bool>,
+}
+
+impl Interlocking {
+    pub(crate) fn new(alloc: Global, line: &Line) -> Result<Interlocking, AllocError> {
+        let mut sections = Vec::new(alloc);
+        let mut released = Vec::new(alloc);
+        for s in 0..line.section_count() {
+            if let Some(section) = line.section(s) {
+                sections.push(section)?;
+                released.push(false)?;
+            }
+        }
+        Ok(Interlocking { sections, released })
+    }
+
+    /// Whether this section is released.
+    pub(crate) fn is_released(&self, section: usize) -> bool {
+        self.released.get(section).copied().unwrap_or(false)
+    }
+
+    /// The command for a section at its home.
+    pub(crate) fn command(&self, section: usize, is_release: bool) -> Option<WorldEvent> {
+        let centre = self.sections.get(section)?.home;
+        let section = section.min(65_535) as u16;
+        if is_release {
+            Some(WorldEvent::Set { centre, section })
+        } else {
+            Some(WorldEvent::Unset { centre, section })
+        }
+    }
+
+    /// The replies of a centre to an event.
+    pub(crate) fn replied(&mut self, event: &WorldEvent, outcome: &Outcome) {
+        match (event, outcome.word) {
+            (WorldEvent::Set { .. }, Some(Word::Done(s))) => self.mark(s, true),
+            (WorldEvent::Unset { .. }, Some(Word::Done(s))) => self.mark(s, false),
+            _ => {}
+        }
+        let told = outcome.told.sections();
+        for s in told.as_slice() {
+            self.mark(*s, false);
+        }
+    }
+
+    fn mark(&mut self, section: u16, is_released: bool) {
+        if let Some(released) = self.released.get_mut(section as usize) {
+            *released = is_released;
+        }
+    }
+}

@@ -1,0 +1,21 @@
+//! Draws by lot.
+
+ghost use Rattle.std.specs.Prelude.{◌≡◌, ◌<◌, ◌≤◌, false, true};
+
+use cli_storm::Draws;
+
+/// A number below the bound.
+pub(crate) fn below(draws: &mut Draws, bound: usize) -> usize
+    requires { 0 < bound }
+    ensures { result < bound }
+{
+    draws.draw() as usize % bound
+}
+
+/// True with this chance, in per cent.
+pub(crate) fn in_hundred(draws: &mut Draws, chance: u8) -> bool
+    ensures never { chance ≡ 0 → result ≡ false }
+    ensures always { 100 ≤ chance → result ≡ true }
+{
+    draws.draw() % 100 < u32::from(chance)
+}

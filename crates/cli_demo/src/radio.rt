@@ -1,0 +1,81 @@
+//! The radio: messages between trains and centres are on the way for any time. They arrive in any order, some twice.
+
+use crate::lots::{below, in_hundred};
+use cli_storm::Draws;
+use std::alloc::{AllocError, Global};
+
+/// A message on the way, by its place in the railway.
+#[derive(Clone, Copy, Debug)]
+pub(crate) enum Flight {
+    /// A message of a train to a centre.
+    Up { message: usize },
+    /// A message of a centre to a train: the answer that has it, and which one of the answer it is.
+    Down { answer: usize, which: usize },
+}
+
+/// The messages on the way.
+#[derive(Debug, Drop)]
+pub(crate) struct Radio {
+    flights: Vec<Flight>,
+    loss: u8,
+    /// How many messages were sent.
+    pub(crate) sent: u64,
+    /// How many of them were lost.
+    pub(crate) lost: u64,
+}
+
+impl Radio {
+    pub(crate) fn new(alloc: Global, loss: u8) -> Radio {
+        Radio {
+            flights: Vec::new(alloc),
+            loss,
+            sent: 0,
+            lost: 0,
+        }
+    }
+
+    /// How many messages are on the way.
+    pub(crate) fn count(&self) -> usize {
+        self.flights.len()
+    }
+
+    /// A message is sent. It is lost by lot.
+    pub(crate) fn send(&mut self, draws: &mut Draws, flight: Flight) -> Result<(), AllocError> {
+        self.sent = self.sent.saturating_add(1);
+        if in_hundred(draws, self.loss) {
+            self.lost = self.lost.saturating_add(1);
+            return Ok(());
+        }
+        self.flights.push(flight)?;
+        Ok(())
+    }
+
+    /// The messages of the centre's answer of this number are sent.
+    pub(crate) fn answer(
+        &mut self,
+        draws: &mut Draws,
+        answer: usize,
+        count: usize,
+    ) -> Result<(), AllocError> {
+        for which in 0..count {
+            self.send(draws, Flight::Down { answer, which })?;
+        }
+        Ok(())
+    }
+
+    /// A message on the way that arrives now, by lot. One in eight that arrive will arrive again.
+    pub(crate) fn arrival(&mut self, draws: &mut Draws) -> Option<Flight> {
+        let count = self.flights.len();
+        if count == 0 {
+            return None;
+        }
+        if in_hundred(draws, 50) {
+            return None;
+        }
+        let place = below(draws, count);
+        if in_hundred(draws, 12) {
+            return Some(self.flights[place]);
+        }
+        Some(self.flights.swap_remove(place))
+    }
+}

@@ -1,0 +1,312 @@
+//! The seconds of a demo.
+
+ghost use Rattle.std.specs.Prelude.{OnOk};
+ghost use Rattle.rbc_railway.specs.Railways.{IsSafeRailway};
+
+use crate::check::{covers, is_safe};
+use crate::demo::Demo;
+use crate::driver::MARGIN;
+use crate::fault::{DemoFault, happened};
+use crate::interlocking::Interlocking;
+use crate::lots::{below, in_hundred};
+use crate::message::{LENGTH, Speech, message, position};
+use crate::radio::Flight;
+use rbc_line::Section;
+use rbc_railway::each_railway_is_safe;
+use std::io::Write;
+use text_script::Answer;
+use train_unit::Ends;
+
+/// How many sections ahead of a train the interlocking releases.
+const AHEAD: usize = 4;
+
+impl Demo {
+    /// Seconds pass until each train has arrived, or there are enough events. Returns whether the check of the true
+    /// places never failed.
+    pub fn run<W: Write>(&mut self, out: &mut W) -> Result<bool, DemoFault>
+        // Whatever was drawn, no two accepted trains are on one section, and none is on a section that is not released.
+        ensures safe { OnOk result (IsSafeRailway self.new.railway) }
+    {
+        self.begin(out)?;
+        for _ in 0..self.settings.events {
+            if self.tally.events >= self.settings.events || self.have_all_arrived() {
+                break;
+            }
+            self.second(out)?;
+        }
+        self.end(out)?;
+        each_railway_is_safe(&self.railway);
+        Ok(self.tally.is_safe)
+    }
+
+    // A second: the interlocking acts, trains run and send, and messages and frames arrive.
+    fn second<W: Write>(&mut self, out: &mut W) -> Result<(), DemoFault> {
+        self.now = self.now.saturating_add(100);
+        self.release(out)?;
+        self.take_back(out)?;
+        for train in 0..self.drivers.len() {
+            self.drive(train)?;
+            self.speak(train)?;
+        }
+        for _ in 0..self.radio.count() {
+            self.receive(out)?;
+        }
+        for link in 0..self.links.count() {
+            if let Some(event) = self
+                .links
+                .delivery(&mut self.draws, self.settings.loss, link)
+            {
+                self.happen(&event, out)?;
+            }
+        }
+        self.check()?;
+        self.show_often(out)
+    }
+
+    // The true ends of a train.
+    pub(crate) fn ends(&self, train: usize) -> Option<Ends> {
+        Some(self.railway.trains().get(train)?.ends())
+    }
+
+    fn have_all_arrived(&self) -> bool {
+        for train in 0..self.drivers.len() {
+            if !self.has_arrived(train) {
+                return false;
+            }
+        }
+        true
+    }
+
+    pub(crate) fn has_arrived(&self, train: usize) -> bool {
+        match (self.drivers.get(train), self.ends(train)) {
+            (Some(driver), Some(ends)) => driver.has_arrived(ends),
+            _ => false,
+        }
+    }
+
+    // The section of a train's front end.
+    pub(crate) fn section_of(&self, train: usize) -> Option<usize> {
+        let ends = self.ends(train)?;
+        let sections = self.interlocking.sections.as_slice();
+        for s in 0..sections.len() {
+            if has_front(&sections[s], ends) {
+                return Some(s);
+            }
+        }
+        None
+    }
+
+    // Whether a train that no centre has accepted is on this section.
+    fn is_hidden(&self, section: usize) -> bool {
+        let Some(section) = self.interlocking.sections.get(section) else {
+            return false;
+        };
+        for train in 0..self.drivers.len() {
+            if !self.is_accepted(train)
+                && let Some(ends) = self.ends(train)
+                && covers(section, ends)
+            {
+                return true;
+            }
+        }
+        false
+    }
+
+    // The interlocking releases the section of each train, and sections in advance of a train that is accepted.
+    fn release<W: Write>(&mut self, out: &mut W) -> Result<(), DemoFault> {
+        for train in 0..self.drivers.len() {
+            if let Some(section) = self.section_of(train) {
+                self.release_one(section, out)?;
+                if self.is_accepted(train) {
+                    self.release_ahead(section, out)?;
+                }
+            }
+        }
+        Ok(())
+    }
+
+    fn release_ahead<W: Write>(&mut self, section: usize, out: &mut W) -> Result<(), DemoFault> {
+        for s in section..section.saturating_add(AHEAD) {
+            let Some(next) = self.next_free(s) else {
+                break;
+            };
+            self.release_one(next, out)?;
+        }
+        Ok(())
+    }
+
+    fn is_accepted(&self, train: usize) -> bool {
+        match self.drivers.get(train) {
+            Some(driver) => driver.is_accepted,
+            None => false,
+        }
+    }
+
+    // The section after this one on its track. None if a train that no centre has accepted is on it or on the next. The
+    // own section of that train is released, so the one in rear of it has to be shut.
+    fn next_free(&self, s: usize) -> Option<usize> {
+        let next = s.saturating_add(1);
+        let is_first = self.interlocking.sections.get(next)?.start == 0;
+        if is_first || self.is_hidden(next) || self.is_hidden(next.saturating_add(1)) {
+            return None;
+        }
+        Some(next)
+    }
+
+    // Releases a section that is not released, by lot.
+    fn release_one<W: Write>(&mut self, section: usize, out: &mut W) -> Result<(), DemoFault> {
+        if self.interlocking.is_released(section) || !in_hundred(&mut self.draws, 20) {
+            return Ok(());
+        }
+        match self.interlocking.command(section, true) {
+            Some(event) => self.happen(&event, out),
+            None => Ok(()),
+        }
+    }
+
+    // Takes a section back, by lot.
+    fn take_back<W: Write>(&mut self, out: &mut W) -> Result<(), DemoFault> {
+        let count = self.interlocking.sections.len();
+        if count == 0 {
+            return Ok(());
+        }
+        if !in_hundred(&mut self.draws, 10) {
+            return Ok(());
+        }
+        let section = below(&mut self.draws, count);
+        if !self.interlocking.is_released(section) {
+            return Ok(());
+        }
+        match self.interlocking.command(section, false) {
+            Some(event) => self.happen(&event, out),
+            None => Ok(()),
+        }
+    }
+
+    // A train runs as far as it may, at a speed by lot.
+    fn drive(&mut self, train: usize) -> Result<(), DemoFault> {
+        let (Some(running), Some(driver)) = (
+            self.railway.trains().get(train),
+            self.drivers.get(train),
+        ) else {
+            return Ok(());
+        };
+        let ends = running.ends();
+        let Some(limit) = running.unit().may_reach(ends.front) else {
+            return Ok(());
+        };
+        let most = (limit.min(20_000_000) as u32)
+            .min(driver.goal)
+            .saturating_sub(MARGIN);
+        let speed = below(&mut self.draws, 400) as u32 + 200;
+        let front = ends.front.saturating_add(speed).min(most);
+        if front > ends.front {
+            let rear = front as i32 - LENGTH as i32;
+            happened(self.railway.run_to(train, front, rear))?;
+        }
+        Ok(())
+    }
+
+    // A train sends the message that is due to each centre.
+    fn speak(&mut self, train: usize) -> Result<(), DemoFault> {
+        let Some(section) = self.section_of(train) else {
+            return Ok(());
+        };
+        let Some(section) = self.interlocking.sections.get(section).copied() else {
+            return Ok(());
+        };
+        for centre in 0..self.railway.line().centre_count() {
+            self.speak_to(train, centre, section)?;
+        }
+        Ok(())
+    }
+
+    fn speak_to(&mut self, train: usize, centre: u8, section: Section) -> Result<(), DemoFault> {
+        let Some(driver) = self.drivers.get_mut(train) else {
+            return Ok(());
+        };
+        let Some(running) = self.railway.trains().get(train) else {
+            return Ok(());
+        };
+        driver.engage(section.home, self.now);
+        driver.reopen(centre, self.now);
+        let stamp = self.now.max(driver.clock.saturating_add(1));
+        let ends = running.ends();
+        let Some(speech) = driver.speech(running.unit(), centre, section.home, stamp, ends) else {
+            return Ok(());
+        };
+        let is_still = matches!(speech, Speech::EndOfMission);
+        let position = position(self.railway.line().nid_c(), section, ends.front, is_still);
+        let message = message(self.alloc, stamp, running.nid_engine(), speech, position)?;
+        if happened(self.railway.send(train, centre, &message))? {
+            driver.has_sent(centre, speech, stamp);
+            let message = self.railway.sent().len().saturating_sub(1);
+            self.radio.send(&mut self.draws, Flight::Up { message })?;
+        }
+        Ok(())
+    }
+
+    // A message arrives, by lot.
+    fn receive<W: Write>(&mut self, out: &mut W) -> Result<(), DemoFault> {
+        match self.radio.arrival(&mut self.draws) {
+            Some(Flight::Up { message }) => self.arrive(message, out),
+            Some(Flight::Down { answer, which }) => self.hear(answer, which, out),
+            None => Ok(()),
+        }
+    }
+
+    // A train receives a message, and its driver learns from it.
+    fn hear<W: Write>(
+        &mut self,
+        answer: usize,
+        which: usize,
+        out: &mut W,
+    ) -> Result<(), DemoFault> {
+        if !happened(self.railway.hear(answer, which))? {
+            return Ok(());
+        }
+        let Some(told) = self.railway.answers().get(answer) else {
+            return Ok(());
+        };
+        let Answer::Outcome(outcome) = &told.answer else {
+            return Ok(());
+        };
+        let Some(saying) = outcome.sayings.as_slice().get(which) else {
+            return Ok(());
+        };
+        for train in 0..self.drivers.len() {
+            if let Some(running) = self.railway.trains().get(train)
+                && running.nid_engine() == saying.nid_engine
+                && let Some(driver) = self.drivers.get_mut(train)
+            {
+                let is_first = driver.followed.is_none();
+                if driver.hears(self.railway.line(), told.centre, &saying.message, self.now) {
+                    return self.follows_other(train, is_first, out);
+                }
+            }
+        }
+        Ok(())
+    }
+
+    // Looks at the true places of all trains.
+    fn check(&mut self) -> Result<(), DemoFault> {
+        let mut trains = Vec::new(self.alloc);
+        for train in 0..self.drivers.len() {
+            if let Some(ends) = self.ends(train) {
+                trains.push((ends, self.is_accepted(train)))?;
+            }
+        }
+        let Interlocking { sections, released } = &self.interlocking;
+        if !is_safe(sections, released, &trains) {
+            self.tally.is_safe = false;
+        }
+        Ok(())
+    }
+}
+
+// Whether the front end of a train is on the section.
+fn has_front(section: &Section, ends: Ends) -> bool {
+    let start = 10 * u64::from(section.start);
+    let front = u64::from(ends.front);
+    section.track == ends.track && start < front && front <= start + 10 * u64::from(section.metres)
+}
