@@ -24,7 +24,7 @@ const SCRIPT: (&str, &str) = (
     "The script, one event a line; `-` is standard input",
 );
 
-static FORMS: [Form; 12] = [
+static FORMS: [Form; 13] = [
     Form {
         name: "check",
         about: "Read a line file, and say how many centres, tracks, sections and trains it has",
