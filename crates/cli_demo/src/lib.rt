@@ -27,6 +27,7 @@ mod lots;
 mod message;
 mod placing;
 mod radio;
+mod releasing;
 mod report;
 mod seconds;
 mod settings;
