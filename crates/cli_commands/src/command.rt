@@ -63,14 +63,37 @@ fn obey<'a, S: AsStr, F: Files, O: Write, E: Write>(
         }
         Request::Decode(decoding) => decode(alloc, words, decoding, files, out),
         Request::Message { digits } => show_message(alloc, digits, out),
-        Request::Printed { file, printed } => tell_printed(alloc, file, printed, files, out),
+        Request::Printed { file, printed } => {
+            let is_told = tell_printed(alloc, file, printed, files, out)?;
+            note_lack(is_told, "nothing of a run", printed, err)
+        }
         Request::Picture {
             file,
             printed,
             cut,
             is_html,
-        } => draw_printed(alloc, file, printed, cut, is_html, files, out),
+        } => {
+            let has_event = draw_printed(alloc, file, printed, cut, is_html, files, out)?;
+            note_lack(has_event, "no event", printed, err)
+        }
     }
+}
+
+// Notes that the file of a print lacks this, unless it has it: perhaps it is another file.
+fn note_lack<E: Write>(
+    has_it: bool,
+    lack: &str,
+    printed: &str,
+    err: &mut E,
+) -> Result<(), Fault<'static>> {
+    if !has_it {
+        writeln!(
+            err,
+            "rbcline: {lack} is in {printed}: is it a print of `run` or `serve`?"
+        )?;
+        err.flush()?;
+    }
+    Ok(())
 }
 
 // Reports the part of the journals that was read, if a program writes them meanwhile.

@@ -42,14 +42,15 @@ fn print_fields<O: Write>(out: &mut O, fields: &[Field]) -> io::Result<()> {
     out.flush()
 }
 
-/// Puts a print of `run` into words, line by line. It does the same with the print of the line's journals.
+/// Puts a print of `run` into words, line by line. It does the same with the print of the line's journals. Returns
+/// whether a line of it could be put into words.
 pub fn tell_printed<'a, F: Files, O: Write>(
     alloc: Global,
     file: &'a str,
     printed: &'a str,
     files: &F,
     out: &mut O,
-) -> Result<(), Fault<'a>> {
+) -> Result<bool, Fault<'a>> {
     let given = line_file_in(alloc, file, files)?;
     let text = printed_in(alloc, &given, printed, files)?;
     let Ok(mut out) = BufWriter::new(alloc, out) else {
@@ -65,12 +66,16 @@ fn print_told<W: Write>(
     line: &Line,
     text: &str,
     out: &mut W,
-) -> Result<(), Fault<'static>> {
+) -> Result<bool, Fault<'static>> {
+    let mut is_told = false;
     for row in text.lines() {
         match line_in_words(alloc, line, row)? {
-            Some(words) => writeln!(out, "{words}")?,
+            Some(words) => {
+                is_told = true;
+                writeln!(out, "{words}")?;
+            }
             None => writeln!(out, "{row}")?,
         }
     }
-    Ok(())
+    Ok(is_told)
 }

@@ -41,6 +41,16 @@ pub(crate) fn printed_in<'a, F: Files>(
     files.text(printed).ok_or(Fault::CannotRead(printed))
 }
 
+/// Whether an event is in the text of a print.
+pub(crate) fn has_event(text: &str) -> bool {
+    for row in text.lines() {
+        if row.starts_with("> ") {
+            return true;
+        }
+    }
+    false
+}
+
 // Writes the print of the journals in a folder.
 fn print_found<F: Files, W: Write>(
     alloc: Global,
