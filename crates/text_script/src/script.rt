@@ -3,7 +3,8 @@
 
 ghost use Rattle.std.specs.Prelude.{◌≡◌, ◌<◌, ◌==◌, IfOk, IfErr, map};
 ghost use Rattle.std.specs.List.{slice_split};
-ghost use Rattle.text_script.specs.Script.{asked, at_centre_of, bytes_of, centre_named, delivery_of, is_kept, number_of, row_asks, rows, set_of, show_of, train_of, unset_of};
+ghost use Rattle.text_script.specs.Script.{asked, at_centre_of, bytes_of, centre_named, delivery_of, is_kept};
+ghost use Rattle.text_script.specs.Script.{number_of, row_asks, rows, set_of, show_of, train_of, unset_of};
 ghost use Rattle.text_script.specs.Entries.{AreAsked, Finds, IsFirstFault, asked_of};
 
 use crate::status::Fault;

@@ -8,7 +8,8 @@ ghost use Rattle.rbc_linkmsg.specs.Bodies.{body_of};
 ghost use Rattle.rbc_world.specs.rbc_train.Reasons.{reason_of};
 ghost use Rattle.rbc_world.specs.rbc_train.Sayings.{saying_of};
 ghost use Rattle.text_script.specs.Print.Rows.{body_name, name_at, frame_row, remark_row, silence_row, word_row};
-ghost use Rattle.text_script.specs.Print.Answers.{AreSayingRows, IsLinkRemark, IsOutcomePrint, IsRemark, IsSayingRow, SaysNothing, frame_rows};
+ghost use Rattle.text_script.specs.Print.Answers.{AreSayingRows, IsLinkRemark, IsOutcomePrint, IsRemark, IsSayingRow};
+ghost use Rattle.text_script.specs.Print.Answers.{SaysNothing, frame_rows};
 
 use crate::print::print::name_of;
 use crate::status::PrintFault;

@@ -6,7 +6,8 @@ ghost use Rattle.rbc_spec.specs.World.{centre_of};
 ghost use Rattle.rbc_world.specs.View.{mark_shown, seat_of, Shows};
 ghost use Rattle.rbc_world.specs.Views.{answer_of, event_of};
 ghost use Rattle.rbc_world.specs.World.{line_of, state_of};
-ghost use Rattle.text_script.specs.Print.Rows.{event_row, home_at, mark_text, name_at, script_row, section_row, train_row};
+ghost use Rattle.text_script.specs.Print.Rows.{event_row, home_at, mark_text, name_at, script_row, section_row};
+ghost use Rattle.text_script.specs.Print.Rows.{train_row};
 ghost use Rattle.text_script.specs.Print.Answers.{IsAnswerPrint};
 ghost use Rattle.text_script.specs.Print.Shown.{line_text, section_rows, train_rows};
 
