@@ -10,6 +10,7 @@ mod storm;
 mod traffic;
 
 use peer::draw::Draw;
+use peer::run::run;
 use peer::script;
 
 fn main() {
@@ -31,7 +32,8 @@ fn main() {
             let line = traffic::line_of(&mut draw);
             script::time(&line, &traffic::runs(&line, number(events), &mut draw), number(turns));
         }
-        _ => panic!("write FOLDER EVENTS, storm FOLDER EVENTS SEED, time EVENTS TURNS"),
+        ["run", path] => run(&traffic::line_of(&mut Draw::new(1)), path),
+        _ => panic!("write FOLDER EVENTS, storm FOLDER EVENTS SEED, time EVENTS TURNS, run SCRIPT"),
     }
 }
 

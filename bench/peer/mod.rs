@@ -9,6 +9,7 @@ pub mod frames;
 pub mod line;
 mod message;
 mod rules;
+pub mod run;
 pub mod script;
 pub mod state;
 pub mod train;
