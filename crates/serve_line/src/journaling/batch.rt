@@ -34,7 +34,10 @@ fn next_of(entries: &[Committed], written: usize) -> &[Committed]
     let Some(left) = entries.get(written..) else {
         return &[];
     };
-    left.get(..MOST_AT_ONCE).unwrap_or(left)
+    match left.get(..MOST_AT_ONCE) {
+        Some(first) => first,
+        None => left,
+    }
 }
 
 fn entries_from(alloc: Global, log: &CentreLog, written: usize) -> Result<Vec<Entry>, AllocError>
