@@ -53,7 +53,10 @@ pub fn connect<R: Net<Stream = TcpStream>>(rt: &R, endpoint: SocketAddr) -> Done
         .ok()
         .ok_or(Missed::Endpoint)?;
     let patience = Duration::from_secs(PATIENCE_S);
-    stream.set_read_timeout(Some(patience)).ok().ok_or(Missed::Waiting)?;
+    stream
+        .set_read_timeout(Some(patience))
+        .ok()
+        .ok_or(Missed::Waiting)?;
     Ok(stream)
 }
 
