@@ -1,5 +1,5 @@
 -- The bytes of an answer.
-use Rattle.std.specs.Prelude.{◌≡◌, ◌⊎◌, ℕ, Some, List, [], ◌++◌, length}
+use Rattle.std.specs.Prelude.{◌≡◌, ◌≢◌, ◌⊎◌, ℕ, Some, List, [], ◌++◌, length}
 use Rattle.std.specs.Fmt.{decimal}
 use Rattle.serve_page.specs.declared.request.Asked.{Asked}
 use Rattle.serve_page.specs.declared.request.Asked.TheVariants as asked
@@ -26,12 +26,12 @@ abbrev pub HasBody : List ℕ → List ℕ → Type 0
 HasBody head text = (body : List ℕ) × (text ≡ answer_of head body)
 
 -- The answer to a request if the line is shown in this version. The answer to a refused request is a fixed text. The
--- answer for the current state reports no change if the request names this version. Any other answer has the length of
--- its body in its head.
+-- answer for the current state reports no change if and only if the request names this version. Any other answer has
+-- the length of its body in its head.
 abbrev pub IsAnswer : ℕ → Asked → List ℕ → Type 0
 IsAnswer version asked.More text = text ≡ []
 IsAnswer version (asked.Refused why) text = text ≡ refusal_text why
 IsAnswer version asked.Page text = HasBody constants.HTML.now text
 IsAnswer version asked.Line text = HasBody constants.JSON.now text
 IsAnswer version (asked.Now since) text =
-    ((since ≡ Some version) × (text ≡ constants.SAME.now)) ⊎ HasBody constants.JSON.now text
+    ((since ≡ Some version) × (text ≡ constants.SAME.now)) ⊎ ((since ≢ Some version) × HasBody constants.JSON.now text)

@@ -1,8 +1,11 @@
 -- The meaning of a request.
 use Rattle.std.specs.Char.{to_ascii_lowercase}
-use Rattle.std.specs.Prelude.{[], ◌&&◌, ◌<◌, ◌==◌, ◌||◌, ◌∷◌, ◌≡◌, ◌≢◌, ◌≤◌, Bool, codes, drop, false, filter}
+use Rattle.std.specs.List.{find}
+use Rattle.std.specs.Prelude.{[], ◌&&◌, ◌<◌, ◌==◌, ◌^◌, ◌||◌, ◌∷◌, ◌≡◌, ◌≢◌, ◌≤◌, Bool, codes, drop, false, filter}
 use Rattle.std.specs.Prelude.{if◌then◌else◌, length, List, map, None, Option, position, Some, take, true, ℕ, ⊤}
 use Rattle.std.specs.Str.{bytes_eq}
+use Rattle.std.specs.Str.Parse.{digits_value, IsNumeral}
+use Rattle.form_urlencoded.specs.Form.{raw_pairs, split_once}
 use Rattle.httparse.specs.declared.spans.HeaderSpan.{HeaderSpan}
 use Rattle.httparse.specs.Grammar.{MayBecomeRequest, ReadsRequest, RequestHead}
 use Rattle.httparse.specs.Spans.{name_and_value, span_bytes}
@@ -37,10 +40,6 @@ is_loopback host = has_name (codes "localhost") host || has_name (codes "127.0.0
 abbrev pub is_reading : List ℕ → Bool
 is_reading method = bytes_eq method (codes "GET") || bytes_eq method (codes "HEAD")
 
--- a target that asks for the current state
-abbrev pub is_now : List ℕ → Bool
-is_now target = bytes_eq target (codes "/now") || bytes_eq (take 11 target) (codes "/now?since=")
-
 -- the first slash
 abbrev pub slash_in : List ℕ → Option ℕ
 slash_in bytes = position (λ b. b == 47) bytes
@@ -71,14 +70,43 @@ is_for_us host target = is_loopback host && is_ours target
 abbrev pub address_in : List ℕ → List ℕ
 address_in target = if is_absolute target then address_from (drop 7 target) (slash_in (drop 7 target)) else target
 
--- the meaning of an address: three are known
+-- the path of an address, and its query after the first question mark
+abbrev pub path_of : List ℕ → List ℕ
+path_of address = (split_once 63 address).0
+
+abbrev pub query_of : List ℕ → List ℕ
+query_of address = (split_once 63 address).1
+
+-- a text in decimal digits without a sign, of a number below 2^64
+abbrev pub IsDecimal : List ℕ → Type 0
+IsDecimal text = IsNumeral 10 text × (digits_value 10 text < 2 ^ 64)
+
+-- the number of a text, if it has one
+abbrev pub IsNumber : List ℕ → Option ℕ → Type 0
+IsNumber text (Some n) = IsDecimal text × (n ≡ digits_value 10 text)
+IsNumber text None = IsDecimal text → ⊥
+
+-- a parameter has the name `since`
+abbrev pub names_since : List ℕ × List ℕ → Bool
+names_since p = bytes_eq p.0 (codes "since")
+
+-- The number of the first parameter with the name `since`. There is none without such a parameter, or if its value is
+-- no number.
+abbrev pub IsSinceOf : Option (List ℕ × List ℕ) → Option ℕ → Type 0
+IsSinceOf (Some p) since = IsNumber p.1 since
+IsSinceOf None since = since ≡ None
+
+abbrev pub IsSince : List ℕ → Option ℕ → Type 0
+IsSince query since = IsSinceOf (find names_since (raw_pairs query)) since
+
+-- The meaning of an address. Three paths are known, and only that of the current state reads the query.
 abbrev pub IsAskedAt : List ℕ → Asked → Type 0
-IsAskedAt target asked.Page = target ≡ codes "/"
-IsAskedAt target asked.Line = target ≡ codes "/line.json"
-IsAskedAt target (asked.Now since) = is_now target ≡ true
-IsAskedAt target (asked.Refused refusal.Address) =
-    (target ≢ codes "/") × (target ≢ codes "/line.json") × (is_now target ≡ false)
-IsAskedAt target other = ⊥
+IsAskedAt address asked.Page = path_of address ≡ codes "/"
+IsAskedAt address asked.Line = path_of address ≡ codes "/line.json"
+IsAskedAt address (asked.Now since) = (path_of address ≡ codes "/now") × IsSince (query_of address) since
+IsAskedAt address (asked.Refused refusal.Address) =
+    (path_of address ≢ codes "/") × (path_of address ≢ codes "/line.json") × (path_of address ≢ codes "/now")
+IsAskedAt address other = ⊥
 
 -- the fields of a head that name a host
 abbrev pub hosts_in : RequestHead → List (List ℕ × List ℕ)

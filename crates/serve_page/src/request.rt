@@ -4,8 +4,11 @@ ghost use Rattle.std.specs.Prelude.{◌≡◌, ◌≤◌, ℕ, List, ◌∷◌, 
 ghost use Rattle.httparse.specs.declared.spans.HeaderSpan.{HeaderSpan};
 ghost use Rattle.httparse.specs.Grammar.{RequestHead, ReadsRequest};
 ghost use Rattle.httparse.specs.Spans.{span_bytes, IsRequestAt};
-ghost use Rattle.serve_page.specs.Requests.{names_host, has_name, is_loopback, is_reading, is_for_us, is_ours, address_in, slash_in, named_in, AreHosts, AreHostsOf, IsAsked, IsAskedAt, IsAskedBy};
+ghost use Rattle.serve_page.specs.Requests.{names_host, has_name, is_loopback, is_reading, is_for_us, is_ours};
+ghost use Rattle.serve_page.specs.Requests.{address_in, slash_in, named_in, path_of, query_of, AreHosts, AreHostsOf};
+ghost use Rattle.serve_page.specs.Requests.{IsAsked, IsAskedAt, IsAskedBy, IsNumber, IsSince};
 
+use form_urlencoded::raw_pairs;
 use httparse::Status;
 use httparse::spans::{EMPTY_HEADER_SPAN, HeaderSpan, RequestSpans, Span, parse_request};
 
@@ -125,33 +128,59 @@ fn slash_in(bytes: &[u8]) -> Option<usize>
     bytes.iter().position(|byte| *byte == b'/')
 }
 
-// The meaning of an address.
-fn asked_at(target: &[u8]) -> Asked
-    ensures { IsAskedAt target.now result }
+// The meaning of an address: its path, and for the current state a parameter of its query.
+fn asked_at(address: &[u8]) -> Asked
+    ensures { IsAskedAt address.now result }
 {
-    if target == b"/".as_slice() {
+    let (path, query) = path_and_query(address);
+    if path == b"/".as_slice() {
         return Asked::Page;
     }
-    if target == b"/line.json".as_slice() {
+    if path == b"/line.json".as_slice() {
         return Asked::Line;
     }
-    if target == b"/now".as_slice() {
-        return Asked::Now { since: None };
+    if path == b"/now".as_slice() {
+        return Asked::Now {
+            since: since_in(query),
+        };
     }
-    match target.strip_prefix(b"/now?since=") {
-        Some(digits) => Asked::Now {
-            since: number_of(digits),
-        },
-        None => Asked::Refused(Refusal::Address),
+    Asked::Refused(Refusal::Address)
+}
+
+// The bytes before the first question mark, and those after it.
+fn path_and_query(address: &[u8]) -> (&[u8], &[u8])
+    ensures path { result.0.now ≡ path_of address.now }
+    ensures query { result.1.now ≡ query_of address.now }
+{
+    match address.iter().position(|byte| *byte == b'?') {
+        Some(end) => (&address[..end], &address[end + 1..]),
+        None => (address, &[]),
     }
 }
 
+// The number of the first parameter `since` of a query.
+fn since_in(query: &[u8]) -> Option<u64>
+    ensures { IsSince query.now result }
+{
+    for (name, value) in raw_pairs(query) {
+        if name == b"since".as_slice() {
+            return number_of(value);
+        }
+    }
+    None
+}
+
 // The number in decimal digits, if it fits in 64 bits. A sign is not a digit.
-fn number_of(digits: &[u8]) -> Option<u64> {
+fn number_of(digits: &[u8]) -> Option<u64>
+    ensures { IsNumber digits.now result }
+{
     if digits.first() == Some(&b'+') {
         return None;
     }
-    std::str::from_utf8(digits).ok()?.parse().ok()
+    match std::str::from_utf8(digits) {
+        Ok(text) => text.parse().ok(),
+        Err(_) => None,
+    }
 }
 
 /// The fields of a head that name a host.

@@ -21,7 +21,7 @@ fn status_of(alloc: Global, method: &str, target: &str, host: &str) -> Result<u1
     status(alloc, text.as_bytes())
 }
 
-static ADDRESSES: [(&str, u16); 25] = [
+static ADDRESSES: [(&str, u16); 32] = [
     ("/", 200),
     ("/line.json", 200),
     ("/now", 200),
@@ -33,6 +33,13 @@ static ADDRESSES: [(&str, u16); 25] = [
     ("/now?since=5", 200),
     ("/now?since=99999999999999999999", 200),
     ("/now?since=-5", 200),
+    ("/now?x=1&since=512", 304),
+    ("/now?since=512&since=5", 304),
+    ("/now?since=5&since=512", 200),
+    ("/now?since&x=512", 200),
+    ("/?x=1", 200),
+    ("/line.json?", 200),
+    ("/nowhere?since=512", 404),
     ("/nowhere", 404),
     ("/line.json/", 404),
     ("//", 404),
