@@ -2,7 +2,8 @@
 //
 // `handovers write FOLDER EVENTS` writes line.toml, script and plain.txt (the answers), and prints how many missions were handed over;
 // `handovers storm FOLDER EVENTS SEED` the same of events in any order on a small line; `handovers time EVENTS TURNS` plays the script so
-// often, and prints how many events a second the fastest turn took and the bytes of its messages to trains.
+// often, and prints how many events a second the fastest turn took and the bytes of its messages to trains; `commits` does the same
+// with commits to the logs of the centres.
 
 #[path = "../peer/mod.rs"]
 mod peer;
@@ -10,6 +11,7 @@ mod storm;
 mod traffic;
 
 use peer::draw::Draw;
+use peer::log;
 use peer::run::run;
 use peer::script;
 
@@ -32,8 +34,13 @@ fn main() {
             let line = traffic::line_of(&mut draw);
             script::time(&line, &traffic::runs(&line, number(events), &mut draw), number(turns));
         }
+        ["commits", events, turns] => {
+            let mut draw = Draw::new(1);
+            let line = traffic::line_of(&mut draw);
+            log::time(&line, &traffic::runs(&line, number(events), &mut draw), number(turns));
+        }
         ["run", path] => run(&traffic::line_of(&mut Draw::new(1)), path),
-        _ => panic!("write FOLDER EVENTS, storm FOLDER EVENTS SEED, time EVENTS TURNS, run SCRIPT"),
+        _ => panic!("write FOLDER EVENTS, storm FOLDER EVENTS SEED, time EVENTS TURNS, commits EVENTS TURNS, run SCRIPT"),
     }
 }
 

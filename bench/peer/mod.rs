@@ -7,6 +7,7 @@ mod centre;
 pub mod draw;
 pub mod frames;
 pub mod line;
+pub mod log;
 mod message;
 mod rules;
 pub mod run;

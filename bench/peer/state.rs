@@ -45,7 +45,7 @@ pub enum Taken {
     Early,
 }
 
-#[derive(Default)]
+#[derive(Clone, Default)]
 pub struct Outcome {
     pub stamp: u32,
     /// Messages to this engine.

@@ -1,6 +1,7 @@
 //! How fast the codec and the centres are. `test_bench TURNS` prints messages a second of the codec. `test_bench
 //! answers LINE SCRIPT` prints what the centres of a line answer to a script of events; `test_bench time LINE SCRIPT
 //! TURNS` plays the script so often, and prints events a second and the bytes of one turn's messages to trains.
+//! `test_bench commits LINE SCRIPT TURNS` does the same with commits to the logs of the centres.
 //! `test_bench merge LINE ENTRIES` merges logs of so many entries, one for each centre of a line, and prints how many
 //! entries they have and the nanoseconds that each took. Without a word the codec reads and writes each message once,
 //! and nothing is printed.
@@ -9,11 +10,13 @@
 #![tactic(auto)]
 
 mod codec;
+mod commits;
 mod merging;
 mod missions;
 mod print;
 
 use crate::codec::measure_codec;
+use crate::commits::measure_commits;
 use crate::merging::measure_merge;
 use crate::missions::{measure_steps, print_answers};
 use anyhow::bail;
@@ -21,7 +24,7 @@ use std::env;
 
 // What the words may be.
 const FORMS: &str =
-    "TURNS, or answers LINE SCRIPT, or time LINE SCRIPT TURNS, or merge LINE ENTRIES";
+    "TURNS, or answers LINE SCRIPT, or time|commits LINE SCRIPT TURNS, or merge LINE ENTRIES";
 
 fn main(rt: HostRuntime) -> anyhow::Result<()> {
     let words: Vec<String> = env::args(&rt)?.collect(rt.alloc())?;
@@ -36,6 +39,9 @@ fn measure(rt: &HostRuntime, words: &[String]) -> anyhow::Result<()> {
         [what, line, given] => measure_line(rt, what.as_str(), line.as_str(), given),
         [what, line, script, turns] if what.as_str() == "time" => {
             measure_steps(rt, line.as_str(), script.as_str(), number_in(turns))
+        }
+        [what, line, script, turns] if what.as_str() == "commits" => {
+            measure_commits(rt, line.as_str(), script.as_str(), number_in(turns))
         }
         _ => bail!("{FORMS}"),
     }

@@ -104,8 +104,8 @@ pub fn line_in(rt: &HostRuntime, file: &str) -> anyhow::Result<Line> {
     }
 }
 
-// The events of a script, which shows no line.
-fn events_in(rt: &HostRuntime, line: &Line, file: &str) -> anyhow::Result<Vec<WorldEvent>> {
+/// The events of a script, which shows no line.
+pub fn events_in(rt: &HostRuntime, line: &Line, file: &str) -> anyhow::Result<Vec<WorldEvent>> {
     let text = fs::read_to_string(rt, file)?;
     let Ok(entries) = script_of(rt.alloc(), line, text.as_str()) else {
         bail!("a line of the script has no form")
@@ -134,8 +134,8 @@ fn play(alloc: Global, world: &mut World, events: &[WorldEvent]) -> Option<usize
     Some(bytes)
 }
 
-// Writes the messages of an outcome: how many bytes they are.
-fn written(alloc: Global, outcome: &Outcome) -> Option<usize> {
+/// Writes the messages of an outcome: how many bytes they are. `None` if memory ran out.
+pub fn written(alloc: Global, outcome: &Outcome) -> Option<usize> {
     let mut bytes = 0usize;
     for saying in outcome.sayings.as_slice() {
         let Ok(message) = encode_track(alloc, &saying.message) else {
