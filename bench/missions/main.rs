@@ -2,10 +2,9 @@
 //
 // `missions write FOLDER TRAINS SECTIONS EVENTS` writes line.toml, script and plain.txt (the answers); `missions storm FOLDER EVENTS
 // SEED` the same of events in any order on a small line; `missions run TRAINS SECTIONS SCRIPT` prints a run of such a script, as `rbcline
-// run` does; `missions time TRAINS SECTIONS EVENTS TURNS` plays the script so often, and
-// prints how many events a second the fastest turn took and the bytes of its messages to trains; `commits` does the same with commits to
-// the logs of the centres. In place of the number of sections
-// stands `alternating` for 512 sections of which each second one that no train runs over is open.
+// run` does; `missions time TRAINS SECTIONS EVENTS TURNS` plays the script so often, and prints how many events a second the fastest turn
+// took and the bytes of its messages to trains; `commits` does the same with commits to the logs of the centres. In place of the number of
+// sections stands `alternating` for 512 sections of which each second one that no train runs over is open.
 
 #[path = "../peer/mod.rs"]
 mod peer;
