@@ -21,10 +21,12 @@ mod durable_file;
 mod journal_file;
 mod kept;
 mod opening;
+mod sealed;
 mod system_file;
 
 pub use durable_file::DurableFile;
 pub use journal_file::JournalFile;
 pub use kept::Kept;
 pub use opening::{OpenFault, make_journal, open_journal, read_whole};
+pub use sealed::{Opened, Sealed};
 pub use system_file::SystemFile;
