@@ -78,7 +78,15 @@ fn send<R: Wait, C: Carrier>(
     };
     let signals = link.ends.of_sender(waker, &server.state.is_over);
     let journal = server.journal(link.from);
-    send_kept_frames(rt, node, link.to, carrier, seen, signals, &Journaled { journal });
+    send_kept_frames(
+        rt,
+        node,
+        link.to,
+        carrier,
+        seen,
+        signals,
+        &Journaled { journal },
+    );
 }
 
 // Receives the frames of a link until nothing new arrives. A centre that resumed from its journal skips the frames that

@@ -45,7 +45,8 @@ pub kept-one : (awaits : ℕ → ℕ) (old new : ℕ → Option Frame) (count nu
 kept-one awaits old new count number kept more f next before keeps grows known event = record {
   each = λ n least most. ⊎_elim
       (λ last. subst (IsKept awaits new more) (sym last) (f, known, event))
-      (λ below. (kept-keeps awaits old new count kept more before keeps grows).each n least (omega (arith, below, next)))
+      (λ below. let it = before.each n least (omega (arith, below, next)) in
+          (it.0, keeps n it.0 it.1, le_trans it.2 grows))
       (eq-or-lt_of_le most);
 }
 

@@ -85,7 +85,7 @@ pub fn send_kept_frames<R: Wait, C: Carrier, L: Release>(
     Sent { seen, frames, kept }
 }
 
-// Puts a frame once the journal keeps its event, if the frame waits for it. `kept` shows that from then on. The frame is
+// Puts a frame once the journal keeps its event, if the frame waits for it. Then `kept` shows that. The frame is
 // returned if the link does not take it, or the journal never keeps its event.
 fn put_kept<R: Wait, C: Carrier, L: Release>(
     rt: &R,

@@ -8,6 +8,7 @@ use rbc_line::Line;
 use rbc_node::{Share, ShareFault};
 use serve_control::{Command, print_commit};
 use serve_journal::{Opened, Sealed};
+use serve_workers::writing::Release;
 use std::alloc::{AllocError, Global};
 use std::sync::Wait;
 use text_script::status::{Fault, PrintFault};
@@ -105,8 +106,11 @@ fn commit<R: Wait>(
     }
     let answer = committer.commit(rt, share, event);
     let sealed = sealed_answer(server.alloc, server.line, sink, centre, printed, &answer)?;
-    let kept = sink.reaches(rt, sealed.stamp());
-    match kept.and_then(|kept| sealed.open(&kept)) {
+    let opened = match sink.reaches(rt, sealed.stamp()) {
+        Some(kept) => sealed.open(&kept),
+        None => None,
+    };
+    match opened {
         Some(opened) => Ok(opened),
         None => Ok(fixed(server.alloc, JOURNAL_FAULT)?),
     }

@@ -3,6 +3,7 @@ use crate::state::CentreSink;
 use crate::status::{Kind, Notes};
 use serve_workers::AnswerSink;
 use serve_workers::connections::ConnectionSink;
+use serve_workers::writing::Release;
 use std::sync::Wait;
 use std::sync::atomic::{AtomicU32, Ordering};
 use text_script::Outcome;

@@ -1,6 +1,3 @@
-ghost use Rattle.std.specs.Prelude.{◌≡◌, ◌≤◌, ℕ, option_map, IfSome};
-ghost use Rattle.serve_line.specs.Journaling.Waiting.{awaited};
-
 use crate::journaling::journal::Journal;
 use serve_journal::Kept;
 use serve_workers::writing::{AtOnce, Release};

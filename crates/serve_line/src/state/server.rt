@@ -6,6 +6,7 @@ use crate::status::MentionOrder;
 use rbc_line::Line;
 use rbc_node::{Node, Open, Share};
 use serve_journal::{Kept, Opened, Sealed};
+use serve_workers::writing::Release;
 use serve_workers::{Committer, LinkEnds};
 use std::alloc::Global;
 use std::sync::atomic::{AtomicBool, AtomicU64, Ordering};

@@ -36,15 +36,6 @@ pub struct CentreSink<'a> {
 }
 
 impl CentreSink<'_> {
-    /// The stamp that the journal has to keep before an answer to the event with this stamp leaves. It is 0 if the
-    /// centre keeps no journal, or the journal had the event at the start.
-    pub fn awaited(&self, stamp: u32) -> u32
-        ensures { result ≡ awaited (option_map (λ j. j.now.begun) self.now.journal) stamp }
-    {
-        let journal = self.journal;
-        Journaled { journal }.awaited(stamp)
-    }
-
     /// Waits until this answer may leave, and shows the events that the journal keeps then. `None` if the journal was
     /// given up before. An answer without a reply to the interlocking waits only if the journal is late or can't be
     /// written.
@@ -96,8 +87,10 @@ impl CentreSink<'_> {
         };
         for word in outcome.words().as_slice() {
             if let Word::Told(section) = word {
-                let row = self.told_row(*section, outcome.stamp);
-                let row = row.and_then(|row| row.open(kept));
+                let row = match self.told_row(*section, outcome.stamp) {
+                    Some(row) => row.open(kept),
+                    None => None,
+                };
                 for slot in &endpoint.slots {
                     slot.tell(rt, row.as_ref());
                 }

@@ -179,12 +179,7 @@ impl<'a> TrainConnections<'a> {
 }
 
 // The reply with a message of the event with this stamp. It waits for the event if replies are held.
-fn reply_to(
-    alloc: Global,
-    saying: &Saying,
-    is_held: bool,
-    stamp: u32,
-) -> Result<Reply, EncodeFault>
+fn reply_to(alloc: Global, saying: &Saying, is_held: bool, stamp: u32) -> Result<Reply, EncodeFault>
     ensures message { IfOk result (λ reply. reply.message ≡ saying.now.message) }
     ensures stamp { IfOk result (λ reply. reply.stamp ≡ (if is_held then stamp else 0)) }
 {

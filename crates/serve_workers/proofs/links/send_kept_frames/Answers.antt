@@ -13,8 +13,8 @@ loop-preserved-in-Ok g c =
     let awaits = g.L.Release.awaits c.args.release.now in
     let centre = centre_of c.args.node.now in
     let counted = c.number-frames.ensures.value ∙ c.in-Ok.ensures.own in
-    let puts = puts-one (known c.loop.seen) (known c.put_kept.new.seen) centre c.args.to c.loop.frames (c.loop.frames + 1)
-    c.in-Some-frame.frame refl c.loop.invariant.1
+    let puts = puts-one (known c.loop.seen) (known c.put_kept.new.seen) centre c.args.to c.loop.frames
+    (c.loop.frames + 1) c.in-Some-frame.frame refl c.loop.invariant.1
     c.in-Ok.ensures.keeps c.in-Ok.ensures.ok c.in-Some-frame.ensures in
     let kept = kept-one awaits (known c.loop.seen) (known c.put_kept.new.seen) c.loop.frames (c.loop.frames + 1)
     c.loop.kept c.put_kept.new.kept c.in-Some-frame.frame refl c.loop.invariant.2
