@@ -16,11 +16,11 @@ IsPut known c to n = (f : Frame) × (known n ≡ Some f) × IsFrameOf c to n (So
 pub record PutsInOrder (known : ℕ → Option Frame) (c to count : ℕ) : Type 0 where
   pub each : (n : ℕ) → 1 ≤ n → n ≤ count → IsPut known c to n
 
--- for an answer to the event with each stamp, a journal has to keep the stamp that `awaits` gives, and keeps this one
--- at least: that holds of the frames that the notes know under the numbers from 1 to the count
+-- the journal keeps the stamp that the frame under this number awaits
 abbrev pub IsKept : (ℕ → ℕ) → (ℕ → Option Frame) → ℕ → ℕ → Type 0
 IsKept awaits known kept n = (f : Frame) × (known n ≡ Some f) × (awaits f.stamp ≤ kept)
 
+-- this holds for each number from 1 to the count
 pub record AreKept (awaits : ℕ → ℕ) (known : ℕ → Option Frame) (count kept : ℕ) : Type 0 where
   pub each : (n : ℕ) → 1 ≤ n → n ≤ count → IsKept awaits known kept n
 

@@ -87,26 +87,26 @@ impl CentreSink<'_> {
         };
         for word in outcome.words().as_slice() {
             if let Word::Told(section) = word {
-                let row = match self.told_row(*section, outcome.stamp) {
-                    Some(row) => row.open(kept),
+                let text = match self.notification(*section, outcome.stamp) {
+                    Some(text) => text.open(kept),
                     None => None,
                 };
                 for slot in &endpoint.slots {
-                    slot.tell(rt, row.as_ref());
+                    slot.tell(rt, text.as_ref());
                 }
             }
         }
     }
 
-    // The row that tells of a section that is shut by the event with this stamp. It waits for that event. `None` if
-    // memory runs out.
-    fn told_row(&self, section: u16, stamp: u32) -> Option<Sealed<Vec<u8>>>
+    // The notification that the event with this stamp shut a section. It waits for that event. `None` if memory runs
+    // out.
+    fn notification(&self, section: u16, stamp: u32) -> Option<Sealed<Vec<u8>>>
         ensures { IfSome result
-            (λ row. row.stamp ≡ awaited (option_map (λ j. j.now.begun) self.now.journal) stamp) }
+            (λ text. text.stamp ≡ awaited (option_map (λ j. j.now.begun) self.now.journal) stamp) }
     {
-        let mut row = Vec::new(self.alloc);
-        writeln!(row, "{} {section} Told", self.name).ok()?;
-        Some(Sealed::new(row, self.awaited(stamp)))
+        let mut text = Vec::new(self.alloc);
+        writeln!(text, "{} {section} Told", self.name).ok()?;
+        Some(Sealed::new(text, self.awaited(stamp)))
     }
 }
 

@@ -46,23 +46,23 @@ impl Slot {
     }
 
     /// Notifies the connection that has the slot that a section is shut. If too many bytes wait for the connection, or
-    /// there is no row, it ends.
-    pub fn tell<R: Wait>(&self, rt: &R, row: Option<&Opened<Vec<u8>>>) {
+    /// the text is missing, it ends.
+    pub fn tell<R: Wait>(&self, rt: &R, text: Option<&Opened<Vec<u8>>>) {
         if !self.is_taken.load(Ordering::SeqCst) {
             return;
         }
-        if !self.is_told(rt, row) {
+        if !self.is_told(rt, text) {
             self.shut(rt);
         }
     }
 
-    // Adds a row to the notification lines, and returns whether there was room for it.
-    fn is_told<R: Wait>(&self, rt: &R, row: Option<&Opened<Vec<u8>>>) -> bool {
-        let Some(row) = row else {
+    // Adds a text to the notification lines, and returns whether there was room for it.
+    fn is_told<R: Wait>(&self, rt: &R, text: Option<&Opened<Vec<u8>>>) -> bool {
+        let Some(text) = text else {
             return false;
         };
         let mut told = self.told.lock(rt);
-        told.get().len() < MOST_TOLD && told.add(row).is_ok()
+        told.get().len() < MOST_TOLD && told.add(text).is_ok()
     }
 
     /// Takes the notification lines since the last call.
