@@ -46,7 +46,7 @@ kept-one awaits old new count number kept more f next before keeps grows known e
   each = λ n least most. ⊎_elim
       (λ last. subst (IsKept awaits new more) (sym last) (f, known, event))
       (λ below. let it = before.each n least (omega (arith, below, next)) in
-          (it.0, keeps n it.0 it.1, le_trans it.2 grows))
+      (it.0, keeps n it.0 it.1, le_trans it.2 grows))
       (eq-or-lt_of_le most);
 }
 
