@@ -2,7 +2,8 @@
 //!
 //! A [`DurableFile`] is a file that grows at its end. A [`JournalFile`] appends the lines of entries to it, and waits
 //! until they are durable. Only that makes a [`Kept`]: with it, the answers to these events may leave the centre. A
-//! [`SystemFile`] is a file of the system; `open_journal` and `make_journal` open it and lock it.
+//! [`Sealed`] answer comes out only with such a `Kept`. A [`SystemFile`] is a file of the system; `open_journal` and
+//! `make_journal` open it and lock it.
 //!
 //! Contracts see the bytes of a `DurableFile` that reports them, such as one in memory. The bytes of a file of the
 //! system are in no contract: that it meets `DurableFile` is trusted.
@@ -21,10 +22,12 @@ mod durable_file;
 mod journal_file;
 mod kept;
 mod opening;
+mod sealed;
 mod system_file;
 
 pub use durable_file::DurableFile;
 pub use journal_file::JournalFile;
 pub use kept::Kept;
 pub use opening::{OpenFault, make_journal, open_journal, read_whole};
+pub use sealed::{Opened, Sealed};
 pub use system_file::SystemFile;

@@ -9,7 +9,7 @@ mod journal;
 mod keeping;
 mod resuming;
 
-pub use held::JournaledCarrier;
+pub use held::Journaled;
 pub use journal::Journal;
 pub use keeping::{JournalWriter, keep_journal};
 pub use resuming::{ResumeFault, resume};

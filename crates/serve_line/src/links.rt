@@ -1,7 +1,7 @@
-use crate::journaling::JournaledCarrier;
+use crate::journaling::Journaled;
 use crate::state::{DirectedLink, Server};
 use rbc_board::{Carrier, QueueCarrier};
-use serve_workers::{InOrder, pass_over, receive_frames, send_frames};
+use serve_workers::{InOrder, pass_over, receive_frames, send_kept_frames};
 use std::alloc::AllocError;
 use std::sync::Wait;
 use std::thread;
@@ -21,12 +21,6 @@ fn try_carry<R: Threads + Wait + Sync>(
     link: &DirectedLink,
 ) -> Result<(), AllocError> {
     let (carrier, writer, reader) = QueueCarrier::new(rt, server.alloc)?;
-    let journal = server.journal(link.from);
-    let carrier = JournaledCarrier {
-        rt,
-        carrier,
-        journal,
-    };
     carry_by(rt, server, link, &carrier, writer, reader);
     Ok(())
 }
@@ -83,7 +77,16 @@ fn send<R: Wait, C: Carrier>(
         return;
     };
     let signals = link.ends.of_sender(waker, &server.state.is_over);
-    send_frames(rt, node, link.to, carrier, seen, signals);
+    let journal = server.journal(link.from);
+    send_kept_frames(
+        rt,
+        node,
+        link.to,
+        carrier,
+        seen,
+        signals,
+        &Journaled { journal },
+    );
 }
 
 // Receives the frames of a link until nothing new arrives. A centre that resumed from its journal skips the frames that

@@ -191,7 +191,8 @@ fn refresh<R: Wait + Clock>(
         .look(rt, server.alloc, server.line, server.nodes)?;
     let shown = &mut seen.page_snapshot.now;
     let mut has_changed = false;
-    if server.await_journals(rt) {
+    if let Some(opened) = server.open_kept(rt, now) {
+        let now = opened.into_inner();
         has_changed = now.events != shown.events;
         let before = std::mem::replace(shown, now);
         copy_marks(&before, shown);

@@ -154,7 +154,7 @@ fn run_centres<R: Threads + Wait + Sync + Clock, N: Notes + Sync, F: DurableFile
     notes: &N,
 ) -> Result<bool, AllocError> {
     let wakers = wakers_of(alloc, line)?;
-    let connections = connections_of(alloc, line, &wakers)?;
+    let connections = connections_of(alloc, line, &wakers, !files.is_empty())?;
     let journals = if files.is_empty() {
         Vec::new(alloc)
     } else {

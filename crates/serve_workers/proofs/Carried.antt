@@ -1,12 +1,12 @@
 -- The frames that a link carries, frame by frame and turn by turn.
-use Rattle.std.proofs.Common.{[], ◌++◌, ◌+◌, ◌-◌, ◌^◌, ◌∷◌, ◌≡◌, arith, Bool, false, List, min, None, Option, refl}
+use Rattle.std.proofs.Common.{[], ◌++◌, ◌+◌, ◌-◌, ◌^◌, ◌∷◌, ◌≡◌, ◌≤◌, arith, Bool, false, List, min, None, Option, refl}
 use Rattle.std.proofs.Common.{Some, subst, sym, true, ℕ, ⊎_elim}
-use Rattle.std.proofs.Math.Nat.{eq-or-lt_of_le}
+use Rattle.std.proofs.Math.Nat.{eq-or-lt_of_le, le_trans}
 use Rattle.std.specs.Prelude.{MatchBool}
 use Rattle.rbc_node.specs.Node.{IsFrameOf}
 use Rattle.rbc_node.specs.Receipts.{ShareValue}
 use Rattle.rbc_spec.specs.Frame.{Frame}
-use Rattle.serve_workers.specs.Carried.{Delivers, IsPut, PutsInOrder, TakesTurn, TakesTurns}
+use Rattle.serve_workers.specs.Carried.{AreKept, Delivers, IsKept, IsPut, PutsInOrder, TakesTurn, TakesTurns}
 use Rattle.serve_workers.specs.declared.order.InOrder.{InOrder}
 
 -- the second notes know each frame that the first knew
@@ -28,6 +28,25 @@ puts-one old new c to count number f next before keeps known sent = record {
   each = λ n least most. ⊎_elim
       (λ last. subst (IsPut new c to) (sym last) (f, known, sent))
       (λ below. let it = before.each n least (omega (arith, below, next)) in (it.0, keeps n it.0 it.1, it.2))
+      (eq-or-lt_of_le most);
+}
+
+-- the same frames, with notes that know more and a journal that keeps more
+pub kept-keeps : (awaits : ℕ → ℕ) (old new : ℕ → Option Frame) (count kept more : ℕ) → AreKept awaits old count kept
+    → Keeps old new → kept ≤ more → AreKept awaits new count more
+kept-keeps awaits old new count kept more before keeps grows = record {
+  each = λ n least most. let it = before.each n least most in (it.0, keeps n it.0 it.1, le_trans it.2 grows);
+}
+
+-- one more frame, which waits for no event that the journal lacks
+pub kept-one : (awaits : ℕ → ℕ) (old new : ℕ → Option Frame) (count number kept more : ℕ) (f : Frame)
+    → number ≡ count + 1 → AreKept awaits old count kept → Keeps old new → kept ≤ more → new number ≡ Some f
+    → awaits f.stamp ≤ more → AreKept awaits new number more
+kept-one awaits old new count number kept more f next before keeps grows known event = record {
+  each = λ n least most. ⊎_elim
+      (λ last. subst (IsKept awaits new more) (sym last) (f, known, event))
+      (λ below. let it = before.each n least (omega (arith, below, next)) in
+      (it.0, keeps n it.0 it.1, le_trans it.2 grows))
       (eq-or-lt_of_le most);
 }
 

@@ -16,6 +16,14 @@ IsPut known c to n = (f : Frame) × (known n ≡ Some f) × IsFrameOf c to n (So
 pub record PutsInOrder (known : ℕ → Option Frame) (c to count : ℕ) : Type 0 where
   pub each : (n : ℕ) → 1 ≤ n → n ≤ count → IsPut known c to n
 
+-- the journal keeps the stamp that the frame under this number awaits
+abbrev pub IsKept : (ℕ → ℕ) → (ℕ → Option Frame) → ℕ → ℕ → Type 0
+IsKept awaits known kept n = (f : Frame) × (known n ≡ Some f) × (awaits f.stamp ≤ kept)
+
+-- this holds for each number from 1 to the count
+pub record AreKept (awaits : ℕ → ℕ) (known : ℕ → Option Frame) (count kept : ℕ) : Type 0 where
+  pub each : (n : ℕ) → 1 ≤ n → n ≤ count → IsKept awaits known kept n
+
 -- ## Received frames
 
 -- One turn at centre c, after which the order goes on. It may commit the delivery of the frame that the notes know

@@ -20,7 +20,7 @@ pub mod writing;
 pub use committer::Committer;
 pub use end::SessionEnd;
 pub use laws::frames_are_committed_in_their_order;
-pub use links::{Sent, receive_frames, send_frames};
+pub use links::{Sent, receive_frames, send_frames, send_kept_frames};
 pub use order::{InOrder, Order};
 pub use passing::pass_over;
 pub use session::run_session;

@@ -1,15 +1,17 @@
-ghost use Rattle.std.specs.Prelude.{◌≡◌, ℕ, Bool, List, Option, Some};
+ghost use Rattle.std.specs.Prelude.{◌≡◌, ◌≤◌, ℕ, Bool, List, Option, Some, OnOk};
 ghost use Rattle.rbc_spec.specs.Frame.{Frame};
 ghost use Rattle.rbc_node.specs.Node.{centre_of};
-ghost use Rattle.serve_workers.specs.Carried.{PutsInOrder, TakesTurn, TakesTurns};
+ghost use Rattle.serve_workers.specs.Carried.{AreKept, PutsInOrder, TakesTurn, TakesTurns};
 
 use crate::committer::Committer;
 use crate::order::Order;
 use crate::signals::{Patience, Signals, Stage};
 use crate::sink::AnswerSink;
+use crate::writing::{AtOnce, Release};
 use rbc_board::Carrier;
-use rbc_centre::Event;
+use rbc_centre::{Event, Frame};
 use rbc_node::{Gate, Node, Share};
+use serve_journal::Kept;
 use std::sync::Wait;
 
 /// The result of a worker that sent the frames of a link.
@@ -19,6 +21,8 @@ pub struct Sent<S> {
     pub seen: S,
     /// The number of frames that it put: those with the numbers from 1 to this one.
     pub frames: u32,
+    /// Shows that the journal keeps the events of those frames that wait for it.
+    pub kept: Kept,
 }
 
 /// Puts the frames that a centre sends to another on their link, in the order of their numbers from 1 on. None is left
@@ -31,20 +35,40 @@ pub fn send_frames<R: Wait, C: Carrier>(
     node: &Node,
     to: u8,
     carrier: &C,
-    mut seen: C::Seen,
+    seen: C::Seen,
     signals: Signals<'_>,
 ) -> Sent<C::Seen>
     requires { C.is_of carrier.now seen }
     ensures link { C.is_of carrier.now result.seen }
     ensures puts { PutsInOrder (C.known result.seen) (centre_of node.now) to result.frames }
 {
+    send_kept_frames(rt, node, to, carrier, seen, signals, &AtOnce)
+}
+
+/// The same, but a frame that waits for its event is put once the journal of the sending centre keeps that. A frame
+/// whose event the journal never keeps counts as one that the link does not take.
+pub fn send_kept_frames<R: Wait, C: Carrier, L: Release>(
+    rt: &R,
+    node: &Node,
+    to: u8,
+    carrier: &C,
+    mut seen: C::Seen,
+    signals: Signals<'_>,
+    release: &L,
+) -> Sent<C::Seen>
+    requires { C.is_of carrier.now seen }
+    ensures link { C.is_of carrier.now result.seen }
+    ensures puts { PutsInOrder (C.known result.seen) (centre_of node.now) to result.frames }
+    ensures kept { AreKept (L.awaits release.now) (C.known result.seen) result.frames result.kept }
+{
     let mut frames = 0;
+    let mut kept = Kept::no_event();
     let mut patience = Patience::new();
     for _ in rt.forever() {
         let stage = signals.stage();
         let number = frames + 1;
         if let Some(frame) = node.frame(rt, to, number) {
-            if let Ok(()) = carrier.put(&mut seen, number, frame) {
+            if let Ok(()) = put_kept(rt, release, carrier, &mut seen, &mut kept, number, frame) {
                 frames = frame.number();
                 patience = Patience::new();
                 signals.pass_on();
@@ -58,7 +82,36 @@ pub fn send_frames<R: Wait, C: Carrier>(
         }
     }
     signals.end();
-    Sent { seen, frames }
+    Sent { seen, frames, kept }
+}
+
+// Puts a frame once the journal keeps its event, if the frame waits for it. Then `kept` shows that. The frame is
+// returned if the link does not take it, or the journal never keeps its event.
+fn put_kept<R: Wait, C: Carrier, L: Release>(
+    rt: &R,
+    release: &L,
+    carrier: &C,
+    seen: &mut C::Seen,
+    kept: &mut Kept,
+    number: u32,
+    frame: Frame,
+) -> Result<(), Frame>
+    requires { C.is_of carrier.now seen.old }
+    ensures link { C.is_of carrier.now seen.new }
+    ensures ok { OnOk result (C.known seen.new number ≡ Some frame) }
+    ensures own { OnOk result (frame.number ≡ number) }
+    ensures event { OnOk result (L.awaits release.now frame.stamp ≤ kept.new) }
+    ensures kept { kept.old ≤ kept.new }
+    ensures keeps { (n : ℕ) (f : Frame) → C.known seen.old n ≡ Some f → C.known seen.new n ≡ Some f }
+{
+    let stamp = release.awaited(frame.stamp());
+    if kept.stamp() < stamp {
+        let Some(more) = release.release(rt, stamp) else {
+            return Err(frame);
+        };
+        *kept = more;
+    }
+    carrier.put(seen, number, frame)
 }
 
 /// Gets the frames from a centre, under the numbers of the order, and commits each at this centre. To its earlier

@@ -86,7 +86,7 @@ fn asked<R: Threads + Wait + Sync + Net<Stream = TcpStream, Listener = TcpListen
     let (listening, socket, _) = endpoints.all();
     let endpoints = endpoints_of(alloc, line, nodes, listening, socket)?;
     let wakers = wakers_of(alloc, line)?;
-    let connections = connections_of(alloc, line, &wakers)?;
+    let connections = connections_of(alloc, line, &wakers, false)?;
     let sinks = sinks_of(
         alloc,
         line,

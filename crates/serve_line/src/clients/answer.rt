@@ -1,10 +1,18 @@
-use crate::state::{Server, Slot};
+ghost use Rattle.std.specs.Prelude.{◌≡◌, option_map, IfOk};
+ghost use Rattle.serve_control.specs.Answers.{IsCommitPrint};
+ghost use Rattle.serve_line.specs.Journaling.Waiting.{awaited};
+
+use crate::state::{CentreSink, Server, Slot};
 use crate::status::{show, write_life};
-use rbc_node::Share;
+use rbc_line::Line;
+use rbc_node::{Share, ShareFault};
 use serve_control::{Command, print_commit};
+use serve_journal::{Opened, Sealed};
+use serve_workers::writing::Release;
+use std::alloc::{AllocError, Global};
 use std::sync::Wait;
-use text_script::status::Fault;
-use text_script::{Event, WorldEvent};
+use text_script::status::{Fault, PrintFault};
+use text_script::{Event, Outcome, WorldEvent};
 
 /// The answer to a line that has no valid form.
 pub(crate) const SCRIPT_FAULT: &str = "script fault\n";
@@ -20,43 +28,33 @@ pub(crate) struct Served<'a, 'h> {
     pub slot: &'a Slot,
 }
 
-/// Performs the command of a line at the control endpoint, and writes the text that a run prints for it. The answer to
-/// a refused commit is the number of the fault.
+/// Performs the command of a line at the control endpoint. The answer is the text that a run prints for it, once the
+/// journals keep all that it shows. The answer to a refused commit is the number of the fault.
 pub(crate) fn answer<R: Wait>(
     rt: &R,
     served: Served<'_, '_>,
     shares: &mut [Share],
     command: Command,
-    text: &mut Vec<u8>,
-) -> Result<(), Fault<'static>> {
+) -> Result<Opened<Vec<u8>>, Fault<'static>> {
     match command {
-        Command::Nothing | Command::Stop => Ok(()),
-        Command::Show => show_written(rt, served.server, served.slot, text),
+        Command::Nothing | Command::Stop => Ok(Opened::nothing(served.server.alloc)),
+        Command::Show => show_written(rt, served.server, served.slot),
         Command::Set { centre, section } => {
             let event = WorldEvent::Set { centre, section };
-            commit(
-                rt,
-                served,
-                shares,
-                centre,
-                Event::Set(section),
-                &event,
-                text,
-            )
+            commit(rt, served, shares, centre, Event::Set(section), &event)
         }
         Command::Unset { centre, section } => {
             let event = WorldEvent::Unset { centre, section };
-            commit(
-                rt,
-                served,
-                shares,
-                centre,
-                Event::Unset(section),
-                &event,
-                text,
-            )
+            commit(rt, served, shares, centre, Event::Unset(section), &event)
         }
     }
+}
+
+/// A text that shows no event.
+pub(crate) fn fixed(alloc: Global, text: &'static str) -> Result<Opened<Vec<u8>>, AllocError> {
+    let mut opened = Opened::nothing(alloc);
+    opened.add_fixed(text)?;
+    Ok(opened)
 }
 
 // Shows the line, after the journals have each event that it shows. If a journal can't be written, nothing is shown.
@@ -64,25 +62,27 @@ fn show_written<R: Wait>(
     rt: &R,
     server: &Server<'_>,
     slot: &Slot,
-    text: &mut Vec<u8>,
-) -> Result<(), Fault<'static>> {
+) -> Result<Opened<Vec<u8>>, Fault<'static>> {
+    let mut text = Vec::new(server.alloc);
     show(
         rt,
         server.alloc,
         server.line,
         server.nodes,
         server.mentions,
-        text,
+        &mut text,
     )?;
     if server.options.shows_life {
-        write_life(rt, server.line, server.nodes, text)?;
+        write_life(rt, server.line, server.nodes, &mut text)?;
     }
     let is_waiting = slot.is_reserve && server.sinks.iter().any(|sink| sink.queue.is_long());
-    if is_waiting || !server.await_journals(rt) {
-        text.clear();
-        text.extend_from_slice(JOURNAL_FAULT.as_bytes())?;
+    if is_waiting {
+        return Ok(fixed(server.alloc, JOURNAL_FAULT)?);
     }
-    Ok(())
+    match server.open_kept(rt, text) {
+        Some(opened) => Ok(opened),
+        None => Ok(fixed(server.alloc, JOURNAL_FAULT)?),
+    }
 }
 
 // Commits an event of the interlocking at a centre.
@@ -93,24 +93,47 @@ fn commit<R: Wait>(
     centre: u8,
     event: Event,
     printed: &WorldEvent,
-    text: &mut Vec<u8>,
-) -> Result<(), Fault<'static>> {
+) -> Result<Opened<Vec<u8>>, Fault<'static>> {
     let Served { server, slot } = served;
     let (Some(committer), Some(share)) = (server.committer(centre), shares.get_mut(centre as usize))
     else {
-        return Ok(());
+        return Ok(Opened::nothing(server.alloc));
     };
-    let is_waiting = slot.is_reserve && committer.sink.queue.is_long();
+    let sink = committer.sink;
+    let is_waiting = slot.is_reserve && sink.queue.is_long();
     if is_waiting || server.is_stuck(rt, centre) {
-        text.extend_from_slice(JOURNAL_FAULT.as_bytes())?;
-        return Ok(());
+        return Ok(fixed(server.alloc, JOURNAL_FAULT)?);
     }
     let answer = committer.commit(rt, share, event);
-    if let Ok(outcome) = &answer {
-        if !committer.sink.reaches(rt, outcome.stamp) {
-            text.extend_from_slice(JOURNAL_FAULT.as_bytes())?;
-            return Ok(());
-        }
+    let sealed = sealed_answer(server.alloc, server.line, sink, centre, printed, &answer)?;
+    let opened = match sink.reaches(rt, sealed.stamp()) {
+        Some(kept) => sealed.open(&kept),
+        None => None,
+    };
+    match opened {
+        Some(opened) => Ok(opened),
+        None => Ok(fixed(server.alloc, JOURNAL_FAULT)?),
     }
-    Ok(print_commit(server.alloc, text, server.line, centre, printed, &answer)?)
+}
+
+// The answer to an event of the interlocking at a centre. If the event was committed, the answer waits for it.
+fn sealed_answer(
+    alloc: Global,
+    line: &Line,
+    sink: &CentreSink<'_>,
+    centre: u8,
+    event: &WorldEvent,
+    answer: &Result<Outcome, ShareFault>,
+) -> Result<Sealed<Vec<u8>>, PrintFault>
+    ensures print { IfOk result (λ sealed. IsCommitPrint line.now centre event.now answer.now sealed.answer.items) }
+    ensures stamp { IfOk result (λ sealed. IfOk answer.now
+        (λ outcome. sealed.stamp ≡ awaited (option_map (λ j. j.now.begun) sink.now.journal) outcome.stamp)) }
+{
+    let mut text = Vec::new(alloc);
+    print_commit(alloc, &mut text, line, centre, event, answer)?;
+    let stamp = match answer {
+        Ok(outcome) => sink.awaited(outcome.stamp),
+        Err(_) => 0,
+    };
+    Ok(Sealed::new(text, stamp))
 }

@@ -1,4 +1,4 @@
-use crate::clients::answer::{SCRIPT_FAULT, Served, answer};
+use crate::clients::answer::{SCRIPT_FAULT, Served, answer, fixed};
 use crate::clients::limits::{CONTROL_REST_MS, RESERVE_RESTS};
 use crate::clients::rows::{Came, RowReader};
 use crate::clients::sending::{Sent, send};
@@ -70,7 +70,7 @@ fn answer_rows<R: Wait + Clock, N: Notes>(
             }
             Came::End => Next::End,
         };
-        let told = send(rt, stream, slot.take_told(rt, server.alloc).as_slice());
+        let told = send(rt, stream, &slot.take_told(rt, server.alloc));
         if next != Next::Listen {
             return next;
         }
@@ -102,22 +102,29 @@ fn answer_row<R: Wait + Clock, N: Notes>(
         );
         return Next::End;
     }
-    let Ok(row) = std::str::from_utf8(row) else {
-        return answered(send(rt, stream, SCRIPT_FAULT.as_bytes()));
-    };
     let Served { server, .. } = served;
+    let Ok(row) = std::str::from_utf8(row) else {
+        return refuse(rt, server, stream);
+    };
     let command = match command_of(server.alloc, server.line, row) {
         Ok(Command::Stop) => return Next::Stop,
         Ok(command) => command,
         Err(CommandFault::Form) => {
             notes.often(Kind::Line, "control: a line is refused, script fault");
-            return answered(send(rt, stream, SCRIPT_FAULT.as_bytes()));
+            return refuse(rt, server, stream);
         }
         Err(CommandFault::Memory) => return Next::End,
     };
-    let mut text = Vec::new(server.alloc);
-    match answer(rt, served, shares, command, &mut text) {
-        Ok(()) => answered(send(rt, stream, text.as_slice())),
+    match answer(rt, served, shares, command) {
+        Ok(text) => answered(send(rt, stream, &text)),
+        Err(_) => Next::End,
+    }
+}
+
+// Answers a line that has no valid form.
+fn refuse<R: Wait + Clock>(rt: &R, server: &Server<'_>, stream: &PeerStream) -> Next {
+    match fixed(server.alloc, SCRIPT_FAULT) {
+        Ok(text) => answered(send(rt, stream, &text)),
         Err(_) => Next::End,
     }
 }

@@ -3,6 +3,7 @@ use crate::state::CentreSink;
 use crate::status::{Kind, Notes};
 use serve_workers::AnswerSink;
 use serve_workers::connections::ConnectionSink;
+use serve_workers::writing::Release;
 use std::sync::Wait;
 use std::sync::atomic::{AtomicU32, Ordering};
 use text_script::Outcome;
@@ -21,7 +22,7 @@ impl<N> LoggedSink<'_, N> {
     // Waits for the journal after every `UNWRITTEN`th event, so that answers that wait for the disk have room.
     fn keep_near<R: Wait>(&self, rt: &R, stamp: u32) {
         if self.events.fetch_add(1, Ordering::SeqCst) % UNWRITTEN == UNWRITTEN - 1 {
-            let _ = self.sink.reaches(rt, stamp);
+            let _ = self.sink.reaches(rt, self.sink.awaited(stamp));
         }
     }
 }
@@ -40,9 +41,9 @@ impl<N: Notes> AnswerSink for LoggedSink<'_, N> {
     }
 
     fn answered<R: Wait>(&self, rt: &R, outcome: &Outcome) {
-        if self.sink.may_send(rt, outcome) {
+        if let Some(kept) = self.sink.may_send(rt, outcome) {
             self.connection_sink.answered(rt, outcome);
-            self.sink.tell(rt, outcome);
+            self.sink.tell(rt, outcome, &kept);
         }
         self.keep_near(rt, outcome.stamp);
     }

@@ -1,5 +1,6 @@
 use crate::clients::limits::PATIENCE_S;
 use crate::state::PeerStream;
+use serve_journal::Opened;
 use std::io::{ErrorKind, Write};
 use std::time::{Clock, Duration, Instant};
 
@@ -12,11 +13,11 @@ pub(crate) enum Sent {
 }
 
 /// Sends an answer. Ten seconds after the start, no further part of it is written.
-pub(crate) fn send<R: Clock>(rt: &R, stream: &PeerStream, text: &[u8]) -> Sent {
+pub(crate) fn send<R: Clock>(rt: &R, stream: &PeerStream, text: &Opened<Vec<u8>>) -> Sent {
     let Ok(begun) = Instant::now(rt) else {
         return Sent::Short;
     };
-    let mut rest = text;
+    let mut rest = text.get().as_slice();
     for _ in 0..u64::MAX {
         if rest.is_empty() {
             return Sent::Whole;

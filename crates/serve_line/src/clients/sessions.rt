@@ -95,10 +95,7 @@ fn entered<R: Wait>(
         Duration::from_secs(SILENCE_S),
         Duration::from_secs(PATIENCE_S),
     );
-    let (ends, mut connection) = ends_of(alloc, stream)?;
-    if sink.journal.is_some() {
-        connection = connection.held();
-    }
+    let (ends, connection) = ends_of(alloc, stream)?;
     sink.connections.enter(rt, number, connection)?;
     Ok(ends)
 }

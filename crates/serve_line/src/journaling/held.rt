@@ -1,40 +1,32 @@
 use crate::journaling::journal::Journal;
-use rbc_board::Carrier;
-use rbc_linkmsg::Frame;
+use serve_journal::Kept;
+use serve_workers::writing::{AtOnce, Release};
 use std::sync::Wait;
 
-/// A carrier that takes a frame when its event is written in the sender's journal. If the sender keeps no journal, it
-/// takes the frame at once.
-#[derive(Drop)]
-pub struct JournaledCarrier<'a, R, C> {
-    /// The handle by which it may wait.
-    pub rt: &'a R,
-    pub carrier: C,
-    /// The journal of the sending centre, if it keeps one.
+/// The journal of a centre, as its answers wait for it. Without a journal no answer waits.
+#[derive(Clone, Copy)]
+pub struct Journaled<'a> {
+    /// The centre's journal, if it keeps one.
     pub journal: Option<&'a Journal>,
 }
 
-impl<R: Wait, C: Carrier + Drop> Carrier for JournaledCarrier<'_, R, C> {
-    type Seen = C::Seen;
+impl Release for Journaled<'_> {
+    ghost use Rattle.std.specs.Prelude.{option_map};
+    ghost use Rattle.serve_line.specs.Journaling.Waiting.{awaited};
 
-    ghost is_of = { λ h s. C.is_of h.carrier s };
+    ghost awaits = { λ s stamp. awaited (option_map (λ j. j.now.begun) s.journal) stamp };
 
-    ghost known = { λ s n. C.known s n };
-
-    fn put(&self, seen: &mut C::Seen, number: u32, frame: Frame) -> Result<(), Frame> {
-        if let Some(journal) = self.journal {
-            if !journal.reaches(self.rt, frame.stamp()) {
-                return Err(frame);
-            }
+    fn awaited(&self, stamp: u32) -> u32 {
+        match self.journal {
+            Some(journal) => journal.awaited(stamp),
+            None => 0,
         }
-        self.carrier.put(seen, number, frame)
     }
 
-    fn get(&self, seen: &mut C::Seen, number: u32) -> Option<Frame> {
-        self.carrier.get(seen, number)
-    }
-
-    fn compare(&self, mine: &mut C::Seen, other: C::Seen, number: u32) {
-        self.carrier.compare(mine, other, number);
+    fn release<R: Wait>(&self, rt: &R, stamp: u32) -> Option<Kept> {
+        match self.journal {
+            Some(journal) => journal.reaches(rt, stamp),
+            None => AtOnce.release(rt, stamp),
+        }
     }
 }

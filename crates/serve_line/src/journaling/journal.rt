@@ -1,3 +1,5 @@
+ghost use Rattle.std.specs.Prelude.{◌≡◌, ◌≤◌, if◌then◌else◌, nat_le, IfSome};
+
 use serve_journal::Kept;
 use std::sync::{Condvar, Mutex, MutexGuard, Wait};
 use std::thread::Parker;
@@ -14,6 +16,8 @@ const REST_MS: u64 = 50;
 pub struct Journal {
     /// The number of the centre's events in the journal at the start.
     begins: usize,
+    /// The stamp of the last of these; 0 if there are none.
+    begun: u32,
     /// Rung when there may be something to write.
     waker: Parker,
     reach: Mutex<Reach>,
@@ -22,10 +26,10 @@ pub struct Journal {
 }
 
 /// The reach of a journal.
-#[derive(Clone, Copy)]
+#[derive(Drop)]
 struct Reach {
-    /// The stamp of the last written event.
-    stamp: u32,
+    /// Shows the events that were written since the start.
+    kept: Kept,
     /// Whether the journal can't be written now.
     is_stuck: bool,
     /// Whether the journal is closed: nothing more is written.
@@ -37,9 +41,10 @@ impl Journal {
     pub fn new(begins: usize, stamp: u32) -> Journal {
         Journal {
             begins,
+            begun: stamp,
             waker: Parker::new(),
             reach: Mutex::new(Reach {
-                stamp,
+                kept: Kept::no_event(),
                 is_stuck: false,
                 is_closed: false,
             }),
@@ -52,34 +57,47 @@ impl Journal {
         self.begins
     }
 
-    /// Waits until the event with this stamp is written. It returns false if the journal was closed first.
-    pub fn reaches<R: Wait>(&self, rt: &R, stamp: u32) -> bool {
+    /// The stamp that the journal has to keep before an answer to the event with this stamp leaves. It is 0 for an
+    /// event that the journal had at the start.
+    pub fn awaited(&self, stamp: u32) -> u32
+        ensures { result ≡ (if nat_le stamp self.now.begun then 0 else stamp) }
+    {
+        if stamp <= self.begun { 0 } else { stamp }
+    }
+
+    /// Waits until the journal keeps the event with this stamp. `None` if the journal was closed first.
+    pub fn reaches<R: Wait>(&self, rt: &R, stamp: u32) -> Option<Kept>
+        ensures { IfSome result (λ kept. stamp ≤ kept) }
+    {
         self.waker.unpark();
         self.wait_for(rt, stamp)
     }
 
     /// Waits after a commit with this stamp whose answer need not wait for its event. It waits only if the journal is
-    /// 4096 stamps late, or can't be written. It returns false if the journal was closed.
-    pub fn keeps_up<R: Wait>(&self, rt: &R, stamp: u32) -> bool {
+    /// 4096 stamps late, or can't be written. `None` if the journal was closed.
+    pub fn keeps_up<R: Wait>(&self, rt: &R, stamp: u32) -> Option<Kept> {
         self.waker.unpark();
         if self.reach.lock(rt).is_stuck {
-            self.wait_for(rt, stamp)
+            self.wait_for(rt, self.awaited(stamp))
         } else {
-            self.wait_for(rt, stamp.saturating_sub(MOST_UNWRITTEN))
+            self.wait_for(rt, self.awaited(stamp.saturating_sub(MOST_UNWRITTEN)))
         }
     }
 
-    /// Waits until the event with this stamp is written. It returns false if the journal can't be written now, or was
+    /// Waits until the journal keeps the event with this stamp. `None` if the journal can't be written now, or was
     /// closed first.
-    pub fn comes_to<R: Wait>(&self, rt: &R, stamp: u32) -> bool {
+    pub fn comes_to<R: Wait>(&self, rt: &R, stamp: u32) -> Option<Kept>
+        ensures { IfSome result (λ kept. stamp ≤ kept) }
+    {
         self.waker.unpark();
         let mut reach = self.reach.lock(rt);
         for _ in rt.forever() {
-            if reach.stamp >= stamp {
-                return true;
+            let kept = reach.kept.again();
+            if kept.stamp() >= stamp {
+                return Some(kept);
             }
             if reach.is_closed || reach.is_stuck {
-                return false;
+                return None;
             }
             reach = self.moved.wait(rt, reach);
         }
@@ -92,14 +110,17 @@ impl Journal {
         reach.is_stuck || reach.is_closed
     }
 
-    fn wait_for<R: Wait>(&self, rt: &R, stamp: u32) -> bool {
+    fn wait_for<R: Wait>(&self, rt: &R, stamp: u32) -> Option<Kept>
+        ensures { IfSome result (λ kept. stamp ≤ kept) }
+    {
         let mut reach = self.reach.lock(rt);
         for _ in rt.forever() {
-            if reach.stamp >= stamp {
-                return true;
+            let kept = reach.kept.again();
+            if kept.stamp() >= stamp {
+                return Some(kept);
             }
             if reach.is_closed {
-                return false;
+                return None;
             }
             reach = self.moved.wait(rt, reach);
         }
@@ -116,10 +137,10 @@ impl Journal {
         self.waker.park_timeout(rt, Duration::from_millis(REST_MS));
     }
 
-    /// Reports that the journal has all events up to the stamp of `kept`.
-    pub(crate) fn reached<R: Wait>(&self, rt: &R, kept: &Kept) {
+    /// Reports that the journal has the events that `kept` shows.
+    pub(crate) fn reached<R: Wait>(&self, rt: &R, kept: Kept) {
         let mut reach = self.reach.lock(rt);
-        reach.stamp = kept.stamp();
+        reach.kept = kept;
         reach.is_stuck = false;
         self.tell(reach);
     }

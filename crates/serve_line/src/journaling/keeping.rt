@@ -74,7 +74,7 @@ impl<N: Notes> JournalWriter<'_, N> {
             return Err(io::Error::from(ErrorKind::OutOfMemory));
         };
         if let Some(kept) = file.keep(self.alloc, self.line, &entries)? {
-            self.journal.reached(rt, &kept);
+            self.journal.reached(rt, kept);
         }
         Ok(entries.len())
     }

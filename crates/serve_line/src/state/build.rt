@@ -10,6 +10,7 @@ use crate::state::slots::{Endpoint, Slot};
 use crate::state::streams::{Address, Listener};
 use rbc_line::Line;
 use rbc_node::{Node, Share};
+use serve_journal::Opened;
 use serve_workers::LinkEnds;
 use serve_workers::connections::TrainConnections;
 use std::alloc::{AllocError, Global};
@@ -117,7 +118,7 @@ fn seat_of(
         heard: AtomicU64::new(0),
         stream: Mutex::new(None),
         shares: Mutex::new(shares),
-        told: Mutex::new(Vec::new(alloc)),
+        told: Mutex::new(Opened::nothing(alloc)),
     })
 }
 
@@ -167,15 +168,22 @@ fn wakers_from(alloc: Global, line: &Line) -> Result<Vec<Parker>, AllocError> {
     Ok(wakers)
 }
 
-/// For each centre the connections of its trains.
+/// For each centre the connections of its trains. If the centres keep journals, each reply waits for its event.
 pub fn connections_of<'a>(
     alloc: Global,
     line: &'a Line,
     wakers: &'a [Vec<Parker>],
+    is_journaled: bool,
 ) -> Result<Vec<TrainConnections<'a>>, AllocError> {
     let mut connections = Vec::new(alloc);
     for row in wakers {
-        connections.push(TrainConnections::new(alloc, line, most_trains(line), row.as_slice())?)?;
+        let places = most_trains(line);
+        let at_once = TrainConnections::new(alloc, line, places, row.as_slice())?;
+        connections.push(if is_journaled {
+            at_once.held()
+        } else {
+            at_once
+        })?;
     }
     Ok(connections)
 }
@@ -217,6 +225,7 @@ pub fn sinks_of<'a>(
     for (connections, centre) in connections.iter().zip(0..line.centre_count()) {
         let name = name_of(line, centre);
         sinks.push(CentreSink {
+            alloc,
             connections,
             control,
             journal: journals.get(centre as usize),

@@ -5,6 +5,8 @@ use crate::state::slots::Endpoint;
 use crate::status::MentionOrder;
 use rbc_line::Line;
 use rbc_node::{Node, Open, Share};
+use serve_journal::{Kept, Opened, Sealed};
+use serve_workers::writing::Release;
 use serve_workers::{Committer, LinkEnds};
 use std::alloc::Global;
 use std::sync::atomic::{AtomicBool, AtomicU64, Ordering};
@@ -178,15 +180,16 @@ impl Server<'_> {
         }
     }
 
-    /// Waits until the journals have each event that the centres have taken so far. It returns false if one of them
-    /// can't be written now.
-    pub fn await_journals<R: Wait>(&self, rt: &R) -> bool {
+    /// Opens an answer about all centres once the journals have each event that the centres have taken so far. `None`
+    /// if one of them can't be written now.
+    pub fn open_kept<R: Wait, T: Drop>(&self, rt: &R, answer: T) -> Option<Opened<T>> {
+        let mut opened = Sealed::new(answer, 0).open(&Kept::no_event())?;
         for (node, sink) in self.nodes.iter().zip(self.sinks.iter()) {
-            if !sink.comes_to(rt, last_stamp(rt, node)) {
-                return false;
-            }
+            let sealed = opened.sealed(sink.awaited(last_stamp(rt, node)));
+            let kept = sink.comes_to(rt, sealed.stamp())?;
+            opened = sealed.open(&kept)?;
         }
-        true
+        Some(opened)
     }
 
     /// Gives up the journal of a centre: no event that it lacks is answered.

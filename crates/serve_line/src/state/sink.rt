@@ -1,10 +1,16 @@
-use crate::journaling::Journal;
+ghost use Rattle.std.specs.Prelude.{◌≡◌, ◌≤◌, option_map, IfSome};
+ghost use Rattle.serve_line.specs.Journaling.Waiting.{awaited};
+
+use crate::journaling::{Journal, Journaled};
 use crate::state::paces::Paces;
 use crate::state::queue::Queue;
 use crate::state::slots::Endpoint;
+use serve_journal::{Kept, Sealed};
 use serve_workers::AnswerSink;
 use serve_workers::connections::TrainConnections;
-use serve_workers::writing::Release;
+use serve_workers::writing::{AtOnce, Release};
+use std::alloc::Global;
+use std::io::Write;
 use std::sync::Wait;
 use text_script::{Outcome, Word};
 
@@ -13,6 +19,8 @@ use text_script::{Outcome, Word};
 /// interlocking wait here. Messages to trains and frames wait in the threads that send them.
 #[derive(Drop)]
 pub struct CentreSink<'a> {
+    /// The allocator.
+    pub alloc: Global,
     /// The connections of the centre's trains, and the wakers of its links.
     pub connections: &'a TrainConnections<'a>,
     /// The control endpoint, if its connections are notified.
@@ -28,57 +36,77 @@ pub struct CentreSink<'a> {
 }
 
 impl CentreSink<'_> {
-    /// Waits until this answer may leave, and returns whether it may. It may not if the journal was given up before its
-    /// event was written. An answer without a reply to the interlocking waits only if the journal is late or can't be
+    /// Waits until this answer may leave, and shows the events that the journal keeps then. `None` if the journal was
+    /// given up before. An answer without a reply to the interlocking waits only if the journal is late or can't be
     /// written.
-    pub fn may_send<R: Wait>(&self, rt: &R, outcome: &Outcome) -> bool {
+    pub fn may_send<R: Wait>(&self, rt: &R, outcome: &Outcome) -> Option<Kept> {
         if !outcome.words().is_empty() {
-            return self.reaches(rt, outcome.stamp);
+            return self.reaches(rt, self.awaited(outcome.stamp));
         }
         let Some(journal) = self.journal else {
-            return true;
+            return Some(Kept::no_event());
         };
         self.queue.enter();
-        let may_send = journal.keeps_up(rt, outcome.stamp);
-        self.queue.leave(may_send);
-        may_send
+        let kept = journal.keeps_up(rt, outcome.stamp);
+        self.queue.leave(kept.is_some());
+        kept
     }
 
-    /// Waits until the journal has the event with this stamp, if the centre keeps one. It returns false if the journal
-    /// was given up first.
-    pub fn reaches<R: Wait>(&self, rt: &R, stamp: u32) -> bool {
+    /// Waits until the journal keeps the event with this stamp. `None` if the journal was given up first. Without a
+    /// journal only stamp 0 is kept, which is that of no event.
+    pub fn reaches<R: Wait>(&self, rt: &R, stamp: u32) -> Option<Kept>
+        ensures { IfSome result (λ kept. stamp ≤ kept) }
+    {
         let Some(journal) = self.journal else {
-            return true;
+            return AtOnce.release(rt, stamp);
         };
         self.queue.enter();
-        let reaches = journal.reaches(rt, stamp);
-        self.queue.leave(reaches);
-        reaches
+        let kept = journal.reaches(rt, stamp);
+        self.queue.leave(kept.is_some());
+        kept
     }
 
-    /// As `reaches`, but it also returns false if the journal can't be written now.
-    pub(crate) fn comes_to<R: Wait>(&self, rt: &R, stamp: u32) -> bool {
+    /// As `reaches`, but it is also `None` if the journal can't be written now.
+    pub(crate) fn comes_to<R: Wait>(&self, rt: &R, stamp: u32) -> Option<Kept>
+        ensures { IfSome result (λ kept. stamp ≤ kept) }
+    {
         let Some(journal) = self.journal else {
-            return true;
+            return AtOnce.release(rt, stamp);
         };
         self.queue.enter();
-        let comes_to = journal.comes_to(rt, stamp);
-        self.queue.leave(comes_to);
-        comes_to
+        let kept = journal.comes_to(rt, stamp);
+        self.queue.leave(kept.is_some());
+        kept
     }
 
-    /// Notifies the interlocking of each section whose return was requested and that is shut now.
-    pub fn tell<R: Wait>(&self, rt: &R, outcome: &Outcome) {
+    /// Notifies the interlocking of each section whose return was requested and that is shut now, if the journal keeps
+    /// the event.
+    pub fn tell<R: Wait>(&self, rt: &R, outcome: &Outcome, kept: &Kept) {
         let Some(endpoint) = self.control else {
             return;
         };
         for word in outcome.words().as_slice() {
             if let Word::Told(section) = word {
+                let text = match self.notification(*section, outcome.stamp) {
+                    Some(text) => text.open(kept),
+                    None => None,
+                };
                 for slot in &endpoint.slots {
-                    slot.tell(rt, self.name, *section);
+                    slot.tell(rt, text.as_ref());
                 }
             }
         }
+    }
+
+    // The notification that the event with this stamp shut a section. It waits for that event. `None` if memory runs
+    // out.
+    fn notification(&self, section: u16, stamp: u32) -> Option<Sealed<Vec<u8>>>
+        ensures { IfSome result
+            (λ text. text.stamp ≡ awaited (option_map (λ j. j.now.begun) self.now.journal) stamp) }
+    {
+        let mut text = Vec::new(self.alloc);
+        writeln!(text, "{} {section} Told", self.name).ok()?;
+        Some(Sealed::new(text, self.awaited(stamp)))
     }
 }
 
@@ -86,16 +114,26 @@ impl AnswerSink for CentreSink<'_> {
     fn opened<R: Wait>(&self, _rt: &R, _nid_engine: u32) {}
 
     fn answered<R: Wait>(&self, rt: &R, outcome: &Outcome) {
-        if self.may_send(rt, outcome) {
+        if let Some(kept) = self.may_send(rt, outcome) {
             self.connections.answered(rt, outcome);
-            self.tell(rt, outcome);
+            self.tell(rt, outcome, &kept);
         }
     }
 }
 
 impl Release for CentreSink<'_> {
+    ghost use Rattle.std.specs.Prelude.{option_map};
+    ghost use Rattle.serve_line.specs.Journaling.Waiting.{awaited};
+
+    ghost awaits = { λ s stamp. awaited (option_map (λ j. j.now.begun) s.journal) stamp };
+
+    fn awaited(&self, stamp: u32) -> u32 {
+        let journal = self.journal;
+        Journaled { journal }.awaited(stamp)
+    }
+
     // A message to a train may be written when its event is in the journal.
-    fn is_released<R: Wait>(&self, rt: &R, stamp: u32) -> bool {
+    fn release<R: Wait>(&self, rt: &R, stamp: u32) -> Option<Kept> {
         self.reaches(rt, stamp)
     }
 }

@@ -2,8 +2,8 @@ use crate::state::limits::MOST_TOLD;
 use crate::state::server::Peer;
 use crate::state::streams::{Address, Listener, PeerStream};
 use rbc_node::Share;
+use serve_journal::Opened;
 use std::alloc::Global;
-use std::io::Write;
 use std::sync::atomic::{AtomicBool, AtomicU64, Ordering};
 use std::sync::{Mutex, Wait};
 use std::thread::Parker;
@@ -28,7 +28,7 @@ pub struct Slot {
     /// The receipts.
     pub shares: Mutex<Vec<Share>>,
     /// Notification lines that the connection has not written yet, at most `MOST_TOLD` bytes and one line.
-    pub told: Mutex<Vec<u8>>,
+    pub told: Mutex<Opened<Vec<u8>>>,
 }
 
 impl Slot {
@@ -45,24 +45,29 @@ impl Slot {
         self.is_leaving.load(Ordering::SeqCst)
     }
 
-    /// Notifies the connection that has the slot that a section is shut. If too many bytes wait for the connection, it
-    /// ends.
-    pub fn tell<R: Wait>(&self, rt: &R, centre: &str, section: u16) {
+    /// Notifies the connection that has the slot that a section is shut. If too many bytes wait for the connection, or
+    /// the text is missing, it ends.
+    pub fn tell<R: Wait>(&self, rt: &R, text: Option<&Opened<Vec<u8>>>) {
         if !self.is_taken.load(Ordering::SeqCst) {
             return;
         }
-        let is_told = {
-            let mut told = self.told.lock(rt);
-            told.len() < MOST_TOLD && writeln!(told, "{centre} {section} Told").is_ok()
-        };
-        if !is_told {
+        if !self.is_told(rt, text) {
             self.shut(rt);
         }
     }
 
+    // Adds a text to the notification lines, and returns whether there was room for it.
+    fn is_told<R: Wait>(&self, rt: &R, text: Option<&Opened<Vec<u8>>>) -> bool {
+        let Some(text) = text else {
+            return false;
+        };
+        let mut told = self.told.lock(rt);
+        told.get().len() < MOST_TOLD && told.add(text).is_ok()
+    }
+
     /// Takes the notification lines since the last call.
-    pub fn take_told<R: Wait>(&self, rt: &R, alloc: Global) -> Vec<u8> {
-        std::mem::replace(&mut *self.told.lock(rt), Vec::new(alloc))
+    pub fn take_told<R: Wait>(&self, rt: &R, alloc: Global) -> Opened<Vec<u8>> {
+        std::mem::replace(&mut *self.told.lock(rt), Opened::nothing(alloc))
     }
 
     /// Frees the slot: its connection has ended.

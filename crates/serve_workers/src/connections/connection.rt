@@ -36,7 +36,7 @@ pub struct Connection {
     is_cut: AtomicBool,
     /// Whether the centre ended it.
     is_ended: AtomicBool,
-    /// Whether each reply waits until its event is written.
+    /// Whether its replies wait for their events: then only its writer writes.
     is_held: bool,
 }
 
@@ -57,10 +57,10 @@ impl Connection {
         }
     }
 
-    /// The same connection, but each reply waits until its event is written: only its writer writes.
-    pub fn held(self) -> Connection {
+    /// The same connection, whose replies wait for their events or not. If they do, only its writer writes.
+    pub(crate) fn held(self, is_held: bool) -> Connection {
         let mut connection = self;
-        connection.is_held = true;
+        connection.is_held = is_held;
         connection
     }
 

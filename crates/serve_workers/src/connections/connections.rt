@@ -1,3 +1,5 @@
+ghost use Rattle.std.specs.Prelude.{◌≡◌, if◌then◌else◌, IfOk};
+
 use crate::AnswerSink;
 use crate::connections::connection::Connection;
 use crate::connections::route::{Route, route_of};
@@ -5,6 +7,7 @@ use crate::connections::routing_table::RoutingTable;
 use crate::writing::{Order, Reply};
 use rbc_centre::{Outcome, Saying};
 use rbc_line::Line;
+use rbc_msgs::EncodeFault;
 use std::alloc::{AllocError, Global};
 use std::sync::{Arc, Mutex, MutexGuard, Wait};
 use std::thread;
@@ -25,10 +28,12 @@ pub struct TrainConnections<'a> {
     // In the order of the trains in the line file: the order of the messages to each train.
     orders: Vec<Mutex<Order>>,
     links: &'a [Parker],
+    // Whether the replies wait for their events.
+    is_held: bool,
 }
 
 impl<'a> TrainConnections<'a> {
-    /// Places for this many connections; there is no connection yet.
+    /// Places for this many connections; there is no connection yet. The replies wait for no event.
     pub fn new(
         alloc: Global,
         line: &'a Line,
@@ -43,7 +48,15 @@ impl<'a> TrainConnections<'a> {
             board: Mutex::new(board),
             orders: orders_of(alloc, trains)?,
             links,
+            is_held: false,
         })
+    }
+
+    /// The same connections, but each reply waits for its event: it leaves once a journal keeps that.
+    pub fn held(self) -> TrainConnections<'a> {
+        let mut connections = self;
+        connections.is_held = true;
+        connections
     }
 
     /// Registers a connection under this number. It serves no train yet.
@@ -53,7 +66,7 @@ impl<'a> TrainConnections<'a> {
         number: usize,
         connection: Connection,
     ) -> Result<(), AllocError> {
-        let connection = Arc::new(self.alloc, connection)?;
+        let connection = Arc::new(self.alloc, connection.held(self.is_held))?;
         self.board.lock(rt).enter(number, connection);
         Ok(())
     }
@@ -145,8 +158,8 @@ impl<'a> TrainConnections<'a> {
 
     // Submits a message, and returns whether there was room for it.
     fn submit(&self, order: &mut Order, saying: &Saying, stamp: u32) -> bool {
-        match Reply::new(self.alloc, saying.message) {
-            Ok(reply) => order.submit(reply.answering(stamp)).is_ok(),
+        match reply_to(self.alloc, saying, self.is_held, stamp) {
+            Ok(reply) => order.submit(reply).is_ok(),
             Err(_) => false,
         }
     }
@@ -163,6 +176,15 @@ impl<'a> TrainConnections<'a> {
             waker.unpark();
         }
     }
+}
+
+// The reply with a message of the event with this stamp. It waits for the event if replies are held.
+fn reply_to(alloc: Global, saying: &Saying, is_held: bool, stamp: u32) -> Result<Reply, EncodeFault>
+    ensures message { IfOk result (λ reply. reply.message ≡ saying.now.message) }
+    ensures stamp { IfOk result (λ reply. reply.stamp ≡ (if is_held then stamp else 0)) }
+{
+    let reply = Reply::new(alloc, saying.message)?;
+    Ok(reply.answering(if is_held { stamp } else { 0 }))
 }
 
 // The orders of the messages to the trains, before the first message.

@@ -1,24 +1,26 @@
-ghost use Rattle.std.specs.Prelude.{◌≡◌, IfOk};
+ghost use Rattle.std.specs.Prelude.{◌≡◌, ◌≤◌, ◌<◌, vec_len, IfOk, IfSome, IfNone};
 ghost use Rattle.rbc_msgs.specs.TrackSpelling.{SpellsTrack};
 
 use rbc_msgs::{EncodeFault, TrackMsg, encode_track};
+use serve_journal::Kept;
 use std::alloc::Global;
 
-/// A message to a train, with its bytes, and the stamp of the event that it answers.
+/// A message to a train, with its bytes. They leave the centre once its journal keeps an event.
 #[derive(Debug, Drop)]
 pub struct Reply {
     message: TrackMsg,
     bytes: Vec<u8>,
-    // 0 if it answers no event.
+    // The stamp of that event; 0 if the reply waits for none.
     stamp: u32,
     ghost spelled: { ∥ SpellsTrack bytes.items message ∥₁ },
 }
 
 impl Reply {
-    /// The reply with this message, as an answer to no event. No message is too long, so it fails only if memory runs
+    /// The reply with this message, which waits for no event. No message is too long, so it fails only if memory runs
     /// out.
     pub fn new(alloc: Global, message: TrackMsg) -> Result<Reply, EncodeFault>
-        ensures { IfOk result (λ reply. reply.message ≡ message) }
+        ensures message { IfOk result (λ reply. reply.message ≡ message) }
+        ensures stamp { IfOk result (λ reply. reply.stamp ≡ 0) }
     {
         let bytes = encode_track(alloc, &message)?;
         Ok(Reply {
@@ -28,7 +30,7 @@ impl Reply {
         })
     }
 
-    /// The same reply, as an answer to the event with this stamp.
+    /// The same reply, which waits for the event with this stamp. It waits for none if the stamp is 0.
     pub fn answering(self, stamp: u32) -> Reply
         ensures message { result.message ≡ self.message }
         ensures stamp { result.stamp ≡ stamp }
@@ -38,7 +40,7 @@ impl Reply {
         reply
     }
 
-    /// The stamp of the event that it answers.
+    /// The stamp of the event for which it waits; 0 if it waits for none.
     pub fn stamp(&self) -> u32
         ensures { result ≡ self.now.stamp }
     {
@@ -52,8 +54,27 @@ impl Reply {
         self.message
     }
 
-    /// The bytes of the message.
-    pub(crate) fn bytes(&self) -> &[u8]
+    /// The number of bytes of the message.
+    pub(crate) fn size(&self) -> usize
+        ensures { result ≡ vec_len self.now.bytes }
+    {
+        self.bytes.len()
+    }
+
+    /// The bytes of the message. `None` unless the journal keeps the event for which the reply waits.
+    pub(crate) fn open(&self, kept: &Kept) -> Option<&[u8]>
+        ensures some { IfSome result (λ bytes. self.now.stamp ≤ kept.now) }
+        ensures spelled { IfSome result (λ bytes. SpellsTrack bytes.now self.now.message) }
+        ensures none { IfNone result (kept.now < self.now.stamp) }
+    {
+        if self.stamp > kept.stamp() {
+            return None;
+        }
+        Some(self.bytes())
+    }
+
+    // The bytes of the message.
+    fn bytes(&self) -> &[u8]
         ensures { SpellsTrack result.now self.now.message }
     {
         self.bytes.as_slice()

@@ -1,5 +1,6 @@
 use crate::writing::reply::Reply;
 use crate::writing::writer::{WriteFailed, write_whole};
+use serve_journal::Kept;
 use std::io;
 use std::io::{ErrorKind, Write};
 use std::sync::atomic::{AtomicU64, Ordering};
@@ -23,12 +24,12 @@ pub struct Turn<'a, W: Drop> {
 }
 
 impl<W: Write + Drop> Turn<'_, W> {
-    /// Writes the reply. After a failed write nothing more is written.
+    /// Writes a reply that waits for no event: another is not written. After a failed write nothing more is written.
     pub fn write(mut self, reply: &Reply) -> Result<(), WriteFailed> {
-        let Some(out) = &mut *self.out else {
+        let (Some(out), Some(bytes)) = (&mut *self.out, reply.open(&Kept::no_event())) else {
             return Err(WriteFailed);
         };
-        if write_whole(out, reply.bytes()).is_err() {
+        if write_whole(out, bytes).is_err() {
             *self.out = None;
             return Err(WriteFailed);
         }
@@ -48,7 +49,7 @@ impl<W: Write + Drop> SharedWriter<W> {
     /// From now on this reply waits. It is called before the reply is sent to the connection's writer.
     pub fn expect(&self, reply: &Reply) {
         self.waiting
-            .fetch_add(reply.bytes().len() as u64, Ordering::SeqCst);
+            .fetch_add(reply.size() as u64, Ordering::SeqCst);
     }
 
     /// The right to write a reply at once, if no other waits and none is being written. It never blocks.

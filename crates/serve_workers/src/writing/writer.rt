@@ -12,8 +12,8 @@ use std::sync::Wait;
 #[derive(Clone, Copy, Debug, PartialEq, Eq)]
 pub struct WriteFailed;
 
-/// Writes the received replies until no more can arrive, or a write fails. The written bytes are whole messages; only
-/// after a failed write may the last one be incomplete.
+/// Writes the received replies until no more can arrive, or a write fails. It ends at a reply that waits for an event.
+/// The written bytes are whole messages; only after a failed write may the last one be incomplete.
 pub fn run_writer<R: Wait, W: Write>(
     rt: &R,
     replies: &Receiver<Reply>,
@@ -27,7 +27,8 @@ pub fn run_writer<R: Wait, W: Write>(
     run_held_writer(rt, replies, &AtOnce, out)
 }
 
-/// The same, but each reply waits until it may be written. It ends at the first reply that never may.
+/// The same, but each reply that waits for an event is written once a journal keeps that. It ends at the first reply
+/// whose event the journal will never keep.
 pub fn run_held_writer<R: Wait, L: Release, W: Write>(
     rt: &R,
     replies: &Receiver<Reply>,
@@ -43,10 +44,13 @@ pub fn run_held_writer<R: Wait, L: Release, W: Write>(
         let Ok(reply) = replies.recv(rt) else {
             break;
         };
-        if !release.is_released(rt, reply.stamp()) {
+        let Some(kept) = release.release(rt, reply.stamp()) else {
             break;
-        }
-        write_whole(out, reply.bytes())?;
+        };
+        let Some(bytes) = reply.open(&kept) else {
+            break;
+        };
+        write_whole(out, bytes)?;
     }
     Ok(())
 }

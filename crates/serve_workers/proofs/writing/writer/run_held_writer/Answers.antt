@@ -8,14 +8,14 @@ pub returns-in_err-write_whole-clause-err : goal.returns-in_err-write_whole-clau
 returns-in_err-write_whole-clause-err g c =
     let before = c.loop.invariant in
     let part = c.in_err-write_whole.ensures.err in
-    let last : List ℕ = c.bytes.result.now in
+    let last : List ℕ = c.in-Some-open.bytes.now in
     let begun : IsBegunRow (before.0 ++ take part.0 last) =
     record {
       whole = before.0;
       row = before.1;
       last = last;
       message = c.in-Ok.reply.message;
-      spelled = c.bytes.ensures;
+      spelled = c.in-Some-open.ensures.spelled;
       count = part.0;
       begun = refl;
     } in
@@ -28,8 +28,8 @@ pub loop-preserved : goal.loop-preserved
 loop-preserved g c =
     let before = c.loop.invariant in
     let wrote = c.in_ok-write_whole.ensures.ok in (
-      before.0 ++ c.bytes.result.now,
-      row-more before.0 c.bytes.result.now c.in-Ok.reply.message before.1
-          c.bytes.ensures,
+      before.0 ++ c.in-Some-open.bytes.now,
+      row-more before.0 c.in-Some-open.bytes.now c.in-Ok.reply.message before.1
+          c.in-Some-open.ensures.spelled,
       Appends-trans _ _ _ _ _ before.2 wrote,
     )
