@@ -1,3 +1,4 @@
 pub mod Kept
 pub mod Broken
 pub mod AnswersLemmas
+pub mod QuietLemmas

@@ -1,10 +1,11 @@
-//! Tempting wrong rules and wrong answers, each beside the right rule.
+//! Tempting wrong rules, answers and quiet steps, each beside the right one.
 //!
 //! No code. The statements of `laws.rt` have to stay; their proofs may change.
 #![tactic(auto)]
 
 pub mod answers;
 mod laws;
+pub mod quiet;
 
 pub use laws::{
     no_older_cancel_ends_a_newer_handover, no_older_stamp_is_kept, no_pool_is_returned_and_kept,

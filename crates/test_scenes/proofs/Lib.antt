@@ -28,3 +28,4 @@ pub mod PlacesMet
 pub mod NotAllowed
 pub mod OnePlaces
 pub mod Standstill
+pub mod QuietMarks

@@ -20,3 +20,4 @@ pub mod PlaceMoves
 pub mod NotAllowed
 pub mod OnePlaces
 pub mod Standstill
+pub mod QuietMarks

@@ -11,6 +11,7 @@ mod at_standstill;
 mod late;
 mod not_allowed;
 mod one_places;
+mod quiet_marks;
 
 ghost use Rattle.std.specs.Prelude.{◌≡◌, [], ◌∷◌, None, Some, Ok, Err};
 ghost use Rattle.rbc_spec.specs.Centre.{beginning};
@@ -137,6 +138,7 @@ pub use at_standstill::standstill_at_the_start_of_a_section;
 pub use late::{late_frames, races_met};
 pub use not_allowed::{moves_not_allowed, two_yields_on_the_way};
 pub use one_places::each_thing_stays_in_one_place;
+pub use quiet_marks::only_an_admission_gives;
 
 /// What the interlocking is told, how sessions are opened and ended, and how missions start at the registrar and
 /// elsewhere.
