@@ -11,7 +11,7 @@ use crate::in_words::{show_message, tell_printed};
 use crate::journal::Part;
 use crate::printed::print_journals;
 use crate::run::{check, run};
-use crate::scenarios::script_in_words;
+use crate::scenarios::{script_in_words, test};
 use crate::storm::run_storm;
 use crate::words::{Request, requested};
 use std::alloc::Global;
@@ -48,6 +48,7 @@ fn obey<'a, S: AsStr, F: Files, O: Write, E: Write>(
         Request::Check { file } => check(alloc, file, files, out),
         Request::Explain { file, script } => explain(alloc, file, script, files, out),
         Request::Script { file, text } => script_in_words(alloc, file, text, files, out, err),
+        Request::Test { file } => test(alloc, file, words, files, out),
         Request::Run { file, script } => run(alloc, file, script, files, out),
         Request::Storm { file, script, seed } => {
             run_storm(alloc, file, script, seed, files, out)

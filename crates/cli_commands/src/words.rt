@@ -33,6 +33,10 @@ pub enum Request<'a> {
         file: &'a str,
         text: &'a str,
     },
+    /// Play the scenarios of the arguments on the line, and judge them.
+    Test {
+        file: &'a str,
+    },
     /// Run the script on the line, with drawn deliveries after each event.
     Storm {
         file: &'a str,
@@ -167,6 +171,7 @@ fn named_of_file<'a>(command: &str, words: &ArgMatches<'a>) -> Option<Request<'a
         }),
         "run" => named_run(file, words),
         "script" => named_script(file, words),
+        "test" => Some(Request::Test { file }),
         "storm" => named_storm(file, words),
         "print" => named_print(file, words),
         _ => named_of_print(command, file, words),
