@@ -19,7 +19,7 @@ _rbcline() {
         demo) options+=" --script --trains --loss --seed --events" ;;
         serve) options+=" --quiet --tell --life --bind --no-sync --page --control --rate --burst --journal --resume" ;;
         drive) options+=" --timeout" ;;
-        words) options+=" --message" ;;
+        words) options+=" --message --numbers" ;;
         decode) options+=" --frame --json" ;;
         picture) options+=" --html --from --to --train" ;;
         esac

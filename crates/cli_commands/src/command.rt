@@ -56,17 +56,17 @@ fn obey<'a, S: AsStr, F: Files, O: Write, E: Write>(
         Request::Demo { file, settings } => run_demo(alloc, file, settings, files, out),
         // This crate has files, but no sockets: the program itself runs these two.
         Request::Serve { .. } | Request::Drive { .. } => Err(Fault::Socket),
-        Request::Print { file, folder } => {
-            tell_part(print_journals(alloc, file, folder, files, out)?, err)
+        Request::Print { file, listing } => {
+            tell_part(print_journals(alloc, file, listing, files, out)?, err)
         }
         Request::Audit { file, printed } => {
             tell_part(audit_printed(alloc, file, printed, files, out)?, err)
         }
         Request::Decode(decoding) => decode(alloc, words, decoding, files, out),
         Request::Message { digits } => show_message(alloc, digits, out),
-        Request::Printed { file, printed } => {
-            let is_told = tell_printed(alloc, file, printed, files, out)?;
-            note_lack(is_told, "nothing of a run", printed, err)
+        Request::Printed { file, listing } => {
+            let is_told = tell_printed(alloc, file, listing, files, out)?;
+            note_lack(is_told, "nothing of a run", listing.name, err)
         }
         Request::Picture {
             file,
