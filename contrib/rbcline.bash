@@ -1,7 +1,7 @@
 # Completion of rbcline in bash: source this file. Made by `.ci/names --write` from crates/cli_commands/src/forms.rt
 _rbcline() {
     local word="${COMP_WORDS[COMP_CWORD]}" options="--help"
-    local commands="check explain run script storm demo serve drive print audit words decode picture help --help --version"
+    local commands="check explain run script test storm demo serve drive print audit words decode picture help --help --version"
     if [ "$COMP_CWORD" = 1 ]; then
         mapfile -t COMPREPLY < <(compgen -W "$commands" -- "$word")
         return
@@ -19,7 +19,7 @@ _rbcline() {
         demo) options+=" --script --trains --loss --seed --events" ;;
         serve) options+=" --quiet --tell --life --bind --no-sync --page --control --rate --burst --journal --resume" ;;
         drive) options+=" --timeout" ;;
-        words) options+=" --message" ;;
+        words) options+=" --message --numbers" ;;
         decode) options+=" --frame --json" ;;
         picture) options+=" --html --from --to --train" ;;
         esac

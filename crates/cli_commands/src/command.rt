@@ -11,7 +11,7 @@ use crate::in_words::{show_message, tell_printed};
 use crate::journal::Part;
 use crate::printed::print_journals;
 use crate::run::{check, run};
-use crate::scenarios::script_in_words;
+use crate::scenarios::{script_in_words, test};
 use crate::storm::run_storm;
 use crate::words::{Request, requested};
 use std::alloc::Global;
@@ -48,6 +48,7 @@ fn obey<'a, S: AsStr, F: Files, O: Write, E: Write>(
         Request::Check { file } => check(alloc, file, files, out),
         Request::Explain { file, script } => explain(alloc, file, script, files, out),
         Request::Script { file, text } => script_in_words(alloc, file, text, files, out, err),
+        Request::Test { file } => test(alloc, file, words, files, out),
         Request::Run { file, script } => run(alloc, file, script, files, out),
         Request::Storm { file, script, seed } => {
             run_storm(alloc, file, script, seed, files, out)
@@ -55,17 +56,17 @@ fn obey<'a, S: AsStr, F: Files, O: Write, E: Write>(
         Request::Demo { file, settings } => run_demo(alloc, file, settings, files, out),
         // This crate has files, but no sockets: the program itself runs these two.
         Request::Serve { .. } | Request::Drive { .. } => Err(Fault::Socket),
-        Request::Print { file, folder } => {
-            tell_part(print_journals(alloc, file, folder, files, out)?, err)
+        Request::Print { file, listing } => {
+            tell_part(print_journals(alloc, file, listing, files, out)?, err)
         }
         Request::Audit { file, printed } => {
             tell_part(audit_printed(alloc, file, printed, files, out)?, err)
         }
         Request::Decode(decoding) => decode(alloc, words, decoding, files, out),
         Request::Message { digits } => show_message(alloc, digits, out),
-        Request::Printed { file, printed } => {
-            let is_told = tell_printed(alloc, file, printed, files, out)?;
-            note_lack(is_told, "nothing of a run", printed, err)
+        Request::Printed { file, listing } => {
+            let is_told = tell_printed(alloc, file, listing, files, out)?;
+            note_lack(is_told, "nothing of a run", listing.name, err)
         }
         Request::Picture {
             file,

@@ -24,7 +24,7 @@ const SCRIPT: (&str, &str) = (
     "The script, one event a line; `-` is standard input",
 );
 
-static FORMS: [Form; 13] = [
+static FORMS: [Form; 14] = [
     Form {
         name: "check",
         about: "Read a line file, and say how many centres, tracks, sections and trains it has",
@@ -50,6 +50,11 @@ static FORMS: [Form; 13] = [
                 "The text in words, one event a line; `-` is standard input",
             ),
         ],
+    },
+    Form {
+        name: "test",
+        about: "Play scenarios in words, and print the first difference of each from what it expects",
+        words: &[FILE],
     },
     Form {
         name: "storm",
@@ -131,8 +136,8 @@ pub(crate) const VERSION: &str = "0.3.0";
 
 // The exit statuses, and a first command to try.
 const ENDS: &str =
-    "Exit status: 0 done, 1 a print differs or bytes are refused, 2 these words, 3 a file or script, 4 the line file, \
-5 a refused step, 6 a socket or the output, 7 bytes that are not a message\n\n\
+    "Exit status: 0 done, 1 a print or a scenario differs or bytes are refused, 2 these words, 3 a file or script, \
+4 the line file, 5 a refused step, 6 a socket or the output, 7 bytes that are not a message\n\n\
 To begin: rbcline run crates/rbc_cli/data/line.toml crates/rbc_cli/data/script";
 
 // The program without its commands.
@@ -170,6 +175,9 @@ fn command_of<'a>(alloc: Global, form: &Form) -> Result<Command<'a>, AllocError>
     if form.name == "explain" {
         command = command.arg(script(alloc))?;
     }
+    if form.name == "test" {
+        command = command.arg(scenarios(alloc))?;
+    }
     if form.name == "serve" {
         command = command.group(journals(alloc)?)?;
     }
@@ -181,6 +189,13 @@ fn bytes<'a>(alloc: Global) -> Arg<'a> {
         .help(
             "Bytes in hexadecimal, also with blanks, colons or `0x`; or a file of them; `-` is standard input",
         )
+        .required(true)
+        .num_args(1..)
+}
+
+fn scenarios<'a>(alloc: Global) -> Arg<'a> {
+    Arg::new(alloc, "WORDS")
+        .help("Scenarios: texts in words, with lines `expect ..`; `-` is standard input")
         .required(true)
         .num_args(1..)
 }

@@ -2,14 +2,17 @@
 
 use crate::files::Files;
 use crate::line_file::line_file_in;
+use crate::numbering::Numbering;
 use crate::printed::printed_in;
+use crate::words::Listing;
 use hex::FromHexError;
 use rbc_line::Line;
 use std::alloc::{AllocError, Global};
 use std::io;
 use std::io::{BufWriter, Write};
+use text_replay::Retelling;
 use text_script::status::Fault;
-use text_words::{Field, fields_of, line_in_words, name_of, words_of_fault};
+use text_words::{Field, fields_of, name_of, words_of_fault};
 
 /// Prints a message field by field, or its first fault.
 pub fn show_message<'a, O: Write>(
@@ -42,21 +45,26 @@ fn print_fields<O: Write>(out: &mut O, fields: &[Field]) -> io::Result<()> {
     out.flush()
 }
 
-/// Puts a print of `run` into words, line by line. It does the same with the print of the line's journals. Returns
-/// whether a line of it could be put into words.
+/// Puts a print of `run` into words, line by line. It does the same with the print of the line's journals. Its events
+/// are played again, so that frames have their contents. Returns whether a line of it could be put into words.
 pub fn tell_printed<'a, F: Files, O: Write>(
     alloc: Global,
     file: &'a str,
-    printed: &'a str,
+    listing: Listing<'a>,
     files: &F,
     out: &mut O,
 ) -> Result<bool, Fault<'a>> {
     let given = line_file_in(alloc, file, files)?;
-    let text = printed_in(alloc, &given, printed, files)?;
+    let text = printed_in(alloc, &given, listing.name, files)?;
     let Ok(mut out) = BufWriter::new(alloc, out) else {
         return Err(AllocError.into());
     };
-    let done = print_told(alloc, &given.line, text.as_str(), &mut out);
+    let numbering = if listing.is_numbered {
+        Some(Numbering::new())
+    } else {
+        None
+    };
+    let done = print_told(alloc, &given.line, text.as_str(), numbering, &mut out);
     out.flush()?;
     done
 }
@@ -65,11 +73,16 @@ fn print_told<W: Write>(
     alloc: Global,
     line: &Line,
     text: &str,
+    mut numbering: Option<Numbering>,
     out: &mut W,
 ) -> Result<bool, Fault<'static>> {
+    let mut retelling = Retelling::new(alloc, line)?;
     let mut is_told = false;
     for row in text.lines() {
-        match line_in_words(alloc, line, row)? {
+        if let Some(numbering) = &mut numbering {
+            numbering.print(out, row)?;
+        }
+        match retelling.told(alloc, line, row)? {
             Some(words) => {
                 is_told = true;
                 writeln!(out, "{words}")?;

@@ -21,6 +21,7 @@ pub mod inspecting;
 pub mod journal;
 pub mod line_file;
 mod nearest;
+mod numbering;
 mod numbers;
 mod options;
 mod picture;

@@ -113,6 +113,12 @@ pub fn parts_of(command: &str) -> &'static [(&'static str, &'static str, &'stati
     }
 }
 
+// The options of `print` and `words`.
+static NUMBERED: [(&str, &str); 1] = [(
+    "numbers",
+    "Print the number of each event, as `picture` counts them",
+)];
+
 static PICTURE: [(&str, &str); 1] = [(
     "html",
     "Draw it in an HTML page with a slider over the events",
@@ -155,6 +161,7 @@ pub fn flags_of(command: &str) -> &'static [(&'static str, &'static str)] {
         "serve" => &SERVE,
         "decode" => &DECODE,
         "demo" => &LIVING,
+        "print" | "words" => &NUMBERED,
         _ => &[],
     }
 }

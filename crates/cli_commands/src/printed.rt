@@ -3,9 +3,12 @@
 use crate::files::Files;
 use crate::journal::{Part, journals_in, unfit_at};
 use crate::line_file::{LineFile, line_file_in};
+use crate::numbering::Numbering;
 use crate::rerunning::{RerunFault, print_rerun};
+use crate::words::Listing;
 use std::alloc::{AllocError, Global};
 use std::io::{BufWriter, Write};
+use std::str::from_utf8;
 use text_script::status::Fault;
 
 /// Prints the run of a line whose journals are in a folder. If these are not a run of the line, nothing is printed.
@@ -13,7 +16,7 @@ use text_script::status::Fault;
 pub fn print_journals<'a, F: Files, O: Write>(
     alloc: Global,
     file: &'a str,
-    folder: &'a str,
+    listing: Listing<'a>,
     files: &F,
     out: &mut O,
 ) -> Result<Option<Part>, Fault<'a>> {
@@ -21,7 +24,11 @@ pub fn print_journals<'a, F: Files, O: Write>(
     let Ok(mut out) = BufWriter::new(alloc, out) else {
         return Err(AllocError.into());
     };
-    let done = print_found(alloc, &given, folder, files, &mut out);
+    let done = if listing.is_numbered {
+        print_numbered(alloc, &given, listing.name, files, &mut out)
+    } else {
+        print_found(alloc, &given, listing.name, files, &mut out)
+    };
     out.flush()?;
     done
 }
@@ -49,6 +56,24 @@ pub(crate) fn has_event(text: &str) -> bool {
         }
     }
     false
+}
+
+// Writes the print of the journals in a folder, with the number of each event.
+fn print_numbered<F: Files, W: Write>(
+    alloc: Global,
+    given: &LineFile,
+    folder: &str,
+    files: &F,
+    out: &mut W,
+) -> Result<Option<Part>, Fault<'static>> {
+    let mut text = Vec::new(alloc);
+    let done = print_found(alloc, given, folder, files, &mut text);
+    let mut numbering = Numbering::new();
+    for row in from_utf8(&text).unwrap_or("").lines() {
+        numbering.print(out, row)?;
+        writeln!(out, "{row}")?;
+    }
+    done
 }
 
 // Writes the print of the journals in a folder.

@@ -1,10 +1,12 @@
-//! Scripts in words.
+//! Scripts in words, and scenarios that are judged.
 
 use crate::files::Files;
 use crate::run::line_in;
-use std::alloc::Global;
-use std::io::Write;
-use text_scenario::{ScriptFault, print_script};
+use rbc_line::Line;
+use std::alloc::{AllocError, Global};
+use std::convert::AsStr;
+use std::io::{BufWriter, Write};
+use text_scenario::{ScriptFault, print_script, test_scenario};
 use text_script::status::Fault;
 
 /// Prints the script of a text in words. The reason why a line is refused is reported to `err`.
@@ -32,5 +34,63 @@ pub fn script_in_words<'a, F: Files, O: Write, E: Write>(
             writeln!(err, "line {row}: {fault}")?;
             Err(Fault::Script(row))
         }
+    }
+}
+
+/// Plays scenarios, prints the first difference of each, and at last how many passed.
+pub fn test<'a, S: AsStr, F: Files, O: Write>(
+    alloc: Global,
+    file: &'a str,
+    words: &'a [S],
+    files: &F,
+    out: &mut O,
+) -> Result<(), Fault<'a>> {
+    let line = line_in(alloc, file, files)?;
+    let Ok(mut out) = BufWriter::new(alloc, out) else {
+        return Err(AllocError.into());
+    };
+    let done = test_each(alloc, &line, words, files, &mut out);
+    out.flush()?;
+    done
+}
+
+// The names of files in the arguments: the line file, and the scenarios after it.
+fn names_of<S: AsStr>(alloc: Global, words: &[S]) -> Result<Vec<&str>, AllocError> {
+    let mut names = Vec::new(alloc);
+    for word in words.iter().skip(1) {
+        let name = word.as_str();
+        if name != "--" {
+            names.push(name)?;
+        }
+    }
+    Ok(names)
+}
+
+// Plays the scenarios that the arguments name.
+fn test_each<'a, S: AsStr, F: Files, W: Write>(
+    alloc: Global,
+    line: &Line,
+    words: &'a [S],
+    files: &F,
+    out: &mut W,
+) -> Result<(), Fault<'a>> {
+    let mut passed = 0u32;
+    let mut failed = 0u32;
+    for name in names_of(alloc, words)?.iter().skip(1) {
+        let name = *name;
+        let Some(text) = files.text(name) else {
+            return Err(Fault::CannotRead(name));
+        };
+        if test_scenario(alloc, out, line, name, text.as_str())? {
+            passed = passed.saturating_add(1);
+        } else {
+            failed = failed.saturating_add(1);
+        }
+    }
+    writeln!(out, "{passed} passed, {failed} failed")?;
+    if failed == 0 {
+        Ok(())
+    } else {
+        Err(Fault::Differs)
     }
 }

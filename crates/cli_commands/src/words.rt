@@ -33,6 +33,10 @@ pub enum Request<'a> {
         file: &'a str,
         text: &'a str,
     },
+    /// Play the scenarios of the arguments on the line, and judge them.
+    Test {
+        file: &'a str,
+    },
     /// Run the script on the line, with drawn deliveries after each event.
     Storm {
         file: &'a str,
@@ -47,7 +51,7 @@ pub enum Request<'a> {
     /// Print the run of the journals in the folder.
     Print {
         file: &'a str,
-        folder: &'a str,
+        listing: Listing<'a>,
     },
     /// Run the events of a print or of journals again, and compare its lines or their stamps with the run.
     Audit {
@@ -76,7 +80,7 @@ pub enum Request<'a> {
     /// Put a print of `run`, or the journals in a folder, into words.
     Printed {
         file: &'a str,
-        printed: &'a str,
+        listing: Listing<'a>,
     },
     /// Draw this part of a print of `run`, or of the journals in a folder.
     Picture {
@@ -85,6 +89,15 @@ pub enum Request<'a> {
         cut: Cut,
         is_html: bool,
     },
+}
+
+/// A print that is shown line by line.
+#[derive(Clone, Copy, Debug)]
+pub struct Listing<'a> {
+    /// The name of its file, or of the folder of its journals.
+    pub name: &'a str,
+    /// Each event is shown with its number.
+    pub is_numbered: bool,
 }
 
 /// The options of `serve` besides the line and the port.
@@ -167,6 +180,7 @@ fn named_of_file<'a>(command: &str, words: &ArgMatches<'a>) -> Option<Request<'a
         }),
         "run" => named_run(file, words),
         "script" => named_script(file, words),
+        "test" => Some(Request::Test { file }),
         "storm" => named_storm(file, words),
         "print" => named_print(file, words),
         _ => named_of_print(command, file, words),
@@ -190,8 +204,8 @@ fn named_storm<'a>(file: &'a str, words: &ArgMatches<'a>) -> Option<Request<'a>>
 }
 
 fn named_print<'a>(file: &'a str, words: &ArgMatches<'a>) -> Option<Request<'a>> {
-    let folder = words.get_str("FOLDER")?;
-    Some(Request::Print { file, folder })
+    let listing = listing_of(words, "FOLDER")?;
+    Some(Request::Print { file, listing })
 }
 
 fn named_of_print<'a>(command: &str, file: &'a str, words: &ArgMatches<'a>) -> Option<Request<'a>> {
@@ -213,8 +227,15 @@ fn named_words<'a>(words: &ArgMatches<'a>) -> Option<Request<'a>> {
         return Some(Request::Message { digits });
     }
     let file = words.get_str("FILE")?;
-    let printed = words.get_str("PRINTED")?;
-    Some(Request::Printed { file, printed })
+    let listing = listing_of(words, "PRINTED")?;
+    Some(Request::Printed { file, listing })
+}
+
+fn listing_of<'a>(words: &ArgMatches<'a>, name: &str) -> Option<Listing<'a>> {
+    Some(Listing {
+        name: words.get_str(name)?,
+        is_numbered: words.get_flag("numbers"),
+    })
 }
 
 fn named_decode<'a>(words: &ArgMatches<'a>) -> Request<'a> {

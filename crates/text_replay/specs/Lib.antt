@@ -1,2 +1,3 @@
 pub mod Stretches
 pub mod Shown
+pub mod Told

@@ -12,7 +12,7 @@ use text_script::script::{Entry, ScriptFault, script_of};
 use text_script::status::Fault;
 
 /// The beginning of an event's line in a print.
-const EVENT: &str = "> ";
+pub(crate) const EVENT: &str = "> ";
 
 /// The place in the line file of the train that a cut names. An error if the train is not of the line.
 pub fn train_in(line: &Line, cut: Cut) -> Result<Option<u8>, Fault<'static>> {

@@ -1,16 +1,19 @@
 //! Replays a print on the line's centres, and shows the line after each of its events on a page. It reads the events,
-//! cuts out a part of them, and finds the events in which a section looks the same. The page of a running line uses
-//! its layout, its handovers, and its trains and events in words.
+//! cuts out a part of them, and finds the events in which a section looks the same. It puts a print into words, with
+//! the contents of its frames. The page of a running line uses its layout, its handovers, and its trains and events in
+//! words.
 //!
 //! Bodies are free. docs/FORMATS.md fixes the contents.
 #![tactic(auto)]
 
+mod contents;
 mod cut;
 mod events;
 mod handovers;
 mod layout;
 mod page;
 mod played;
+mod retelling;
 mod shown;
 mod stretch;
 mod words;
@@ -20,6 +23,7 @@ pub use events::{events_in, train_in};
 pub use handovers::Handovers;
 pub use layout::layout_of;
 pub use page::page_of;
+pub use retelling::Retelling;
 pub use shown::{mission_now, phase_now};
 pub use stretch::{Stretch, stretches_of};
 pub use words::rows_in_words;

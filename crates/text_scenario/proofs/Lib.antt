@@ -1,1 +1,3 @@
+pub mod Leading
 pub mod Messages
+pub mod Seen

@@ -1,5 +1,5 @@
 -- The message that a statement names. The room of packet 11, and messages that are too long.
-use Rattle.std.proofs.Common.{[], ◌*◌, ◌<◌, ◌==◌, ◌∙◌, ◌≡◌, ◌≢◌, ◌≤◌, ap, arith, Bool, eq-eqb, Err, inr, length, List}
+use Rattle.std.proofs.Common.{[], ◌*◌, ◌<◌, ◌∙◌, ◌≡◌, ◌≢◌, ◌≤◌, ap, arith, Bool, eq-eqb, Err, inr, length, List}
 use Rattle.std.proofs.Common.{Ok, refl, Result, subst, sym, ℕ}
 use Rattle.std.proofs.lemmas.Bool.{ne_eqb}
 use Rattle.std.specs.Prelude.{if◌then◌else◌}

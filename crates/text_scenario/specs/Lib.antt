@@ -1,3 +1,5 @@
 pub mod Defaults
+pub mod Holds
+pub mod Meets
 pub mod Named
 pub mod Sent

@@ -2,7 +2,7 @@
 
 use crate::known::Defaults;
 use crate::row_fault::RowFault;
-use crate::statement::entry_in_words;
+use crate::statement::{Said, said_in};
 use rbc_line::Line;
 use rbc_world::WorldEvent;
 use std::alloc::Global;
@@ -25,7 +25,8 @@ impl From<PrintFault> for ScriptFault<'_> {
     }
 }
 
-/// Prints the script of a text in words, line by line. Comments and empty lines stay.
+/// Prints the script of a text in words, line by line. Comments and empty lines stay, and an expectation becomes a
+/// comment.
 pub fn print_script<'a, W: Write>(
     alloc: Global,
     out: &mut W,
@@ -35,8 +36,8 @@ pub fn print_script<'a, W: Write>(
     let mut defaults = Defaults::new(alloc);
     let text = text.strip_suffix('\n').unwrap_or(text);
     for (k, row) in text.split('\n').enumerate() {
-        match entry_in_words(alloc, line, &mut defaults, row) {
-            Ok(entry) => print_entry(alloc, out, line, row, &entry)?,
+        match said_in(alloc, line, &mut defaults, row) {
+            Ok(said) => print_said(alloc, out, line, row, &said)?,
             Err(RowFault::Memory) => return Err(ScriptFault::Print(PrintFault::Memory)),
             Err(fault) => return Err(ScriptFault::Row(k.saturating_add(1), fault)),
         }
@@ -44,17 +45,18 @@ pub fn print_script<'a, W: Write>(
     Ok(())
 }
 
-fn print_entry<W: Write>(
+fn print_said<W: Write>(
     alloc: Global,
     out: &mut W,
     line: &Line,
     row: &str,
-    entry: &Option<Entry>,
+    said: &Option<Said>,
 ) -> Result<(), PrintFault> {
-    match entry {
+    match said {
         None => writeln!(out, "{}", row.trim())?,
-        Some(Entry::Show) => writeln!(out, "show")?,
-        Some(Entry::Event(event)) => print_row(alloc, out, line, event)?,
+        Some(Said::Entry(Entry::Show)) => writeln!(out, "show")?,
+        Some(Said::Entry(Entry::Event(event))) => print_row(alloc, out, line, event)?,
+        Some(Said::Expect(_)) => writeln!(out, "# {}", row.trim())?,
     }
     Ok(())
 }

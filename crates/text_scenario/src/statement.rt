@@ -1,5 +1,7 @@
 //! Reads a line of words.
 
+use crate::expectation::Expectation;
+use crate::expecting::read_expectation;
 use crate::known::Defaults;
 use crate::row_fault::RowFault;
 use crate::sending::read_sending;
@@ -9,34 +11,45 @@ use rbc_world::WorldEvent;
 use std::alloc::Global;
 use text_script::script::{Entry, EntryFault, entry_of};
 
+/// The content of a line.
+#[derive(Drop)]
+pub enum Said {
+    /// An event, or the request to show the line.
+    Entry(Entry),
+    /// An expectation of the answer to the event before it.
+    Expect(Expectation),
+}
+
 #[derive(Clone, Copy)]
 enum Verb {
     Train,
     Interlocking,
     Deliver,
+    Expect,
     Show,
 }
 
-static VERBS: [(&str, Verb); 4] = [
+static VERBS: [(&str, Verb); 5] = [
     ("train", Verb::Train),
     ("interlocking", Verb::Interlocking),
     ("deliver", Verb::Deliver),
+    ("expect", Verb::Expect),
     ("show", Verb::Show),
 ];
 
 /// Reads a line: in words, or as a script has it. None for an empty line or a comment.
-pub fn entry_in_words<'a>(
+pub fn said_in<'a>(
     alloc: Global,
     line: &'a Line,
     defaults: &mut Defaults,
     row: &'a str,
-) -> Result<Option<Entry>, RowFault<'a>> {
+) -> Result<Option<Said>, RowFault<'a>> {
     let words = words_of(alloc, row)?;
     if words.is_empty() {
         return Ok(None);
     }
     match entry_of(alloc, line, row) {
-        Ok(entry) => return Ok(Some(entry)),
+        Ok(entry) => return Ok(Some(Said::Entry(entry))),
         Err(EntryFault::Memory) => return Err(RowFault::Memory),
         Err(EntryFault::Form) => {}
     }
@@ -45,20 +58,18 @@ pub fn entry_in_words<'a>(
         line,
         rest: words.as_slice(),
     };
-    let entry = read_entry(&mut words, defaults)?;
+    let said = read_said(&mut words, defaults)?;
     words.end()?;
-    Ok(Some(entry))
+    Ok(Some(said))
 }
 
-fn read_entry<'a>(
-    words: &mut Words<'_, 'a>,
-    defaults: &mut Defaults,
-) -> Result<Entry, RowFault<'a>> {
+fn read_said<'a>(words: &mut Words<'_, 'a>, defaults: &mut Defaults) -> Result<Said, RowFault<'a>> {
     Ok(match words.one_of("an event", &VERBS)? {
-        Verb::Train => Entry::Event(read_train(words, defaults)?),
-        Verb::Interlocking => Entry::Event(read_interlocking(words)?),
-        Verb::Deliver => Entry::Event(read_delivery(words, defaults)?),
-        Verb::Show => Entry::Show,
+        Verb::Train => Said::Entry(Entry::Event(read_train(words, defaults)?)),
+        Verb::Interlocking => Said::Entry(Entry::Event(read_interlocking(words)?)),
+        Verb::Deliver => Said::Entry(Entry::Event(read_delivery(words, defaults)?)),
+        Verb::Expect => Said::Expect(read_expectation(words)?),
+        Verb::Show => Said::Entry(Entry::Show),
     })
 }
 

@@ -26,6 +26,7 @@ pub use faults::words_of_fault;
 pub use field::{Field, Meaning};
 pub use message::{fields_of, name_of};
 pub use names::{name_of_number, number_of_train};
+pub use places::Decimetres;
 pub use printed::line_in_words;
 pub use row::{Row, row_of};
 pub use told::Told;

@@ -9,7 +9,7 @@ use std::fmt::Formatter;
 
 /// A distance in decimetres, shown in metres, with a tenth if it has one.
 #[derive(Clone, Copy)]
-struct Decimetres(i32);
+pub struct Decimetres(pub i32);
 
 impl fmt::Display for Decimetres {
     fn fmt<W: fmt::Write>(&self, f: &mut Formatter<W>) -> fmt::Result {
