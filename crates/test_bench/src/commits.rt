@@ -78,7 +78,7 @@ fn places_of(alloc: Global, line: &Line) -> Result<Vec<Place>, AllocError> {
 }
 
 // Commits the events one after another: how many bytes of messages were written to trains. `None` if a commit was
-// refused or memory ran out. An event that comes to no centre is passed over.
+// refused or memory ran out. An event without a centre is passed over.
 fn play(alloc: Global, places: &mut [Place], events: &[WorldEvent]) -> Option<usize> {
     let mut bytes = 0usize;
     for event in events {
@@ -91,8 +91,8 @@ fn play(alloc: Global, places: &mut [Place], events: &[WorldEvent]) -> Option<us
     Some(bytes)
 }
 
-// The centre at which an event happens, and its event. `None` for bytes that are no message, and for a frame that was
-// not sent.
+// The centre at which an event happens, and its event. `None` if the bytes are not a message, or the frame was not
+// sent.
 fn taken(alloc: Global, places: &[Place], event: &WorldEvent) -> Option<(u8, Event)> {
     match event {
         WorldEvent::Train { centre, bytes } => {
