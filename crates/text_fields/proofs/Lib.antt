@@ -12,3 +12,4 @@ pub mod GoodTrack
 pub mod Message
 pub mod Packet
 pub mod Wanted
+pub mod Same

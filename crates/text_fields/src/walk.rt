@@ -18,7 +18,7 @@ use crate::seen::{Notes, Seen};
 use std::alloc::{AllocError, Global};
 
 /// The greatest length of a message in bytes.
-const LONGEST: usize = 1_023;
+pub(crate) const LONGEST: usize = 1_023;
 
 /// The greatest width of a field that is shown at once.
 const MOST: u32 = 64;
