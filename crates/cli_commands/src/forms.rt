@@ -24,7 +24,7 @@ const SCRIPT: (&str, &str) = (
     "The script, one event a line; `-` is standard input",
 );
 
-static FORMS: [Form; 13] = [
+static FORMS: [Form; 14] = [
     Form {
         name: "check",
         about: "Read a line file, and say how many centres, tracks, sections and trains it has",
@@ -109,6 +109,14 @@ static FORMS: [Form; 13] = [
         name: "decode",
         about: "Show bytes as radio messages, field by field, also refused ones",
         words: &[],
+    },
+    Form {
+        name: "encode",
+        about: "Print the bytes of radio messages from their fields",
+        words: &[(
+            "FIELDS",
+            "The fields as `decode --json` prints them; `-` is standard input",
+        )],
     },
     Form {
         name: "picture",
