@@ -126,7 +126,7 @@ fn are_written(shown: &[Shown], written: &[Written]) -> Result<(), WrittenFault>
 }
 
 fn is_written(shown: Shown, written: Written) -> bool
-    ensures { result ≡ true → named shown ≡ written_named written }
+    ensures { result ≡ true → named shown ≡ written_named written.entry }
 {
     shown.field.name == written.name && shown.width == written.width && shown.value == written.value
 }
