@@ -4,6 +4,7 @@ use crate::audit::audit_printed;
 use crate::decode::decode;
 use crate::demo::run_demo;
 use crate::diagram::draw_printed;
+use crate::encode::encode;
 use crate::explain::explain;
 use crate::files::Files;
 use crate::forms::VERSION;
@@ -63,6 +64,7 @@ fn obey<'a, S: AsStr, F: Files, O: Write, E: Write>(
             tell_part(audit_printed(alloc, file, printed, files, out)?, err)
         }
         Request::Decode(decoding) => decode(alloc, words, decoding, files, out),
+        Request::Encode { fields, is_frame } => encode(alloc, fields, is_frame, files, out, err),
         Request::Message { digits } => show_message(alloc, digits, out),
         Request::Printed { file, listing } => {
             let is_told = tell_printed(alloc, file, listing, files, out)?;

@@ -116,6 +116,14 @@ static FORMS: [Form; 14] = [
         words: &[],
     },
     Form {
+        name: "encode",
+        about: "Print the bytes of radio messages from their fields",
+        words: &[(
+            "FIELDS",
+            "The fields as `decode --json` prints them; `-` is standard input",
+        )],
+    },
+    Form {
         name: "picture",
         about: "Draw a print of `run` as a time-distance diagram, in SVG",
         words: &[FILE, PRINTED],

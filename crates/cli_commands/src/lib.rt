@@ -12,6 +12,7 @@ mod decode;
 mod demo;
 mod diagram;
 pub mod disk;
+mod encode;
 mod explain;
 pub mod explaining;
 pub mod files;

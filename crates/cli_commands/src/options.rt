@@ -134,6 +134,8 @@ static DECODE: [(&str, &str); 2] = [
     ("json", "Print a JSON object for each field, one a line"),
 ];
 
+static ENCODE: [(&str, &str); 1] = [("frame", "The fields are those of a frame between centres")];
+
 static SERVE: [(&str, &str); 5] = [
     ("quiet", "Write no notes on standard error"),
     (
@@ -160,6 +162,7 @@ pub fn flags_of(command: &str) -> &'static [(&'static str, &'static str)] {
         "picture" => &PICTURE,
         "serve" => &SERVE,
         "decode" => &DECODE,
+        "encode" => &ENCODE,
         "demo" => &LIVING,
         "print" | "words" => &NUMBERED,
         _ => &[],

@@ -73,6 +73,11 @@ pub enum Request<'a> {
     },
     /// Show the bytes of the arguments field by field.
     Decode(Decoding),
+    /// Print the bytes of the fields in the file.
+    Encode {
+        fields: &'a str,
+        is_frame: bool,
+    },
     /// Show the message of these hexadecimal digits field by field.
     Message {
         digits: &'a str,
@@ -163,6 +168,7 @@ fn named<'a>(matches: &ArgMatches<'a>) -> Option<Request<'a>> {
     match command {
         "words" => named_words(words),
         "decode" => Some(named_decode(words)),
+        "encode" => named_encode(words),
         "serve" => named_serve(words),
         "drive" => named_drive(words),
         "demo" => Some(named_demo(words)),
@@ -242,6 +248,13 @@ fn named_decode<'a>(words: &ArgMatches<'a>) -> Request<'a> {
     Request::Decode(Decoding {
         is_frame: words.get_flag("frame"),
         is_json: words.get_flag("json"),
+    })
+}
+
+fn named_encode<'a>(words: &ArgMatches<'a>) -> Option<Request<'a>> {
+    Some(Request::Encode {
+        fields: words.get_str("FIELDS")?,
+        is_frame: words.get_flag("frame"),
     })
 }
 

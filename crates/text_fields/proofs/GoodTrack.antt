@@ -1,27 +1,24 @@
 -- The same of a centre's message.
-use Rattle.std.proofs.Common.{◌≡◌, ◌∙◌, sym, ap, refl, subst, ℕ, ◌^◌, ◌<◌, Bool, List, [], ◌∷◌}
-use Rattle.std.proofs.Common.{◌++◌, length, append_assoc, arith, inl, inr}
-use Rattle.std.specs.Prelude.{MatchOption}
+use Rattle.std.proofs.Common.{[], ◌++◌, ◌<◌, ◌^◌, ◌∙◌, ◌∷◌, ◌≡◌, ap, append_assoc, arith, Bool, inl, inr, length, List}
+use Rattle.std.proofs.Common.{refl, subst, sym, ℕ}
 use Rattle.std.specs.List.{AllByRecursion}
-use Rattle.rbc_bits.specs.Bits.{bits_of, filling, filled}
-use Rattle.rbc_spec.specs.Message.{TrackMessage, TrackBody, unknown_time}
-use Rattle.rbc_spec.specs.Message as track
+use Rattle.std.specs.Prelude.{MatchOption}
+use Rattle.rbc_bits.specs.Bits.{bits_of, filled, filling}
+use Rattle.rbc_msgs.specs.TrackSpelling.{SpellsTrack, track_body_fields, track_fields, track_number, TrackBodyFits}
 use Rattle.rbc_packets.specs.Layout.{joined, widths}
-use Rattle.rbc_msgs.specs.TrackSpelling.{SpellsTrack, TrackBodyFits, track_fields, track_body_fields}
-use Rattle.rbc_msgs.specs.TrackSpelling.{track_number}
-use Rattle.text_fields.specs.Named.{Named, NamedFits, fields_in}
-use Rattle.text_fields.specs.Walks.{IsLaid, IsLaidPacket, IsLaidMessage, IsHead, IsOwn, Next, side_of, body_at}
-use Rattle.text_fields.specs.Walks.{count_of}
-use Rattle.text_fields.specs.Messages.{packets_shown, track_head}
-use Rattle.text_fields.specs.Messages.{track_own, track_packets, track_shown}
-use Rattle.text_fields.specs.Messages.{numbered, filling_fields}
-use Rattle.text_fields.specs.Messages.{authority_content}
+use Rattle.rbc_spec.specs.Message as track
+use Rattle.rbc_spec.specs.Message.{TrackBody, TrackMessage, unknown_time}
+use Rattle.text_fields.proofs.Filling.{all_bits-filled, few, filling-fit}
+use Rattle.text_fields.proofs.Steps.{both_fit}
+use Rattle.text_fields.specs.declared.bodies.TheConstants as tables
 use Rattle.text_fields.specs.declared.messages.Side.{Side}
 use Rattle.text_fields.specs.declared.messages.Side.TheVariants.{Centre}
-use Rattle.text_fields.specs.declared.bodies.TheConstants as tables
 use Rattle.text_fields.specs.declared.shown.Shown.{Shown}
-use Rattle.text_fields.proofs.Steps.{both_fit}
-use Rattle.text_fields.proofs.Filling.{all_bits-filled, few, filling-fit}
+use Rattle.text_fields.specs.Messages.{authority_content, filling_fields, numbered, packets_shown, track_head}
+use Rattle.text_fields.specs.Messages.{track_own, track_packets, track_shown}
+use Rattle.text_fields.specs.Named.{fields_in, Named, NamedFits}
+use Rattle.text_fields.specs.Walks.{body_at, count_of, IsHead, IsLaid, IsLaidMessage, IsLaidPacket, IsOwn, Next}
+use Rattle.text_fields.specs.Walks.{side_of}
 
 -- ## Messages of centres
 
@@ -60,16 +57,16 @@ track_body_laid track.TrainRejected = (refl, refl)
 track_body_laid track.TrainAccepted = (refl, refl)
 
 authority_is_laid : (l : ℕ) → IsLaid Centre 15 (authority_content l)
-authority_is_laid l = record { number = omega arith; count = omega arith; content_is = inl (refl, l, refl) }
+authority_is_laid l = inl (inl (refl, l, refl))
 
 track_packets_laid : (b : TrackBody) → AllByRecursion (IsLaidPacket Centre) (track_packets b)
 track_packets_laid (track.Authority l) = (authority_is_laid l, tt)
 track_packets_laid (track.DataAcknowledged t) = tt
 track_packets_laid (track.ShorteningRequest l) = (authority_is_laid l, tt)
 track_packets_laid (track.Transition d c r) =
-    (record { number = omega arith; count = omega arith; content_is = inr (inr (refl, d, c, r, refl)) }, tt)
+    (inl (inr (inr (refl, d, c, r, refl))), tt)
 track_packets_laid (track.EndSession c r) =
-    (record { number = omega arith; count = omega arith; content_is = inr (inl (refl, c, r, refl)) }, tt)
+    (inl (inr (inl (refl, c, r, refl))), tt)
 track_packets_laid track.SystemVersion = tt
 track_packets_laid track.TerminationAcknowledged = tt
 track_packets_laid track.TrainRejected = tt
@@ -171,7 +168,7 @@ track_rest-fit track.TrainRejected f = tt
 track_rest-fit track.TrainAccepted f = tt
 
 pub track_laid : (l : ℕ) (m : TrackMessage)
-    → IsLaidMessage (track_number m.body) (track_head_of l m) (track_own m.body) (track_packets m.body)
+    → IsLaidMessage (track_number m.body) (track_head_of l m) (track_own m.body) (track_packets m.body) []
 track_laid l m =
     record {
       number = track_small m.body;
@@ -184,6 +181,7 @@ track_laid l m =
       body = track_body_laid m.body;
       packets_are = subst (λ (side : Side). AllByRecursion (IsLaidPacket side) (track_packets m.body))
           (sym (track_side m.body)) (track_packets_laid m.body);
+      further_are = tt;
     }
 
 track_all-bits : (l : ℕ) (m : TrackMessage) → joined (track_fields l m) ≡ joined (fields_in (track_all l m))

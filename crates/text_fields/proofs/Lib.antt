@@ -3,8 +3,13 @@ pub mod Steps
 pub mod Along
 pub mod Optional
 pub mod Filling
+pub mod Kept
+pub mod Unread
+pub mod Further
+pub mod Report
 pub mod Good
 pub mod GoodTrack
 pub mod Message
 pub mod Packet
 pub mod Wanted
+pub mod Same

@@ -1,15 +1,15 @@
 -- A packet: its number, its header, and its fields.
-use Rattle.std.proofs.Common.{◌≡◌, ◌∙◌, ap, ℕ, ◌+◌, ◌-◌, ◌≤◌, Bool, true, List, [], ◌∷◌}
-use Rattle.std.proofs.Common.{length, length-append, arith}
+use Rattle.std.proofs.Common.{[], ◌+◌, ◌-◌, ◌∙◌, ◌∷◌, ◌≡◌, ◌≤◌, ◌⊎◌, ap, arith, Bool, inl, inr, length, length-append}
+use Rattle.std.proofs.Common.{List, true, ℕ}
 use Rattle.std.specs.Prelude.{codes}
-use Rattle.rbc_packets.specs.Layout.{joined, widths}
 use Rattle.rbc_packets.proofs.Again.{length-joined}
-use Rattle.text_fields.specs.Named.{Named, fields_in}
-use Rattle.text_fields.specs.Messages.{packet_head, packet_shown}
-use Rattle.text_fields.specs.Walks.{Next, Shows, Takes, after}
+use Rattle.rbc_packets.specs.Layout.{joined, widths}
+use Rattle.text_fields.proofs.Steps.{at_end}
 use Rattle.text_fields.specs.declared.messages.Side.{Side}
 use Rattle.text_fields.specs.declared.shown.Shown.{Shown}
-use Rattle.text_fields.proofs.Steps.{at_end}
+use Rattle.text_fields.specs.Messages.{packet_head, packet_shown}
+use Rattle.text_fields.specs.Named.{fields_in, Named}
+use Rattle.text_fields.specs.Walks.{after, Next, Shows, Takes}
 
 -- the count of the bits of fields and of the bits after them
 pub long : (fields : List Named) (rest : List Bool) (look : List Shown × List Bool) (end : ℕ)
@@ -63,3 +63,7 @@ has_number side n content rest look end next = omega (
   long (packet_shown side n content) rest look end next,
   next.within,
 )
+
+pub either : {A B C : Type 0} → A ⊎ B → (A → C) → (B → C) → C
+either (inl a) f g = f a
+either (inr b) f g = g b

@@ -2,3 +2,4 @@ pub mod Shown
 pub mod Named
 pub mod Messages
 pub mod Walks
+pub mod Written

@@ -1,25 +1,26 @@
 -- The shown fields of a message that a decoder reads: the codec's widths and values, with the names of the standard.
-use Rattle.std.specs.Prelude.{◌≡◌, ℕ, zero, suc, ◌+◌, List, [], ◌∷◌, ◌++◌, codes}
 use Rattle.std.specs.List.{flat_map}
-use Rattle.rbc_vars.specs.Values.{q_status_value}
-use Rattle.rbc_spec.specs.Message.{TrackMessage, TrackBody, Authority, DataAcknowledged, EndSession, ShorteningRequest}
-use Rattle.rbc_spec.specs.Message.{SystemVersion, Transition}
-use Rattle.rbc_bits.specs.Bits.{filling}
-use Rattle.rbc_packets.specs.Layout.{widths}
-use Rattle.rbc_packets.specs.PositionSpelling.{location_fields, train_length_fields, running_fields, level_fields}
-use Rattle.rbc_packets.specs.TrackSpelling.{authority_fields, transition_fields, session_order_fields}
+use Rattle.std.specs.Prelude.{[], ◌++◌, ◌+◌, ◌/◌, ◌∷◌, Bool, codes, drop, length, List, map, suc, take, zero, ℕ}
+use Rattle.rbc_bits.specs.Bits.{filling, value_of}
+use Rattle.rbc_msgs.specs.declared.train_body.TrainBody.{TrainBody}
+use Rattle.rbc_msgs.specs.declared.train_body.TrainBody.TheVariants as train
+use Rattle.rbc_msgs.specs.TrackSpelling.{track_number}
+use Rattle.rbc_msgs.specs.TrainSpelling.{train_number}
+use Rattle.rbc_msgs.specs.TrainText.{TrainText}
 use Rattle.rbc_packets.specs.declared.level.Level.{Level}
 use Rattle.rbc_packets.specs.declared.location.Location.{Location}
 use Rattle.rbc_packets.specs.declared.position.Position.{Position}
 use Rattle.rbc_packets.specs.declared.train_length.TrainLength.{TrainLength}
-use Rattle.rbc_msgs.specs.TrainText.{TrainText}
-use Rattle.rbc_msgs.specs.TrainSpelling.{train_number}
-use Rattle.rbc_msgs.specs.TrackSpelling.{track_number}
-use Rattle.rbc_msgs.specs.declared.train_body.TrainBody.{TrainBody}
-use Rattle.rbc_msgs.specs.declared.train_body.TrainBody.TheVariants as train
-use Rattle.text_fields.specs.Named.{Named, fields_in, with_names}
+use Rattle.rbc_packets.specs.Layout.{widths}
+use Rattle.rbc_packets.specs.Packet.{Packet}
+use Rattle.rbc_packets.specs.PositionSpelling.{level_fields, location_fields, running_fields, train_length_fields}
+use Rattle.rbc_packets.specs.TrackSpelling.{authority_fields, session_order_fields, transition_fields}
+use Rattle.rbc_spec.specs.Message.{Authority, DataAcknowledged, EndSession, ShorteningRequest, SystemVersion, TrackBody}
+use Rattle.rbc_spec.specs.Message.{TrackMessage, Transition}
+use Rattle.rbc_vars.specs.Values.{q_status_value}
 use Rattle.text_fields.specs.declared.messages.Side.{Side}
-use Rattle.text_fields.specs.declared.messages.Side.TheVariants.{Train, Centre}
+use Rattle.text_fields.specs.declared.messages.Side.TheVariants.{Centre, Train}
+use Rattle.text_fields.specs.Named.{fields_in, Named, with_names}
 
 -- ## Packets
 
@@ -92,6 +93,23 @@ end_of_session_content c r = with_names
     (codes "Q_RBC" ∷ codes "NID_C" ∷ codes "NID_RBC" ∷ codes "NID_RADIO" ∷ codes "Q_SLEEPSESSION" ∷ [])
     (session_order_fields (record { nid_c = c; nid_rbc = r }))
 
+-- bits without a meaning, as one field
+abbrev pub bits_field : List Bool → Named
+bits_field bits = record { name = codes "bits"; field = (length bits, value_of bits) }
+
+-- n fields of 64 bits each, and a field of the bits that are left
+abbrev pub bits_fields : ℕ → List Bool → List Named
+bits_fields zero [] = []
+bits_fields zero (b ∷ bits) = bits_field (b ∷ bits) ∷ []
+bits_fields (suc n) bits = bits_field (take 64 bits) ∷ bits_fields n (drop 64 bits)
+
+-- the bits of a packet that a decoder keeps without reading them
+unfoldable pub kept_content : List Bool → List Named
+kept_content bits = bits_fields (length bits / 64) bits
+
+abbrev pub kept : Packet → PacketFields
+kept p = record { number = p.nid_packet; content = kept_content p.bits }
+
 -- ## Messages of trains
 
 abbrev pub train_own : TrainBody → List Named
@@ -106,7 +124,8 @@ abbrev pub report : Position → List PacketFields
 report p = record { number = 0; content = position_content p } ∷ []
 
 abbrev pub train_packets : TrainBody → List PacketFields
-train_packets (train.TrainData position packet) = report position
+train_packets (train.TrainData position packet) =
+    record { number = 0; content = position_content position } ∷ kept packet ∷ []
 train_packets (train.Request reason position) = report position
 train_packets (train.Report position) = report position
 train_packets (train.ShorteningGranted request position) = report position
@@ -114,14 +133,6 @@ train_packets (train.ShorteningRejected request position) = report position
 train_packets (train.EndOfMission position) = report position
 train_packets (train.StartOfMission status position) = report position
 train_packets other = []
-
--- no packet of it is kept without being read
-abbrev pub IsReadBody : TrainBody → Type 0
-IsReadBody (train.TrainData position packet) = ⊥
-IsReadBody other = Unit {0}
-
-abbrev pub IsReadWhole : TrainText → Type 0
-IsReadWhole m = (m.further ≡ []) × IsReadBody m.body
 
 -- ## Messages of centres
 
@@ -163,10 +174,15 @@ track_head l t group =
     with_names (codes "L_MESSAGE" ∷ codes "T_TRAIN" ∷ codes "M_ACK" ∷ codes "NID_LRBG" ∷ [])
     ((10, l) ∷ (32, t) ∷ (1, 0) ∷ (24, group) ∷ [])
 
--- the shown fields of a train's message of this length: the header, its own field, its packets, the filling
+-- the fields of a train's message after its header: its own field, its packets, further packets
+abbrev pub train_after : TrainText → List Named
+train_after m =
+    train_own m.body ++ (packets_shown Train (train_packets m.body) ++ packets_shown Train (map kept m.further))
+
+-- the shown fields of a train's message of this length
 abbrev pub train_shown : ℕ → TrainText → List Named
-train_shown l m = with_filling (numbered (train_number m.body) (train_head l m.t_train m.nid_engine)
-    ++ (train_own m.body ++ packets_shown Train (train_packets m.body)))
+train_shown l m =
+    with_filling (numbered (train_number m.body) (train_head l m.t_train m.nid_engine) ++ train_after m)
 
 -- the shown fields of a centre's message
 abbrev pub track_shown : ℕ → TrackMessage → List Named

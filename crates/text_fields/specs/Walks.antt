@@ -1,23 +1,24 @@
 -- The steps of a walk over the fields of a good message.
-use Rattle.std.specs.Prelude.{◌≡◌, ◌⊎◌, ℕ, ◌+◌, ◌^◌, ◌<◌, ◌≤◌, ◌==◌, Bool, List, [], ◌∷◌, ◌++◌, codes, length, nat_lt}
-use Rattle.std.specs.Prelude.{if◌then◌else◌, IsTrue, Option, Some, None, MatchOption}
 use Rattle.std.specs.List.{AllByRecursion}
+use Rattle.std.specs.Prelude.{[], ◌++◌, ◌<◌, ◌==◌, ◌^◌, ◌∷◌, ◌≡◌, ◌≢◌, ◌≤◌, ◌⊎◌, Bool, codes, if◌then◌else◌, IsTrue}
+use Rattle.std.specs.Prelude.{length, List, MatchOption, nat_lt, None, Option, Some, ℕ}
 use denote.Ref.{Bor}
-use Rattle.rbc_packets.specs.Layout.{joined, widths}
 use Rattle.rbc_packets.specs.declared.position.Position.{Position}
-use Rattle.text_fields.specs.Named.{Named, NamedFits, all_named, fields_in, with_names}
-use Rattle.text_fields.specs.Messages.{PacketFields, position_content, authority_content}
-use Rattle.text_fields.specs.Messages.{transition_content, end_of_session_content, train_head, track_head}
-use Rattle.text_fields.specs.declared.kind.Kind.{Kind}
+use Rattle.rbc_packets.specs.Layout.{joined}
 use Rattle.text_fields.specs.declared.bodies.Body.{Body}
 use Rattle.text_fields.specs.declared.bodies.Own.{Own}
 use Rattle.text_fields.specs.declared.bodies.Own.TheVariants as own
 use Rattle.text_fields.specs.declared.bodies.Required.{Required}
 use Rattle.text_fields.specs.declared.bodies.Required.TheVariants as required
-use Rattle.text_fields.specs.declared.messages.Side.{Side}
-use Rattle.text_fields.specs.declared.messages.Side.TheVariants.{Train, Centre}
 use Rattle.text_fields.specs.declared.bodies.TheConstants as tables
+use Rattle.text_fields.specs.declared.kind.Kind.{Kind}
+use Rattle.text_fields.specs.declared.messages.Side.{Side}
+use Rattle.text_fields.specs.declared.messages.Side.TheVariants.{Centre, Train}
 use Rattle.text_fields.specs.declared.shown.Shown.{Shown}
+use Rattle.text_fields.specs.Messages.{authority_content, end_of_session_content, filling_fields, kept_content}
+use Rattle.text_fields.specs.Messages.{PacketFields, packets_shown, position_content, track_head, train_head}
+use Rattle.text_fields.specs.Messages.{transition_content}
+use Rattle.text_fields.specs.Named.{all_named, fields_in, Named, NamedFits, with_names}
 
 -- ## Steps
 
@@ -63,14 +64,20 @@ IsContent Centre n content =
     ⊎ (((n ≡ 42) × (c : ℕ) × (r : ℕ) × (content ≡ end_of_session_content c r))
     ⊎ ((n ≡ 131) × (d : ℕ) × (c : ℕ) × (r : ℕ) × (content ≡ transition_content d c r)))
 
--- a packet with such fields, whose length L_PACKET can name
-pub record IsLaid (side : Side) (n : ℕ) (content : List Named) : Type 0 where
-  pub number : n < 2 ^ 8
-  pub count : 23 + widths (fields_in content) < 2 ^ 13
-  pub content_is : IsContent side n content
+-- the fields of a packet that is shown as bits: a packet of a train, but no position report
+abbrev pub IsKept : Side → ℕ → List Named → Type 0
+IsKept side n content = (side ≡ Train) × (n ≢ 0) × (bits : List Bool) × (content ≡ kept_content bits)
+
+-- the fields of a packet
+abbrev pub IsLaid : Side → ℕ → List Named → Type 0
+IsLaid side n content = IsContent side n content ⊎ IsKept side n content
 
 abbrev pub IsLaidPacket : Side → PacketFields → Type 0
 IsLaidPacket side p = IsLaid side p.number p.content
+
+-- further packets, and the bits that fill the last byte
+abbrev pub rest_shown : Side → List PacketFields → ℕ → List Named
+rest_shown side further fill = packets_shown side further ++ filling_fields fill
 
 -- how many packets are required
 abbrev pub count_of : Required → ℕ
@@ -102,10 +109,11 @@ abbrev pub body_at : ℕ → List Body → Option Body
 body_at n [] = None
 body_at n (body ∷ bodies) = if body.number == n then Some body else body_at n bodies
 
--- a message of this number with this header after it, its own field, and its packets
-pub record IsLaidMessage (n : ℕ) (head own : List Named) (packets : List PacketFields) : Type 0 where
+-- a message of this number with this header after it, its own field, its packets, and further ones
+pub record IsLaidMessage (n : ℕ) (head own : List Named) (packets further : List PacketFields) : Type 0 where
   pub number : n < 2 ^ 8
   pub head_is : IsHead (side_of n) head
   pub body : MatchOption (body_at n tables.BODIES.now) ⊥
       (λ body. IsOwn body.own own × (length packets ≡ count_of body.packets))
   pub packets_are : AllByRecursion (IsLaidPacket (side_of n)) packets
+  pub further_are : AllByRecursion (IsLaidPacket (side_of n)) further

@@ -6,7 +6,7 @@ ghost use Rattle.text_fields.specs.Shown.{all_bits};
 ghost use Rattle.text_fields.specs.Named.{Named};
 ghost use Rattle.text_fields.specs.Messages.{PacketFields, packet_shown, packets_shown, filling_fields, numbered};
 ghost use Rattle.text_fields.specs.Walks.{Next, Shows, Takes, IsHead, IsOwn, IsLaid, IsLaidPacket, IsLaidMessage};
-ghost use Rattle.text_fields.specs.Walks.{count_of, side_of};
+ghost use Rattle.text_fields.specs.Walks.{count_of, rest_shown, side_of};
 
 use crate::bodies::{Body, Own, Required, body_of};
 use crate::kind::Kind;
@@ -59,12 +59,12 @@ impl<'a> Walk<'a> {
     /// Shows a message, up to bits without a meaning.
     pub fn message(&mut self) -> Result<(), AllocError>
         ensures bits { OnOk result (all_bits self.new.look ≡ all_bits self.old.look) }
-        ensures shows { OnOk result ((n fill : ℕ) (head own : List Named) (packets : List PacketFields)
-            → IsLaidMessage n head own packets → fill < 8 → self.old.end ≡ 0
-            → Next (numbered n head ++ (own ++ (packets_shown (side_of n) packets ++ filling_fields fill))) []
-            self.old.look 0
-            → Shows (numbered n head ++ (own ++ (packets_shown (side_of n) packets ++ filling_fields fill))) []
-            self.old.look self.new.look) }
+        ensures shows { OnOk result ((n fill : ℕ) (head own : List Named) (packets further : List PacketFields)
+            → IsLaidMessage n head own packets further → fill < 8 → self.old.end ≡ 0
+            → Next (numbered n head ++ (own ++ (packets_shown (side_of n) packets
+            ++ rest_shown (side_of n) further fill))) [] self.old.look 0
+            → Shows (numbered n head ++ (own ++ (packets_shown (side_of n) packets
+            ++ rest_shown (side_of n) further fill))) [] self.old.look self.new.look) }
     {
         if !self.take("NID_MESSAGE", 8, Kind::Message)? {
             return Ok(());
@@ -104,11 +104,12 @@ impl<'a> Walk<'a> {
     /// Shows the body of a message.
     fn body(&mut self, side: Side, body: Body) -> Result<(), AllocError>
         ensures bits { OnOk result (all_bits self.new.look ≡ all_bits self.old.look) }
-        ensures shows { OnOk result ((fill : ℕ) (own : List Named) (packets : List PacketFields)
+        ensures shows { OnOk result ((fill : ℕ) (own : List Named) (packets further : List PacketFields)
             → IsOwn body.own own → length packets ≡ count_of body.packets → AllByRecursion (IsLaidPacket side) packets
-            → fill < 8 → self.old.end ≡ 0
-            → Next (own ++ (packets_shown side packets ++ filling_fields fill)) [] self.old.look 0
-            → Shows (own ++ (packets_shown side packets ++ filling_fields fill)) [] self.old.look self.new.look) }
+            → AllByRecursion (IsLaidPacket side) further → fill < 8 → self.old.end ≡ 0
+            → Next (own ++ (packets_shown side packets ++ rest_shown side further fill)) [] self.old.look 0
+            → Shows (own ++ (packets_shown side packets ++ rest_shown side further fill)) []
+            self.old.look self.new.look) }
     {
         if !self.own(body.own)? {
             return Ok(());
@@ -120,9 +121,10 @@ impl<'a> Walk<'a> {
     /// Shows the bits after the packets that have to be there.
     fn rest(&mut self, side: Side) -> Result<(), AllocError>
         ensures bits { OnOk result (all_bits self.new.look ≡ all_bits self.old.look) }
-        ensures shows { OnOk result ((fill : ℕ) → fill < 8 → self.old.end ≡ 0
-            → Next (filling_fields fill) [] self.old.look 0
-            → Shows (filling_fields fill) [] self.old.look self.new.look) }
+        ensures shows { OnOk result ((fill : ℕ) (further : List PacketFields)
+            → AllByRecursion (IsLaidPacket side) further → fill < 8 → self.old.end ≡ 0
+            → Next (rest_shown side further fill) [] self.old.look 0
+            → Shows (rest_shown side further fill) [] self.old.look self.new.look) }
     {
         self.note_beyond(side);
         self.further(side)?;
@@ -194,8 +196,10 @@ impl<'a> Walk<'a> {
     /// Shows further packets, as long as 8 bits or more are left.
     fn further(&mut self, side: Side) -> Result<(), AllocError>
         ensures bits { OnOk result (all_bits self.new.look ≡ all_bits self.old.look) }
-        ensures none { length self.old.look.1 < 8
-            → OnOk result ((self.new.look ≡ self.old.look) × (self.new.end ≡ self.old.end)) }
+        ensures shows { OnOk result ((packets : List PacketFields) (rest : List Bool)
+            → AllByRecursion (IsLaidPacket side) packets → length rest < 8 → self.old.end ≡ 0
+            → Next (packets_shown side packets) rest self.old.look self.old.end
+            → Shows (packets_shown side packets) rest self.old.look self.new.look × (self.new.end ≡ self.old.end)) }
     {
         for _ in 0..self.room() {
             if self.room() < 8 {
@@ -203,11 +207,19 @@ impl<'a> Walk<'a> {
             }
             let count = self.look.count();
             let number = self.packet(side)?;
-            if side == Side::Train && number == 0 {
-                self.notes.note_refused(count.saturating_add(1));
-            }
+            self.note_further(side, number, count);
         }
         Ok(())
+    }
+
+    /// Notes a second position report: `count` fields are shown before it.
+    fn note_further(&mut self, side: Side, number: u64, count: usize)
+        ensures look { self.new.look ≡ self.old.look }
+        ensures end { self.new.end ≡ self.old.end }
+    {
+        if side == Side::Train && number == 0 {
+            self.notes.note_refused(count.saturating_add(1));
+        }
     }
 
     /// Shows the bits that are left as those that fill the last byte.

@@ -1,11 +1,11 @@
 //! The packets of a message, and their headers (SUBSET-026 7.4).
 
-ghost use Rattle.std.specs.Prelude.{ℕ, ◌≡◌, ◌+◌, ◌≤◌, ◌++◌, length, true, IfOk, IsTrue, OnOk, Bool, List};
+ghost use Rattle.std.specs.Prelude.{ℕ, ◌≡◌, ◌≢◌, ◌+◌, ◌≤◌, ◌++◌, length, true, IfOk, IsTrue, OnOk, Bool, List};
 ghost use Rattle.rbc_packets.specs.Layout.{widths};
 ghost use Rattle.text_fields.specs.Shown.{all_bits};
 ghost use Rattle.text_fields.specs.Named.{Named, fields_in};
 ghost use Rattle.text_fields.specs.Messages.{packet_head, packet_shown};
-ghost use Rattle.text_fields.specs.Walks.{Next, Shows, Takes, IsContent, IsLaid};
+ghost use Rattle.text_fields.specs.Walks.{Next, Shows, Takes, IsContent, IsLaid, after};
 
 use crate::kind::Kind;
 use crate::messages::Side;
@@ -45,10 +45,15 @@ impl<'a> Walk<'a> {
     /// Shows a packet after NID_PACKET. Returns whether its length is right. `begun` bits were left before the packet.
     fn rest_of_packet(&mut self, side: Side, number: u64, begun: u32) -> Result<bool, AllocError>
         ensures bits { OnOk result (all_bits self.new.look ≡ all_bits self.old.look) }
-        ensures shows { OnOk result ((content : List Named) (rest : List Bool) → IsLaid side number content
+        ensures shows { OnOk result ((content : List Named) (rest : List Bool) → IsContent side number content
             → self.old.end ≡ 0 → begun ≡ 8 + length self.old.look.1
             → Next (packet_head side (widths (fields_in content)) ++ content) rest self.old.look 0
             → Shows (packet_head side (widths (fields_in content)) ++ content) rest self.old.look self.new.look
+            × (self.new.end ≡ length rest)) }
+        ensures kept { side ≡ Side.Train → number ≢ 0 → OnOk result ((content : List Named) (rest : List Bool)
+            → self.old.end ≡ 0 → begun ≡ 8 + length self.old.look.1
+            → Next (packet_head side (widths (fields_in content)) ++ content) rest self.old.look 0
+            → Shows (packet_head side (widths (fields_in content))) (after content rest) self.old.look self.new.look
             × (self.new.end ≡ length rest)) }
     {
         if !self.packet_end(side, begun)? {
@@ -116,6 +121,8 @@ impl<'a> Walk<'a> {
         ensures shows { IfOk result (λ there. (fields : List Named) → IsContent side number fields
             → Takes fields
             self.old.look self.old.end self.new.look self.new.end there) }
+        ensures kept { side ≡ Side.Train → number ≢ 0
+            → OnOk result ((self.new.look ≡ self.old.look) × (self.new.end ≡ self.old.end)) }
     {
         match side {
             Side::Train if number == 0 => self.position(),

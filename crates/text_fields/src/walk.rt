@@ -1,6 +1,6 @@
 //! Shows the bytes of a message, or of a frame, by its tables, to the last bit.
 
-ghost use Rattle.std.specs.Prelude.{ℕ, ◌≡◌, ◌-◌, ◌^◌, ◌≤◌, ◌∷◌, [], length, All, IfOk, OnOk, List, Bool};
+ghost use Rattle.std.specs.Prelude.{ℕ, ◌≡◌, ◌-◌, ◌^◌, ◌≤◌, ◌∷◌, ◌++◌, [], length, All, IfOk, OnOk, List, Bool};
 ghost use Rattle.rbc_spec.specs.Message.{TrackMessage};
 ghost use Rattle.rbc_bits.specs.Bits.{bits_of};
 ghost use Rattle.rbc_msgs.specs.TrainText.{TrainText};
@@ -8,8 +8,8 @@ ghost use Rattle.rbc_msgs.specs.TrainSpelling.{SpellsTrain};
 ghost use Rattle.rbc_msgs.specs.TrackSpelling.{SpellsTrack};
 ghost use Rattle.text_fields.specs.Shown.{bits_shown, all_bits, Fits};
 ghost use Rattle.text_fields.specs.Named.{Named, all_named};
-ghost use Rattle.text_fields.specs.Messages.{IsReadWhole, train_shown, track_shown};
-ghost use Rattle.text_fields.specs.Walks.{AreRows, Next, Takes, last_of};
+ghost use Rattle.text_fields.specs.Messages.{kept_content, train_shown, track_shown};
+ghost use Rattle.text_fields.specs.Walks.{AreRows, Next, Shows, Takes, last_of};
 
 use crate::kind::Kind;
 use crate::layout::{Field, Row};
@@ -18,7 +18,7 @@ use crate::seen::{Notes, Seen};
 use std::alloc::{AllocError, Global};
 
 /// The greatest length of a message in bytes.
-const LONGEST: usize = 1_023;
+pub(crate) const LONGEST: usize = 1_023;
 
 /// The greatest width of a field that is shown at once.
 const MOST: u32 = 64;
@@ -58,8 +58,8 @@ pub fn fields_of(alloc: Global, bytes: &[u8]) -> Result<Seen, AllocError>
     // Each shown value has room in its bits.
     ensures fits { IfOk result (λ seen. All Fits seen.shown.items) }
     // If the bytes spell a train's message, which `decode_train` reads, its fields are shown: the names, the widths and
-    // the values, in their order. No packet of it is one that the decoder keeps as bits.
-    ensures train { (m : TrainText) → SpellsTrain bytes.now m → IsReadWhole m
+    // the values, in their order. A packet that the decoder keeps as bits is shown as those.
+    ensures train { (m : TrainText) → SpellsTrain bytes.now m
         → IfOk result (λ seen. all_named seen.shown.items ≡ train_shown (length bytes.now) m) }
     // The same of a centre's message, which `decode_track` reads.
     ensures track { (m : TrackMessage) → SpellsTrack bytes.now m
@@ -186,6 +186,8 @@ impl<'a> Walk<'a> {
     pub fn unread(&mut self) -> Result<(), AllocError>
         ensures bits { OnOk result (all_bits self.new.look ≡ all_bits self.old.look) }
         ensures none { length self.old.look.1 ≤ self.old.end → OnOk result (self.new.look ≡ self.old.look) }
+        ensures shows { OnOk result ((bits rest : List Bool) → self.old.look.1 ≡ bits ++ rest
+            → self.old.end ≡ length rest → Shows (kept_content bits) rest self.old.look self.new.look) }
     {
         for _ in 0..self.room() {
             let width = self.room().min(MOST);

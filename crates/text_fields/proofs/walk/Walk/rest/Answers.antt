@@ -1,22 +1,23 @@
-use Rattle.std.proofs.Common.{◌≡◌, ◌∙◌, sym, subst, ap, arith, length, ◌<◌, []}
+use Rattle.std.proofs.Common.{[], ◌<◌, ◌∙◌, ◌≡◌, arith, length, subst, sym}
 use Rattle.std.proofs.lemmas.Result.{on_ok_weaker}
-use Rattle.text_fields.specs.Messages.{filling_fields}
-use Rattle.text_fields.specs.Walks.{Next, Shows}
-use Rattle.text_fields.proofs.Steps.{filling-long}
+use Rattle.text_fields.proofs.Steps.{after_filling, at_end, both, first, second}
 use Rattle.text_fields.proofs.walk.Walk.rest.Goals as goal
+use Rattle.text_fields.specs.Messages.{filling_fields, packets_shown}
+use Rattle.text_fields.specs.Walks.{after, Next, rest_shown, Shows}
 
 pub returns-clause-shows : goal.returns-clause-shows
 returns-clause-shows c =
-    on_ok_weaker c.filling.result (λ h fill few e n.
+    on_ok_weaker c.filling.result (λ h fill packets laid few e n.
+    let noted = c.note_beyond.new.self in
     let same = c.note_beyond.ensures.look in
-    let left : length c.note_beyond.new.self.look.1 < 8 = omega (
-      arith,
-      ap (λ look. length look.1) same,
-      filling-long fill c.args.self.now.look n,
-      few,
-    ) in
-    let more = c.in_ok-further.ensures.none left in
-    let look : c.further.new.self.look ≡ c.args.self.now.look = more.0 ∙ same in
-    let last = h fill (more.1 ∙ (c.note_beyond.ensures.end ∙ e))
-    (subst (λ l. Next (filling_fields fill) [] l 0) (sym look) n) in
-    subst (λ l. Shows (filling_fields fill) [] l c.filling.new.self.look) look last) c.filling.ensures.shows
+    let its = packets_shown c.args.side packets in
+    let last = filling_fields fill in
+    let begun : Next (rest_shown c.args.side packets fill) [] noted.look 0 = subst
+    (λ look. Next (rest_shown c.args.side packets fill) [] look 0) (sym same) n in
+    let zero : noted.end ≡ 0 = c.note_beyond.ensures.end ∙ e in
+    let more = c.in_ok-further.ensures.shows packets (after last []) laid (omega (arith, after_filling fill, few)) zero
+    (at_end its (after last []) noted.look noted.end zero (first its last [] noted.look 0 begun)) in
+    let left = second its last [] noted.look c.further.new.self.look 0 0 begun more.0 (omega arith) in
+    subst (λ look. Shows (rest_shown c.args.side packets fill) [] look c.filling.new.self.look) same
+    (both its last [] noted.look c.further.new.self.look c.filling.new.self.look more.0
+    (h fill (more.1 ∙ zero) left))) c.filling.ensures.shows

@@ -1,0 +1,31 @@
+//! Prints the bytes of messages or frames whose fields are given.
+
+use crate::files::Files;
+use std::alloc::{AllocError, Global};
+use std::io::Write;
+use text_fields::{EncodeFault, print_bytes};
+use text_script::status::Fault;
+
+/// Prints the bytes of the fields in this file, in the form of `decode --json`. A faulty line is named on standard
+/// error, and the fault is that of a file which cannot be read.
+pub fn encode<'a, F: Files, O: Write, E: Write>(
+    alloc: Global,
+    fields: &'a str,
+    is_frame: bool,
+    files: &F,
+    out: &mut O,
+    err: &mut E,
+) -> Result<(), Fault<'a>> {
+    let Some(text) = files.text(fields) else {
+        return Err(Fault::CannotRead(fields));
+    };
+    match print_bytes(alloc, text.as_str(), is_frame, out) {
+        Ok(()) => Ok(()),
+        Err(EncodeFault::Memory) => Err(AllocError.into()),
+        Err(EncodeFault::Write) => Err(Fault::Write),
+        Err(EncodeFault::Line(row, words)) => {
+            writeln!(err, "line {row}: {words}")?;
+            Err(Fault::CannotRead(fields))
+        }
+    }
+}

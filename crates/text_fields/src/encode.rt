@@ -1,0 +1,221 @@
+//! Reads fields in the form of `decode --json`, and prints the bytes of their messages or their frame.
+
+use crate::shown::Shown;
+use crate::written::{Written, WrittenFault, frame_of, message_of};
+use serde_json::Value;
+use std::alloc::{AllocError, AllocFailed, Global};
+use std::io;
+use std::io::Write;
+
+/// Why bytes are not printed.
+#[derive(Debug, Drop)]
+pub enum EncodeFault {
+    /// Memory ran out.
+    Memory,
+    /// The writer refused a write.
+    Write,
+    /// The fault of this line of the text, in words; lines count from 1.
+    Line(usize, String),
+}
+
+impl From<AllocError> for EncodeFault {
+    fn from(_error: AllocError) -> EncodeFault {
+        EncodeFault::Memory
+    }
+}
+
+impl<T: Drop> From<AllocFailed<T>> for EncodeFault {
+    fn from(_error: AllocFailed<T>) -> EncodeFault {
+        EncodeFault::Memory
+    }
+}
+
+impl From<io::Error> for EncodeFault {
+    fn from(_error: io::Error) -> EncodeFault {
+        EncodeFault::Write
+    }
+}
+
+/// Prints the bytes of the messages, or of the frames, whose fields are the lines of a text, in hexadecimal. Each has a
+/// line. Messages differ in the number `message`. The lines of faults, and empty ones, are left out.
+pub fn print_bytes<W: Write>(
+    alloc: Global,
+    text: &str,
+    is_frame: bool,
+    out: &mut W,
+) -> Result<(), EncodeFault> {
+    let objects = objects_in(alloc, text)?;
+    let mut whole = Whole::new(alloc, is_frame);
+    for (row, object) in &objects {
+        let row = *row;
+        let Some((message, written)) = field_in(object) else {
+            let words = format!(in alloc;
+                "name, value, from and to are wanted, as decode --json prints them"
+            )?;
+            return Err(EncodeFault::Line(row, words));
+        };
+        if whole.message != message {
+            whole.print(out)?;
+            whole = Whole::new(alloc, is_frame);
+            whole.message = message;
+        }
+        whole.rows.push(row)?;
+        whole.written.push(written)?;
+    }
+    whole.print(out)
+}
+
+// The objects of the lines, each with the number of its line, but those of faults.
+fn objects_in(alloc: Global, text: &str) -> Result<Vec<(usize, Value)>, EncodeFault> {
+    let mut objects = Vec::new(alloc);
+    let mut row = 0usize;
+    for line in text.lines() {
+        row = row.saturating_add(1);
+        if line.trim().is_empty() {
+            continue;
+        }
+        let object = match Value::from_str(alloc, line) {
+            Ok(object) => object,
+            Err(fault) if fault.is_memory() => return Err(EncodeFault::Memory),
+            Err(_) => {
+                let words = format!(in alloc; "this is not a JSON object in a line")?;
+                return Err(EncodeFault::Line(row, words));
+            }
+        };
+        if object.get("fault").is_none() {
+            objects.push((row, object))?;
+        }
+    }
+    Ok(objects)
+}
+
+// The number of the message, and the field that an object is.
+fn field_in(object: &Value) -> Option<(u64, Written<'_>)> {
+    let name = object.get("name")?.as_str()?;
+    let value = object.get("value")?.as_u64()?;
+    let from = object.get("from")?.as_u64()?;
+    let to = object.get("to")?.as_u64()?;
+    let message = match object.get("message") {
+        Some(number) => number.as_u64()?,
+        None => 0,
+    };
+    let width = to.checked_sub(from)?.checked_add(1)?;
+    let width = u32::try_from(width).ok()?;
+    Some((message, Written { name, width, value }))
+}
+
+/// The fields of one message or frame, each with the number of its line.
+#[derive(Drop)]
+struct Whole<'a> {
+    alloc: Global,
+    is_frame: bool,
+    message: u64,
+    rows: Vec<usize>,
+    written: Vec<Written<'a>>,
+}
+
+impl<'a> Whole<'a> {
+    fn new(alloc: Global, is_frame: bool) -> Whole<'a> {
+        Whole {
+            alloc,
+            is_frame,
+            message: 0,
+            rows: Vec::new(alloc),
+            written: Vec::new(alloc),
+        }
+    }
+
+    // Prints the bytes, if it has a field.
+    fn print<W: Write>(&self, out: &mut W) -> Result<(), EncodeFault> {
+        if self.written.is_empty() {
+            return Ok(());
+        }
+        let done = if self.is_frame {
+            frame_of(self.alloc, &self.written)
+        } else {
+            message_of(self.alloc, &self.written)
+        };
+        match done {
+            Ok(bytes) => {
+                let digits = hex::encode_upper(self.alloc, &bytes)?;
+                writeln!(out, "{digits}")?;
+                out.flush()?;
+                Ok(())
+            }
+            Err(fault) => Err(self.fault_of(fault)),
+        }
+    }
+
+    // The line of a fault, and its words.
+    fn fault_of(&self, fault: WrittenFault) -> EncodeFault {
+        let last = self.written.len().saturating_sub(1);
+        let place = match fault {
+            WrittenFault::Memory => return EncodeFault::Memory,
+            WrittenFault::Long => 0,
+            WrittenFault::Room(place) => place.min(last),
+            WrittenFault::Other(place, _) => place.min(last),
+        };
+        let row = self.rows.get(place).copied().unwrap_or(0);
+        match self.words_of(fault, place) {
+            Ok(words) => EncodeFault::Line(row, words),
+            Err(fault) => fault,
+        }
+    }
+
+    // The words of a fault at the field of this place.
+    fn words_of(&self, fault: WrittenFault, place: usize) -> Result<String, EncodeFault> {
+        let alloc = self.alloc;
+        let Some(written) = self.written.get(place).copied() else {
+            return Ok(String::new(alloc));
+        };
+        match fault {
+            WrittenFault::Memory => Err(EncodeFault::Memory),
+            WrittenFault::Room(_) => no_room(alloc, written),
+            WrittenFault::Long => {
+                let words = format!(in alloc;
+                    "more than 1023 bytes: no message or frame is as long"
+                )?;
+                Ok(words)
+            }
+            WrittenFault::Other(at, shown) if at > place => missing(alloc, shown),
+            WrittenFault::Other(_, shown) => other(alloc, written, shown),
+        }
+    }
+}
+
+// The words for a value without room.
+fn no_room(alloc: Global, written: Written) -> Result<String, EncodeFault> {
+    let Written { name, width, value } = written;
+    if width > 64 {
+        let words = format!(in alloc; "{name} of {width} bits: a field has 1 to 64 bits")?;
+        return Ok(words);
+    }
+    let greatest = u64::MAX >> (64 - width).min(63);
+    let words = format!(in alloc; "{name} {value}: {width} bits have the values 0 to {greatest}")?;
+    Ok(words)
+}
+
+// The words for a field that is missing after the last one.
+fn missing(alloc: Global, shown: Option<Shown>) -> Result<String, EncodeFault> {
+    let Some(shown) = shown else {
+        return Ok(String::new(alloc));
+    };
+    let name = shown.field.name;
+    let width = shown.width;
+    let words = format!(in alloc; "{name} is missing after this field: {width} bits")?;
+    Ok(words)
+}
+
+// The words for a field in place of another.
+fn other(alloc: Global, written: Written, shown: Option<Shown>) -> Result<String, EncodeFault> {
+    let Written { name, width, .. } = written;
+    let words = match shown {
+        Some(shown) => {
+            let there = shown.field.name;
+            let bits = shown.width;
+            format!(in alloc; "{name} of {width} bits: {there} of {bits} bits has to be here")?
+        }
+        None => format!(in alloc; "{name} of {width} bits: no field is left here")?,
+    };
+    Ok(words)
+}
