@@ -24,7 +24,7 @@ const SCRIPT: (&str, &str) = (
     "The script, one event a line; `-` is standard input",
 );
 
-static FORMS: [Form; 14] = [
+static FORMS: [Form; 15] = [
     Form {
         name: "check",
         about: "Read a line file, and say how many centres, tracks, sections and trains it has",
@@ -140,7 +140,7 @@ pub fn rbcline<'a>(alloc: Global) -> Result<Command<'a>, AllocError> {
 }
 
 /// The version of the program.
-pub(crate) const VERSION: &str = "0.3.0";
+pub(crate) const VERSION: &str = "0.4.0";
 
 // The exit statuses, and a first command to try.
 const ENDS: &str =
