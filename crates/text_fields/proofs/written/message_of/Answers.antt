@@ -10,17 +10,17 @@ use Rattle.text_fields.specs.Named.{all_named, fields_in}
 
 pub returns-clause-bits : goal.returns-clause-bits
 returns-clause-bits c =
-    ap bits_of (sym c.deref.ensures) ∙ (sym c.in_ok-seen.ensures.bits ∙ (bits-shown c.in_ok-seen.seen.shown.items
-    ∙ ap (λ fields. joined (fields_in fields)) (ap all_named (sym c.deref-2.ensures) ∙ c.in_ok-are_written.ensures)))
+    ap bits_of (sym c.deref.ensures.value) ∙ (sym c.in_ok-seen.ensures.bits ∙ (bits-shown c.in_ok-seen.seen.shown.items
+    ∙ ap (λ fields. joined (fields_in fields)) (ap all_named (sym c.deref-2.ensures.value) ∙ c.in_ok-are_written.ensures)))
 
 pub returns-clause-train : goal.returns-clause-train
 returns-clause-train c = λ m spells.
-    sym (ap all_named (sym c.deref-2.ensures) ∙ c.in_ok-are_written.ensures)
-    ∙ (c.in_ok-seen.ensures.train m (subst (λ bytes. SpellsTrain bytes m) (sym c.deref.ensures) spells)
-    ∙ ap (λ bytes. train_shown (length bytes) m) c.deref.ensures)
+    sym (ap all_named (sym c.deref-2.ensures.value) ∙ c.in_ok-are_written.ensures)
+    ∙ (c.in_ok-seen.ensures.train m (subst (λ bytes. SpellsTrain bytes m) (sym c.deref.ensures.value) spells)
+    ∙ ap (λ bytes. train_shown (length bytes) m) c.deref.ensures.value)
 
 pub returns-clause-track : goal.returns-clause-track
 returns-clause-track c = λ m spells.
-    sym (ap all_named (sym c.deref-2.ensures) ∙ c.in_ok-are_written.ensures)
-    ∙ (c.in_ok-seen.ensures.track m (subst (λ bytes. SpellsTrack bytes m) (sym c.deref.ensures) spells)
-    ∙ ap (λ bytes. track_shown (length bytes) m) c.deref.ensures)
+    sym (ap all_named (sym c.deref-2.ensures.value) ∙ c.in_ok-are_written.ensures)
+    ∙ (c.in_ok-seen.ensures.track m (subst (λ bytes. SpellsTrack bytes m) (sym c.deref.ensures.value) spells)
+    ∙ ap (λ bytes. track_shown (length bytes) m) c.deref.ensures.value)
