@@ -57,6 +57,7 @@ fn run_noted<
         + Net<Stream = TcpStream, Listener = TcpListener>
         + Clock
         + Files<File = File>
+        + Eprint
         + AllocGlobal,
     N: Notes + Sync,
     O: Write,
@@ -79,7 +80,7 @@ fn run_noted<
 }
 
 // Locks and reads the journals, opens the ports, begins the journals, and serves. A refusal before it serves leaves
-// the journals as they were.
+// the journals as they were. Its reason is always written, and so is the number of bytes that are taken off a journal.
 fn run_opened<
     R: Threads
         + Wait
@@ -87,6 +88,7 @@ fn run_opened<
         + Net<Stream = TcpStream, Listener = TcpListener>
         + Clock
         + Files<File = File>
+        + Eprint
         + AllocGlobal,
     N: Notes + Sync,
     O: Write,
@@ -98,13 +100,14 @@ fn run_opened<
     notes: &N,
     out: &mut O,
 ) -> Result<(), ServeFault> {
+    let reasons = StderrNotes(rt);
     let journals = match words.journal {
-        Some(journal) => Some(lock_journals(rt, given, journal, notes)?),
+        Some(journal) => Some(lock_journals(rt, given, journal, &reasons)?),
         None => None,
     };
-    let endpoints = opened(rt, given, port, words, notes)?;
+    let endpoints = opened(rt, given, port, words, &reasons)?;
     let record = match journals {
-        Some(journals) => journals.begun(rt, given, notes)?,
+        Some(journals) => journals.begun(rt, given, &reasons)?,
         None => Record::none(rt.alloc()),
     };
     serve(
