@@ -1,6 +1,6 @@
 -- The search for a danger, over all trains and all sections.
-use Rattle.std.proofs.Common.{⊎_elim, ◌&&◌, ◌+◌, ◌<◌, ◌∙◌, ◌≡◌, ◌≤◌, absurd, ap, arith, eqb-true, false, length, nat_eq, None}
-use Rattle.std.proofs.Common.{Option, option_map, slice_get, Some, subst, sym, true, ℕ}
+use Rattle.std.proofs.Common.{⊎_elim, ◌&&◌, ◌+◌, ◌<◌, ◌==◌, ◌∙◌, ◌≡◌, ◌≤◌, ap, arith, eqb-true, false, length, nat_eq, None}
+use Rattle.std.proofs.Common.{Option, option_map, refl, slice_get, Some, subst, sym, true, ℕ}
 use Rattle.std.proofs.lemmas.Bool.{and_parts, cases_eq}
 use Rattle.std.proofs.lemmas.Map.Entries.{place_from_lookup}
 use Rattle.std.proofs.lemmas.Option.{same_Some, slice_get_within}
@@ -26,7 +26,7 @@ train_at line v s i u before found y there h = record {
   runs = h.runs;
   kept = h.kept;
   here = λ t x at runs.
-      let same : u ≡ t = ap (λ p. p.0) (same_Some (sym there ∙ at)) in
+      let same : u ≡ t = ap (λ p. p.0) (same_Some _ _ (sym there ∙ at)) in
       subst (λ k. may_run_over line (view_of v) k s ≡ true → (found ≡ Some k) × ((view_of v).released s ≡ true))
       same h.here runs;
 }
@@ -73,7 +73,7 @@ place_of line v s t over = by (get nat_eq v.stretches t) refl over
 pub safe_in : (line : Line) (v : View) (s n : ℕ) (found : Option ℕ) → length v.stretches.entries ≤ n
     → IsFoundIn line v s n found → IsSafeIn line (view_of v) s
 safe_in line v s n found all h = record {
-  one_train = λ t u one two. same_Some (sym (seen t one).0 ∙ (seen u two).0);
+  one_train = λ t u one two. same_Some _ _ (sym (seen t one).0 ∙ (seen u two).0);
   released = λ t over. (seen t over).1;
 }
   where

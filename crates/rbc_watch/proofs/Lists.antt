@@ -1,5 +1,5 @@
 -- The items of a list from a place on, and up to a place, under a function of each.
-use Rattle.std.proofs.Common.{[], ◌++◌, ◌+◌, ◌<◌, ◌∷◌, ◌≡◌, ◌≤◌, absurd, ap, arith, drop, get_or, length, List, map, refl, suc}
+use Rattle.std.proofs.Common.{[], ◌++◌, ◌+◌, ◌<◌, ◌∷◌, ◌≡◌, ◌≤◌, ap, arith, drop, get_or, length, List, map, refl, suc}
 use Rattle.std.proofs.Common.{sym, take, zero, ℕ}
 
 pub map_drop : {X Y : Type 0} (f : X → Y) (xs : List X) (i : ℕ) (x : X) → i < length xs → x ≡ get_or xs i x

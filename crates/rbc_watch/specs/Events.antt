@@ -1,15 +1,17 @@
 -- The plain data of events and of the messages and replies after them.
-use Rattle.std.specs.Prelude.{Err, map, Ok, Result, ℕ}
+use Rattle.std.specs.Prelude.{Err, map, Ok, option_map, Result, ℕ}
 use Rattle.law_outside.specs.Outside as spec
 use Rattle.rbc_msgs.specs.declared.fault.MsgFault.{MsgFault}
 use Rattle.rbc_msgs.specs.Faults.{fault_number}
 use Rattle.rbc_msgs.specs.StepMessage.{step_message}
 use Rattle.rbc_msgs.specs.TrainText.{TrainText}
+use Rattle.rbc_spec.specs.Line.{Line}
 use Rattle.rbc_spec.specs.Message.{TrainMessage}
 use Rattle.rbc_spec.specs.Outcome as outcome
 use Rattle.rbc_spec.specs.World as world
 use Rattle.rbc_watch.specs.declared.event.Event.{Event}
 use Rattle.rbc_watch.specs.declared.event.Event.TheVariants as event
+use Rattle.rbc_watch.specs.declared.event.Exchange.{Exchange}
 use Rattle.rbc_watch.specs.declared.spoken.Saying.{Saying}
 use Rattle.rbc_watch.specs.declared.spoken.Spoken.{Spoken}
 use Rattle.rbc_watch.specs.declared.spoken.Word.{Word}
@@ -41,3 +43,7 @@ spoken_of o = record {
   sayings = map saying_of o.sayings.items;
   words = map word_of o.words.items;
 }
+
+-- the view after one more event, with the messages and replies after it
+abbrev pub sees_exchange : Line → Exchange → spec.View → spec.View
+sees_exchange line x v = spec.sees line (event_of x.event) (option_map spoken_of x.spoken) v

@@ -1,5 +1,5 @@
 -- Whether the promise holds after each event of a list.
-use Rattle.std.specs.Prelude.{◌<◌, ◌≤◌, Err, length, List, map, Ok, option_map, Result, take, ⊤, ℕ}
+use Rattle.std.specs.Prelude.{◌+◌, ◌<◌, ◌≡◌, ◌≤◌, Err, length, List, map, Ok, option_map, Result, take, ⊤, ℕ}
 use Rattle.law_outside.specs.Outside.{IsSafeOutside, nothing_seen, sees_all, View}
 use Rattle.rbc_spec.specs.Line.{Line}
 use Rattle.rbc_watch.specs.Dangers.{Breaks}
@@ -25,11 +25,16 @@ abbrev pub IsBroken : Line → View → WatchFault → Type 0
 IsBroken line v fault.Memory = ⊤
 IsBroken line v (fault.Broken danger) = Breaks line v danger
 
--- Ok: the promise holds after each event. A breach after the first `event` events: the promise holds after each
--- shorter list, and the danger is there then.
+-- the breach is a danger in the view after so many events and one more, unless memory ran out
+abbrev pub IsBreach : Line → ℕ → View → Breach → Type 0
+IsBreach line before v breach.Memory = ⊤
+IsBreach line before v (breach.Broken n danger) = (n ≡ before) × Breaks line v danger
+
+-- Ok: the promise holds after each event. A breach with n events before it: the promise holds after each of these, and
+-- the danger is there after one more.
 abbrev pub IsVerdict : {X : Type 0} → Line → List Exchange → Result X Breach → Type 0
 IsVerdict line exchanges (Ok done) = IsSafeUpTo line exchanges (length exchanges)
 IsVerdict line exchanges (Err breach.Memory) = ⊤
-IsVerdict line exchanges (Err (breach.Broken event danger)) =
-    (event ≤ length exchanges) × ((n : ℕ) → n < event → IsSafeOutside line (view_after line (take n exchanges)))
-    × Breaks line (view_after line (take event exchanges)) danger
+IsVerdict line exchanges (Err (breach.Broken n danger)) =
+    (n < length exchanges) × IsSafeUpTo line exchanges n
+    × Breaks line (view_after line (take (n + 1) exchanges)) danger

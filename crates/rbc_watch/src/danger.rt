@@ -21,7 +21,6 @@ pub enum Danger {
 
 impl View {
     /// Finds a danger in the view. Ok if and only if there is none.
-    #[tactic(auto, using(crate::proofs::Dangers::safe_outside))]
     pub(crate) fn check(&self, line: &Line) -> Result<(), Danger>
         ensures safe { OnOk result (spec.IsSafeOutside line.now (view_of self.now)) }
         ensures danger { IfErr result (Breaks line.now (view_of self.now)) }

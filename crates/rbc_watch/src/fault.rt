@@ -39,8 +39,8 @@ pub enum Breach {
     Memory,
     /// The promise is broken after an event for the first time.
     Broken {
-        /// How many events the list has up to this one.
-        event: usize,
+        /// The number of events before this one.
+        before: usize,
         danger: Danger,
     },
 }

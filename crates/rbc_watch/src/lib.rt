@@ -9,11 +9,11 @@
 //! ```
 //! let mut watch = Watch::new(alloc, &line)?;
 //! for exchange in &exchanges {
-//!     watch = watch.next(&exchange.event, exchange.spoken.as_ref())?;
+//!     watch = watch.next(exchange)?;
 //! }
 //! ```
 //!
-//! [`watch_all`] is this loop. It returns the number of the first event after which the promise is broken.
+//! [`watch_all`] is this loop. It says how many events are before the first one that breaks the promise.
 //!
 //! Bodies and proofs may change. The clauses of public functions have to stay: the crates above depend on them.
 #![tactic(auto)]

@@ -5,12 +5,11 @@ ghost use Rattle.law_outside.specs.Outside as spec;
 ghost use Rattle.rbc_msgs.specs.StepMessage as message;
 ghost use Rattle.rbc_msgs.specs.StepMessage.{step_body};
 ghost use Rattle.rbc_place.specs.Places.{place_of};
-ghost use Rattle.rbc_spec.specs.Line as one_line;
 ghost use Rattle.rbc_spec.specs.Message as said;
 ghost use Rattle.rbc_spec.specs.Place as placed;
 ghost use Rattle.rbc_spec.specs.Sections.{section_count};
 ghost use Rattle.rbc_watch.specs.Events.{event_of};
-ghost use Rattle.rbc_watch.specs.Stretches.{stretch_of};
+ghost use Rattle.rbc_watch.specs.Stretches.{front_end_with, less_granted, stretch_of};
 
 use crate::event::Event;
 use crate::spoken::Saying;
@@ -108,8 +107,7 @@ impl Stretch {
 
     /// The rest after the request of this centre with this stamp was granted.
     fn shortened(self, c: u8, stamp: TTrain, place: Place) -> Stretch
-        ensures { (line : one_line.Line) (position : placed.Position) → stretch_of result
-            ≡ spec.takes_back line c (said.ShorteningGranted stamp position) (place_of place) (stretch_of self) }
+        ensures { stretch_of result ≡ less_granted c stamp (place_of place) (stretch_of self) }
     {
         match self.asked {
             Some(asked)
@@ -209,11 +207,20 @@ fn front_end(line: &Line, place: Place) -> Option<u32>
 {
     let mut end = None;
     for s in 0..line.section_count() {
-        if is_on(line, place.track, u32::from(s)) && 10 * section_start(line, s) < place.front {
-            end = Some(section_end(line, u32::from(s)));
-        }
+        end = farther(line, place, s, end);
     }
     end
+}
+
+/// The end of the section if the front is in advance of its start, else that of an earlier section.
+fn farther(line: &Line, place: Place, s: u16, before: Option<u32>) -> Option<u32>
+    ensures { result ≡ front_end_with line.now (place_of place) s before }
+{
+    if is_on(line, place.track, u32::from(s)) && 10 * section_start(line, s) < place.front {
+        Some(section_end(line, u32::from(s)))
+    } else {
+        before
+    }
 }
 
 /// The stretch of a start of mission from this place, by a message with this stamp.

@@ -5,13 +5,13 @@ ghost use Rattle.law_outside.specs.Outside as spec;
 ghost use Rattle.rbc_msgs.specs.StepMessage as message;
 ghost use Rattle.rbc_msgs.specs.StepMessage.{step_body, step_message};
 ghost use Rattle.rbc_spec.specs.Outcome.{Done};
-ghost use Rattle.rbc_watch.specs.Events.{event_of, saying_of, spoken_of, word_of};
+ghost use Rattle.rbc_watch.specs.Events.{event_of, saying_of, sees_exchange, word_of};
 ghost use Rattle.rbc_watch.specs.Seen.{released_on, view_of};
 ghost use Rattle.rbc_watch.specs.Steps.{less, started_at};
 ghost use Rattle.rbc_watch.specs.Stretches.{stretch_of};
 
-use crate::event::Event;
-use crate::spoken::{Saying, Spoken, Word};
+use crate::event::{Event, Exchange};
+use crate::spoken::{Saying, Word};
 use crate::stretch::{Stretch, accepted, begun};
 use crate::view::View;
 use rbc_line::Line;
@@ -23,16 +23,11 @@ use std::alloc::AllocError;
 
 impl View {
     /// An event, and the messages and replies after it.
-    pub(crate) fn see(
-        &mut self,
-        line: &Line,
-        event: &Event,
-        spoken: Option<&Spoken>,
-    ) -> Result<(), AllocError>
-        ensures { OnOk result (view_of self.new
-            ≡ spec.sees line.now (event_of event.now) (option_map (λ o. spoken_of o.now) spoken.entry) (view_of self.old)) }
+    pub(crate) fn see(&mut self, line: &Line, exchange: &Exchange) -> Result<(), AllocError>
+        ensures { OnOk result (view_of self.new ≡ sees_exchange line.now exchange.now (view_of self.old)) }
     {
-        let Some(spoken) = spoken else {
+        let event = &exchange.event;
+        let Some(spoken) = &exchange.spoken else {
             return Ok(());
         };
         if spoken.is_heard {
@@ -180,20 +175,20 @@ impl View {
             ≡ spec.all_heard (event_of event.now) (map word_of words.now) (view_of self.old)) }
     {
         for word in words {
-            self.reply(event, *word)?;
+            self.reply(event, word)?;
         }
         Ok(())
     }
 
     /// A reply to the interlocking.
-    fn reply(&mut self, event: &Event, word: Word) -> Result<(), AllocError>
+    fn reply(&mut self, event: &Event, word: &Word) -> Result<(), AllocError>
         ensures { OnOk result (view_of self.new
-            ≡ spec.hears (event_of event.now) (word_of word) (view_of self.old)) }
+            ≡ spec.hears (event_of event.now) (word_of word.now) (view_of self.old)) }
     {
         match word {
-            Word::Done(s) => self.finish(event, s),
+            Word::Done(s) => self.finish(event, *s),
             Word::Told(s) => {
-                self.take_back(s);
+                self.take_back(*s);
                 Ok(())
             }
             Word::Asked(_) | Word::NotHome(_) => Ok(()),

@@ -5,8 +5,8 @@ use Rattle.rbc_watch.proofs.view.View.wait.Goals as goal
 use Rattle.rbc_watch.specs.Seen.{view_of}
 use Rattle.rbc_watch.specs.Stretches.{stretch_of}
 
-pub returns-in_ok-insert : goal.returns-in_ok-insert
-returns-in_ok-insert c =
+pub returns : goal.returns
+returns c =
     ap (λ (f : ℕ → ℕ → Option spec.Stretch). record (view_of c.args.self.now) { start = f })
     (mapped_put_pair stretch_of c.args.self.now.starts c.insert.new.self c.args.nid_engine c.args.c (Some c.args.x)
     c.in_ok-insert.ensures.updates)
