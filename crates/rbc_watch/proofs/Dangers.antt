@@ -1,6 +1,6 @@
 -- The search for a danger, over all trains and all sections.
-use Rattle.std.proofs.Common.{⊎_elim, ◌&&◌, ◌+◌, ◌<◌, ◌==◌, ◌∙◌, ◌≡◌, ◌≤◌, ap, arith, eqb-true, false, length, nat_eq, None}
-use Rattle.std.proofs.Common.{Option, option_map, refl, slice_get, Some, subst, sym, true, ℕ}
+use Rattle.std.proofs.Common.{⊎_elim, ◌&&◌, ◌+◌, ◌<◌, ◌==◌, ◌∙◌, ◌≡◌, ◌≤◌, ap, arith, eqb-true, false, length}
+use Rattle.std.proofs.Common.{nat_eq, None, Option, option_map, refl, slice_get, Some, subst, sym, true, ℕ}
 use Rattle.std.proofs.lemmas.Bool.{and_parts, cases_eq}
 use Rattle.std.proofs.lemmas.Map.Entries.{place_from_lookup}
 use Rattle.std.proofs.lemmas.Option.{same_Some, slice_get_within}
@@ -42,7 +42,10 @@ none_at line v s i found none runs = record {
 -- ## The first places
 
 pub none_found : (line : Line) (v : View) (s : ℕ) → IsFoundIn line v s 0 None
-none_found line v s = record { runs = tt; each = λ i t x lt at over. absurd (let never : ⊥ = omega (arith, lt) in never) }
+none_found line v s = record {
+  runs = tt;
+  each = λ i t x lt at over. absurd (let never : ⊥ = omega (arith, lt) in never);
+}
 
 pub found_more : (line : Line) (v : View) (s n : ℕ) (before found : Option ℕ) → IsFoundIn line v s n before
     → IsFoundAt line v s n before found → IsFoundIn line v s (n + 1) found

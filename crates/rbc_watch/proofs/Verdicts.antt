@@ -51,19 +51,19 @@ safe_more line xs i before here n le = ⊎_elim
 
 -- a monitor that has watched the first i events
 pub record IsWatched (line : Line) (xs : List Exchange) (w : Watch) (i : ℕ) : Type 0 where
-  pub line : line_of w ≡ line
+  pub same : line_of w ≡ line
   pub seen : seen_by w ≡ view_after line (take i xs)
   pub safe : IsSafeUpTo line xs i
 
 pub begins : (line : Line) (xs : List Exchange) (w : Watch) → line_of w ≡ line → seen_by w ≡ nothing_seen
     → IsWatched line xs w 0
-begins line xs w same none = record { line = same; seen = none; safe = safe_at_first line xs }
+begins line xs w same none = record { same = same; seen = none; safe = safe_at_first line xs }
 
 seen_next : (line : Line) (xs : List Exchange) (w new : Watch) (i : ℕ) (x : Exchange) → i < length xs
     → x ≡ get_or xs i x → IsWatched line xs w i → (v : View) → v ≡ sees_exchange (line_of w) x (seen_by w)
     → v ≡ view_after line (take (i + 1) xs)
 seen_next line xs w new i x lt at h v sees =
-    sees ∙ ap (λ (l : Line). sees_exchange l x (seen_by w)) h.line ∙ ap (sees_exchange line x) h.seen
+    sees ∙ ap (λ (l : Line). sees_exchange l x (seen_by w)) h.same ∙ ap (sees_exchange line x) h.seen
     ∙ sym (view_more line xs i x lt at)
 
 pub goes_on : (line : Line) (xs : List Exchange) (w new : Watch) (i : ℕ) (x : Exchange) → i < length xs
@@ -73,22 +73,22 @@ pub goes_on : (line : Line) (xs : List Exchange) (w new : Watch) (i : ℕ) (x : 
 goes_on line xs w new i x lt at h same sees safe =
     let seen = seen_next line xs w new i x lt at h (seen_by new) sees in
     record {
-      line = same ∙ h.line;
+      same = same ∙ h.same;
       seen = seen;
-      safe = safe_more line xs i h.safe (subst₂ IsSafeOutside (same ∙ h.line) seen safe);
+      safe = safe_more line xs i h.safe (subst₂ (λ (l : Line) (v : View). IsSafeOutside l v) (same ∙ h.same) seen safe);
     }
 
 pub ends : (line : Line) (xs : List Exchange) (w : Watch) (i : ℕ) → length xs ≤ i → IsWatched line xs w i
     → IsSafeUpTo line xs (length xs)
 ends line xs w i all h n le = h.safe n (omega (arith, all, le))
 
-pub breaks : (line : Line) (xs : List Exchange) (w : Watch) (i : ℕ) (x : Exchange) (why : Breach) → i < length xs
+pub breaks : {X : Type 0} (line : Line) (xs : List Exchange) (w : Watch) (i : ℕ) (x : Exchange) (why : Breach) → i < length xs
     → x ≡ get_or xs i x → IsWatched line xs w i → IsBreach (line_of w) i (sees_exchange (line_of w) x (seen_by w)) why
-    → IsVerdict {X = Unit {0}} line xs (Err why)
+    → IsVerdict {X = X} line xs (Err why)
 breaks line xs w i x breach.Memory lt at h why = tt
 breaks line xs w i x (breach.Broken n danger) lt at h why =
     let seen = seen_next line xs w w i x lt at h (sees_exchange (line_of w) x (seen_by w)) refl in
     let is : Breaks line (view_after line (take (i + 1) xs)) danger =
-    subst₂ (λ (l : Line) (v : View). Breaks l v danger) h.line seen why.1 in
+    subst₂ (λ (l : Line) (v : View). Breaks l v danger) h.same seen why.1 in
     subst (λ (k : ℕ). (k < length xs) × IsSafeUpTo line xs k × Breaks line (view_after line (take (k + 1) xs)) danger)
     (sym why.0) (lt, h.safe, is)
