@@ -1,7 +1,8 @@
 //! Plays a scenario, and finds the first expectation that does not hold.
 
-ghost use Rattle.std.specs.Prelude.{◌≡◌, IfOk, Ok, OnOk};
+ghost use Rattle.std.specs.Prelude.{◌≡◌, IfOk, OnOk};
 ghost use Rattle.rbc_spec.specs.World.{centre_of, world_step};
+ghost use Rattle.rbc_world.specs.Answers.{Gives};
 ghost use Rattle.rbc_world.specs.Views.{answer_of, event_of};
 ghost use Rattle.rbc_world.specs.World.{line_of, state_of};
 ghost use Rattle.text_scenario.specs.Holds.{IsMove, IsVerdict};
@@ -96,8 +97,8 @@ fn play_one(
 // Takes the step of an event.
 fn take(world: &mut World, last: &mut Last, event: &WorldEvent) -> Result<(), StepFault>
     ensures line { line_of world.new ≡ line_of world.old }
-    ensures step { OnOk result (world_step (line_of world.old) (state_of world.old) (event_of event.now)
-        ≡ Ok (answer_of last.new.answer, state_of world.new)) }
+    ensures step { Gives (λ u. (answer_of last.new.answer, state_of world.new)) result
+        (world_step (line_of world.old) (state_of world.old) (event_of event.now)) }
     ensures centre { OnOk result (last.new.centre ≡ centre_of (event_of event.now)) }
 {
     world.step_to(event, &mut last.answer)?;
