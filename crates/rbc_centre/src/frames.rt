@@ -83,6 +83,16 @@ impl Frames {
     pub fn is_same(&self, other: &Frames) -> bool
         ensures { IsTrue result ↔ (frames_to self.now ≡ frames_to other.now) }
     {
+        if self.is_empty() && other.is_empty() {
+            return true;
+        }
+        self.is_same_to_each(other)
+    }
+
+    // Compares the frames to each centre.
+    fn is_same_to_each(&self, other: &Frames) -> bool
+        ensures { IsTrue result ↔ (frames_to self.now ≡ frames_to other.now) }
+    {
         for to in 0..MOST_CENTRES as u8 {
             if !same_frames(self.to(to).as_slice(), other.to(to).as_slice()) {
                 return false;

@@ -71,6 +71,16 @@ fn same_words(words: &[Word], others: &[Word]) -> bool
     words == others
 }
 
+// Whether the replies of two outcomes are the same.
+fn same_replies(one: &Outcome, other: &Outcome) -> bool
+    ensures { IsTrue result ↔ ((outcome_of one.now).words ≡ (outcome_of other.now).words) }
+{
+    if one.word == other.word && one.told.is_same(&other.told) {
+        return true;
+    }
+    same_words(one.words().as_slice(), other.words().as_slice())
+}
+
 // Whether the answer of the link is the same.
 fn same_link(link: Option<LinkAnswer>, other: Option<LinkAnswer>) -> bool
     ensures { IsTrue result ↔ (option_map answer_of link ≡ option_map answer_of other) }
@@ -93,7 +103,7 @@ impl Outcome {
         self.stamp == other.stamp
             && same_sayings(self.sayings.as_slice(), other.sayings.as_slice())
             && self.frames.is_same(&other.frames)
-            && same_words(self.words().as_slice(), other.words().as_slice())
+            && same_replies(self, other)
             && same_link(self.link, other.link)
             && same_silence(self.silence, other.silence)
     }

@@ -1,5 +1,5 @@
 use Rattle.std.proofs.Common.{arith, refl}
-use Rattle.rbc_centre.proofs.frames.Frames.is_same.Goals as goal
+use Rattle.rbc_centre.proofs.frames.Frames.is_same_to_each.Goals as goal
 use Rattle.rbc_centre.proofs.Rows.{same_all}
 
 pub returns : goal.returns

@@ -1,5 +1,5 @@
 use Rattle.std.proofs.Common.{◌<◌, ◌≡◌, ℕ}
-use Rattle.rbc_centre.proofs.frames.Frames.is_same.Given as goal
+use Rattle.rbc_centre.proofs.frames.Frames.is_same_to_each.Given as goal
 use Rattle.rbc_centre.specs.Sent.{frames_to}
 
 abbrev pub invariant-loop-to : goal.invariant-loop-to
