@@ -1,4 +1,4 @@
-ghost use Rattle.std.specs.Prelude.{◌≡◌, ◌+◌, ◌^◌, ◌<◌, ◌≤◌, true, []};
+ghost use Rattle.std.specs.Prelude.{◌≡◌, ◌+◌, ◌^◌, ◌<◌, ◌≤◌, []};
 ghost use Rattle.rbc_allocation.specs.Marks.{marked};
 
 use arrayvec::ArrayVec;
@@ -62,14 +62,6 @@ impl Told {
             count: self.count,
             marks: self.marks,
         }
-    }
-
-    /// Whether both were made of the same bits. Then they are the same sections.
-    #[inline(always)]
-    pub fn is_same(&self, other: &Told) -> bool
-        ensures { result ≡ true → self.now ≡ other.now }
-    {
-        self.first == other.first && self.count == other.count && self.marks == other.marks
     }
 
     /// The sections.

@@ -75,7 +75,7 @@ fn same_words(words: &[Word], others: &[Word]) -> bool
 fn same_replies(one: &Outcome, other: &Outcome) -> bool
     ensures { IsTrue result ↔ ((outcome_of one.now).words ≡ (outcome_of other.now).words) }
 {
-    if one.word == other.word && one.told.is_same(&other.told) {
+    if one.word == other.word && one.told.sections() == other.told.sections() {
         return true;
     }
     same_words(one.words().as_slice(), other.words().as_slice())
