@@ -1,2 +1,3 @@
 pub mod Printed
+pub mod Safe
 pub mod Named

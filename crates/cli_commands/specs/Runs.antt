@@ -1,9 +1,10 @@
 -- The effects of the commands that read a line file: the print of a run, and the contents of their files for it.
 use Rattle.std.specs.Prelude.{◌≡◌, ◌≢◌, ◌⊎◌, Err, List, None, Ok, Option, Result, Some, ℕ}
 use Rattle.cli_commands.specs.Running.Printed.{LeavesPrint}
+use Rattle.cli_commands.specs.Running.Safe.{LeavesSafePrint}
 use Rattle.rbc_line.specs.declared.fault.LineFault.TheVariants as bad
 use Rattle.rbc_line.specs.Faults.{Applies, IsLowest, Names}
-use Rattle.rbc_spec.specs.Line.{Line}
+use Rattle.rbc_spec.specs.Line.{IsLine, Line}
 use Rattle.text_script.specs.declared.play.PlayFault.TheVariants.{Refused}
 use Rattle.text_script.specs.declared.script.Entry.{Entry}
 use Rattle.text_script.specs.declared.script.ScriptFault.TheVariants.{Form}
@@ -16,9 +17,9 @@ use Rattle.text_script.specs.Script.{rows}
 
 -- For files, `gives name text` means that they may give this text, or none, for this name.
 
--- the files gave a line file without faults, and it names this line
+-- the files gave a line file without faults, and it names this line, which keeps the rules of a line
 abbrev pub GivesLine : (List ℕ → Option (List ℕ) → Type 0) → List ℕ → Line → Type 0
-GivesLine gives name line = (text : List ℕ) × gives name (Some text) × Names text line
+GivesLine gives name line = ((text : List ℕ) × gives name (Some text) × Names text line) × IsLine line
 
 -- no line was read: the files gave no text, or a text whose lowest fault is this one; nothing is claimed of a text
 -- for which memory ran out
@@ -66,6 +67,17 @@ LeavesRun gives file script (Err (fault.Step why)) before after =
 LeavesRun gives file script (Err fault.Write) before after =
     (line : Line) × (entries : List Entry) × GivesRun gives file script line entries
 LeavesRun gives file script (Err why) before after = (after ≡ before) × GivesNoRun gives file script why
+
+-- The promise of `run` to the world outside: the appended print is safe, complete or up to the event whose step is
+-- refused
+abbrev pub LeavesSafeRun : (List ℕ → Option (List ℕ) → Type 0) → List ℕ → Result (Unit {0}) Fault
+    → Option (List ℕ) → Option (List ℕ) → Type 0
+LeavesSafeRun gives file (Ok done) before after =
+    (line : Line) × GivesLine gives file line × LeavesSafePrint {F = PrintFault} line (Ok done) before after
+LeavesSafeRun gives file (Err (fault.Step refused.Memory)) before after = Unit {0}
+LeavesSafeRun gives file (Err (fault.Step why)) before after =
+    (line : Line) × GivesLine gives file line × LeavesSafePrint {F = PrintFault} line (Err (Refused why)) before after
+LeavesSafeRun gives file (Err why) before after = Unit {0}
 
 -- The effect of `check`: a line was given, or nothing is written. The printed text of a line is not specified.
 abbrev pub LeavesCheck : (List ℕ → Option (List ℕ) → Type 0) → List ℕ → Result (Unit {0}) Fault

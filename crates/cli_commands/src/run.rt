@@ -1,5 +1,6 @@
 ghost use Rattle.std.specs.Prelude.{IfErr, IfOk};
 ghost use Rattle.cli_commands.specs.Runs.{GivesEntries, GivesLine, GivesNoEntries, GivesNoLine, LeavesCheck, LeavesRun};
+ghost use Rattle.cli_commands.specs.Runs.{LeavesSafeRun};
 
 use crate::files::Files;
 use crate::running::print_buffered;
@@ -12,8 +13,24 @@ use text_script::print::print_counts;
 use text_script::script::{Entry, ScriptFault, script_of};
 use text_script::status::{Fault, PrintFault};
 
-/// Runs a script on a line. Prints each event with its answer, and at the end the line.
+/// Runs a script on a line. Prints each event with its answer, and at the end the line. The print is safe to the
+/// outside (`outside`), as that of `print_played`.
+#[tactic(auto, using(crate::proofs::RunningLemmas::Safe::safe_run))]
 pub fn run<'a, F: Files, O: Write>(
+    alloc: Global,
+    file: &'a str,
+    script: &'a str,
+    files: &F,
+    out: &mut O,
+) -> Result<(), Fault<'a>>
+    ensures print { LeavesRun (F.may_give files.now) file.now script.now result (O.contents out.old)
+        (O.contents out.new) }
+    ensures outside { LeavesSafeRun (F.may_give files.now) file.now result (O.contents out.old) (O.contents out.new) }
+{
+    run_script(alloc, file, script, files, out)
+}
+
+fn run_script<'a, F: Files, O: Write>(
     alloc: Global,
     file: &'a str,
     script: &'a str,

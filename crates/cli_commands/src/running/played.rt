@@ -1,4 +1,5 @@
 ghost use Rattle.cli_commands.specs.Running.Printed.{LeavesPrint};
+ghost use Rattle.cli_commands.specs.Running.Safe.{LeavesSafePrint};
 
 use crate::running::printer::Printer;
 use rbc_line::Line;
@@ -11,7 +12,25 @@ use text_script::status::PrintFault;
 
 /// Plays the entries of a script on the line from its beginning. Prints each entry, its answer, and at the end the
 /// line. It stops at the first event whose step is refused: the print then ends with this event.
+///
+/// The print is safe to the outside (`outside`). By its messages and replies no two trains may run over one section,
+/// and none over a section that the interlocking has not released, or has taken back.
+#[tactic(auto, using(crate::proofs::RunningLemmas::Safe::safe_print))]
 pub fn print_played<W: Write>(
+    alloc: Global,
+    line: &Line,
+    entries: &[Entry],
+    out: &mut W,
+) -> Result<(), PlayFault<PrintFault>>
+    ensures print { LeavesPrint line.now entries.now result (W.contents out.old) (W.contents out.new) }
+    ensures outside { LeavesSafePrint line.now result (W.contents out.old) (W.contents out.new) }
+{
+    // No effect at run time. The proof reads from this call that the line keeps the rules of a line.
+    line.centre_count();
+    print_entries(alloc, line, entries, out)
+}
+
+fn print_entries<W: Write>(
     alloc: Global,
     line: &Line,
     entries: &[Entry],

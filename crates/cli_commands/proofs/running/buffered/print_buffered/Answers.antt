@@ -16,7 +16,7 @@ returns g c =
     let begun = subst (λ b. LeavesPrint c.args.line.now c.args.entries.now c.print_played-done.result
     (append_known (named b.out.ghost_name (bytes b.out.now)) first.buf.items)
     (append_known (named print.inner.out.ghost_name (bytes print.inner.out.now)) print.buf.items))
-    c.in-Ok.ensures.inner c.print_played-done.ensures in
+    c.in-Ok.ensures.inner c.print_played-done.ensures.print in
     let ended = subst (λ b. Keeps
     (append_known (named print.inner.out.ghost_name (bytes print.inner.out.now)) print.buf.items)
     (append_known (named b.out.ghost_name (bytes b.out.now)) last.buf.items))

@@ -1,6 +1,6 @@
 -- a step was refused after the print of all entries before its event
 use Rattle.cli_commands.proofs.Refusals.{leaves_refused}
-use Rattle.cli_commands.proofs.run.run.Goals as goal
+use Rattle.cli_commands.proofs.run.run_script.Goals as goal
 
 pub returns-in-Err-Refused : goal.returns-in-Err-Refused
 returns-in-Err-Refused g c =
