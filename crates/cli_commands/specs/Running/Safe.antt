@@ -1,5 +1,5 @@
--- The promise to the world outside, of a print: it is the rows of events and answers, and by the messages and replies
--- of these answers the promise holds after each of them. No centre, no step and no frame occurs here.
+-- The promise to the world outside, of a print. Its lines are those of events and answers. By the messages and replies
+-- of these answers, the promise holds after each of them. No centre, no step and no frame occurs here.
 use Rattle.std.specs.Io.KnownBytes.{Appends}
 use Rattle.std.specs.Prelude.{[], ◌++◌, ◌∷◌, ◌≡◌, codes, Err, List, map, Ok, Option, Result, ℕ}
 use Rattle.law_outside.specs.Outside.{IsSafeOutside, nothing_seen, sees_all, spoken_of}
@@ -19,14 +19,14 @@ pub data Part : Type 0 where
   Shown : (state : LineState) → (trains : List ℕ) → Part
   Stepped : (event : WorldEvent) → (answer : Answer) → Part
 
--- the rows of a part
+-- the lines of a part
 abbrev pub IsPartPrint : Line → Part → List ℕ → Type 0
 IsPartPrint line (Shown v trains) text = text ≡ codes "> show\n" ++ state_text line v trains
 IsPartPrint line (Stepped event answer) text =
     (rows : List ℕ) × IsAnswerPrint line (centre_of (event_of event)) answer rows
     × (text ≡ event_row line event ++ rows)
 
--- the rows of parts, in order
+-- the lines of parts, in order
 abbrev pub ArePartPrints : Line → List Part → List ℕ → Type 0
 ArePartPrints line [] text = text ≡ []
 ArePartPrints line (part ∷ parts) text =
@@ -47,13 +47,13 @@ abbrev pub AreSafeParts : Line → List Part → Type 0
 AreSafeParts line parts = (first rest : List Part) → parts ≡ first ++ rest
     → IsSafeOutside line (sees_all line (events_in first) (map spoken_of (answers_in first)) nothing_seen)
 
--- A safe print: the rows of safe parts, and then the line
+-- A safe print: the lines of safe parts, and then the line
 abbrev pub IsSafePrint : Line → List ℕ → Type 0
 IsSafePrint line text =
     (parts : List Part) × (rows : List ℕ) × (state : LineState) × (trains : List ℕ) × ArePartPrints line parts rows
     × AreSafeParts line parts × (text ≡ rows ++ state_text line state trains)
 
--- A safe print that stops at an event: the rows of safe parts, and then that event without an answer
+-- A safe print that stops at an event: the lines of safe parts, and then that event without an answer
 abbrev pub IsSafePrintUntil : Line → List ℕ → Type 0
 IsSafePrintUntil line text =
     (parts : List Part) × (rows : List ℕ) × (event : WorldEvent) × ArePartPrints line parts rows

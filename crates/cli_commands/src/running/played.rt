@@ -13,8 +13,8 @@ use text_script::status::PrintFault;
 /// Plays the entries of a script on the line from its beginning. Prints each entry, its answer, and at the end the
 /// line. It stops at the first event whose step is refused: the print then ends with this event.
 ///
-/// The print is safe to the outside (`outside`). By its messages and replies no two trains may run over one section,
-/// and none over a section that the interlocking has not released, or has taken back.
+/// The print is safe to the outside (`outside`). By its messages and replies, no two trains may run over one section.
+/// None may run over a section that the interlocking has not released, or has taken back.
 #[tactic(auto, using(crate::proofs::RunningLemmas::Safe::safe_print))]
 pub fn print_played<W: Write>(
     alloc: Global,
