@@ -21,7 +21,7 @@ TOKEN = re.compile(
 )
 CONSTANT = re.compile(r"\bconst (?!BODIES\b)(\w+)\s*:[^=]*=(?!\s*\w+ \{)")
 # Kinds and texts that only frames between centres need: no frame is on a connection of a train
-OF_FRAMES = {"Range", "Decimetres", "%s%s.%s m", "-"}
+OF_FRAMES = {"Range", "Decimetres", "%s%s.%s %s", "-"}
 
 
 class Unreadable(Exception):
