@@ -12,14 +12,14 @@ use crate::row_fault::RowFault;
 use crate::statement::{Said, said_in};
 use crate::trial::{Step, Verdict, play};
 use rbc_line::Line;
-use rbc_world::{Answer, LineView, World, WorldEvent};
+use rbc_world::{Answer, LineView, StepFault, World, WorldEvent};
 use std::alloc::Global;
 use std::io::Write;
 use std::str::from_utf8;
 use text_script::print::{print_answer, print_section, print_train};
 use text_script::script::Entry;
 use text_script::status::PrintFault;
-use text_words::line_in_words;
+use text_words::{Told, line_in_words};
 
 /// Reads and plays the scenario of this name. Prints the first difference, or the first line that is refused. The
 /// result is whether there is none.
@@ -113,14 +113,11 @@ impl End<'_> {
         match verdict {
             Verdict::Passed => Ok(true),
             Verdict::Refused(k, fault) => {
-                let row = row_at(self.steps, k);
-                writeln!(out, "{name} line {row}: step refused {}", fault.number())?;
+                print_refusal(out, name, row_at(self.steps, k), fault)?;
                 Ok(false)
             }
             Verdict::Differs(k) => {
-                let row = row_at(self.steps, k);
-                let expected = text.split('\n').nth(row.saturating_sub(1)).unwrap_or("");
-                writeln!(out, "{name} line {row}: {}", expected.trim())?;
+                print_expected(out, name, row_at(self.steps, k), text)?;
                 self.print_difference(out, k)?;
                 Ok(false)
             }
@@ -157,6 +154,30 @@ impl End<'_> {
     }
 }
 
+// Prints that the step of a line is refused.
+fn print_refusal<W: Write>(
+    out: &mut W,
+    name: &str,
+    row: usize,
+    fault: StepFault,
+) -> Result<(), PrintFault> {
+    let number = fault.number();
+    writeln!(out, "{name} line {row}: step refused {number}")?;
+    Ok(())
+}
+
+// Prints a line of a text.
+fn print_expected<W: Write>(
+    out: &mut W,
+    name: &str,
+    row: usize,
+    text: &str,
+) -> Result<(), PrintFault> {
+    let expected = text.split('\n').nth(row.saturating_sub(1)).unwrap_or("").trim();
+    writeln!(out, "{name} line {row}: {expected}")?;
+    Ok(())
+}
+
 // The number of the line of a step.
 fn row_at(steps: &[Step], k: usize) -> usize {
     match steps.get(k) {
@@ -182,18 +203,17 @@ fn print_came<W: Write>(
 ) -> Result<(), PrintFault> {
     for row in from_utf8(came).unwrap_or("").lines() {
         match line_in_words(alloc, line, row)? {
-            Some(told) => {
-                let between = if told.who.is_empty() { "" } else { ": " };
-                writeln!(
-                    out,
-                    "  came: {}{between}{}",
-                    told.who.as_str(),
-                    told.what.as_str()
-                )?;
-            }
+            Some(told) => print_told(out, &told)?,
             None => writeln!(out, "  came: {row}")?,
         }
     }
+    Ok(())
+}
+
+fn print_told<W: Write>(out: &mut W, told: &Told) -> Result<(), PrintFault> {
+    let who = told.who.as_str();
+    let between = if who.is_empty() { "" } else { ": " };
+    writeln!(out, "  came: {who}{between}{}", told.what.as_str())?;
     Ok(())
 }
 
