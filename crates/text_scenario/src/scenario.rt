@@ -173,7 +173,11 @@ fn print_expected<W: Write>(
     row: usize,
     text: &str,
 ) -> Result<(), PrintFault> {
-    let expected = text.split('\n').nth(row.saturating_sub(1)).unwrap_or("").trim();
+    let expected = text
+        .split('\n')
+        .nth(row.saturating_sub(1))
+        .unwrap_or("")
+        .trim();
     writeln!(out, "{name} line {row}: {expected}")?;
     Ok(())
 }
