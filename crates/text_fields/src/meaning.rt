@@ -1,6 +1,6 @@
 //! The meaning and the unit of a shown field.
 
-ghost use Rattle.std.specs.Prelude.{◌≡◌, ◌/◌, ◌%◌, [], codes};
+ghost use Rattle.std.specs.Prelude.{◌≡◌, ◌==◌, ◌/◌, ◌%◌, [], codes, if◌then◌else◌};
 ghost use Rattle.text_fields.specs.Senses.{length_by, length_unit, meaning_by, or_unknown, sense_of, signed_length};
 ghost use Rattle.text_fields.specs.Senses.{speed_by, told, unit_by};
 
@@ -54,12 +54,13 @@ pub(crate) fn meaning_of(side: Side, shown: Shown) -> Meaning
 {
     let value = shown.value;
     match shown.field.kind {
-        Kind::Number | Kind::Range(..) => of_form(MeaningForm::Itself),
+        Kind::Number => of_form(MeaningForm::Itself),
+        Kind::Range(..) => of_form(MeaningForm::Itself),
         Kind::Message => in_words(name_of_message(value)),
         Kind::Packet => in_words(name_of_packet(side, value)),
         Kind::Count(unit) => amount(value, 1, unit),
         Kind::Words(words) => in_words(words_or(words, value, REFUSED)),
-        Kind::Only(only, words) => in_words(if value == only { words } else { REFUSED }),
+        Kind::Only(only, words) => in_words(words_of_only(only, words, value)),
         Kind::TrainTime => or_unknown(value == UNKNOWN_TIME, amount(value, 10, "ms on board")),
         Kind::CentreTime => or_unknown(value == UNKNOWN_TIME, in_words(CENTRE_TIME)),
         Kind::OtherTime => or_unknown(value == UNKNOWN_TIME, in_words(OTHER_TIME)),
@@ -67,7 +68,8 @@ pub(crate) fn meaning_of(side: Side, shown: Shown) -> Meaning
         Kind::Distance => or_unknown(value == UNKNOWN_DISTANCE, length(shown.scale, value)),
         Kind::Decimetres => signed_length(value),
         Kind::Speed => speed(value),
-        Kind::Bits | Kind::Filling => of_form(MeaningForm::Bits(value, shown.width)),
+        Kind::Bits => of_form(MeaningForm::Bits(value, shown.width)),
+        Kind::Filling => of_form(MeaningForm::Bits(value, shown.width)),
     }
 }
 
@@ -79,6 +81,12 @@ fn of_form(form: MeaningForm) -> Meaning
     ensures { told result ≡ (form, []) }
 {
     Meaning { form, words: "" }
+}
+
+fn words_of_only(only: u64, words: &'static str, value: u64) -> &'static str
+    ensures { result.now ≡ (if value == only then words.entry.now else codes "a value that is refused") }
+{
+    if value == only { words } else { REFUSED }
 }
 
 fn in_words(words: &'static str) -> Meaning
