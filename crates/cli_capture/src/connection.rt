@@ -64,7 +64,13 @@ impl Connection {
         self.add(records, By::Centre, ACK, &[])
     }
 
-    fn add(&mut self, records: &mut Records, by: By, flags: u8, data: &[u8]) -> Result<(), AllocError>
+    fn add(
+        &mut self,
+        records: &mut Records,
+        by: By,
+        flags: u8,
+        data: &[u8],
+    ) -> Result<(), AllocError>
         requires { length data.now ≤ 1024 }
     {
         let (source, target) = match by {

@@ -78,11 +78,13 @@ impl Capture {
                 self.count();
                 Ok(())
             }
-            Some(Row::Message {
-                centre,
-                nid_engine,
-                digits,
-            }) => self.add_message(line, centre, digits, Some(nid_engine)),
+            Some(
+                Row::Message {
+                    centre,
+                    nid_engine,
+                    digits,
+                },
+            ) => self.add_message(line, centre, digits, Some(nid_engine)),
             Some(Row::Fault { .. }) => self.end(),
             _ => Ok(()),
         }
