@@ -21,7 +21,7 @@ TOKEN = re.compile(
 )
 CONSTANT = re.compile(r"\bconst (?!BODIES\b)(\w+)\s*:[^=]*=(?!\s*\w+ \{)")
 # Kinds and texts that only frames between centres need: no frame is on a connection of a train
-OF_FRAMES = {"Range", "Decimetres", "%s%s.%s m", "-"}
+OF_FRAMES = {"Range", "Decimetres", "%s%s.%s %s", "-"}
 
 
 class Unreadable(Exception):
@@ -239,7 +239,7 @@ def body_faults(body):
     for it in re.findall(r"(?m)^    (\w+)(?:\([^)]*\))?,$", enum(f"{SOURCES}/kind.rt", "Kind")):
         if it not in OF_FRAMES and not re.search(rf"(?m)^function MEANINGS\.{it}\(", body):
             raise Unreadable(f"{BODY} has no meaning of Kind::{it}")
-    for it in re.findall(r'(?<!: &str = )"([^"\n]+)"', re.sub(r"//.*", "", read(f"{SOURCES}/meaning.rt"))):
+    for it in re.findall(r'(?<!: &str = )(?<!codes )"([^"\n]+)"', re.sub(r"//.*", "", read(f"{SOURCES}/meaning.rt"))):
         text = re.sub(r"\{\w*\}", "%s", it)
         if text not in OF_FRAMES and f'"{text}"' not in body:
             raise Unreadable(f"{BODY} lacks a text of meaning.rt: {it}")

@@ -1,7 +1,7 @@
 # Completion of rbcline in bash: source this file. Made by `.ci/names --write` from crates/cli_commands/src/forms.rt
 _rbcline() {
     local word="${COMP_WORDS[COMP_CWORD]}" options="--help"
-    local commands="check explain run script test storm demo serve drive print audit words decode encode picture help --help --version"
+    local commands="check explain run script test storm demo serve drive print audit words decode encode picture pcap help --help --version"
     if [ "$COMP_CWORD" = 1 ]; then
         mapfile -t COMPREPLY < <(compgen -W "$commands" -- "$word")
         return
@@ -12,7 +12,7 @@ _rbcline() {
         mapfile -t COMPREPLY < <(compgen -d -- "$word")
         return
         ;;
-    --trains | --loss | --seed | --events | --page | --rate | --burst | --timeout | --message | --from | --to | --train) return ;;
+    --trains | --loss | --seed | --events | --page | --rate | --burst | --timeout | --message | --from | --to | --train | --port) return ;;
     esac
     if [[ "$word" == --* ]]; then
         case "${COMP_WORDS[1]}" in
@@ -23,6 +23,7 @@ _rbcline() {
         decode) options+=" --frame --json" ;;
         encode) options+=" --frame" ;;
         picture) options+=" --html --from --to --train" ;;
+        pcap) options+=" --port" ;;
         esac
         mapfile -t COMPREPLY < <(compgen -W "$options" -- "$word")
         return

@@ -500,7 +500,10 @@ function MEANINGS.Message(it) return WORDS.MESSAGES[it.value] or "unknown messag
 
 function MEANINGS.Packet(it, walk) return walk.side.names[it.value] or "unknown packet" end
 
-function MEANINGS.Count(it) return ("%s %s"):format(digits(it.value), it.part.unit) end
+-- A count, so many of a unit each.
+local function amount(count, each, unit) return ("%s %s"):format(digits(each * count), unit) end
+
+function MEANINGS.Count(it) return amount(it.value, 1, it.part.unit) end
 
 function MEANINGS.Words(it) return it.part.words[it.value] or REFUSED end
 
@@ -508,7 +511,7 @@ function MEANINGS.Only(it) return digits(it.value) == it.part.only and it.part.m
 
 function MEANINGS.TrainTime(it)
   if it.value == UNKNOWN_TIME then return "unknown" end
-  return ("%s ms on board"):format(digits(10 * it.value))
+  return amount(it.value, 10, "ms on board")
 end
 
 function MEANINGS.CentreTime(it)
@@ -528,13 +531,13 @@ function MEANINGS.Distance(it)
   local value = it.value
   if value == UNKNOWN_DISTANCE then return "unknown" end
   if it.scale == 0 then return ("%s.%s m"):format(digits(math.floor(value / 10)), digits(value % 10)) end
-  if it.scale == 1 then return ("%s m"):format(digits(value)) end
-  if it.scale == 2 then return ("%s m"):format(digits(10 * value)) end
+  if it.scale == 1 then return amount(value, 1, "m") end
+  if it.scale == 2 then return amount(value, 10, "m") end
   return "of no unit"
 end
 
 function MEANINGS.Speed(it)
-  return it.value > MOST_SPEED and "spare" or ("%s km/h"):format(digits(5 * it.value))
+  return it.value > MOST_SPEED and "spare" or amount(it.value, 5, "km/h")
 end
 
 function MEANINGS.Bits(it, walk)

@@ -10,6 +10,7 @@ use crate::files::Files;
 use crate::forms::VERSION;
 use crate::in_words::{show_message, tell_printed};
 use crate::journal::Part;
+use crate::pcap::capture_printed;
 use crate::printed::print_journals;
 use crate::run::{check, run};
 use crate::scenarios::{script_in_words, test};
@@ -78,6 +79,10 @@ fn obey<'a, S: AsStr, F: Files, O: Write, E: Write>(
         } => {
             let has_event = draw_printed(alloc, file, printed, cut, is_html, files, out)?;
             note_lack(has_event, "no event", printed, err)
+        }
+        Request::Capture(capturing) => {
+            let has_message = capture_printed(alloc, capturing, files, out)?;
+            note_lack(has_message, "no message", capturing.printed, err)
         }
     }
 }

@@ -24,7 +24,7 @@ const SCRIPT: (&str, &str) = (
     "The script, one event a line; `-` is standard input",
 );
 
-static FORMS: [Form; 15] = [
+static FORMS: [Form; 16] = [
     Form {
         name: "check",
         about: "Read a line file, and say how many centres, tracks, sections and trains it has",
@@ -126,6 +126,11 @@ static FORMS: [Form; 15] = [
     Form {
         name: "picture",
         about: "Draw a print of `run` as a time-distance diagram, in SVG",
+        words: &[FILE, PRINTED],
+    },
+    Form {
+        name: "pcap",
+        about: "Make a capture for Wireshark of the messages in a print of `run`",
         words: &[FILE, PRINTED],
     },
 ];

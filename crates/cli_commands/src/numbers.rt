@@ -9,9 +9,10 @@ const PORTS: (u64, u64) = (1, 65_535);
 /// The bounds of a rate, of seconds, and of the number of an event.
 const COUNTS: (u64, u64) = (1, 4_294_967_295);
 
-static NUMBERS: [(&str, (u64, u64)); 13] = [
+static NUMBERS: [(&str, (u64, u64)); 14] = [
     ("PORT", PORTS),
     ("page", PORTS),
+    ("port", (1, 65_528)),
     ("SEED", (0, u64::MAX)),
     ("rate", COUNTS),
     ("burst", COUNTS),

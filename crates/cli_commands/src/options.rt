@@ -71,6 +71,13 @@ static DOORS: [(&str, &str, &str); 6] = [
     ),
 ];
 
+// The options of `pcap`.
+static PCAP: [(&str, &str, &str); 1] = [(
+    "port",
+    "PORT",
+    "The port of the first centre; those after it are of the others [default: 21000]",
+)];
+
 // The options of `drive`.
 static DRIVE: [(&str, &str, &str); 1] = [(
     "timeout",
@@ -106,6 +113,7 @@ static DEMO: [(&str, &str, &str); 4] = [
 pub fn parts_of(command: &str) -> &'static [(&'static str, &'static str, &'static str)] {
     match command {
         "picture" => &CUT,
+        "pcap" => &PCAP,
         "serve" => &DOORS,
         "drive" => &DRIVE,
         "demo" => &DEMO,

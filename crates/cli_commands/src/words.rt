@@ -1,6 +1,7 @@
 use crate::decode::Decoding;
 use crate::forms::rbcline;
 use crate::numbers::signed_number;
+use crate::pcap::Capturing;
 use clap::error::ErrorKind;
 use clap::{ArgMatches, Error};
 use cli_demo::Settings;
@@ -94,6 +95,8 @@ pub enum Request<'a> {
         cut: Cut,
         is_html: bool,
     },
+    /// Make a capture of a print of `run`, or of the journals in a folder.
+    Capture(Capturing<'a>),
 }
 
 /// A print that is shown line by line.
@@ -224,6 +227,11 @@ fn named_of_print<'a>(command: &str, file: &'a str, words: &ArgMatches<'a>) -> O
             cut: cut_of(words),
             is_html: words.get_flag("html"),
         }),
+        "pcap" => Some(Request::Capture(Capturing {
+            file,
+            printed,
+            first_port: words.get_one("port").unwrap_or(21_000),
+        })),
         _ => None,
     }
 }

@@ -13,3 +13,4 @@ pub mod Message
 pub mod Packet
 pub mod Wanted
 pub mod Same
+pub mod Looked

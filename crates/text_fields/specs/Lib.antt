@@ -3,3 +3,6 @@ pub mod Named
 pub mod Messages
 pub mod Walks
 pub mod Written
+pub mod Words
+pub mod Senses
+pub mod Looked

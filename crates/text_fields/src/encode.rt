@@ -8,7 +8,7 @@ use std::io;
 use std::io::Write;
 
 /// Why bytes are not printed.
-#[derive(Debug, Drop)]
+#[derive(Drop)]
 pub enum EncodeFault {
     /// Memory ran out.
     Memory,

@@ -1,6 +1,7 @@
 //! The fields of the frames between centres (profile).
 
-ghost use Rattle.std.specs.Prelude.{◌≡◌, OnOk};
+ghost use Rattle.std.specs.Prelude.{◌≡◌, IfSome, OnOk};
+ghost use Rattle.text_fields.specs.Senses.{AreKinds};
 ghost use Rattle.text_fields.specs.Shown.{all_bits};
 
 use crate::kind::Kind;
@@ -69,7 +70,9 @@ const YIELDED: &[Row] = &[
 ];
 
 /// The fields of a frame after its kind. None if no frame has the kind.
-fn frame_rows(kind: u64) -> Option<&'static [Row]> {
+fn frame_rows(kind: u64) -> Option<&'static [Row]>
+    ensures { IfSome result (λ rows. AreKinds rows.now) }
+{
     match kind {
         1 | 2 | 3 | 4 => Some(RIGHT),
         5 => Some(ASKED),

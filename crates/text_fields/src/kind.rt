@@ -1,5 +1,9 @@
 //! The meanings of the values of a field.
 
+ghost use Rattle.std.specs.Prelude.{◌≡◌};
+ghost use Rattle.text_fields.specs.Senses.{listed};
+ghost use Rattle.text_fields.specs.Words.{words_or};
+
 /// The values of a field with their meaning.
 pub type Words = &'static [(u64, &'static str)];
 
@@ -47,7 +51,7 @@ impl Kind {
     /// Whether a decoder refuses this value of the field.
     pub fn refuses(self, value: u64) -> bool {
         match self {
-            Kind::Words(words) => words_in(words, value).is_none(),
+            Kind::Words(words) => words.iter().all(|row| row.0 != value),
             Kind::Only(only, _) => value != only,
             Kind::Range(least, most) => value < least || value > most,
             Kind::TrainTime | Kind::CentreTime => value == UNKNOWN_TIME,
@@ -57,12 +61,14 @@ impl Kind {
     }
 }
 
-/// The meaning of a value by a table.
-pub(crate) fn words_in(words: Words, value: u64) -> Option<&'static str> {
+/// The meaning of a value by a table, or other words.
+pub(crate) fn words_or(words: Words, value: u64, other: &'static str) -> &'static str
+    ensures { result.now ≡ words_or (listed words.entry.now) value other.entry.now }
+{
     for (one, meaning) in words {
         if *one == value {
-            return Some(*meaning);
+            return *meaning;
         }
     }
-    None
+    other
 }

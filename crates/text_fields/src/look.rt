@@ -3,6 +3,7 @@
 ghost use Rattle.std.specs.Prelude.{◌≡◌, ◌+◌, ◌^◌, ◌<◌, ◌≤◌, ◌++◌, ◌∷◌, [], length, All, IfOk, OnOk, MatchOption};
 ghost use Rattle.rbc_bits.specs.Bits.{field, bits_of};
 ghost use Rattle.text_fields.specs.Shown.{bits_shown, all_bits, packet_of, Fits};
+ghost use Rattle.text_fields.specs.Senses.{HaveSenses, IsKindOf, last_scale, scale_after};
 
 use crate::kind::Kind;
 use crate::layout::Field;
@@ -16,18 +17,20 @@ use std::marker::Model;
 pub(crate) struct Look<'a> {
     shown: Vec<Shown>,
     left: BitReader<'a>,
+    /// Q_SCALE of the packet that is shown, or 0.
+    scale: u64,
 }
 
 impl<'a> Model for Look<'a> {
-    ghost use Rattle.std.specs.Prelude.{All, Bool, List};
-    ghost use Rattle.text_fields.specs.Shown.{Fits};
+    ghost use Rattle.std.specs.Prelude.{Bool, List};
+    ghost use Rattle.text_fields.specs.Looked.{IsLooked};
     ghost use Rattle.text_fields.specs.declared.shown.Shown.{Shown};
 
     ghost Value = { List Shown × List Bool };
 
     ghost view = { λ l. (l.shown.items, l.left) };
 
-    ghost invariant = { λ l. All Fits l.shown.items };
+    ghost invariant = { λ l. IsLooked l.shown.items l.scale };
 }
 
 impl<'a> Look<'a> {
@@ -39,6 +42,7 @@ impl<'a> Look<'a> {
         Look {
             shown: Vec::new(alloc),
             left: BitReader::new(bytes),
+            scale: 0,
         }
     }
 
@@ -62,9 +66,9 @@ impl<'a> Look<'a> {
         entry: Field,
         width: u32,
         packet: Option<u64>,
-        scale: u64,
     ) -> Result<Option<u64>, AllocError>
-        requires { width ≤ 64 }
+        requires width { width ≤ 64 }
+        requires kind { IsKindOf entry.name.now entry.kind }
         ensures bits { OnOk result (all_bits self.new ≡ all_bits self.old) }
         ensures there { OnOk result (width ≤ length self.old.1 → length self.old.1 ≡ width + length self.new.1) }
         // Its value is that of exactly the next bits, the highest first, and it is shown after the others.
@@ -76,7 +80,7 @@ impl<'a> Look<'a> {
               width = width;
               value = v;
               packet = packet_of entry.kind packet v;
-              scale = scale;
+              scale = last_scale 0 self.old.0;
             } ∷ []))) }
     {
         match self.left.take(width) {
@@ -90,8 +94,9 @@ impl<'a> Look<'a> {
                     width,
                     value,
                     packet,
-                    scale,
+                    scale: self.scale,
                 })?;
+                self.scale = scale_after(entry.name, value, self.scale);
                 Ok(Some(value))
             }
             Err(_) => Ok(None),
@@ -100,15 +105,30 @@ impl<'a> Look<'a> {
 
     /// The shown fields, with the bits that are left as this field.
     pub fn finish(self, unread: Field) -> Result<Vec<Shown>, AllocError>
+        requires { IsKindOf unread.name.now unread.kind }
         ensures bits { IfOk result (λ shown. bits_shown shown.items ≡ all_bits self.entry) }
         ensures fits { IfOk result (λ shown. All Fits shown.items) }
+        ensures senses { IfOk result (λ shown. HaveSenses 0 shown.items) }
         ensures none { self.entry.1 ≡ [] → IfOk result (λ shown. shown.items ≡ self.entry.0) }
     {
         let mut look = self;
         while look.left() > 0 {
             let width = look.left().min(64);
-            look.take(unread, width, None, 0)?;
+            look.take(unread, width, None)?;
         }
         Ok(look.shown)
+    }
+}
+
+// Q_SCALE after a field of this name and value.
+fn scale_after(name: &str, value: u64, scale: u64) -> u64
+    ensures { result ≡ scale_after name.now value scale }
+{
+    if name == "NID_PACKET" {
+        0
+    } else if name == "Q_SCALE" {
+        value
+    } else {
+        scale
     }
 }

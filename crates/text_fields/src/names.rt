@@ -1,20 +1,26 @@
 //! The names of messages and packets (SUBSET-026 7.4, 8.6 and 8.7).
 
-use crate::kind::{Words, words_in};
+ghost use Rattle.std.specs.Prelude.{◌≡◌, codes};
+ghost use Rattle.text_fields.specs.Words.{messages, packets, words_or};
+
+use crate::kind::{Words, words_or};
 use crate::messages::Side;
 
 /// The name of the message of this NID_MESSAGE.
-pub(crate) fn name_of_message(number: u64) -> &'static str {
-    words_in(MESSAGES, number).unwrap_or("unknown message")
+pub(crate) fn name_of_message(number: u64) -> &'static str
+    ensures { result.now ≡ words_or messages number (codes "unknown message") }
+{
+    words_or(MESSAGES, number, "unknown message")
 }
 
 /// The name of a packet of this NID_PACKET.
-pub(crate) fn name_of_packet(side: Side, number: u64) -> &'static str {
-    let packets = match side {
-        Side::Train => TRAIN_PACKETS,
-        Side::Centre => CENTRE_PACKETS,
-    };
-    words_in(packets, number).unwrap_or("unknown packet")
+pub(crate) fn name_of_packet(side: Side, number: u64) -> &'static str
+    ensures { result.now ≡ words_or (packets side) number (codes "unknown packet") }
+{
+    match side {
+        Side::Train => words_or(TRAIN_PACKETS, number, "unknown packet"),
+        Side::Centre => words_or(CENTRE_PACKETS, number, "unknown packet"),
+    }
 }
 
 const MESSAGES: Words = &[

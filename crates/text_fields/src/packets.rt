@@ -28,7 +28,6 @@ impl<'a> Walk<'a> {
         self.unread()?;
         self.end = 0;
         self.packet = None;
-        self.scale = 0;
         Ok(number)
     }
 

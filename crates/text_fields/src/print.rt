@@ -2,7 +2,7 @@
 
 use crate::fault::{Refusal, frame_refusal, message_refusal};
 use crate::kind::Kind;
-use crate::meaning::Meaning;
+use crate::meaning::{meaning_of, unit_of};
 use crate::messages::Side;
 use crate::seen::Seen;
 use crate::shown::Shown;
@@ -22,7 +22,7 @@ pub enum Form {
 }
 
 /// Why fields are not printed.
-#[derive(Clone, Copy, Debug)]
+#[derive(Clone, Copy)]
 pub enum PrintFault {
     /// Memory ran out.
     Memory,
@@ -197,7 +197,7 @@ impl Printer {
             out,
             "{from:>5} {to:>5}  {section:<8}{inset}{name:<22}{value:>20}"
         )?;
-        let meaning = Meaning { shown, side };
+        let meaning = meaning_of(side, shown);
         match shown.field.kind {
             Kind::Number | Kind::Range(..) => writeln!(out)?,
             _ => writeln!(out, "  {meaning}")?,
@@ -208,7 +208,7 @@ impl Printer {
     fn print_json<W: Write>(self, shown: Shown, from: u32, out: &mut W) -> Result<(), PrintFault> {
         let alloc = self.alloc;
         let side = self.side;
-        let meaning = Meaning { shown, side };
+        let meaning = meaning_of(side, shown);
         let words = format!(in alloc; "{meaning}")?;
         let packet = match shown.packet {
             Some(number) => Value::from(number),
@@ -216,7 +216,7 @@ impl Printer {
         };
         let line = json!(in alloc; {
             "message": self.count, "from": from, "to": last_bit(from, shown.width),
-            "name": shown.field.name, "value": shown.value, "unit": meaning.unit(),
+            "name": shown.field.name, "value": shown.value, "unit": unit_of(shown),
             "meaning": words, "section": self.section(shown), "packet": packet
         })?;
         print_line(alloc, &line, out)

@@ -8,6 +8,7 @@ ghost use Rattle.rbc_msgs.specs.TrainSpelling.{SpellsTrain};
 ghost use Rattle.rbc_msgs.specs.TrackSpelling.{SpellsTrack};
 ghost use Rattle.text_fields.specs.Shown.{bits_shown, all_bits, Fits};
 ghost use Rattle.text_fields.specs.Named.{Named, all_named};
+ghost use Rattle.text_fields.specs.Senses.{AreKinds, HaveSenses, IsKindOf};
 ghost use Rattle.text_fields.specs.Messages.{kept_content, train_shown, track_shown};
 ghost use Rattle.text_fields.specs.Walks.{AreRows, Next, Shows, Takes, last_of};
 
@@ -57,6 +58,8 @@ pub fn fields_of(alloc: Global, bytes: &[u8]) -> Result<Seen, AllocError>
     ensures bits { IfOk result (λ seen. bits_shown seen.shown.items ≡ bits_of bytes.now) }
     // Each shown value has room in its bits.
     ensures fits { IfOk result (λ seen. All Fits seen.shown.items) }
+    // Each field has a sense that the table has for its name, and the Q_SCALE of its packet.
+    ensures senses { IfOk result (λ seen. HaveSenses 0 seen.shown.items) }
     // If the bytes spell a train's message, which `decode_train` reads, its fields are shown: the names, the widths and
     // the values, in their order. A packet that the decoder keeps as bits is shown as those.
     ensures train { (m : TrainText) → SpellsTrain bytes.now m
@@ -77,6 +80,8 @@ pub fn fields_of_frame(alloc: Global, bytes: &[u8]) -> Result<Seen, AllocError>
     ensures bits { IfOk result (λ seen. bits_shown seen.shown.items ≡ bits_of bytes.now) }
     // Each shown value has room in its bits.
     ensures fits { IfOk result (λ seen. All Fits seen.shown.items) }
+    // Each field has a sense that the table has for its name, and the Q_SCALE of its packet.
+    ensures senses { IfOk result (λ seen. HaveSenses 0 seen.shown.items) }
 {
     let mut walk = Walk::new(alloc, bytes);
     walk.frame()?;
@@ -91,7 +96,6 @@ pub(crate) struct Walk<'a> {
     /// How many bits are left after the packet that is shown.
     pub end: u32,
     pub packet: Option<u64>,
-    pub scale: u64,
     /// The value of the last field.
     pub last: u64,
 }
@@ -107,7 +111,6 @@ impl<'a> Walk<'a> {
             notes: Notes::new(),
             end: 0,
             packet: None,
-            scale: 0,
             last: 0,
         }
     }
@@ -116,6 +119,7 @@ impl<'a> Walk<'a> {
     fn finish(self) -> Result<Seen, AllocError>
         ensures bits { IfOk result (λ seen. bits_shown seen.shown.items ≡ all_bits self.entry.look) }
         ensures fits { IfOk result (λ seen. All Fits seen.shown.items) }
+        ensures senses { IfOk result (λ seen. HaveSenses 0 seen.shown.items) }
         ensures none { self.entry.look.1 ≡ [] → IfOk result (λ seen. seen.shown.items ≡ self.entry.look.0) }
     {
         let Walk { look, notes, .. } = self;
@@ -132,6 +136,7 @@ impl<'a> Walk<'a> {
 
     /// Shows the next bits as this field. Returns whether they were there.
     pub fn take(&mut self, name: &'static str, width: u32, kind: Kind) -> Result<bool, AllocError>
+        requires { IsKindOf name.now kind }
         ensures bits { OnOk result (all_bits self.new.look ≡ all_bits self.old.look) }
         ensures shows { IfOk result (λ there. (v : ℕ)
             → Takes (record { name = name.entry.now; field = (width, v) } ∷ [])
@@ -144,15 +149,15 @@ impl<'a> Walk<'a> {
             return Ok(false);
         }
         let field = Field { name, kind };
-        let Some(value) = self.look.take(field, width, self.packet, self.scale)? else {
+        let Some(value) = self.look.take(field, width, self.packet)? else {
             return Ok(false);
         };
-        self.note(name, kind, value);
+        self.note(kind, value);
         Ok(true)
     }
 
     /// Notes the value of the field that is shown last.
-    fn note(&mut self, name: &str, kind: Kind, value: u64)
+    fn note(&mut self, kind: Kind, value: u64)
         ensures look { self.new.look ≡ self.old.look }
         ensures end { self.new.end ≡ self.old.end }
         ensures last { self.new.last ≡ value }
@@ -160,14 +165,12 @@ impl<'a> Walk<'a> {
         if kind.refuses(value) {
             self.notes.note_refused(self.look.count());
         }
-        if name == "Q_SCALE" {
-            self.scale = value;
-        }
         self.last = value;
     }
 
     /// Shows the fields of a table in their order. Returns whether all of them were there.
     pub fn rows(&mut self, rows: &[Row]) -> Result<bool, AllocError>
+        requires { AreKinds rows.now }
         ensures bits { OnOk result (all_bits self.new.look ≡ all_bits self.old.look) }
         ensures shows { IfOk result (λ there. (fields : List Named) → AreRows rows.now fields
             → Takes fields self.old.look self.old.end self.new.look self.new.end there) }

@@ -3,7 +3,7 @@ ghost use Rattle.std.specs.Prelude.{◌≡◌};
 use rbc_world::{Body, Mark, Word};
 
 /// An expectation of the answer to an event, or of the line after it.
-#[derive(Clone, Copy, Debug)]
+#[derive(Clone, Copy)]
 pub enum Expectation {
     /// A centre took a step, which sends nothing: to no train, to no other centre, and not to the interlocking.
     Nothing,
@@ -41,7 +41,7 @@ pub enum Expectation {
 }
 
 /// A message to a train; a part that is not named may be any.
-#[derive(Clone, Copy, Debug, PartialEq, Eq)]
+#[derive(Clone, Copy)]
 pub enum Message {
     /// Any message of this NID_MESSAGE.
     Numbered(u32),
@@ -65,7 +65,7 @@ pub enum Message {
 }
 
 /// Which body a frame has.
-#[derive(Clone, Copy, Debug, PartialEq, Eq)]
+#[derive(Clone, Copy)]
 pub enum BodyKind {
     AskRight = 1,
     GiveRight = 2,

@@ -95,22 +95,31 @@ pub fn read_field<'a>(
     draft: &mut Draft,
 ) -> Result<(), RowFault<'a>> {
     match field {
-        Field::At => read_position(words, draft)?,
-        Field::Length => read_length(words, draft)?,
-        Field::Accuracy => read_accuracy(words, draft)?,
-        Field::Speed => read_speed(words, draft)?,
-        Field::Mode => read_mode(words, draft)?,
-        Field::Level => read_level(words, draft)?,
-        Field::Time => draft.t_train = Some(words.number(u32::MAX, "T_TRAIN")?),
-        Field::Reason => read_reason(words, draft)?,
-        Field::Status => read_status(words, draft)?,
-        Field::Scale => draft.report.q_scale = words.one_of("a scale", &SCALES)?,
-        Field::Facing => draft.report.q_dirlrbg = read_direction(words)?,
-        Field::Side => draft.report.q_dlrbg = read_direction(words)?,
-        Field::Moving => draft.report.q_dirtrain = read_direction(words)?,
-        Field::Country => read_country(words, draft)?,
-        Field::Data => read_data(words, draft)?,
+        Field::At => read_position(words, draft),
+        Field::Length => read_length(words, draft),
+        Field::Accuracy => read_accuracy(words, draft),
+        Field::Speed => read_speed(words, draft),
+        Field::Mode => read_mode(words, draft),
+        Field::Level => read_level(words, draft),
+        Field::Time => read_time(words, draft),
+        Field::Reason => read_reason(words, draft),
+        Field::Status => read_status(words, draft),
+        Field::Scale => read_scale(words, draft),
+        Field::Facing => read_direction(words, &mut draft.report.q_dirlrbg),
+        Field::Side => read_direction(words, &mut draft.report.q_dlrbg),
+        Field::Moving => read_direction(words, &mut draft.report.q_dirtrain),
+        Field::Country => read_country(words, draft),
+        Field::Data => read_data(words, draft),
     }
+}
+
+fn read_time<'a>(words: &mut Words<'_, 'a>, draft: &mut Draft) -> Result<(), RowFault<'a>> {
+    draft.t_train = Some(words.number(u32::MAX, "T_TRAIN")?);
+    Ok(())
+}
+
+fn read_scale<'a>(words: &mut Words<'_, 'a>, draft: &mut Draft) -> Result<(), RowFault<'a>> {
+    draft.report.q_scale = words.one_of("a scale", &SCALES)?;
     Ok(())
 }
 
@@ -259,8 +268,12 @@ fn read_level<'a>(words: &mut Words<'_, 'a>, draft: &mut Draft) -> Result<(), Ro
     Ok(())
 }
 
-fn read_direction<'a>(words: &mut Words<'_, 'a>) -> Result<Direction, RowFault<'a>> {
-    words.one_of("a direction", &DIRECTIONS)
+fn read_direction<'a>(
+    words: &mut Words<'_, 'a>,
+    direction: &mut Direction,
+) -> Result<(), RowFault<'a>> {
+    *direction = words.one_of("a direction", &DIRECTIONS)?;
+    Ok(())
 }
 
 fn read_reason<'a>(words: &mut Words<'_, 'a>, draft: &mut Draft) -> Result<(), RowFault<'a>> {

@@ -22,7 +22,7 @@ use rbc_world::{Answer, LineView, Mark, Outcome, Reason, Word, World};
 use std::alloc::{AllocError, Global};
 
 /// The centre of the last event, and its answer.
-#[derive(Debug, Drop)]
+#[derive(Drop)]
 pub struct Last {
     pub centre: u8,
     pub answer: Answer,

@@ -1,7 +1,7 @@
 use rbc_vars::{QMarqstreason, QStatus, TTrain};
 
 /// Which message a train sends, with the fields that no other message has.
-#[derive(Clone, Copy, Debug, PartialEq, Eq)]
+#[derive(Clone, Copy)]
 pub enum Kind {
     TrainData,
     Request(QMarqstreason),

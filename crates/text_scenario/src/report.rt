@@ -8,7 +8,7 @@ use rbc_vars::{
 };
 
 /// A position report in words: distances are in decimetres, whatever the scale.
-#[derive(Clone, Copy, Debug)]
+#[derive(Clone, Copy)]
 pub struct Report {
     pub nid_lrbg: NidLrbg,
     pub q_scale: QScale,

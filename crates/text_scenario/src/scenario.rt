@@ -1,6 +1,6 @@
 //! Judges a scenario, and prints its first difference.
 
-ghost use Rattle.std.specs.Prelude.{IfOk, IsTrue};
+ghost use Rattle.std.specs.Prelude.{◌≡◌, IfOk, IsTrue};
 ghost use Rattle.rbc_spec.specs.World.{new_world};
 ghost use Rattle.rbc_world.specs.Views.{nothing_answered};
 ghost use Rattle.text_scenario.specs.Holds.{Holds};
@@ -12,14 +12,14 @@ use crate::row_fault::RowFault;
 use crate::statement::{Said, said_in};
 use crate::trial::{Step, Verdict, play};
 use rbc_line::Line;
-use rbc_world::{Answer, LineView, World, WorldEvent};
+use rbc_world::{Answer, LineView, StepFault, World, WorldEvent};
 use std::alloc::Global;
 use std::io::Write;
 use std::str::from_utf8;
 use text_script::print::{print_answer, print_section, print_train};
 use text_script::script::Entry;
 use text_script::status::PrintFault;
-use text_words::line_in_words;
+use text_words::{Told, line_in_words};
 
 /// Reads and plays the scenario of this name. Prints the first difference, or the first line that is refused. The
 /// result is whether there is none.
@@ -73,27 +73,113 @@ fn test_steps<W: Write>(
     ensures { IfOk result
         (λ passed. IsTrue passed → Holds line.now (new_world line.now) 0 nothing_answered steps.now) }
 {
-    let (name, text) = scenario;
     let mut world = World::new(alloc, line)?;
     let mut last = Last {
         centre: 0,
         answer: Answer::nothing(),
     };
-    match play(alloc, &mut world, line, &mut last, steps)? {
-        Verdict::Passed => return Ok(true),
-        Verdict::Refused(k, fault) => {
-            let row = row_at(steps, k);
-            writeln!(out, "{name} line {row}: step refused {}", fault.number())?;
-        }
-        Verdict::Differs(k) => {
-            let row = row_at(steps, k);
-            let expected = text.split('\n').nth(row.saturating_sub(1)).unwrap_or("");
-            writeln!(out, "{name} line {row}: {}", expected.trim())?;
-            let came = came_of(alloc, line, (&world, &last), steps, k)?;
-            print_came(alloc, out, line, &came)?;
+    let verdict = play(alloc, &mut world, line, &mut last, steps)?;
+    let end = End {
+        alloc,
+        line,
+        steps,
+        world: &world,
+        last: &last,
+    };
+    end.report(out, scenario, verdict)
+}
+
+/// The centres at the end of a trial, and the lines that it played.
+#[derive(Clone, Copy)]
+struct End<'a> {
+    alloc: Global,
+    line: &'a Line,
+    steps: &'a [Step],
+    world: &'a World,
+    last: &'a Last,
+}
+
+impl End<'_> {
+    // Prints the difference, or the refused event. The result is whether there is none.
+    fn report<W: Write>(
+        self,
+        out: &mut W,
+        scenario: (&str, &str),
+        verdict: Verdict,
+    ) -> Result<bool, PrintFault>
+        ensures { IfOk result (λ passed. IsTrue passed → verdict ≡ Verdict.Passed) }
+    {
+        let (name, text) = scenario;
+        match verdict {
+            Verdict::Passed => Ok(true),
+            Verdict::Refused(k, fault) => {
+                print_refusal(out, name, row_at(self.steps, k), fault)?;
+                Ok(false)
+            }
+            Verdict::Differs(k) => {
+                print_expected(out, name, row_at(self.steps, k), text)?;
+                self.print_difference(out, k)?;
+                Ok(false)
+            }
         }
     }
-    Ok(false)
+
+    // Prints the answer that the expectation at place k judges, in words.
+    fn print_difference<W: Write>(self, out: &mut W, k: usize) -> Result<(), PrintFault> {
+        let mut came = Vec::new(self.alloc);
+        self.print_answered(&mut came, k)?;
+        print_came(self.alloc, out, self.line, &came)
+    }
+
+    // Prints that answer as `run` does.
+    fn print_answered(self, came: &mut Vec<u8>, k: usize) -> Result<(), PrintFault> {
+        let line = self.line;
+        match expected_at(self.steps, k) {
+            Some(Expectation::Section { section, .. }) => {
+                let view = self.world.view(self.alloc)?;
+                print_use(came, line, &view, section)
+            }
+            Some(Expectation::Train { nid_engine, .. }) => {
+                let view = self.world.view(self.alloc)?;
+                print_supervisor(came, line, &view, nid_engine)
+            }
+            _ => match last_event(self.steps, k) {
+                Some(event) => print_answer(self.alloc, came, line, event, &self.last.answer),
+                None => {
+                    writeln!(came, "no event")?;
+                    Ok(())
+                }
+            },
+        }
+    }
+}
+
+// Prints that the step of a line is refused.
+fn print_refusal<W: Write>(
+    out: &mut W,
+    name: &str,
+    row: usize,
+    fault: StepFault,
+) -> Result<(), PrintFault> {
+    let number = fault.number();
+    writeln!(out, "{name} line {row}: step refused {number}")?;
+    Ok(())
+}
+
+// Prints a line of a text.
+fn print_expected<W: Write>(
+    out: &mut W,
+    name: &str,
+    row: usize,
+    text: &str,
+) -> Result<(), PrintFault> {
+    let expected = text
+        .split('\n')
+        .nth(row.saturating_sub(1))
+        .unwrap_or("")
+        .trim();
+    writeln!(out, "{name} line {row}: {expected}")?;
+    Ok(())
 }
 
 // The number of the line of a step.
@@ -102,30 +188,6 @@ fn row_at(steps: &[Step], k: usize) -> usize {
         Some(step) => step.row,
         None => 0,
     }
-}
-
-// The answer that the expectation at place k judges, as `run` prints it.
-fn came_of(
-    alloc: Global,
-    line: &Line,
-    (world, last): (&World, &Last),
-    steps: &[Step],
-    k: usize,
-) -> Result<Vec<u8>, PrintFault> {
-    let mut came = Vec::new(alloc);
-    match expected_at(steps, k) {
-        Some(Expectation::Section { section, .. }) => {
-            print_use(&mut came, line, &world.view(alloc)?, section)?;
-        }
-        Some(Expectation::Train { nid_engine, .. }) => {
-            print_supervisor(&mut came, line, &world.view(alloc)?, nid_engine)?;
-        }
-        _ => match last_event(steps, k) {
-            Some(event) => print_answer(alloc, &mut came, line, event, &last.answer)?,
-            None => writeln!(&mut came, "no event")?,
-        },
-    }
-    Ok(came)
 }
 
 // The expectation at place k.
@@ -145,18 +207,17 @@ fn print_came<W: Write>(
 ) -> Result<(), PrintFault> {
     for row in from_utf8(came).unwrap_or("").lines() {
         match line_in_words(alloc, line, row)? {
-            Some(told) => {
-                let between = if told.who.is_empty() { "" } else { ": " };
-                writeln!(
-                    out,
-                    "  came: {}{between}{}",
-                    told.who.as_str(),
-                    told.what.as_str()
-                )?;
-            }
+            Some(told) => print_told(out, &told)?,
             None => writeln!(out, "  came: {row}")?,
         }
     }
+    Ok(())
+}
+
+fn print_told<W: Write>(out: &mut W, told: &Told) -> Result<(), PrintFault> {
+    let who = told.who.as_str();
+    let between = if who.is_empty() { "" } else { ": " };
+    writeln!(out, "  came: {who}{between}{}", told.what.as_str())?;
     Ok(())
 }
 

@@ -12,7 +12,7 @@ use text_script::script::Entry;
 use text_script::status::PrintFault;
 
 /// Why a script is not complete.
-#[derive(Clone, Copy, Debug)]
+#[derive(Clone, Copy)]
 pub enum ScriptFault<'a> {
     /// The line of this number is refused.
     Row(usize, RowFault<'a>),

@@ -66,16 +66,22 @@ pub fn read_sending<'a>(
 ) -> Result<Sending, RowFault<'a>> {
     let centre = read_centre(words, nid_engine, known)?;
     let mut draft = draft_of(words.alloc, nid_engine, known);
-    read_kind(words, &mut draft)?;
+    read_rest(words, &mut draft)?;
+    sending_of(draft, centre)
+}
+
+// Reads the kind of a message and its fields.
+fn read_rest<'a>(words: &mut Words<'_, 'a>, draft: &mut Draft) -> Result<(), RowFault<'a>> {
+    read_kind(words, draft)?;
     // Each field has a word at least.
     for _ in 0..words.rest.len() {
         if words.rest.is_empty() {
             break;
         }
         let field = words.one_of("a field", &FIELDS)?;
-        read_field(words, field, &mut draft)?;
+        read_field(words, field, draft)?;
     }
-    sending_of(draft, centre)
+    Ok(())
 }
 
 // Reads `at A`, or gives the centre that the train's last message reached.

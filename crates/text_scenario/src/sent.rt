@@ -14,7 +14,7 @@ use rbc_world::WorldEvent;
 use std::alloc::Global;
 
 /// A train's message in words.
-#[derive(Debug, Drop)]
+#[derive(Drop)]
 pub struct Sent {
     pub centre: u8,
     pub nid_engine: NidEngine,

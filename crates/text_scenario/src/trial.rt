@@ -1,7 +1,8 @@
 //! Plays a scenario, and finds the first expectation that does not hold.
 
-ghost use Rattle.std.specs.Prelude.{◌≡◌, IfOk, Ok, OnOk};
+ghost use Rattle.std.specs.Prelude.{◌≡◌, IfOk};
 ghost use Rattle.rbc_spec.specs.World.{centre_of, world_step};
+ghost use Rattle.rbc_world.specs.Answers.{Gives};
 ghost use Rattle.rbc_world.specs.Views.{answer_of, event_of};
 ghost use Rattle.rbc_world.specs.World.{line_of, state_of};
 ghost use Rattle.text_scenario.specs.Holds.{IsMove, IsVerdict};
@@ -21,7 +22,7 @@ pub struct Step {
 }
 
 /// The end of a trial.
-#[derive(Clone, Copy, Debug, PartialEq, Eq)]
+#[derive(Clone, Copy)]
 pub enum Verdict {
     /// Each expectation holds.
     Passed,
@@ -32,7 +33,7 @@ pub enum Verdict {
 }
 
 /// The move of one line.
-#[derive(Clone, Copy, Debug, PartialEq, Eq)]
+#[derive(Clone, Copy)]
 pub enum Move {
     /// Its event was answered, or its expectation holds.
     On,
@@ -96,13 +97,12 @@ fn play_one(
 // Takes the step of an event.
 fn take(world: &mut World, last: &mut Last, event: &WorldEvent) -> Result<(), StepFault>
     ensures line { line_of world.new ≡ line_of world.old }
-    ensures step { OnOk result (world_step (line_of world.old) (state_of world.old) (event_of event.now)
-        ≡ Ok (answer_of last.new.answer, state_of world.new)) }
-    ensures centre { OnOk result (last.new.centre ≡ centre_of (event_of event.now)) }
+    ensures step { Gives (λ u. (answer_of last.new.answer, state_of world.new)) result
+        (world_step (line_of world.old) (state_of world.old) (event_of event.now)) }
+    ensures centre { last.new.centre ≡ centre_of (event_of event.now) }
 {
-    world.step_to(event, &mut last.answer)?;
     last.centre = centre_of(event);
-    Ok(())
+    world.step_to(event, &mut last.answer)
 }
 
 // The centre at which an event happens.

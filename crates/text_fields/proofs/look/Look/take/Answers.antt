@@ -1,8 +1,9 @@
-use Rattle.std.proofs.Common.{◌≡◌, ◌+◌, ◌∙◌, ap, sym, length, length-append, arith}
+use Rattle.std.proofs.Common.{◌+◌, ◌∙◌, ◌≡◌, ap, arith, length, length-append, refl, sym}
+use Rattle.rbc_bits.proofs.Fields.{field_at_err, length-field}
 use Rattle.rbc_bits.specs.Bits.{field}
-use Rattle.rbc_bits.proofs.Fields.{length-field, field_at_err}
 use Rattle.rbc_bits.specs.declared.fault.BitFault.TheVariants.{Short}
 use Rattle.text_fields.proofs.look.Look.take.Goals as goal
+use Rattle.text_fields.proofs.Looked.{looked-more}
 
 pub returns-in_ok-push-in-Ok-clause-there : goal.returns-in_ok-push-in-Ok-clause-there
 returns-in_ok-push-in-Ok-clause-there c = λ _.
@@ -22,3 +23,9 @@ returns-in-Err-clause-shown c =
       omega (arith, left, field_at_err Short _ c.args.width _ c.in-Err.ensures.next),
       ap (λ bits. (c.self.inside.shown.items, bits)) c.in-Err.ensures.err ∙ c.self.view_is,
     )
+
+pub invariant_of-self-in-Ok : goal.invariant_of-self-in-Ok
+invariant_of-self-in-Ok c =
+    rw (c.in_ok-push-in-Ok.ensures.items, c.scale_after-self-inside.ensures)
+    (looked-more c.self.inside.shown.items c.self.inside.scale _ c.self.invariant c.in-Ok.ensures.fits
+    c.requires.kind refl)

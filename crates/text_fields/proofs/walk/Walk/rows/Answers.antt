@@ -1,6 +1,7 @@
-use Rattle.std.proofs.Common.{◌∙◌, sym, refl, subst, ◌+◌, drop, get_or, true≢false}
-use Rattle.text_fields.proofs.Along.{Along, along, all_shown, cut, no_row, drop_all}
+use Rattle.std.proofs.Common.{◌+◌, ◌∙◌, drop, get_or, refl, subst, sym, true≢false}
+use Rattle.text_fields.proofs.Along.{all_shown, Along, along, cut, drop_all, no_row}
 use Rattle.text_fields.proofs.walk.Walk.rows.Goals as goal
+use Rattle.text_fields.specs.Senses.{AreKinds}
 
 pub returns-then-not-branch-clause-shows : goal.returns-then-not-branch-clause-shows
 returns-then-not-branch-clause-shows c = λ fields are rest n.
@@ -28,8 +29,14 @@ returns-then-not-branch-clause-last c = λ fields rest are n.
     c.in_ok-take.ensures.shows c.in_ok-take.ensures.last in
     absurd (true≢false (sym s.0 ∙ c.if-not-branch.true))
 
+pub take-requires : goal.take-requires
+take-requires c =
+    (subst AreKinds (cut c.args.rows.now c.loop-name.name-index c.loop-name-test.true) c.loop-name.invariant.kinds).0
+
 pub loop-name-preserved : goal.loop-name-preserved
 loop-name-preserved c = record {
+  kinds =
+      (subst AreKinds (cut c.args.rows.now c.loop-name.name-index c.loop-name-test.true) c.loop-name.invariant.kinds).1;
   bits = c.in_ok-take.ensures.bits ∙ c.loop-name.invariant.bits;
   along = λ fields rest are n.
       let i = c.loop-name.name-index in

@@ -1,12 +1,13 @@
-use Rattle.std.proofs.Common.{◌≡◌, ◌∙◌, sym, refl, subst, ◌<◌, ◌++◌, ◌∷◌, [], ◌^◌, length, arith, ℕ}
+use Rattle.std.proofs.Common.{[], ◌++◌, ◌<◌, ◌^◌, ◌∙◌, ◌∷◌, ◌≡◌, arith, length, refl, subst, sym, ℕ}
 use Rattle.std.specs.Prelude.{MatchOption}
 use Rattle.rbc_bits.specs.Bits.{field}
-use Rattle.text_fields.specs.Shown.{packet_of}
-use Rattle.text_fields.specs.Walks.{Shows}
 use Rattle.text_fields.proofs.Fields.{is_there, takes_one}
 use Rattle.text_fields.proofs.walk.Walk.take.Goals as goal
-use Rattle.text_fields.proofs.walk.Walk.take.Goals.{then-width-gt-MOST-via-then-width-gt-MOST}
 use Rattle.text_fields.proofs.walk.Walk.take.Goals.{then-width-gt-MOST-via-else-width-gt-MOST+then-room-width}
+use Rattle.text_fields.proofs.walk.Walk.take.Goals.{then-width-gt-MOST-via-then-width-gt-MOST}
+use Rattle.text_fields.specs.Senses.{last_scale}
+use Rattle.text_fields.specs.Shown.{packet_of}
+use Rattle.text_fields.specs.Walks.{Shows}
 
 pub returns-then-width-gt-MOST-clause-shows : goal.returns-then-width-gt-MOST-clause-shows
 returns-then-width-gt-MOST-clause-shows c = λ v rest n.
@@ -45,7 +46,7 @@ returns-clause-shows c = λ v rest n.
       width = c.args.width;
       value = x;
       packet = packet_of c.args.kind old.packet x;
-      scale = old.scale;
+      scale = last_scale 0 old.look.0;
     } ∷ []))) c.in-Some.is c.in_ok-value.ensures.shown in
     let t = takes_one c.args.name.now c.args.width v rest old.look new old.end _ n refl seen.1 seen.0 seen.2 in (
       refl,
@@ -70,7 +71,7 @@ returns-clause-last c = λ v rest n.
       width = c.args.width;
       value = x;
       packet = packet_of c.args.kind old.packet x;
-      scale = old.scale;
+      scale = last_scale 0 old.look.0;
     } ∷ []))) c.in-Some.is c.in_ok-value.ensures.shown in
     let t = takes_one c.args.name.now c.args.width v rest old.look new old.end _ n refl seen.1 seen.0 seen.2 in
     c.note.ensures.last ∙ t.0

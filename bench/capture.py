@@ -1,20 +1,12 @@
-#!/usr/bin/env python3
-"""Makes a capture for Wireshark from a print: tools/print2pcap [OPTIONS] [PRINTED]
+"""Captures for Wireshark, made by a second program: bench/wireshark compares those of `rbcline pcap` with these, byte for
+byte. docs/FORMATS.md has their form.
 
-PRINTED is the print of `rbcline run`, `storm`, `serve` or `print`; without it, or as -, it is standard input. The
-capture has the radio messages of trains (lines `> train A HEX`) and of centres (`A -> 1 HEX`), each in a TCP segment of
-its own, on a connection for each train and centre. It has no frames between centres and nothing of the interlocking.
-
-- Centres have the address 127.0.0.1, and consecutive ports in the order of their names. The address of train N is
-  10.x.y.z, whose last 24 bits are N.
-- A print has no times. The time of a packet is the number of its event in seconds, as `rbcline picture` counts events.
-- After bytes with a fault (`A fault 4`) their connection ends, as centres end it.
+A capture has the radio messages of trains (lines `> train A HEX`) and of centres (`A -> 1 HEX`), each in a TCP segment of
+its own, on a connection for each train and centre.
 """
 
-import argparse
 import re
 import struct
-import sys
 
 EVENT = re.compile(r"> (?:train (?P<centre>\w+) (?P<bytes>\S*)|(?P<other>set|unset|deliver) .*|(?P<show>show))")
 ANSWER = re.compile(r"(?P<centre>\w+) -> (?P<engine>\d+) (?P<bytes>\S+)")
@@ -22,10 +14,6 @@ FAULT = re.compile(r"(?P<centre>\w+) fault \d+")
 LINE_NAME = re.compile(r'\[\[\s*centre\s*\]\][^\[]*?\bname\s*=\s*"(\w+)"')
 LINKTYPE_RAW = 101
 FIN, SYN, PUSH, ACK = 1, 2, 8, 16
-
-
-class Refused(Exception):
-    """Why there is no capture."""
 
 
 def checksum(data):
@@ -73,7 +61,9 @@ class Connection:
         self.sent[by] += len(data) + bool(flags & (SYN | FIN))
 
     def send(self, seconds, by, data):
-        self.segment(seconds, by, PUSH | ACK, data)
+        """Adds segments with these bytes, of 1 024 at most each."""
+        for at in range(0, max(len(data), 1), 1024):
+            self.segment(seconds, by, PUSH | ACK, data[at : at + 1024])
 
     def end(self, seconds):
         """The centre ends the connection."""
@@ -82,11 +72,9 @@ class Connection:
         self.segment(seconds, 1, ACK)
 
 
-def hexadecimal(text, number):
-    try:
-        return bytes.fromhex(text)
-    except ValueError:
-        raise Refused(f"line {number}: {text[:40]!r} is not hexadecimal") from None
+def bytes_in(text):
+    """The bytes of hexadecimal digits, or None."""
+    return bytes.fromhex(text) if len(text) % 2 == 0 and re.fullmatch("[0-9A-Fa-f]*", text) else None
 
 
 def engine_of(data):
@@ -97,29 +85,30 @@ def engine_of(data):
 def events(text):
     """The messages of a print: number of the event, centre, engine, sender, and bytes, which a fault does not have."""
     event = 0
-    for number, line in enumerate(text.splitlines(), 1):
+    for line in text.split("\n"):
         if it := EVENT.fullmatch(line):
             event += it["show"] is None
-            if it["centre"]:
-                data = hexadecimal(it["bytes"], number)
+            if it["centre"] and (data := bytes_in(it["bytes"])) is not None:
                 yield event, it["centre"], engine_of(data), 0, data
         elif it := ANSWER.fullmatch(line):
-            yield event, it["centre"], int(it["engine"]), 1, hexadecimal(it["bytes"], number)
+            if (data := bytes_in(it["bytes"])) is not None:
+                yield event, it["centre"], int(it["engine"]), 1, data
         elif it := FAULT.fullmatch(line):
             yield event, it["centre"], 0, 1, None
 
 
-def capture_of(text, first_port, names):
-    """The capture of a print."""
+def names_in(text):
+    """The names of the centres of a line file, in their order."""
+    return LINE_NAME.findall(text)
+
+
+def capture_of(text, first_port=21000, names=None):
+    """The capture of a print. Without names, centres are in the order of their names."""
     found = list(events(text))
-    if not any(data for *_, data in found):
-        raise Refused("no message of a train or a centre is here: is it a print of rbcline?")
     names = names or sorted({centre for _, centre, *_ in found})
     ports = {name: first_port + count for count, name in enumerate(names)}
     capture, connections, opened, last = Capture(), {}, 0, None
     for event, centre, engine, by, data in found:
-        if centre not in ports:
-            raise Refused(f"the line has no centre {centre}")
         if data is None:
             # the fault of the bytes of this event
             if last in connections:
@@ -133,51 +122,3 @@ def capture_of(text, first_port, names):
         connections[key].send(event, by, data)
         last = key if by == 0 else last
     return bytes(capture.data)
-
-
-def text_of(path):
-    try:
-        with sys.stdin if path == "-" else open(path, encoding="utf-8") as it:
-            return it.read()
-    except (OSError, UnicodeDecodeError) as error:
-        raise Refused(f"cannot read {path}: {getattr(error, 'strerror', None) or 'it is not UTF-8'}") from None
-
-
-def arguments():
-    made = argparse.ArgumentParser(prog="print2pcap", description=__doc__.partition("\n\n")[2])
-    made.formatter_class = argparse.RawDescriptionHelpFormatter
-    made.add_argument("printed", nargs="?", default="-", metavar="PRINTED", help="a print (-: standard input)")
-    made.add_argument("-o", "--output", metavar="FILE", help="the capture (standard output, if that is not a terminal)")
-    made.add_argument("--port", type=int, default=21000, metavar="PORT", help="the port of the first centre (21000)")
-    made.add_argument("--line", metavar="FILE", help="a line file: ports are in the order of its centres")
-    return made.parse_args()
-
-
-def main():
-    given = arguments()
-    try:
-        if not 1 <= given.port <= 65535 - 7:
-            raise Refused("--port is a number from 1 to 65528")
-        if not given.output and sys.stdout.isatty():
-            raise Refused("a capture is no text for a terminal: name a file by --output, or redirect it")
-        names = LINE_NAME.findall(text_of(given.line)) if given.line else []
-        if given.line and not names:
-            raise Refused(f"{given.line} names no centre: is it a line file?")
-        made = capture_of(text_of(given.printed), given.port, names)
-        if given.output:
-            with open(given.output, "wb") as it:
-                it.write(made)
-        else:
-            sys.stdout.buffer.write(made)
-            sys.stdout.flush()
-    except Refused as error:
-        print(f"print2pcap: {error}", file=sys.stderr)
-        return 1
-    except OSError as error:
-        print(f"print2pcap: cannot write: {error.strerror}", file=sys.stderr)
-        return 1
-    return 0
-
-
-if __name__ == "__main__":
-    sys.exit(main())
