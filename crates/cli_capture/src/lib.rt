@@ -161,7 +161,7 @@ impl Capture {
 
 // A connection that is not open. The address of train N is 10.x.y.z, whose last 24 bits are N.
 fn connection_of(key: u64, opened: u32, first_port: u16) -> Connection {
-    let centre = (key >> 32) as u16;
+    let centre = ((key >> 32) % 65_536) as u16;
     Connection {
         train: Sender {
             end: End {

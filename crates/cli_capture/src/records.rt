@@ -79,7 +79,7 @@ impl Records {
 
     /// The bytes of the capture.
     pub fn into_bytes(self) -> Vec<u8>
-        ensures { result ≡ self.entry.bytes }
+        ensures { result ≡ self.bytes }
     {
         self.bytes
     }
