@@ -179,11 +179,7 @@ pub fn connections_of<'a>(
     for row in wakers {
         let places = most_trains(line);
         let at_once = TrainConnections::new(alloc, line, places, row.as_slice())?;
-        connections.push(if is_journaled {
-            at_once.held()
-        } else {
-            at_once
-        })?;
+        connections.push(at_once.held(is_journaled))?;
     }
     Ok(connections)
 }
