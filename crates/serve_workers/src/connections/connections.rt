@@ -1,4 +1,4 @@
-ghost use Rattle.std.specs.Prelude.{◌≡◌, if◌then◌else◌, IfErr, IfOk, IfSome, IsTrue, Some};
+ghost use Rattle.std.specs.Prelude.{◌≡◌, false, if◌then◌else◌, length, IfErr, IfOk, IfSome, IsTrue, Some};
 ghost use Rattle.serve_workers.specs.Writing.Lane.{early_after, kept, serving_after, turn_after};
 
 use crate::AnswerSink;
@@ -34,7 +34,10 @@ impl<'a> TrainConnections<'a> {
         line: &'a Line,
         connections: usize,
         links: &'a [Parker],
-    ) -> Result<TrainConnections<'a>, AllocError> {
+    ) -> Result<TrainConnections<'a>, AllocError>
+        ensures lanes { IfOk result (λ c. length c.lanes.items ≡ length line.now.trains) }
+        ensures held { IfOk result (λ c. c.is_held ≡ false) }
+    {
         let board = RoutingTable::new(alloc, connections)?;
         Ok(TrainConnections {
             alloc,
@@ -234,7 +237,9 @@ fn reply_to(alloc: Global, saying: &Saying, is_held: bool, stamp: u32) -> Result
 }
 
 // The lanes of the trains, before the first message.
-fn lanes_of(alloc: Global, trains: u8) -> Result<Vec<Mutex<Lane>>, AllocError> {
+fn lanes_of(alloc: Global, trains: u8) -> Result<Vec<Mutex<Lane>>, AllocError>
+    ensures { IfOk result (λ lanes. length lanes.items ≡ trains) }
+{
     let mut lanes = Vec::new(alloc);
     for _ in 0..trains {
         lanes.push(Mutex::new(Lane::new(alloc)))?;

@@ -1,3 +1,5 @@
+ghost use Rattle.std.specs.Prelude.{◌≡◌};
+
 use crate::connections::connection::Connection;
 use crate::writing::Lane;
 use std::alloc::Global;
@@ -47,7 +49,9 @@ pub(crate) fn release<R: Wait>(
 }
 
 // Sends the messages whose turn has come to the writer of the connection. If there is no connection, they are dropped.
-fn say_due<R: Wait>(rt: &R, connection: Option<&Connection>, lane: &mut Lane) {
+fn say_due<R: Wait>(rt: &R, connection: Option<&Connection>, lane: &mut Lane)
+    ensures { lane.new.serving ≡ lane.old.serving }
+{
     for _ in 0..lane.waiting() {
         let Some(reply) = lane.release() else {
             break;
