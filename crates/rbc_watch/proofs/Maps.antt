@@ -1,0 +1,56 @@
+-- Maps in memory as functions of numbers.
+use Rattle.std.proofs.Common.{⊎_elim, ◌&&◌, ◌==◌, ◌∙◌, ◌≡◌, ap, Bool, cond, eq-eqb, false, if◌then◌else◌}
+use Rattle.std.proofs.Common.{Option, option_map, refl, sym, true, ℕ}
+use Rattle.std.proofs.lemmas.Bool.{cases_eq, cond-false, cond-true, ne_eqb}
+use Rattle.indexmap.specs.IndexMap as map
+use Rattle.indexmap.specs.IndexMap.{IndexMap}
+use Rattle.rbc_spec.specs.Maps.{put, put_pair}
+use Rattle.rbc_watch.specs.Seen.{pair_eq}
+
+flip : (a b : ℕ) → (a == b) ≡ (b == a)
+flip a b = ⊎_elim
+    (λ (e : a ≡ b). eq-eqb a b e ∙ sym (eq-eqb b a (sym e)))
+    (λ (ne : a ≡ b → ⊥). ne_eqb a b ne ∙ sym (ne_eqb b a (λ e. ne (sym e))))
+    (cases_eq a b)
+
+mapped_cond : {X Y : Type 0} (f : X → Y) (b : Bool) (w r : Option X)
+    → option_map f (cond b w r) ≡ (if b then option_map f w else option_map f r)
+mapped_cond f true w r = refl
+mapped_cond f false w r = refl
+
+-- what a pair of numbers changes
+pair_cond : {Y : Type 0} (t c u d : ℕ) (start : ℕ → ℕ → Y) (w : Y)
+    → (if (t == u) && (c == d) then w else start u d) ≡ put_pair start t c w u d
+pair_cond t c u d start w = ⊎_elim
+    (λ (same : u ≡ t).
+    ap (λ b. if b && (c == d) then w else start u d) (eq-eqb t u (sym same))
+    ∙ ap (λ b. if b then w else start u d) (flip c d)
+    ∙ ap (λ v. if d == c then w else start v d) same
+    ∙ ap (λ (f : ℕ → Y). f d) (sym (cond-true (u == t) (put (start t) c w) (start u) (eq-eqb u t same))))
+    (λ (other : u ≡ t → ⊥).
+    ap (λ b. if b && (c == d) then w else start u d) (ne_eqb t u (λ e. other (sym e)))
+    ∙ ap (λ (f : ℕ → Y). f d) (sym (cond-false (u == t) (put (start t) c w) (start u) (ne_eqb u t other))))
+    (cases_eq u t)
+
+-- a map of pairs after one is set or removed
+pub mapped_put_pair : {X Y S : Type 0} (f : X → Y) (m n : IndexMap (ℕ × ℕ) X S) (t c : ℕ) (w : Option X)
+    → map.Updates pair_eq m n (t, c) w
+    → (λ u d. option_map f (map.get pair_eq n (u, d)))
+    ≡ put_pair (λ u d. option_map f (map.get pair_eq m (u, d))) t c (option_map f w)
+mapped_put_pair f m n t c w h = λ i u d. at u d i
+  where
+    at : (u d : ℕ) → option_map f (map.get pair_eq n (u, d))
+        ≡ put_pair (λ v e. option_map f (map.get pair_eq m (v, e))) t c (option_map f w) u d
+    at u d =
+        ap (option_map f) (h.0 (u, d)) ∙ mapped_cond f ((t == u) && (c == d)) w (map.get pair_eq m (u, d))
+        ∙ pair_cond t c u d (λ v e. option_map f (map.get pair_eq m (v, e))) (option_map f w)
+
+-- a value that is there already
+put_same : {X : Type 0} (f : ℕ → X) (t : ℕ) (x : X) → f t ≡ x → (u : ℕ) → f u ≡ put f t x u
+put_same f t x there u = ⊎_elim
+    (λ (same : u ≡ t). ap f same ∙ there ∙ sym (cond-true (u == t) x (f u) (eq-eqb u t same)))
+    (λ (other : u ≡ t → ⊥). sym (cond-false (u == t) x (f u) (ne_eqb u t other)))
+    (cases_eq u t)
+
+pub put_there : {X : Type 0} (f : ℕ → X) (t : ℕ) (x : X) → f t ≡ x → f ≡ put f t x
+put_there f t x there = λ i u. put_same f t x there u i
