@@ -24,7 +24,7 @@ const SCRIPT: (&str, &str) = (
     "The script, one event a line; `-` is standard input",
 );
 
-static FORMS: [Form; 15] = [
+static FORMS: [Form; 16] = [
     Form {
         name: "check",
         about: "Read a line file, and say how many centres, tracks, sections and trains it has",
@@ -103,6 +103,11 @@ static FORMS: [Form; 15] = [
     Form {
         name: "audit",
         about: "Run the events of a print again, and compare its lines",
+        words: &[FILE, PRINTED],
+    },
+    Form {
+        name: "watch",
+        about: "Find the first event of a print after which a train is in danger",
         words: &[FILE, PRINTED],
     },
     Form {

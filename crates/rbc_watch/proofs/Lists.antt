@@ -23,9 +23,3 @@ take_more (y ∷ ys) zero x h e = ap (λ z. z ∷ []) (sym e)
 take_more (y ∷ ys) (suc i) x h e =
     let next : suc i + 1 ≡ suc (i + 1) = omega arith in
     rw next (ap (λ zs. y ∷ zs) (take_more ys i x (omega arith) e))
-
-pub take_all : {X : Type 0} (xs : List X) (i : ℕ) → length xs ≤ i → take i xs ≡ xs
-take_all [] zero h = refl
-take_all [] (suc i) h = refl
-take_all (y ∷ ys) zero h = absurd (let never : ⊥ = omega arith in never)
-take_all (y ∷ ys) (suc i) h = ap (λ zs. y ∷ zs) (take_all ys i (omega arith))

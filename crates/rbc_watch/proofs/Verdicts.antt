@@ -82,9 +82,9 @@ pub ends : (line : Line) (xs : List Exchange) (w : Watch) (i : ℕ) → length x
     → IsSafeUpTo line xs (length xs)
 ends line xs w i all h n le = h.safe n (omega (arith, all, le))
 
-pub breaks : {X : Type 0} (line : Line) (xs : List Exchange) (w : Watch) (i : ℕ) (x : Exchange) (why : Breach) → i < length xs
-    → x ≡ get_or xs i x → IsWatched line xs w i → IsBreach (line_of w) i (sees_exchange (line_of w) x (seen_by w)) why
-    → IsVerdict {X = X} line xs (Err why)
+pub breaks : {X : Type 0} (line : Line) (xs : List Exchange) (w : Watch) (i : ℕ) (x : Exchange) (why : Breach)
+    → i < length xs → x ≡ get_or xs i x → IsWatched line xs w i
+    → IsBreach (line_of w) i (sees_exchange (line_of w) x (seen_by w)) why → IsVerdict {X = X} line xs (Err why)
 breaks line xs w i x breach.Memory lt at h why = tt
 breaks line xs w i x (breach.Broken n danger) lt at h why =
     let seen = seen_next line xs w w i x lt at h (sees_exchange (line_of w) x (seen_by w)) refl in

@@ -35,7 +35,7 @@ impl View {
     }
 
     /// Finds a danger in a section.
-    #[tactic(auto, using(crate::proofs::Dangers::safe_in, crate::proofs::Dangers::found_more))]
+    #[tactic(auto, using(crate::proofs::Dangers::none_found, crate::proofs::Dangers::safe_in, crate::proofs::Dangers::found_more))]
     fn check_section(&self, line: &Line, s: u16) -> Result<(), Danger>
         ensures safe { OnOk result (IsSafeIn line.now (view_of self.now) s) }
         ensures danger { IfErr result (Breaks line.now (view_of self.now)) }

@@ -70,7 +70,7 @@ impl View {
     }
 
     /// A train gives up the part of its stretch that its message takes back.
-    #[tactic(auto, using(crate::proofs::Views::nothing_less))]
+    #[tactic(auto, using(crate::proofs::Views::nothing_less, crate::proofs::Views::one_less))]
     fn give_up(&mut self, line: &Line, c: u8, message: &TrainMsg) -> Result<(), AllocError>
         ensures { OnOk result (view_of self.new
             ≡ less line.now c (step_message message.now) (view_of self.old)) }

@@ -1,0 +1,196 @@
+//! Reads a line after an event. What the line seems to say is printed again, and both lines have to be equal.
+
+ghost use Rattle.std.specs.Prelude.{◌≡◌, ◌++◌, ◌∷◌, [], IfOk, true};
+ghost use Rattle.rbc_watch.specs.Events.{saying_of, word_of};
+ghost use Rattle.text_script.specs.Print.Answers.{IsSayingRow};
+ghost use Rattle.text_script.specs.Print.Rows.{word_row};
+ghost use Rattle.text_watch.specs.Parts.{IsRowOf, IsSilenceRow};
+
+use crate::fault::RowFault;
+use crate::part::Part;
+use rbc_line::Line;
+use rbc_msgs::{MsgFault, decode_track, encode_track};
+use rbc_watch::{Saying, Word};
+use std::alloc::Global;
+use std::io::Write;
+use text_words::{Row, row_of};
+
+/// Reads a line after an event at the centre of this name.
+pub(crate) fn part_in(
+    alloc: Global,
+    line: &Line,
+    centre: &str,
+    row: &str,
+) -> Result<Part, RowFault>
+    ensures { IfOk result (λ part. IsRowOf centre.now part (row.now ++ 10 ∷ [])) }
+{
+    match guessed(alloc, line, centre, row)? {
+        Part::Said(saying) => said(alloc, centre, saying, row),
+        Part::Replied(word) => replied(alloc, centre, word, row),
+        Part::Silent(reason) => silent(alloc, centre, reason, row),
+        Part::Accepted => Ok(Part::Accepted),
+        Part::Nothing => Ok(Part::Nothing),
+    }
+}
+
+/// Whether the line is about the state of the centres.
+pub(crate) fn is_state(alloc: Global, line: &Line, row: &str) -> Result<bool, RowFault> {
+    let words: Vec<&str> = row.split(' ').collect(alloc)?;
+    Ok(matches!(
+        row_of(line, &words),
+        Some(Row::Section { .. } | Row::Supervisor { .. })
+    ))
+}
+
+// What the line seems to say.
+fn guessed(alloc: Global, line: &Line, centre: &str, row: &str) -> Result<Part, RowFault> {
+    let words: Vec<&str> = row.split(' ').collect(alloc)?;
+    let Some(found) = row_of(line, &words) else {
+        return Err(RowFault::Form);
+    };
+    if centre_in(found).is_some_and(|at| at != centre) {
+        return Err(RowFault::OtherCentre);
+    }
+    match found {
+        Row::Message {
+            nid_engine, digits, ..
+        } => said_in(alloc, nid_engine, digits),
+        Row::Word { section, .. } => word_in(section, words.last().copied().unwrap_or("")),
+        Row::Silent { number, .. } => Ok(Part::Silent(u8::try_from(number).unwrap_or(0))),
+        Row::Frame { .. } | Row::NotNext { .. } | Row::Nothing { .. } => Ok(Part::Accepted),
+        Row::Fault { .. } | Row::NotSent | Row::Section { .. } | Row::Supervisor { .. } => {
+            Ok(Part::Nothing)
+        }
+        Row::Train { .. } | Row::Set { .. } | Row::Unset { .. } | Row::Deliver { .. } | Row::Show => {
+            Err(RowFault::Form)
+        }
+    }
+}
+
+// The centre that a line is about.
+fn centre_in(row: Row<'_>) -> Option<&str> {
+    match row {
+        Row::Message { centre, .. }
+        | Row::NotNext { centre, .. }
+        | Row::Word { centre, .. }
+        | Row::Silent { centre, .. }
+        | Row::Fault { centre, .. }
+        | Row::Nothing { centre } => Some(centre),
+        Row::Frame { from, .. } => Some(from),
+        _ => None,
+    }
+}
+
+// The message to a train in these hexadecimal digits.
+fn said_in(alloc: Global, nid_engine: u32, digits: &str) -> Result<Part, RowFault> {
+    let bytes = match hex::decode(alloc, digits) {
+        Ok(bytes) => bytes,
+        Err(hex::FromHexError::OutOfMemory) => return Err(RowFault::Memory),
+        Err(_) => return Err(RowFault::Form),
+    };
+    match decode_track(&bytes) {
+        Ok(message) => Ok(Part::Said(Saying {
+            nid_engine,
+            message,
+        })),
+        Err(MsgFault::Memory) => Err(RowFault::Memory),
+        Err(fault) => Err(RowFault::NoMessage(fault)),
+    }
+}
+
+// The reply about a section that ends with this word.
+fn word_in(section: u16, word: &str) -> Result<Part, RowFault> {
+    match word {
+        "Done" => Ok(Part::Replied(Word::Done(section))),
+        "Asked" => Ok(Part::Replied(Word::Asked(section))),
+        "NotHome" => Ok(Part::Replied(Word::NotHome(section))),
+        "Told" => Ok(Part::Replied(Word::Told(section))),
+        _ => Err(RowFault::Form),
+    }
+}
+
+// The message, if this is its line.
+fn said(alloc: Global, centre: &str, saying: Saying, row: &str) -> Result<Part, RowFault>
+    ensures { IfOk result (λ part. IsRowOf centre.now part (row.now ++ 10 ∷ [])) }
+{
+    let text = saying_row(alloc, centre, &saying)?;
+    if !is_row(&text, row) {
+        return Err(RowFault::Form);
+    }
+    Ok(Part::Said(saying))
+}
+
+// The reply, if this is its line.
+fn replied(alloc: Global, centre: &str, word: Word, row: &str) -> Result<Part, RowFault>
+    ensures { IfOk result (λ part. IsRowOf centre.now part (row.now ++ 10 ∷ [])) }
+{
+    let text = word_row(alloc, centre, word)?;
+    if !is_row(&text, row) {
+        return Err(RowFault::Form);
+    }
+    Ok(Part::Replied(word))
+}
+
+// The silence for this reason, if this is its line.
+fn silent(alloc: Global, centre: &str, reason: u8, row: &str) -> Result<Part, RowFault>
+    ensures { IfOk result (λ part. IsRowOf centre.now part (row.now ++ 10 ∷ [])) }
+{
+    let text = silence_row(alloc, centre, reason)?;
+    if !is_row(&text, row) {
+        return Err(RowFault::Form);
+    }
+    Ok(Part::Silent(reason))
+}
+
+// The line of a message to a train.
+fn saying_row(alloc: Global, centre: &str, saying: &Saying) -> Result<Vec<u8>, RowFault>
+    ensures { IfOk result (λ text. IsSayingRow centre.now (saying_of saying.now) text.items) }
+{
+    let Ok(bytes) = encode_track(alloc, &saying.message) else {
+        return Err(RowFault::Memory);
+    };
+    let digits = hex::encode_upper(alloc, &bytes)?;
+    let mut text = Vec::new(alloc);
+    if writeln!(text, "{centre} -> {} {digits}", saying.nid_engine).is_err() {
+        return Err(RowFault::Memory);
+    }
+    Ok(text)
+}
+
+// The line of a reply to the interlocking.
+fn word_row(alloc: Global, centre: &str, word: Word) -> Result<Vec<u8>, RowFault>
+    ensures { IfOk result (λ text. text.items ≡ word_row centre.now (word_of word)) }
+{
+    let (section, told) = match word {
+        Word::Done(section) => (section, "Done"),
+        Word::Asked(section) => (section, "Asked"),
+        Word::NotHome(section) => (section, "NotHome"),
+        Word::Told(section) => (section, "Told"),
+    };
+    let mut text = Vec::new(alloc);
+    if writeln!(text, "{centre} {section} {told}").is_err() {
+        return Err(RowFault::Memory);
+    }
+    Ok(text)
+}
+
+// The line of a silence.
+fn silence_row(alloc: Global, centre: &str, reason: u8) -> Result<Vec<u8>, RowFault>
+    ensures { IfOk result (λ text. IsSilenceRow centre.now reason text.items) }
+{
+    let mut text = Vec::new(alloc);
+    if writeln!(text, "{centre} silent {reason}").is_err() {
+        return Err(RowFault::Memory);
+    }
+    Ok(text)
+}
+
+// Whether the text is the line with its line feed.
+fn is_row(text: &[u8], row: &str) -> bool
+    ensures { result ≡ true → text.now ≡ row.now ++ 10 ∷ [] }
+{
+    match text.split_last() {
+        Some((last, front)) => *last == b'\n' && front == row.as_bytes(),
+        None => false,
+    }
+}
