@@ -149,8 +149,8 @@ pub(crate) const VERSION: &str = "0.4.0";
 
 // The exit statuses, and a first command to try.
 const ENDS: &str =
-    "Exit status: 0 done, 1 a print or a scenario differs or bytes are refused, 2 these words, 3 a file or script, \
-4 the line file, 5 a refused step, 6 a socket or the output, 7 bytes that are not a message\n\n\
+    "Exit status: 0 done, 1 a print or a scenario differs, a train is in danger, or bytes are refused, 2 these words, \
+3 a file or script, 4 the line file, 5 a refused step, 6 a socket or the output, 7 bytes that are not a message\n\n\
 To begin: rbcline run crates/rbc_cli/data/line.toml crates/rbc_cli/data/script";
 
 // The program without its commands.

@@ -1,5 +1,5 @@
--- The printed lines after an event, and what each adds to what is said after it.
-use Rattle.std.specs.Prelude.{[], ◌++◌, ◌∷◌, ◌≡◌, false, List, None, Option, option_map, Some, true, ⊤, ℕ}
+-- The printed lines after an event, and the message, reply or silence of each.
+use Rattle.std.specs.Prelude.{[], ◌++◌, ◌∷◌, ◌≡◌, ◌≢◌, false, List, None, Option, option_map, Some, true, ℕ}
 use Rattle.law_outside.specs.Outside.{Spoken}
 use Rattle.rbc_spec.specs.Line.{Line}
 use Rattle.rbc_spec.specs.Outcome.{Reason, Saying, Word}
@@ -15,16 +15,21 @@ use Rattle.text_watch.specs.declared.part.Part.TheVariants as part
 abbrev pub IsSilenceRow : List ℕ → ℕ → List ℕ → Type 0
 IsSilenceRow centre n text = (why : Reason) → reason_number why ≡ n → text ≡ silence_row centre why
 
--- The text is the line of this part, with its line feed. Of a line without a message, a reply or a silence nothing is
--- claimed.
+-- the text is the line of no message to a train, no reply and no silence, at the centre of this name
+pub record SaysNothing (centre text : List ℕ) : Type 0 where
+  pub no_message : (s : Saying) → IsSayingRow centre s text → ⊥
+  pub no_reply : (w : Word) → text ≢ word_row centre w
+  pub no_silence : (why : Reason) → text ≢ silence_row centre why
+
+-- the text is the line of this part, with its line feed
 abbrev pub IsRowOf : List ℕ → Part → List ℕ → Type 0
 IsRowOf centre (part.Said s) text = IsSayingRow centre (saying_of s) text
 IsRowOf centre (part.Replied w) text = text ≡ word_row centre (word_of w)
 IsRowOf centre (part.Silent n) text = IsSilenceRow centre n text
-IsRowOf centre part.Accepted text = ⊤
-IsRowOf centre part.Nothing text = ⊤
+IsRowOf centre part.Accepted text = SaysNothing centre text
+IsRowOf centre part.Nothing text = SaysNothing centre text
 
--- the event is accepted, and nothing is said yet
+-- the messages and replies after an event; if there are none yet, it was accepted
 abbrev pub or_heard : Option Spoken → Spoken
 or_heard None = record { is_heard = true; sayings = []; words = [] }
 or_heard (Some o) = o
@@ -35,7 +40,7 @@ with_saying s o = record o { sayings = o.sayings ++ s ∷ [] }
 abbrev pub with_word : Word → Spoken → Spoken
 with_word w o = record o { words = o.words ++ w ∷ [] }
 
--- one more part is said after the event
+-- the same, with one more part
 abbrev pub with_part : Part → Option Spoken → Option Spoken
 with_part (part.Said s) o = Some (with_saying (saying_of s) (or_heard o))
 with_part (part.Replied w) o = Some (with_word (word_of w) (or_heard o))
@@ -43,7 +48,7 @@ with_part (part.Silent n) o = Some (record (or_heard o) { is_heard = false })
 with_part part.Accepted o = Some (or_heard o)
 with_part part.Nothing o = o
 
--- the exchange after is the one before, with what this line says
+-- the exchange after is the one before, with the part that has this line
 abbrev pub AddsRow : Line → Exchange → List ℕ → Exchange → Type 0
 AddsRow line before text after =
     (p : Part) × IsRowOf (name_at line (centre_of (event_of before.event))) p text

@@ -1,5 +1,5 @@
 //! Reads a print for a monitor: its events, each with the messages and replies after it. Any centres may have printed
-//! it, so no centre runs here. A line is read only if it is the printed line of what is read.
+//! it, so no centre runs here. A line is read only if it is the printed line of its message or reply.
 //!
 //! Bodies are free. docs/FORMATS.md fixes the printed text.
 #![tactic(auto)]

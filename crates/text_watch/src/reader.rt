@@ -10,7 +10,7 @@ use std::mem::replace;
 /// The beginning of an event's line in a print.
 const EVENT: &str = "> ";
 
-/// Reads a print line by line. It has only the last event, with what is said after it so far.
+/// Reads a print line by line. It has only the last event, with the messages and replies after it so far.
 #[derive(Drop)]
 pub struct Reader<'a> {
     alloc: Global,

@@ -1,17 +1,18 @@
-//! Reads a line after an event. What the line seems to say is printed again, and both lines have to be equal.
+//! Reads a line after an event. Its message, reply or silence is printed again, and both lines have to be equal.
 
-ghost use Rattle.std.specs.Prelude.{◌≡◌, ◌++◌, ◌∷◌, [], IfOk, true};
+ghost use Rattle.std.specs.Prelude.{◌≡◌, ◌≢◌, ◌++◌, ◌∷◌, [], false, IfOk, List, true, ℕ};
 ghost use Rattle.rbc_watch.specs.Events.{saying_of, word_of};
 ghost use Rattle.text_script.specs.Print.Answers.{IsSayingRow};
-ghost use Rattle.text_script.specs.Print.Rows.{word_row};
-ghost use Rattle.text_watch.specs.Parts.{IsRowOf, IsSilenceRow};
+ghost use Rattle.rbc_spec.specs.Outcome as outcome;
+ghost use Rattle.text_script.specs.Print.Rows.{word_row as spelled_word};
+ghost use Rattle.text_watch.specs.Parts.{IsRowOf, IsSilenceRow, SaysNothing};
 
 use crate::fault::RowFault;
 use crate::part::Part;
 use rbc_line::Line;
 use rbc_msgs::{MsgFault, decode_track, encode_track};
 use rbc_watch::{Saying, Word};
-use std::alloc::Global;
+use std::alloc::{AllocError, Global};
 use std::io::Write;
 use text_words::{Row, row_of};
 
@@ -28,8 +29,14 @@ pub(crate) fn part_in(
         Part::Said(saying) => said(alloc, centre, saying, row),
         Part::Replied(word) => replied(alloc, centre, word, row),
         Part::Silent(reason) => silent(alloc, centre, reason, row),
-        Part::Accepted => Ok(Part::Accepted),
-        Part::Nothing => Ok(Part::Nothing),
+        Part::Accepted => {
+            says_nothing(alloc, centre, row)?;
+            Ok(Part::Accepted)
+        }
+        Part::Nothing => {
+            says_nothing(alloc, centre, row)?;
+            Ok(Part::Nothing)
+        }
     }
 }
 
@@ -42,7 +49,7 @@ pub(crate) fn is_state(alloc: Global, line: &Line, row: &str) -> Result<bool, Ro
     ))
 }
 
-// What the line seems to say.
+// The part that the line seems to be.
 fn guessed(alloc: Global, line: &Line, centre: &str, row: &str) -> Result<Part, RowFault> {
     let words: Vec<&str> = row.split(' ').collect(alloc)?;
     let Some(found) = row_of(line, &words) else {
@@ -159,7 +166,7 @@ fn saying_row(alloc: Global, centre: &str, saying: &Saying) -> Result<Vec<u8>, R
 
 // The line of a reply to the interlocking.
 fn word_row(alloc: Global, centre: &str, word: Word) -> Result<Vec<u8>, RowFault>
-    ensures { IfOk result (λ text. text.items ≡ word_row centre.now (word_of word)) }
+    ensures { IfOk result (λ text. text.items ≡ spelled_word centre.now (word_of word)) }
 {
     let (section, told) = match word {
         Word::Done(section) => (section, "Done"),
@@ -183,6 +190,51 @@ fn silence_row(alloc: Global, centre: &str, reason: u8) -> Result<Vec<u8>, RowFa
         return Err(RowFault::Memory);
     }
     Ok(text)
+}
+
+// Refuses a message, a reply or a silence of the centre.
+#[tactic(auto, using(crate::proofs::Parts::nothing_said))]
+fn says_nothing(alloc: Global, centre: &str, row: &str) -> Result<(), RowFault>
+    ensures { IfOk result (λ _. SaysNothing centre.now (row.now ++ 10 ∷ [])) }
+{
+    if begins(alloc, centre, " -> ", row)?
+        || begins(alloc, centre, " silent ", row)?
+        || is_reply(row)
+    {
+        return Err(RowFault::Form);
+    }
+    Ok(())
+}
+
+// Whether the line begins with the name and the sign.
+fn begins(alloc: Global, centre: &str, sign: &str, row: &str) -> Result<bool, AllocError>
+    ensures { IfOk result (λ it. it ≡ false → (rest : List ℕ) → row.now ≢ (centre.now ++ sign.now) ++ rest) }
+{
+    let beginning = format!(in alloc; "{centre}{sign}")?;
+    Ok(row.as_bytes().starts_with(beginning.as_bytes()))
+}
+
+// Whether the line ends as a reply to the interlocking does.
+#[tactic(auto, using(crate::proofs::Parts::no_word))]
+fn is_reply(row: &str) -> bool
+    ensures { result ≡ false → (c : List ℕ) (w : outcome.Word) → row.now ++ 10 ∷ [] ≢ spelled_word c w }
+{
+    if ends(row, " Done") {
+        return true;
+    }
+    if ends(row, " Asked") {
+        return true;
+    }
+    if ends(row, " NotHome") {
+        return true;
+    }
+    ends(row, " Told")
+}
+
+fn ends(row: &str, word: &str) -> bool
+    ensures { result ≡ false → (front : List ℕ) → row.now ≢ front ++ word.now }
+{
+    row.as_bytes().ends_with(word.as_bytes())
 }
 
 // Whether the text is the line with its line feed.

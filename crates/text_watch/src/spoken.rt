@@ -29,7 +29,7 @@ pub(crate) fn with_row(
     })
 }
 
-/// Adds a part to what is said after an event.
+/// The messages and replies after an event, with one more part.
 fn with_part(
     alloc: Global,
     spoken: Option<Spoken>,
@@ -51,7 +51,7 @@ fn with_part(
     Ok(Some(spoken))
 }
 
-/// The same, or nothing that is said after an accepted event.
+/// The messages and replies after an event. If there are none yet, the event was accepted.
 fn or_heard(alloc: Global, spoken: Option<Spoken>) -> Spoken
     ensures { spoken_of result ≡ or_heard (option_map spoken_of spoken) }
 {
