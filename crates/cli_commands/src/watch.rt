@@ -27,7 +27,7 @@ pub fn watch_printed<'a, F: Files, O: Write, E: Write>(
     let mut watched = Watched::new(alloc, &given.line)?;
     if files.is_folder(printed) {
         let text = printed_in(alloc, &given, printed, files)?;
-        for row in text.lines() {
+        for row in text.as_str().lines() {
             watched.row(row);
         }
     } else if files.each_row(alloc, printed, &mut watched).is_none() {

@@ -1,7 +1,7 @@
 -- The search for a danger, over all trains and all sections.
 use Rattle.std.proofs.Common.{⊎_elim, ◌&&◌, ◌+◌, ◌<◌, ◌==◌, ◌∙◌, ◌≡◌, ◌≤◌, ap, arith, eqb-true, false, length}
 use Rattle.std.proofs.Common.{nat_eq, None, Option, option_map, refl, slice_get, Some, subst, sym, true, ℕ}
-use Rattle.std.proofs.lemmas.Bool.{and_parts, cases_eq}
+use Rattle.std.proofs.lemmas.Bool.{and_parts, cases_eq, true≢false}
 use Rattle.std.proofs.lemmas.Map.Entries.{place_from_lookup}
 use Rattle.std.proofs.lemmas.Option.{same_Some, slice_get_within}
 use Rattle.std.specs.Option.{IfSome}
@@ -11,7 +11,9 @@ use Rattle.law_outside.specs.Outside.{is_in, IsSafeOutside, may_run_over}
 use Rattle.rbc_spec.specs.Line.{Line, Section, section}
 use Rattle.rbc_spec.specs.Maps.{has}
 use Rattle.rbc_spec.specs.Sections.{is_on}
-use Rattle.rbc_watch.specs.Dangers.{IsFoundAt, IsFoundIn, IsFoundTrain, IsSafeIn}
+use Rattle.rbc_watch.specs.Dangers.{Breaks, IsFoundAt, IsFoundIn, IsFoundTrain, IsSafeIn}
+use Rattle.rbc_watch.specs.declared.danger.Danger.{Danger}
+use Rattle.rbc_watch.specs.declared.danger.Danger.TheVariants as danger
 use Rattle.rbc_watch.specs.declared.stretch.Stretch.{Stretch}
 use Rattle.rbc_watch.specs.declared.view.View.{View}
 use Rattle.rbc_watch.specs.Seen.{view_of}
@@ -108,3 +110,10 @@ safe_outside line v n all founded each = record {
   where
     at : (t s : ℕ) → may_run_over line (view_of v) t s ≡ true → IsSafeIn line (view_of v) s
     at t s over = let within = of_line line s ((view_of v).stretch t) over in each s (omega (arith, within, all))
+
+-- ## A danger
+
+pub unsafe : (line : Line) (v : spec.View) (danger : Danger) → Breaks line v danger → IsSafeOutside line v → ⊥
+unsafe line v (danger.TwoTrains t u s) h safe = h.2 (safe.one_train t u s h.0 h.1)
+unsafe line v (danger.NotReleased t s) h safe = true≢false (sym (safe.released t s h.0) ∙ h.1)
+unsafe line v danger.Stray h safe = true≢false (sym h ∙ safe.founded)

@@ -1,6 +1,6 @@
 -- Maps in memory as functions of numbers.
 use Rattle.std.proofs.Common.{⊎_elim, ◌&&◌, ◌==◌, ◌∙◌, ◌≡◌, ap, Bool, cond, eq-eqb, false, if◌then◌else◌}
-use Rattle.std.proofs.Common.{Option, option_map, refl, sym, true, ℕ}
+use Rattle.std.proofs.Common.{Option, option_map, refl, subst, sym, true, ℕ}
 use Rattle.std.proofs.lemmas.Bool.{cases_eq, cond-false, cond-true, ne_eqb}
 use Rattle.indexmap.specs.IndexMap as map
 use Rattle.indexmap.specs.IndexMap.{IndexMap}
@@ -18,19 +18,25 @@ mapped_cond : {X Y : Type 0} (f : X → Y) (b : Bool) (w r : Option X)
 mapped_cond f true w r = refl
 mapped_cond f false w r = refl
 
--- what a pair of numbers changes
+-- the change at a pair of numbers
+at_same : {Y : Type 0} (t c d : ℕ) (start : ℕ → ℕ → Y) (w : Y)
+    → (if (t == t) && (c == d) then w else start t d) ≡ put_pair start t c w t d
+at_same {Y = Y} t c d start w =
+    ap (λ (b : Bool). if b && (c == d) then w else start t d) (eq-eqb t t refl)
+    ∙ ap (λ (b : Bool). if b then w else start t d) (flip c d)
+    ∙ ap (λ (f : ℕ → Y). f d) (sym (cond-true (t == t) (put (start t) c w) (start t) (eq-eqb t t refl)))
+
 pair_cond : {Y : Type 0} (t c u d : ℕ) (start : ℕ → ℕ → Y) (w : Y)
     → (if (t == u) && (c == d) then w else start u d) ≡ put_pair start t c w u d
-pair_cond t c u d start w = ⊎_elim
-    (λ (same : u ≡ t).
-    ap (λ b. if b && (c == d) then w else start u d) (eq-eqb t u (sym same))
-    ∙ ap (λ b. if b then w else start u d) (flip c d)
-    ∙ ap (λ v. if d == c then w else start v d) same
-    ∙ ap (λ (f : ℕ → Y). f d) (sym (cond-true (u == t) (put (start t) c w) (start u) (eq-eqb u t same))))
-    (λ (other : u ≡ t → ⊥).
-    ap (λ b. if b && (c == d) then w else start u d) (ne_eqb t u (λ e. other (sym e)))
-    ∙ ap (λ (f : ℕ → Y). f d) (sym (cond-false (u == t) (put (start t) c w) (start u) (ne_eqb u t other))))
-    (cases_eq u t)
+pair_cond {Y = Y} t c u d start w = ⊎_elim
+    (λ (same : t ≡ u).
+    subst (λ (v : ℕ). (if (t == v) && (c == d) then w else start v d) ≡ put_pair start t c w v d) same
+    (at_same t c d start w))
+    (λ (other : t ≡ u → ⊥).
+    ap (λ (b : Bool). if b && (c == d) then w else start u d) (ne_eqb t u other)
+    ∙ ap (λ (f : ℕ → Y). f d)
+    (sym (cond-false (u == t) (put (start t) c w) (start u) (ne_eqb u t (λ e. other (sym e))))))
+    (cases_eq t u)
 
 -- a map of pairs after one is set or removed
 pub mapped_put_pair : {X Y S : Type 0} (f : X → Y) (m n : IndexMap (ℕ × ℕ) X S) (t c : ℕ) (w : Option X)

@@ -59,10 +59,10 @@ pub begins : (line : Line) (xs : List Exchange) (w : Watch) → line_of w ≡ li
     → IsWatched line xs w 0
 begins line xs w same none = record { same = same; seen = none; safe = safe_at_first line xs }
 
-seen_next : (line : Line) (xs : List Exchange) (w new : Watch) (i : ℕ) (x : Exchange) → i < length xs
+seen_next : (line : Line) (xs : List Exchange) (w : Watch) (i : ℕ) (x : Exchange) → i < length xs
     → x ≡ get_or xs i x → IsWatched line xs w i → (v : View) → v ≡ sees_exchange (line_of w) x (seen_by w)
     → v ≡ view_after line (take (i + 1) xs)
-seen_next line xs w new i x lt at h v sees =
+seen_next line xs w i x lt at h v sees =
     sees ∙ ap (λ (l : Line). sees_exchange l x (seen_by w)) h.same ∙ ap (sees_exchange line x) h.seen
     ∙ sym (view_more line xs i x lt at)
 
@@ -71,7 +71,7 @@ pub goes_on : (line : Line) (xs : List Exchange) (w new : Watch) (i : ℕ) (x : 
     → seen_by new ≡ sees_exchange (line_of w) x (seen_by w) → IsSafeOutside (line_of new) (seen_by new)
     → IsWatched line xs new (i + 1)
 goes_on line xs w new i x lt at h same sees safe =
-    let seen = seen_next line xs w new i x lt at h (seen_by new) sees in
+    let seen = seen_next line xs w i x lt at h (seen_by new) sees in
     record {
       same = same ∙ h.same;
       seen = seen;
@@ -82,12 +82,12 @@ pub ends : (line : Line) (xs : List Exchange) (w : Watch) (i : ℕ) → length x
     → IsSafeUpTo line xs (length xs)
 ends line xs w i all h n le = h.safe n (omega (arith, all, le))
 
-pub breaks : {X : Type 0} (line : Line) (xs : List Exchange) (w : Watch) (i : ℕ) (x : Exchange) (why : Breach)
+pub breaks : (X : Type 0) (line : Line) (xs : List Exchange) (w : Watch) (i : ℕ) (x : Exchange) (why : Breach)
     → i < length xs → x ≡ get_or xs i x → IsWatched line xs w i
     → IsBreach (line_of w) i (sees_exchange (line_of w) x (seen_by w)) why → IsVerdict {X = X} line xs (Err why)
-breaks line xs w i x breach.Memory lt at h why = tt
-breaks line xs w i x (breach.Broken n danger) lt at h why =
-    let seen = seen_next line xs w w i x lt at h (sees_exchange (line_of w) x (seen_by w)) refl in
+breaks X line xs w i x breach.Memory lt at h why = tt
+breaks X line xs w i x (breach.Broken n danger) lt at h why =
+    let seen = seen_next line xs w i x lt at h (sees_exchange (line_of w) x (seen_by w)) refl in
     let is : Breaks line (view_after line (take (i + 1) xs)) danger =
     subst₂ (λ (l : Line) (v : View). Breaks l v danger) h.same seen why.1 in
     subst (λ (k : ℕ). (k < length xs) × IsSafeUpTo line xs k × Breaks line (view_after line (take (k + 1) xs)) danger)

@@ -1,4 +1,4 @@
--- What breaks the promise, and where it is kept.
+-- The dangers in a view, and the sections without one.
 use Rattle.std.specs.Prelude.{◌≡◌, ◌<◌, false, IfSome, Option, slice_get, Some, true, ℕ}
 use Rattle.law_outside.specs.Outside.{may_run_over, View}
 use Rattle.rbc_spec.specs.Line.{Line}

@@ -25,7 +25,7 @@ view_of v = record {
 abbrev pub released_on : ℕ → Bool → spec.View → spec.View
 released_on s is_released v = record v { released = put v.released s is_released }
 
--- the line of a monitor, and what it has seen
+-- the line of a monitor, and its view
 abbrev pub line_of : Watch → Line
 line_of w = w.line
 

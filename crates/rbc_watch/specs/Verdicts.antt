@@ -25,7 +25,7 @@ abbrev pub IsBroken : Line → View → WatchFault → Type 0
 IsBroken line v fault.Memory = ⊤
 IsBroken line v (fault.Broken danger) = Breaks line v danger
 
--- the breach is a danger in the view after so many events and one more, unless memory ran out
+-- the breach is a danger in the view after one event more than these, unless memory ran out
 abbrev pub IsBreach : Line → ℕ → View → Breach → Type 0
 IsBreach line before v breach.Memory = ⊤
 IsBreach line before v (breach.Broken n danger) = (n ≡ before) × Breaks line v danger

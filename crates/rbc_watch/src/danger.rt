@@ -1,4 +1,4 @@
-//! Whether the promise is broken in a view, and how.
+//! The dangers in a view: the promise is broken there.
 
 ghost use Rattle.std.specs.Prelude.{◌≡◌, IfErr, IfOk, IfSome, OnOk, true};
 ghost use Rattle.law_outside.specs.Outside as spec;
@@ -8,7 +8,7 @@ ghost use Rattle.rbc_watch.specs.Seen.{view_of};
 use crate::view::View;
 use rbc_line::Line;
 
-/// What breaks the promise. Trains are named by NID_ENGINE.
+/// A break of the promise. Trains are named by NID_ENGINE.
 #[derive(Clone, Copy, Debug, PartialEq, Eq)]
 pub enum Danger {
     /// Two trains may run over one section.

@@ -1,10 +1,10 @@
 //! A monitor of the promise to the world outside the centres of a line. It has no centre: it takes events, each with
 //! the messages and replies after it, and decides whether the promise holds. So it can watch any radio block centres.
 //!
-//! The promise is the definition of `law_outside`. It speaks of a whole list of events. A [`Watch`] keeps what the
-//! definition derives from the list so far: how far each train may run, the starts of missions without an answer, and
-//! the released sections. The next view depends only on that and on the next event. So no event is kept, and the
-//! memory grows only with the trains that messages name, and with the released sections.
+//! The promise is the definition of `law_outside`. It speaks of a whole list of events. A [`Watch`] keeps the view of
+//! the list so far. That is how far each train may run, the starts of missions without an answer, and the released
+//! sections. The next view depends only on that and on the next event. So no event is kept, and the memory grows only
+//! with the trains that messages name, and with the released sections.
 //!
 //! ```
 //! let mut watch = Watch::new(alloc, &line)?;
@@ -13,7 +13,7 @@
 //! }
 //! ```
 //!
-//! [`watch_all`] is this loop. It says how many events are before the first one that breaks the promise.
+//! [`watch_all`] is this loop. It counts the events before the first one that breaks the promise.
 //!
 //! Bodies and proofs may change. The clauses of public functions have to stay: the crates above depend on them.
 #![tactic(auto)]
@@ -21,6 +21,7 @@
 mod danger;
 mod event;
 mod fault;
+mod laws;
 mod spoken;
 mod stretch;
 mod told;
@@ -30,5 +31,6 @@ mod watch;
 pub use danger::Danger;
 pub use event::{Event, Exchange};
 pub use fault::{Breach, WatchFault};
+pub use laws::a_danger_breaks_the_promise;
 pub use spoken::{Saying, Spoken, Word};
 pub use watch::{Watch, watch_all};

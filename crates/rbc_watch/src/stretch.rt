@@ -175,7 +175,7 @@ impl Stretch {
         })
     }
 
-    /// So many metres in advance of a balise group of the stretch's track.
+    /// The place this many metres in advance of a balise group of the stretch's track.
     fn metres_from(self, line: &Line, group: u32, metres: LEndsection) -> Option<u32>
         ensures { result ≡ spec.metres_from line.now group metres (stretch_of self) }
     {

@@ -1,4 +1,4 @@
-//! What an event, and what is said after it, change in the view.
+//! The changes of the view by an event, and by the messages and replies after it.
 
 ghost use Rattle.std.specs.Prelude.{◌≡◌, map, None, OnOk, option_and_then, option_map, true, if◌then◌else◌};
 ghost use Rattle.law_outside.specs.Outside as spec;

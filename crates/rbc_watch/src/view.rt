@@ -1,4 +1,4 @@
-//! What an observer outside the centres has seen of a line.
+//! The view of an observer outside the centres of a line.
 
 ghost use Rattle.std.specs.Prelude.{◌≡◌, false, None, OnOk, option_map, Some, true};
 ghost use Rattle.law_outside.specs.Outside as spec;

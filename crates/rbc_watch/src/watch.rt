@@ -45,7 +45,7 @@ impl Watch {
         Ok(watch)
     }
 
-    // The next event, after so many.
+    // The next event; `before` is the number of events before it.
     fn next_after(self, exchange: &Exchange, before: usize) -> Result<Watch, Breach>
         ensures line { IfOk result (λ w. line_of w ≡ line_of self) }
         ensures seen { IfOk result (λ w. seen_by w ≡ sees_exchange (line_of self) exchange.now (seen_by self)) }
@@ -62,7 +62,6 @@ impl Watch {
 }
 
 /// Watches a list of events, each with the messages and replies after it.
-#[tactic(auto, using(crate::proofs::Verdicts::begins, crate::proofs::Verdicts::goes_on, crate::proofs::Verdicts::ends, crate::proofs::Verdicts::breaks))]
 pub fn watch_all(alloc: Global, line: &Line, exchanges: &[Exchange]) -> Result<(), Breach>
     // It is Ok if and only if the promise holds after each event. Else it names the first event after which the promise
     // does not hold, and a danger that is there then; or memory ran out.
@@ -71,7 +70,10 @@ pub fn watch_all(alloc: Global, line: &Line, exchanges: &[Exchange]) -> Result<(
     let mut watch = Watch::new(alloc, line)?;
     let mut before = 0;
     for exchange in exchanges {
-        watch = watch.next_after(exchange, before)?;
+        match watch.next_after(exchange, before) {
+            Ok(next) => watch = next,
+            Err(breach) => return Err(breach),
+        }
         before += 1;
     }
     Ok(())

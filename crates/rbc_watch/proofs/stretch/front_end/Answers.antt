@@ -11,5 +11,5 @@ pub loop-s-preserved : goal.loop-s-preserved
 loop-s-preserved c =
     let line = c.args.line.now in
     let place = place_of c.args.place in
-    c.farther.ensures ∙ ap (front_end_with line place c.loop-s.s) c.loop-s.invariant
+    c.farther-end.ensures ∙ ap (front_end_with line place c.loop-s.s) c.loop-s.invariant
     ∙ front_end_more line place c.loop-s.s

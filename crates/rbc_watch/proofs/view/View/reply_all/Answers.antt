@@ -1,7 +1,7 @@
 use Rattle.std.proofs.Common.{◌+◌, ◌∙◌, ap, drop, List, map, sym}
 use Rattle.law_outside.specs.Outside as spec
 use Rattle.rbc_spec.specs.Outcome.{Word}
-use Rattle.rbc_watch.proofs.Lists.{map_drop, map_drop_all}
+use Rattle.rbc_watch.proofs.Lists.{map_drop_all, map_drop_at}
 use Rattle.rbc_watch.proofs.view.View.reply_all.Goals as goal
 use Rattle.rbc_watch.specs.Events.{event_of, word_of}
 use Rattle.rbc_watch.specs.Seen.{view_of}
@@ -13,7 +13,7 @@ loop-word-preserved c =
     let i = c.loop-word.word-index in
     ap (λ (v : spec.View). spec.all_heard event (map word_of (drop (i + 1) words)) v) c.in_ok-reply.ensures
     ∙ sym (ap (λ (all : List Word). spec.all_heard event all (view_of c.loop-word.self))
-    (map_drop word_of words i c.word-item.result c.loop-word-test.true c.word-item.is))
+    (map_drop_at word_of words i _ c.loop-word-test.true))
     ∙ c.loop-word.invariant
 
 pub returns : goal.returns
