@@ -9,6 +9,7 @@ ghost use Rattle.text_watch.specs.Parts.{IsRowOf, IsSilenceRow, SaysNothing};
 
 use crate::fault::RowFault;
 use crate::part::Part;
+use hex::FromHexError;
 use rbc_line::Line;
 use rbc_msgs::{MsgFault, decode_track, encode_track};
 use rbc_watch::{Saying, Word};
@@ -55,7 +56,9 @@ fn guessed(alloc: Global, line: &Line, centre: &str, row: &str) -> Result<Part, 
     let Some(found) = row_of(line, &words) else {
         return Err(RowFault::Form);
     };
-    if centre_in(found).is_some_and(|at| at != centre) {
+    if let Some(at) = centre_in(found)
+        && at != centre
+    {
         return Err(RowFault::OtherCentre);
     }
     match found {
@@ -75,7 +78,7 @@ fn guessed(alloc: Global, line: &Line, centre: &str, row: &str) -> Result<Part, 
 }
 
 // The centre that a line is about.
-fn centre_in(row: Row<'_>) -> Option<&str> {
+fn centre_in<'a>(row: Row<'a>) -> Option<&'a str> {
     match row {
         Row::Message { centre, .. }
         | Row::NotNext { centre, .. }
@@ -92,7 +95,7 @@ fn centre_in(row: Row<'_>) -> Option<&str> {
 fn said_in(alloc: Global, nid_engine: u32, digits: &str) -> Result<Part, RowFault> {
     let bytes = match hex::decode(alloc, digits) {
         Ok(bytes) => bytes,
-        Err(hex::FromHexError::OutOfMemory) => return Err(RowFault::Memory),
+        Err(FromHexError::OutOfMemory) => return Err(RowFault::Memory),
         Err(_) => return Err(RowFault::Form),
     };
     match decode_track(&bytes) {
