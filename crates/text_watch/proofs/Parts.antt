@@ -1,5 +1,6 @@
 -- Lines that are compared, and lists with one more item.
-use Rattle.std.proofs.Common.{[], ◌++◌, ◌∙◌, ◌∷◌, ◌≡◌, ◌≢◌, ap, append_assoc, List, map, sym, true, ℕ}
+use Rattle.std.proofs.Common.{[], ◌++◌, ◌<◌, ◌∙◌, ◌∷◌, ◌≡◌, ◌≢◌, ◌≤◌, ap, append_assoc, arith, List, map, refl, suc}
+use Rattle.std.proofs.Common.{sym, true, zero, ℕ}
 use Rattle.std.proofs.lemmas.List.{append_cancel_right, map-append}
 use Rattle.std.proofs.lemmas.Slice.Eq.{bytes_eq-Decides}
 use Rattle.std.specs.Fmt.{decimal}
@@ -7,11 +8,14 @@ use Rattle.std.specs.Prelude.{codes}
 use Rattle.std.specs.Str.{bytes_eq}
 use Rattle.hex.specs.Hex.{encode_upper}
 use Rattle.rbc_spec.specs.Outcome as outcome
+use Rattle.rbc_spec.specs.Outcome.{Reason}
 use Rattle.rbc_watch.specs.declared.spoken.Saying.{Saying}
 use Rattle.rbc_watch.specs.declared.spoken.Word.{Word}
 use Rattle.rbc_watch.specs.Events.{saying_of, word_of}
-use Rattle.text_script.specs.Print.Rows.{reason_number, told_row, word_row}
-use Rattle.text_watch.specs.Parts.{SaysNothing}
+use Rattle.rbc_spec.specs.Frame.{Frame}
+use Rattle.text_script.specs.Print.Rows.{body_name, fault_row, frame_row, reason_number, remark_row, told_row}
+use Rattle.text_script.specs.Print.Rows.{word_row}
+use Rattle.text_watch.specs.Parts.{HasNoEffect, IsAccepted, IsSilenceRow, SaysNothing, SpellsSilence}
 
 pub one_more_said : (items : List Saying) (s : Saying)
     → map saying_of (items ++ s ∷ []) ≡ map saying_of items ++ saying_of s ∷ []
@@ -68,3 +72,61 @@ nothing_said name row message silence reply = record {
       silence (decimal (reason_number why))
       (signed name (codes " silent ") row (decimal (reason_number why)) e);
 }
+
+-- ## Lines of accepted events, and of events without effect
+
+-- the words of a frame after the sign
+framed : (to number body : List ℕ)
+    → to ++ (32 ∷ (number ++ (32 ∷ (body ++ 10 ∷ [])))) ≡ (to ++ 32 ∷ (number ++ 32 ∷ body)) ++ 10 ∷ []
+framed to number body =
+    ap (λ (t : List ℕ). to ++ 32 ∷ t) (sym (append_assoc number (32 ∷ body) (10 ∷ [])))
+    ∙ sym (append_assoc to (32 ∷ (number ++ 32 ∷ body)) (10 ∷ []))
+
+pub accepted_row : (name row : List ℕ) → SaysNothing name (row ++ 10 ∷ [])
+    → ((rest : List ℕ) → row ≢ (name ++ codes " fault ") ++ rest) → row ≢ codes "not sent"
+    → IsAccepted name (row ++ 10 ∷ [])
+accepted_row name row nothing fault unsent = record {
+  nothing = nothing;
+  no_fault = λ n e. fault (decimal n) (signed name (codes " fault ") row (decimal n) e);
+  sent = λ e. unsent (append_cancel_right row (codes "not sent") (10 ∷ []) e);
+}
+
+pub row_of_nothing : (name row : List ℕ) → SaysNothing name (row ++ 10 ∷ [])
+    → ((rest : List ℕ) → row ≢ (name ++ codes " => ") ++ rest)
+    → ((rest : List ℕ) → row ≢ (name ++ codes " ok") ++ rest)
+    → ((rest : List ℕ) → row ≢ (name ++ codes " old") ++ rest)
+    → ((rest : List ℕ) → row ≢ (name ++ codes " early") ++ rest) → HasNoEffect name (row ++ 10 ∷ [])
+row_of_nothing name row nothing frame ok old early = record {
+  nothing = nothing;
+  no_frame = λ to f e.
+      frame (to ++ 32 ∷ (decimal f.number ++ 32 ∷ body_name f.body))
+      (signed name (codes " => ") row (to ++ 32 ∷ (decimal f.number ++ 32 ∷ body_name f.body))
+      (e ∙ ap (λ (t : List ℕ). name ++ (codes " => " ++ t)) (framed to (decimal f.number) (body_name f.body))));
+  not_ok = λ e. ok [] (signed name (codes " ok") row [] e);
+  not_old = λ e. old [] (signed name (codes " old") row [] e);
+  not_early = λ e. early [] (signed name (codes " early") row [] e);
+}
+
+-- ## Silences
+
+-- each number up to 10 is of a reason
+some_reason : (n : ℕ) → 0 < n → n ≤ 10 → (why : Reason) × (reason_number why ≡ n)
+some_reason zero h k = absurd (let never : ⊥ = omega (arith, h) in never)
+some_reason (suc zero) h k = (outcome.StaleStamp, refl)
+some_reason (suc (suc zero)) h k = (outcome.NoSession, refl)
+some_reason (suc (suc (suc zero))) h k = (outcome.ForeignEngine, refl)
+some_reason (suc (suc (suc (suc zero)))) h k = (outcome.NoPlace, refl)
+some_reason (suc (suc (suc (suc (suc zero))))) h k = (outcome.NotSupervised, refl)
+some_reason (suc (suc (suc (suc (suc (suc zero)))))) h k = (outcome.NoTrainData, refl)
+some_reason (suc (suc (suc (suc (suc (suc (suc zero))))))) h k = (outcome.ProposalPending, refl)
+some_reason (suc (suc (suc (suc (suc (suc (suc (suc zero)))))))) h k = (outcome.Unasked, refl)
+some_reason (suc (suc (suc (suc (suc (suc (suc (suc (suc zero))))))))) h k = (outcome.MissionEnded, refl)
+some_reason (suc (suc (suc (suc (suc (suc (suc (suc (suc (suc zero)))))))))) h k = (outcome.WrongPhase, refl)
+some_reason (suc (suc (suc (suc (suc (suc (suc (suc (suc (suc (suc n))))))))))) h k =
+    absurd (let never : ⊥ = omega (arith, k) in never)
+
+pub silent_row : (name text row : List ℕ) (n : ℕ) → 0 < n → n ≤ 10 → SpellsSilence name n text
+    → text ≡ row ++ 10 ∷ [] → IsSilenceRow name n (row ++ 10 ∷ [])
+silent_row name text row n some few spells same =
+    let it = some_reason n some few in
+    (it.0, it.1, sym same ∙ spells it.0 it.1)

@@ -5,7 +5,7 @@ ghost use Rattle.rbc_watch.specs.Events.{saying_of, word_of};
 ghost use Rattle.text_script.specs.Print.Answers.{IsSayingRow};
 ghost use Rattle.rbc_spec.specs.Outcome as outcome;
 ghost use Rattle.text_script.specs.Print.Rows.{word_row as spelled_word};
-ghost use Rattle.text_watch.specs.Parts.{IsRowOf, IsSilenceRow, SaysNothing};
+ghost use Rattle.text_watch.specs.Parts.{IsRowOf, SaysNothing, SpellsSilence};
 
 use crate::fault::RowFault;
 use crate::part::Part;
@@ -30,14 +30,8 @@ pub(crate) fn part_in(
         Part::Said(saying) => said(alloc, centre, saying, row),
         Part::Replied(word) => replied(alloc, centre, word, row),
         Part::Silent(reason) => silent(alloc, centre, reason, row),
-        Part::Accepted => {
-            says_nothing(alloc, centre, row)?;
-            Ok(Part::Accepted)
-        }
-        Part::Nothing => {
-            says_nothing(alloc, centre, row)?;
-            Ok(Part::Nothing)
-        }
+        Part::Accepted => accepted(alloc, centre, row),
+        Part::Nothing => nothing(alloc, centre, row),
     }
 }
 
@@ -142,9 +136,13 @@ fn replied(alloc: Global, centre: &str, word: Word, row: &str) -> Result<Part, R
 }
 
 // The silence for this reason, if this is its line.
+#[tactic(auto, using(crate::proofs::Parts::silent_row))]
 fn silent(alloc: Global, centre: &str, reason: u8, row: &str) -> Result<Part, RowFault>
     ensures { IfOk result (λ part. IsRowOf centre.now part (row.now ++ 10 ∷ [])) }
 {
+    if reason == 0 || reason > 10 {
+        return Err(RowFault::Form);
+    }
     let text = silence_row(alloc, centre, reason)?;
     if !is_row(&text, row) {
         return Err(RowFault::Form);
@@ -186,7 +184,7 @@ fn word_row(alloc: Global, centre: &str, word: Word) -> Result<Vec<u8>, RowFault
 
 // The line of a silence.
 fn silence_row(alloc: Global, centre: &str, reason: u8) -> Result<Vec<u8>, RowFault>
-    ensures { IfOk result (λ text. IsSilenceRow centre.now reason text.items) }
+    ensures { IfOk result (λ text. SpellsSilence centre.now reason text.items) }
 {
     let mut text = Vec::new(alloc);
     if writeln!(text, "{centre} silent {reason}").is_err() {
@@ -195,15 +193,54 @@ fn silence_row(alloc: Global, centre: &str, reason: u8) -> Result<Vec<u8>, RowFa
     Ok(text)
 }
 
+// A frame to another centre, or a remark.
+#[tactic(auto, using(crate::proofs::Parts::accepted_row))]
+fn accepted(alloc: Global, centre: &str, row: &str) -> Result<Part, RowFault>
+    ensures { IfOk result (λ part. IsRowOf centre.now part (row.now ++ 10 ∷ [])) }
+{
+    says_nothing(alloc, centre, row)?;
+    if begins(alloc, centre, " fault ", row)? {
+        return Err(RowFault::Form);
+    }
+    if row == "not sent" {
+        return Err(RowFault::Form);
+    }
+    Ok(Part::Accepted)
+}
+
+// A fault, a frame that was not sent, or the state of the centres.
+#[tactic(auto, using(crate::proofs::Parts::row_of_nothing))]
+fn nothing(alloc: Global, centre: &str, row: &str) -> Result<Part, RowFault>
+    ensures { IfOk result (λ part. IsRowOf centre.now part (row.now ++ 10 ∷ [])) }
+{
+    says_nothing(alloc, centre, row)?;
+    if begins(alloc, centre, " => ", row)? {
+        return Err(RowFault::Form);
+    }
+    if begins(alloc, centre, " ok", row)? {
+        return Err(RowFault::Form);
+    }
+    if begins(alloc, centre, " old", row)? {
+        return Err(RowFault::Form);
+    }
+    if begins(alloc, centre, " early", row)? {
+        return Err(RowFault::Form);
+    }
+    Ok(Part::Nothing)
+}
+
 // Refuses a message, a reply or a silence of the centre.
 #[tactic(auto, using(crate::proofs::Parts::nothing_said))]
 fn says_nothing(alloc: Global, centre: &str, row: &str) -> Result<(), RowFault>
     ensures { IfOk result (λ _. SaysNothing centre.now (row.now ++ 10 ∷ [])) }
 {
-    if begins(alloc, centre, " -> ", row)?
-        || begins(alloc, centre, " silent ", row)?
-        || is_reply(row)
-    {
+    if begins(alloc, centre, " -> ", row)? {
+        return Err(RowFault::Form);
+    }
+    if begins(alloc, centre, " silent ", row)? {
+        return Err(RowFault::Form);
+    }
+    if is_reply(row) {
         return Err(RowFault::Form);
     }
     Ok(())
