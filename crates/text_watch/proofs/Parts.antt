@@ -1,10 +1,10 @@
 -- Lines that are compared, and lists with one more item.
-use Rattle.std.proofs.Common.{[], ◌++◌, ◌<◌, ◌∙◌, ◌∷◌, ◌≡◌, ◌≢◌, ◌≤◌, ap, append_assoc, arith, List, map, refl, suc}
-use Rattle.std.proofs.Common.{sym, true, zero, ℕ}
+use Rattle.std.proofs.Common.{[], ◌++◌, ◌<◌, ◌∙◌, ◌∷◌, ◌≡◌, ◌≢◌, ◌≤◌, ap, append_assoc, arith, Bor, List, map, None}
+use Rattle.std.proofs.Common.{Option, refl, Some, suc, sym, true, zero, ℕ}
 use Rattle.std.proofs.lemmas.List.{append_cancel_right, map-append}
 use Rattle.std.proofs.lemmas.Slice.Eq.{bytes_eq-Decides}
 use Rattle.std.specs.Fmt.{decimal}
-use Rattle.std.specs.Prelude.{codes}
+use Rattle.std.specs.Prelude.{codes, MatchOption}
 use Rattle.std.specs.Str.{bytes_eq}
 use Rattle.hex.specs.Hex.{encode_upper}
 use Rattle.rbc_spec.specs.Outcome as outcome
@@ -31,6 +31,14 @@ pub ended : (text front row : List ℕ) (last : ℕ) → text ≡ front ++ last 
 ended text front row last cut feed same =
     cut ∙ ap (λ (n : ℕ). front ++ n ∷ []) feed
     ∙ ap (λ (t : List ℕ). t ++ 10 ∷ []) ((bytes_eq-Decides front row).0 same)
+
+-- the text after the sign of an event
+pub event_cut : (row rest : List ℕ) (r : Option (Bor (List ℕ))) → row ≡ 62 ∷ rest
+    → MatchOption r ((text : List ℕ) → rest ≢ 32 ∷ text) (λ x. rest ≡ 32 ∷ x.now)
+    → MatchOption r ((text : List ℕ) → row ≢ codes "> " ++ text) (λ x. row ≡ codes "> " ++ x.now)
+event_cut row rest None first second = λ text e.
+    second text (let same : 62 ∷ rest ≡ 62 ∷ 32 ∷ text = sym first ∙ e in cc)
+event_cut row rest (Some x) first second = first ∙ ap (λ (t : List ℕ). 62 ∷ t) second
 
 -- ## Lines without a message, a reply and a silence
 

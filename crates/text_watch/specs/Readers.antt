@@ -8,5 +8,5 @@ abbrev pub line_of : Reader → Line
 line_of r = r.line.now
 
 -- the last event, with the messages and replies after it
-abbrev pub open_of : Reader → Option Exchange
-open_of r = r.open
+abbrev pub last_of : Reader → Option Exchange
+last_of r = r.last

@@ -1,6 +1,6 @@
 ghost use Rattle.std.specs.Prelude.{◌≡◌, ◌≢◌, ◌++◌, ◌∷◌, [], codes, IfOk, List, MatchOption, None, ℕ};
 ghost use Rattle.text_watch.specs.Exchanges.{IsAdded, IsBegun, IsRead};
-ghost use Rattle.text_watch.specs.Readers.{line_of, open_of};
+ghost use Rattle.text_watch.specs.Readers.{last_of, line_of};
 
 use crate::event::event_in;
 use crate::fault::RowFault;
@@ -15,19 +15,19 @@ use std::alloc::Global;
 pub struct Reader<'a> {
     alloc: Global,
     line: &'a Line,
-    open: Option<Exchange>,
+    last: Option<Exchange>,
 }
 
 impl<'a> Reader<'a> {
     /// No line was read.
     pub fn new(alloc: Global, line: &'a Line) -> Reader<'a>
         ensures line { line_of result ≡ line.now }
-        ensures open { open_of result ≡ None }
+        ensures last { last_of result ≡ None }
     {
         Reader {
             alloc,
             line,
-            open: None,
+            last: None,
         }
     }
 
@@ -35,18 +35,18 @@ impl<'a> Reader<'a> {
     /// may be read after an error.
     pub fn row(&mut self, row: &str) -> Result<Option<Exchange>, RowFault>
         ensures { IfOk result (λ complete.
-            IsRead (line_of self.old) (open_of self.old) row.now complete (open_of self.new)) }
+            IsRead (line_of self.old) (last_of self.old) row.now complete (last_of self.new)) }
     {
         match event_text(row) {
             Some(text) => {
                 let next = begun(self.alloc, self.line, text)?;
-                let complete = self.open.take();
-                self.open = next;
+                let complete = self.last.take();
+                self.last = next;
                 Ok(complete)
             }
             None => {
-                let before = self.open.take();
-                self.open = with_line(self.alloc, self.line, before, row)?;
+                let before = self.last.take();
+                self.last = with_line(self.alloc, self.line, before, row)?;
                 Ok(None)
             }
         }
@@ -54,9 +54,9 @@ impl<'a> Reader<'a> {
 
     /// The last exchange, after all lines.
     pub fn end(&mut self) -> Option<Exchange>
-        ensures { result ≡ open_of self.old }
+        ensures { result ≡ last_of self.old }
     {
-        self.open.take()
+        self.last.take()
     }
 }
 
@@ -65,10 +65,11 @@ fn event_text(row: &str) -> Option<&str>
     ensures { MatchOption result ((text : List ℕ) → row.now ≢ codes "> " ++ text)
         (λ text. row.now ≡ codes "> " ++ text.now) }
 {
-    row.strip_prefix('>')?.strip_prefix(' ')
+    let rest = row.strip_prefix('>')?;
+    rest.strip_prefix(' ')
 }
 
-// The exchange of an event begins. After `show` none is open.
+// The exchange of an event, which begins. After `show` there is none.
 fn begun(alloc: Global, line: &Line, text: &str) -> Result<Option<Exchange>, RowFault>
     ensures { IfOk result (IsBegun line.now text.now) }
 {
@@ -81,16 +82,16 @@ fn begun(alloc: Global, line: &Line, text: &str) -> Result<Option<Exchange>, Row
     }
 }
 
-// The open exchange with one more line.
+// The exchange with one more line.
 fn with_line(
     alloc: Global,
     line: &Line,
-    open: Option<Exchange>,
+    last: Option<Exchange>,
     row: &str,
 ) -> Result<Option<Exchange>, RowFault>
-    ensures { IfOk result (IsAdded line.now open (row.now ++ 10 ∷ [])) }
+    ensures { IfOk result (IsAdded line.now last (row.now ++ 10 ∷ [])) }
 {
-    match open {
+    match last {
         Some(exchange) => Ok(Some(with_row(alloc, line, exchange, row)?)),
         None => {
             if is_state(alloc, line, row)? {
