@@ -1,18 +1,19 @@
 -- Lines that are compared, and lists with one more item.
 use Rattle.std.proofs.Common.{[], ◌++◌, ◌<◌, ◌∙◌, ◌∷◌, ◌≡◌, ◌≢◌, ◌≤◌, ap, append_assoc, arith, Bor, List, map, None}
-use Rattle.std.proofs.Common.{Option, refl, Some, suc, sym, true, zero, ℕ}
+use Rattle.std.proofs.Common.{Option, refl, Some, subst, suc, sym, true, zero, ℕ}
 use Rattle.std.proofs.lemmas.List.{append_cancel_right, map-append}
 use Rattle.std.proofs.lemmas.Slice.Eq.{bytes_eq-Decides}
 use Rattle.std.specs.Fmt.{decimal}
 use Rattle.std.specs.Prelude.{codes, MatchOption}
 use Rattle.std.specs.Str.{bytes_eq}
 use Rattle.hex.specs.Hex.{encode_upper}
+use Rattle.rbc_spec.specs.Frame.{Frame}
 use Rattle.rbc_spec.specs.Outcome as outcome
 use Rattle.rbc_spec.specs.Outcome.{Reason}
 use Rattle.rbc_watch.specs.declared.spoken.Saying.{Saying}
 use Rattle.rbc_watch.specs.declared.spoken.Word.{Word}
 use Rattle.rbc_watch.specs.Events.{saying_of, word_of}
-use Rattle.rbc_spec.specs.Frame.{Frame}
+use Rattle.text_script.specs.Print.Answers.{IsSayingRow}
 use Rattle.text_script.specs.Print.Rows.{body_name, fault_row, frame_row, reason_number, remark_row, told_row}
 use Rattle.text_script.specs.Print.Rows.{word_row}
 use Rattle.text_watch.specs.Parts.{HasNoEffect, IsAccepted, IsSilenceRow, SaysNothing, SpellsSilence}
@@ -31,6 +32,11 @@ pub ended : (text front row : List ℕ) (last : ℕ) → text ≡ front ++ last 
 ended text front row last cut feed same =
     cut ∙ ap (λ (n : ℕ). front ++ n ∷ []) feed
     ∙ ap (λ (t : List ℕ). t ++ 10 ∷ []) ((bytes_eq-Decides front row).0 same)
+
+-- the line of a message, as another text
+pub same_saying : (name text other : List ℕ) (s : outcome.Saying) → IsSayingRow name s text → text ≡ other
+    → IsSayingRow name s other
+same_saying name text other s h same = subst (IsSayingRow name s) same h
 
 -- the text after the sign of an event
 pub event_cut : (row rest : List ℕ) (r : Option (Bor (List ℕ))) → row ≡ 62 ∷ rest

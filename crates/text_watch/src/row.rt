@@ -114,6 +114,7 @@ fn word_in(section: u16, word: &str) -> Result<Part, RowFault> {
 }
 
 // The message, if this is its line.
+#[tactic(auto, using(crate::proofs::Parts::same_saying))]
 fn said(alloc: Global, centre: &str, saying: Saying, row: &str) -> Result<Part, RowFault>
     ensures { IfOk result (λ part. IsRowOf centre.now part (row.now ++ 10 ∷ [])) }
 {

@@ -1,6 +1,6 @@
 //! Gathers the messages and replies after an event, line by line.
 
-ghost use Rattle.std.specs.Prelude.{◌≡◌, ◌++◌, ◌∷◌, [], IfOk, OnOk, option_map};
+ghost use Rattle.std.specs.Prelude.{◌≡◌, ◌++◌, ◌∷◌, [], IfOk, option_map};
 ghost use Rattle.rbc_watch.specs.Events.{saying_of, spoken_of, word_of};
 ghost use Rattle.text_watch.specs.Parts.{AddsRow, or_heard, with_part, with_saying, with_word};
 
@@ -38,17 +38,17 @@ fn with_part(
     ensures { IfOk result
         (λ after. option_map spoken_of after ≡ with_part part (option_map spoken_of spoken)) }
 {
-    if let Part::Nothing = part {
-        return Ok(spoken);
-    }
-    let mut spoken = or_heard(alloc, spoken);
     match part {
-        Part::Said(saying) => say(&mut spoken, saying)?,
-        Part::Replied(word) => reply(&mut spoken, word)?,
-        Part::Silent(_) => spoken.is_heard = false,
-        Part::Accepted | Part::Nothing => {}
+        Part::Said(saying) => Ok(Some(with_saying(or_heard(alloc, spoken), saying)?)),
+        Part::Replied(word) => Ok(Some(with_word(or_heard(alloc, spoken), word)?)),
+        Part::Silent(_) => {
+            let mut spoken = or_heard(alloc, spoken);
+            spoken.is_heard = false;
+            Ok(Some(spoken))
+        }
+        Part::Accepted => Ok(Some(or_heard(alloc, spoken))),
+        Part::Nothing => Ok(spoken),
     }
-    Ok(Some(spoken))
 }
 
 /// The messages and replies after an event. If there are none yet, the event was accepted.
@@ -65,18 +65,22 @@ fn or_heard(alloc: Global, spoken: Option<Spoken>) -> Spoken
     }
 }
 
+// The same with one more message to a train.
 #[tactic(auto, using(crate::proofs::Parts::one_more_said))]
-fn say(spoken: &mut Spoken, saying: Saying) -> Result<(), AllocError>
-    ensures { OnOk result (spoken_of spoken.new ≡ with_saying (saying_of saying) (spoken_of spoken.old)) }
+fn with_saying(spoken: Spoken, saying: Saying) -> Result<Spoken, AllocError>
+    ensures { IfOk result (λ after. spoken_of after ≡ with_saying (saying_of saying) (spoken_of spoken)) }
 {
+    let mut spoken = spoken;
     spoken.sayings.push(saying)?;
-    Ok(())
+    Ok(spoken)
 }
 
+// The same with one more reply to the interlocking.
 #[tactic(auto, using(crate::proofs::Parts::one_more_word))]
-fn reply(spoken: &mut Spoken, word: Word) -> Result<(), AllocError>
-    ensures { OnOk result (spoken_of spoken.new ≡ with_word (word_of word) (spoken_of spoken.old)) }
+fn with_word(spoken: Spoken, word: Word) -> Result<Spoken, AllocError>
+    ensures { IfOk result (λ after. spoken_of after ≡ with_word (word_of word) (spoken_of spoken)) }
 {
+    let mut spoken = spoken;
     spoken.words.push(word)?;
-    Ok(())
+    Ok(spoken)
 }

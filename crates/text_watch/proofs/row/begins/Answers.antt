@@ -1,8 +1,12 @@
-use Rattle.std.proofs.Common.{◌∙◌, ◌≡◌, ◌++◌, ap, false, sym, true}
+use Rattle.std.proofs.Common.{◌++◌, ◌∙◌, ap, List, sym, ℕ}
 use Rattle.std.proofs.lemmas.Bool.{true≢false}
 use Rattle.std.proofs.lemmas.Bool.Decides.{Decides-eqb}
 use Rattle.std.proofs.lemmas.Slice.Eq.{starts_is}
 use Rattle.text_watch.proofs.row.begins.Goals as goal
 
 pub returns : goal.returns
-returns c = ?
+returns c = λ no rest e.
+    true≢false (sym ((starts_is Decides-eqb c.as_bytes.result.now c.as_bytes-2.result.now c.starts_with.result
+    c.starts_with.ensures).1 rest
+    (c.as_bytes.ensures.value ∙ e ∙ ap (λ (w : List ℕ). w ++ rest)
+    (sym (c.as_bytes-2.ensures.value ∙ c.in_ok-beginning.ensures)))) ∙ no)
