@@ -7,15 +7,13 @@ use Rattle.std.specs.Fmt.{decimal}
 use Rattle.std.specs.Prelude.{codes, MatchOption}
 use Rattle.std.specs.Str.{bytes_eq}
 use Rattle.hex.specs.Hex.{encode_upper}
-use Rattle.rbc_spec.specs.Frame.{Frame}
 use Rattle.rbc_spec.specs.Outcome as outcome
 use Rattle.rbc_spec.specs.Outcome.{Reason}
 use Rattle.rbc_watch.specs.declared.spoken.Saying.{Saying}
 use Rattle.rbc_watch.specs.declared.spoken.Word.{Word}
 use Rattle.rbc_watch.specs.Events.{saying_of, word_of}
 use Rattle.text_script.specs.Print.Answers.{IsSayingRow}
-use Rattle.text_script.specs.Print.Rows.{body_name, fault_row, frame_row, reason_number, remark_row, told_row}
-use Rattle.text_script.specs.Print.Rows.{word_row}
+use Rattle.text_script.specs.Print.Rows.{body_name, reason_number, told_row, word_row}
 use Rattle.text_watch.specs.Parts.{HasNoEffect, IsAccepted, IsSilenceRow, SaysNothing, SpellsSilence}
 
 pub one_more_said : (items : List Saying) (s : Saying)

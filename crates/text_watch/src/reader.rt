@@ -65,8 +65,10 @@ fn event_text(row: &str) -> Option<&str>
     ensures { MatchOption result ((text : List ℕ) → row.now ≢ codes "> " ++ text)
         (λ text. row.now ≡ codes "> " ++ text.now) }
 {
-    let rest = row.strip_prefix('>')?;
-    rest.strip_prefix(' ')
+    match row.strip_prefix('>') {
+        Some(rest) => rest.strip_prefix(' '),
+        None => None,
+    }
 }
 
 // The exchange of an event, which begins. After `show` there is none.

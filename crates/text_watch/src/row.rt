@@ -137,7 +137,6 @@ fn replied(alloc: Global, centre: &str, word: Word, row: &str) -> Result<Part, R
 }
 
 // The silence for this reason, if this is its line.
-#[tactic(auto, using(crate::proofs::Parts::silent_row))]
 fn silent(alloc: Global, centre: &str, reason: u8, row: &str) -> Result<Part, RowFault>
     ensures { IfOk result (λ part. IsRowOf centre.now part (row.now ++ 10 ∷ [])) }
 {
@@ -145,10 +144,11 @@ fn silent(alloc: Global, centre: &str, reason: u8, row: &str) -> Result<Part, Ro
         return Err(RowFault::Form);
     }
     let text = silence_row(alloc, centre, reason)?;
-    if !is_row(&text, row) {
-        return Err(RowFault::Form);
+    if is_row(&text, row) {
+        Ok(Part::Silent(reason))
+    } else {
+        Err(RowFault::Form)
     }
-    Ok(Part::Silent(reason))
 }
 
 // The line of a message to a train.

@@ -7,6 +7,6 @@ use Rattle.text_watch.proofs.row.begins.Goals as goal
 pub returns : goal.returns
 returns c = λ no rest e.
     true≢false (sym ((starts_is Decides-eqb c.as_bytes.result.now c.as_bytes-2.result.now c.starts_with.result
-    c.starts_with.ensures).1 rest
+    c.starts_with.ensures.value).1 rest
     (c.as_bytes.ensures.value ∙ e ∙ ap (λ (w : List ℕ). w ++ rest)
     (sym (c.as_bytes-2.ensures.value ∙ c.in_ok-beginning.ensures)))) ∙ no)

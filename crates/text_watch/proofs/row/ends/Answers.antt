@@ -7,5 +7,5 @@ use Rattle.text_watch.proofs.row.ends.Goals as goal
 pub returns : goal.returns
 returns c = λ no front e.
     true≢false (sym ((ends_is Decides-eqb c.as_bytes.result.now c.as_bytes-2.result.now c.ends_with.result
-    c.ends_with.ensures).1 front
+    c.ends_with.ensures.value).1 front
     (c.as_bytes.ensures.value ∙ e ∙ ap (λ (w : List ℕ). front ++ w) (sym c.as_bytes-2.ensures.value))) ∙ no)
