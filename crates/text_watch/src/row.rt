@@ -1,6 +1,6 @@
 //! Reads a line after an event. Its message, reply or silence is printed again, and both lines have to be equal.
 
-ghost use Rattle.std.specs.Prelude.{◌≡◌, ◌≢◌, ◌++◌, ◌∷◌, [], false, IfOk, List, true, ℕ};
+ghost use Rattle.std.specs.Prelude.{◌≡◌, ◌≢◌, ◌++◌, ◌∷◌, [], IfOk, List, true, ℕ};
 ghost use Rattle.rbc_watch.specs.Events.{saying_of, word_of};
 ghost use Rattle.text_script.specs.Print.Answers.{IsSayingRow};
 ghost use Rattle.rbc_spec.specs.Outcome as outcome;
@@ -13,7 +13,7 @@ use hex::FromHexError;
 use rbc_line::Line;
 use rbc_msgs::{MsgFault, decode_track, encode_track};
 use rbc_watch::{Saying, Word};
-use std::alloc::{AllocError, Global};
+use std::alloc::Global;
 use std::io::Write;
 use text_words::{Row, row_of};
 
@@ -195,87 +195,73 @@ fn silence_row(alloc: Global, centre: &str, reason: u8) -> Result<Vec<u8>, RowFa
 }
 
 // A frame to another centre, or a remark.
-#[tactic(auto, using(crate::proofs::Parts::accepted_row))]
 fn accepted(alloc: Global, centre: &str, row: &str) -> Result<Part, RowFault>
     ensures { IfOk result (λ part. IsRowOf centre.now part (row.now ++ 10 ∷ [])) }
 {
-    says_nothing(alloc, centre, row)?;
-    if begins(alloc, centre, " fault ", row)? {
-        return Err(RowFault::Form);
-    }
+    refuse_said(alloc, centre, row)?;
+    refuse_sign(alloc, centre, " fault ", row)?;
     if row == "not sent" {
-        return Err(RowFault::Form);
+        Err(RowFault::Form)
+    } else {
+        Ok(Part::Accepted)
     }
-    Ok(Part::Accepted)
 }
 
 // A fault, a frame that was not sent, or the state of the centres.
-#[tactic(auto, using(crate::proofs::Parts::row_of_nothing))]
 fn nothing(alloc: Global, centre: &str, row: &str) -> Result<Part, RowFault>
     ensures { IfOk result (λ part. IsRowOf centre.now part (row.now ++ 10 ∷ [])) }
 {
-    says_nothing(alloc, centre, row)?;
-    if begins(alloc, centre, " => ", row)? {
-        return Err(RowFault::Form);
-    }
-    if begins(alloc, centre, " ok", row)? {
-        return Err(RowFault::Form);
-    }
-    if begins(alloc, centre, " old", row)? {
-        return Err(RowFault::Form);
-    }
-    if begins(alloc, centre, " early", row)? {
-        return Err(RowFault::Form);
-    }
+    refuse_said(alloc, centre, row)?;
+    refuse_sign(alloc, centre, " => ", row)?;
+    refuse_sign(alloc, centre, " ok", row)?;
+    refuse_sign(alloc, centre, " old", row)?;
+    refuse_sign(alloc, centre, " early", row)?;
     Ok(Part::Nothing)
 }
 
 // Refuses a message, a reply or a silence of the centre.
-#[tactic(auto, using(crate::proofs::Parts::nothing_said))]
-fn says_nothing(alloc: Global, centre: &str, row: &str) -> Result<(), RowFault>
+fn refuse_said(alloc: Global, centre: &str, row: &str) -> Result<(), RowFault>
     ensures { IfOk result (λ _. SaysNothing centre.now (row.now ++ 10 ∷ [])) }
 {
-    if begins(alloc, centre, " -> ", row)? {
-        return Err(RowFault::Form);
-    }
-    if begins(alloc, centre, " silent ", row)? {
-        return Err(RowFault::Form);
-    }
-    if is_reply(row) {
-        return Err(RowFault::Form);
-    }
+    refuse_sign(alloc, centre, " -> ", row)?;
+    refuse_sign(alloc, centre, " silent ", row)?;
+    refuse_reply(row)?;
     Ok(())
 }
 
-// Whether the line begins with the name and the sign.
-fn begins(alloc: Global, centre: &str, sign: &str, row: &str) -> Result<bool, AllocError>
-    ensures { IfOk result (λ it. it ≡ false → (rest : List ℕ) → row.now ≢ (centre.now ++ sign.now) ++ rest) }
+// Refuses a line that begins with the name and the sign.
+fn refuse_sign(alloc: Global, centre: &str, sign: &str, row: &str) -> Result<(), RowFault>
+    ensures { IfOk result (λ _. (rest : List ℕ) → row.now ≢ (centre.now ++ sign.now) ++ rest) }
 {
     let beginning = format!(in alloc; "{centre}{sign}")?;
-    Ok(row.as_bytes().starts_with(beginning.as_bytes()))
+    if row.as_bytes().starts_with(beginning.as_bytes()) {
+        Err(RowFault::Form)
+    } else {
+        Ok(())
+    }
 }
 
-// Whether the line ends as a reply to the interlocking does.
-#[tactic(auto, using(crate::proofs::Parts::no_word))]
-fn is_reply(row: &str) -> bool
-    ensures { result ≡ false → (c : List ℕ) (w : outcome.Word) → row.now ++ 10 ∷ [] ≢ spelled_word c w }
+// Refuses a line that ends as a reply to the interlocking does.
+fn refuse_reply(row: &str) -> Result<(), RowFault>
+    ensures { IfOk result
+        (λ _. (c : List ℕ) (w : outcome.Word) → row.now ++ 10 ∷ [] ≢ spelled_word c w) }
 {
-    if ends(row, " Done") {
-        return true;
-    }
-    if ends(row, " Asked") {
-        return true;
-    }
-    if ends(row, " NotHome") {
-        return true;
-    }
-    ends(row, " Told")
+    refuse_end(row, " Done")?;
+    refuse_end(row, " Asked")?;
+    refuse_end(row, " NotHome")?;
+    refuse_end(row, " Told")?;
+    Ok(())
 }
 
-fn ends(row: &str, word: &str) -> bool
-    ensures { result ≡ false → (front : List ℕ) → row.now ≢ front ++ word.now }
+// Refuses a line that ends with this word.
+fn refuse_end(row: &str, word: &str) -> Result<(), RowFault>
+    ensures { IfOk result (λ _. (front : List ℕ) → row.now ≢ front ++ word.now) }
 {
-    row.as_bytes().ends_with(word.as_bytes())
+    if row.as_bytes().ends_with(word.as_bytes()) {
+        Err(RowFault::Form)
+    } else {
+        Ok(())
+    }
 }
 
 // Whether the text is the line with its line feed.
