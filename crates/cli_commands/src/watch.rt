@@ -168,12 +168,7 @@ impl<'a> Watched<'a> {
 }
 
 // Why this line is refused.
-fn cause_of(
-    alloc: Global,
-    line: &Line,
-    row: &str,
-    fault: RowFault,
-) -> Result<Ending, AllocError> {
+fn cause_of(alloc: Global, line: &Line, row: &str, fault: RowFault) -> Result<Ending, AllocError> {
     if fault == RowFault::Memory {
         return Ok(Ending::Memory);
     }

@@ -65,9 +65,11 @@ fn guessed(alloc: Global, line: &Line, centre: &str, row: &str) -> Result<Part, 
         Row::Fault { .. } | Row::NotSent | Row::Section { .. } | Row::Supervisor { .. } => {
             Ok(Part::Nothing)
         }
-        Row::Train { .. } | Row::Set { .. } | Row::Unset { .. } | Row::Deliver { .. } | Row::Show => {
-            Err(RowFault::Form)
-        }
+        Row::Train { .. }
+        | Row::Set { .. }
+        | Row::Unset { .. }
+        | Row::Deliver { .. }
+        | Row::Show => Err(RowFault::Form),
     }
 }
 
