@@ -29,3 +29,5 @@ pub mod NotAllowed
 pub mod OnePlaces
 pub mod Standstill
 pub mod QuietMarks
+pub mod RuleParts
+pub mod RuleScenes

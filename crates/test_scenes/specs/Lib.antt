@@ -21,3 +21,6 @@ pub mod NotAllowed
 pub mod OnePlaces
 pub mod Standstill
 pub mod QuietMarks
+pub mod RuleParts
+pub mod RuleScenes
+pub mod FollowScenes

@@ -12,6 +12,7 @@ mod late;
 mod not_allowed;
 mod one_places;
 mod quiet_marks;
+mod train_rules;
 
 ghost use Rattle.std.specs.Prelude.{◌≡◌, [], ◌∷◌, None, Some, Ok, Err};
 ghost use Rattle.rbc_spec.specs.Centre.{beginning};
@@ -139,6 +140,9 @@ pub use late::{late_frames, races_met};
 pub use not_allowed::{moves_not_allowed, two_yields_on_the_way};
 pub use one_places::each_thing_stays_in_one_place;
 pub use quiet_marks::only_an_admission_gives;
+pub use train_rules::{
+    all_parts_are_the_five_rules, each_part_of_the_rules_is_needed, trains_run_over_three_centres,
+};
 
 /// What the interlocking is told, how sessions are opened and ended, and how missions start at the registrar and
 /// elsewhere.
