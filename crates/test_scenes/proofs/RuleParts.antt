@@ -1,14 +1,14 @@
 -- The rules by all their parts are the five rules.
 use Rattle.std.proofs.Common.{◌&&◌, ◌≡◌, ap, Bool, not, refl, true, ℕ}
-use Rattle.std.proofs.lemmas.Bool.{and_parts, both_ways}
+use Rattle.std.proofs.lemmas.Bool.{and_parts}
+use Rattle.law_trains.specs.Trains as rules
+use Rattle.law_trains.specs.Trains.{is_accepted, IsSafeLoop, Loop, stands_on, Train}
 use Rattle.rbc_spec.specs.Line.{Line}
 use Rattle.rbc_spec.specs.Message.{Authority, DataAcknowledged, EndOfMission, EndSession, InitiationOfSession, Report}
 use Rattle.rbc_spec.specs.Message.{Request, SessionEstablished, ShorteningGranted, ShorteningRejected}
 use Rattle.rbc_spec.specs.Message.{ShorteningRequest, StartOfMission, SystemVersion, TerminationAcknowledged}
 use Rattle.rbc_spec.specs.Message.{TerminationOfSession, TrackBody, TrackMessage, TrainAccepted, TrainBody, TrainData}
 use Rattle.rbc_spec.specs.Message.{TrainMessage, TrainRejected, Transition}
-use Rattle.law_trains.specs.Trains.{is_accepted, IsSafeLoop, Loop, stands_on, Train}
-use Rattle.law_trains.specs.Trains as rules
 use Rattle.test_scenes.specs.RuleParts.{before_it_says, five_rules, hears, is_on_shut, meet_on, says}
 
 before : (c stamp : ℕ) (body : TrainBody) (x : Train)
@@ -56,4 +56,4 @@ not_safe_on line k t s is safe =
     released_twice (k.seen.released s) both.1 (safe.released t s refl on.0 on.1)
   where
     released_twice : (b : Bool) → not b ≡ true → b ≡ true → ⊥
-    released_twice b shut open = cc
+    released_twice b is_shut is_open = cc

@@ -1,5 +1,7 @@
 -- The scenes of trains, computed.
 use Rattle.std.proofs.Common.{[], ◌≡◌, refl, Some, true}
+use Rattle.law_outside.specs.Outside.{front_end}
+use Rattle.law_trains.specs.Trains.{stands_on}
 use Rattle.rbc_spec.specs.Acts.{◌>>◌}
 use Rattle.rbc_spec.specs.Centre.{beginning}
 use Rattle.rbc_spec.specs.Line.{end, start as line_start}
@@ -7,8 +9,6 @@ use Rattle.rbc_spec.specs.Place.{extent}
 use Rattle.rbc_spec.specs.SectionRuns.{longest, within}
 use Rattle.rbc_spec.specs.Step.{step}
 use Rattle.rbc_spec.specs.World.{new_world, world_step}
-use Rattle.law_outside.specs.Outside.{front_end}
-use Rattle.law_trains.specs.Trains.{stands_on}
 use Rattle.test_scenes.specs.FollowScenes.{another_centre, before_the_acknowledgement, centre_after_a_grant}
 use Rattle.test_scenes.specs.FollowScenes.{centre_at_standstill, data_before_a_grant, data_before_standstill}
 use Rattle.test_scenes.specs.FollowScenes.{end_after_a_grant, end_at_standstill, over_three_centres}

@@ -25,8 +25,7 @@ end_after_a_grant = record {
         ∷ Runs 1 2260 (pos 1850) ∷ [];
   };
   is_wrong = is_on_shut 1 2;
-  forbidden =
-      Runs 1 2260 (pos 1850) ∷ [];
+  forbidden = Runs 1 2260 (pos 1850) ∷ [];
 }
 
 -- A train grants a request to shorten, and takes an earlier authority after that.
@@ -45,8 +44,7 @@ centre_after_a_grant = record {
         ∷ Sends 2 1 19 (StartOfMission true (span 100 356 338)) ∷ Hears 1 1 4 ∷ Runs 1 4000 (pos 3950) ∷ [];
   };
   is_wrong = meet_on 1 2 3;
-  forbidden =
-      Runs 1 4000 (pos 3950) ∷ [];
+  forbidden = Runs 1 4000 (pos 3950) ∷ [];
 }
 
 -- A train grants a request to shorten, and then follows its centre by an earlier acknowledgement.
@@ -67,8 +65,7 @@ data_before_a_grant = record {
         ∷ Hears 2 0 5 ∷ Runs 2 3000 (pos 1950) ∷ [];
   };
   is_wrong = meet_on 1 2 2;
-  forbidden =
-      Runs 2 3000 (pos 1950) ∷ [];
+  forbidden = Runs 2 3000 (pos 1950) ∷ [];
 }
 
 -- A train ends its mission at standstill, and keeps its authority.
@@ -86,8 +83,7 @@ end_at_standstill = record {
         ∷ Sends 2 1 35 (StartOfMission true (span 100 256 251)) ∷ Frame 1 0 ∷ Frame 0 1 ∷ [];
   };
   is_wrong = meet_on 1 2 2;
-  forbidden =
-      Runs 1 2170 (pos 2120) ∷ [];
+  forbidden = Runs 1 2170 (pos 2120) ∷ [];
 }
 
 -- A train ends its mission at standstill, and takes an earlier authority after that.
@@ -108,8 +104,7 @@ centre_at_standstill = record {
         ∷ Runs 2 6000 (pos 5950) ∷ [];
   };
   is_wrong = meet_on 1 2 5;
-  forbidden =
-      Runs 2 6000 (pos 5950) ∷ [];
+  forbidden = Runs 2 6000 (pos 5950) ∷ [];
 }
 
 -- A train ends its mission at standstill, and then follows its centre by an earlier acknowledgement.
@@ -128,8 +123,7 @@ data_before_standstill = record {
         ∷ Frame 1 0 ∷ Hears 3 0 4 ∷ Runs 3 2000 (pos 1950) ∷ [];
   };
   is_wrong = meet_on 2 3 1;
-  forbidden =
-      Runs 3 2000 (pos 1950) ∷ [];
+  forbidden = Runs 3 2000 (pos 1950) ∷ [];
 }
 
 -- A train follows B, and takes an authority of A from before the handover.
@@ -152,8 +146,7 @@ another_centre = record {
         ∷ Sends 1 1 12 (TrainData (span 100 250 200)) ∷ Hears 1 1 4 ∷ Hears 1 0 5 ∷ Runs 1 5000 (pos 4500) ∷ [];
   };
   is_wrong = meet_on 1 2 4;
-  forbidden =
-      Runs 1 5000 (pos 4500) ∷ [];
+  forbidden = Runs 1 5000 (pos 4500) ∷ [];
 }
 
 -- A train starts again, and takes an authority from before the acknowledgement by which it follows its centre.
@@ -173,8 +166,7 @@ before_the_acknowledgement = record {
         ∷ Frame 1 0 ∷ Hears 3 0 6 ∷ Hears 3 0 4 ∷ Runs 3 2000 (pos 1950) ∷ [];
   };
   is_wrong = meet_on 2 3 1;
-  forbidden =
-      Runs 3 2000 (pos 1950) ∷ [];
+  forbidden = Runs 3 2000 (pos 1950) ∷ [];
 }
 
 -- ## No rule left out

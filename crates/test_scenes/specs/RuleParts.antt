@@ -2,21 +2,21 @@
 -- trains, a radio and the centres of a line. The centres answer each event as `world_step` says.
 use Rattle.std.specs.List.{filter, find, list_all, range_with_len}
 use Rattle.std.specs.Option.{option_map_or}
-use Rattle.std.specs.Prelude.{[], if◌then◌else◌, ◌&&◌, ◌*◌, ◌++◌, ◌+◌, ◌==◌, ◌||◌, ◌∷◌, ◌≡◌, Bool, Err, false, int_le}
+use Rattle.std.specs.Prelude.{[], ◌&&◌, ◌*◌, ◌++◌, ◌+◌, ◌==◌, ◌||◌, ◌∷◌, ◌≡◌, Bool, Err, false, if◌then◌else◌, int_le}
 use Rattle.std.specs.Prelude.{int_lt, length, List, map, nat_le, nat_lt, None, not, Ok, Option, pos, Result, Some, true}
 use Rattle.std.specs.Prelude.{ℕ, ℤ}
+use Rattle.law_trains.specs.Trains as rules
+use Rattle.law_trains.specs.Trains.{after, Asked, at_first, end_from, is_accepted, Loop, no_farther, position_of}
+use Rattle.law_trains.specs.Trains.{stands_on, Train}
 use Rattle.rbc_spec.specs.Line.{Line}
 use Rattle.rbc_spec.specs.Maps.{has, put}
-use Rattle.rbc_spec.specs.Message.{Authority, EndOfMission, ShorteningGranted, StartOfMission, TrackBody, TrackMessage}
+use Rattle.rbc_spec.specs.Message.{Authority, EndOfMission, ShorteningGranted, TrackBody, TrackMessage}
 use Rattle.rbc_spec.specs.Message.{TrainBody, TrainMessage}
 use Rattle.rbc_spec.specs.Outcome.{Saying}
 use Rattle.rbc_spec.specs.Place.{extent, Place}
 use Rattle.rbc_spec.specs.Sections.{section_count}
 use Rattle.rbc_spec.specs.Step.{Refusal}
 use Rattle.rbc_spec.specs.World.{Answer, Bytes, Delivery, Event, new_world, World, world_step}
-use Rattle.law_trains.specs.Trains.{after, at_first, end_from, is_accepted, Loop, no_farther, position_of, stands_on}
-use Rattle.law_trains.specs.Trains.{Train}
-use Rattle.law_trains.specs.Trains as rules
 
 -- ## The parts of the rules
 
@@ -96,10 +96,15 @@ gives_back is_ended is_followed is_since stamp left x = record x {
   gave_back = if is_since then stamp else x.gave_back;
 }
 
+-- the end of the authority of a train that grants a request; it keeps the end if it received none
+abbrev pub end_after_grant : (is_heard : Bool) → Option Asked → Option ℕ → Option ℕ
+end_after_grant false None e = e
+end_after_grant is_heard asked e = no_farther asked e
+
 abbrev pub before_it_says : Kept → ℕ → ℕ → TrainBody → Train → Train
 before_it_says kept c stamp (ShorteningGranted asked position) x =
     gives_back (kept EndAfterGrant) (kept CentreAfterGrant) (kept DataAfterGrant) stamp
-    (no_farther (x.asked c) x.end) x
+    (end_after_grant (kept HeardRequest) (x.asked c) x.end) x
 before_it_says kept c stamp (EndOfMission position) x =
     if position.v_train == 0
     then gives_back (kept EndAtStandstill) (kept CentreAtStandstill) (kept DataAtStandstill) stamp None x

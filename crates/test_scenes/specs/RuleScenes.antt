@@ -1,14 +1,14 @@
 -- Scenes of trains that leave out one part of the rules: of one clock, of true reports, and of running with an
 -- authority. Each has the acts that the five rules forbid.
 use Rattle.std.specs.List.{range_with_len, zip}
-use Rattle.std.specs.Prelude.{[], if◌then◌else◌, ◌++◌, ◌+◌, ◌-◌, ◌==◌, ◌∷◌, false, length, List, map, None, pos, Some}
+use Rattle.std.specs.Prelude.{[], ◌++◌, ◌+◌, ◌-◌, ◌==◌, ◌∷◌, false, if◌then◌else◌, length, List, map, None, pos, Some}
 use Rattle.std.specs.Prelude.{true, ℕ}
+use Rattle.law_trains.specs.Trains.{Train}
 use Rattle.rbc_spec.specs.Line.{Line, Section, Train as TrainOfLine}
 use Rattle.rbc_spec.specs.Message.{EndOfMission, InitiationOfSession, Report, Request, SessionEstablished}
 use Rattle.rbc_spec.specs.Message.{ShorteningGranted, StartOfMission, TrainData}
 use Rattle.rbc_spec.specs.Place.{Position}
 use Rattle.rbc_spec.specs.World.{Set, Unset}
-use Rattle.law_trains.specs.Trains.{Train}
 use Rattle.test_scenes.specs.RuleParts.{Arrives, Commands, Frame, HeardRequest, Hears, LeftOut, meet_on, OneClock, Runs}
 use Rattle.test_scenes.specs.RuleParts.{Says, Sends, ToTheEnd, TrueFront, TrueRear, WithAuthority}
 use Rattle.test_scenes.specs.Scene.{at, line_of, sections_on, times}
@@ -43,17 +43,20 @@ line_with centres tracks registrars = record (line_of centres names (tracks_from
 
 -- a train before its first act, with its true ends in decimetres
 abbrev pub new_train : (t track front rear : ℕ) → ℕ × Train
-new_train t track front rear = (t, record {
-  track = track;
-  front = front;
-  rear = pos rear;
-  clock = 0;
-  has_started = false;
-  end = None;
-  follows = None;
-  gave_back = 0;
-  asked = λ c. None;
-})
+new_train t track front rear = (
+  t,
+  record {
+    track = track;
+    front = front;
+    rear = pos rear;
+    clock = 0;
+    has_started = false;
+    end = None;
+    follows = None;
+    gave_back = 0;
+    asked = λ c. None;
+  },
+)
 
 abbrev pub placed : List (ℕ × Train) → ℕ → Train
 placed [] t = (new_train t 0 1 0).1
@@ -106,8 +109,7 @@ front_in_rear = record {
         ∷ Sends 2 0 3 SessionEstablished ∷ Sends 2 0 9 (StartOfMission true (span 104 570 565)) ∷ [];
   };
   is_wrong = meet_on 2 3 9;
-  forbidden =
-      Sends 3 0 3 (StartOfMission true (span 104 469 468)) ∷ [];
+  forbidden = Sends 3 0 3 (StartOfMission true (span 104 469 468)) ∷ [];
 }
 
 -- A train reports a safe rear end in advance of its own, and the section is free for another.
@@ -124,8 +126,7 @@ rear_in_advance = record {
         ∷ Sends 1 0 22 (StartOfMission true (span 100 70 69)) ∷ [];
   };
   is_wrong = meet_on 1 2 0;
-  forbidden =
-      Sends 2 0 29 (Report (span 100 300 245)) ∷ Sends 1 0 22 (StartOfMission true (span 100 70 69)) ∷ [];
+  forbidden = Sends 2 0 29 (Report (span 100 300 245)) ∷ Sends 1 0 22 (StartOfMission true (span 100 70 69)) ∷ [];
 }
 
 -- A train grants a request to shorten that it did not receive.
@@ -144,8 +145,7 @@ request_not_heard = record {
         ∷ Commands (Set 1 4) ∷ Runs 1 5000 (pos 4950) ∷ Sends 3 1 14 (StartOfMission true (span 100 500 495)) ∷ [];
   };
   is_wrong = meet_on 1 3 4;
-  forbidden =
-      Sends 1 1 10 (ShorteningGranted 6 (span 100 367 343)) ∷ [];
+  forbidden = Sends 1 1 10 (ShorteningGranted 6 (span 100 367 343)) ∷ [];
 }
 
 -- A train runs in advance of the end of its authority.
@@ -162,8 +162,7 @@ past_the_end = record {
         ∷ Sends 3 0 7 (StartOfMission true (span 104 580 569)) ∷ [];
   };
   is_wrong = meet_on 1 3 9;
-  forbidden =
-      Runs 1 6000 (pos 4550) ∷ [];
+  forbidden = Runs 1 6000 (pos 4550) ∷ [];
 }
 
 -- A train starts its mission, and runs before it has an authority.
@@ -180,6 +179,5 @@ without_an_authority = record {
         ∷ Runs 1 4000 (pos 790) ∷ Arrives 1 0 5 ∷ Frame 0 1 ∷ Frame 1 0 ∷ [];
   };
   is_wrong = meet_on 1 2 3;
-  forbidden =
-      Runs 1 4000 (pos 790) ∷ [];
+  forbidden = Runs 1 4000 (pos 790) ∷ [];
 }

@@ -1,4 +1,5 @@
-use Rattle.test_scenes.proofs.RuleScenes.{three_allowed, three_end, three_first, three_follows, three_safe, three_second}
+use Rattle.test_scenes.proofs.RuleScenes.{three_allowed, three_end, three_first, three_follows, three_safe}
+use Rattle.test_scenes.proofs.RuleScenes.{three_second}
 use Rattle.test_scenes.proofs.train_rules.trains_run_over_three_centres.Goals as goal
 
 pub returns-clause-allowed : goal.returns-clause-allowed
