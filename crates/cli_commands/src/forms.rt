@@ -24,7 +24,7 @@ const SCRIPT: (&str, &str) = (
     "The script, one event a line; `-` is standard input",
 );
 
-static FORMS: [Form; 15] = [
+static FORMS: [Form; 16] = [
     Form {
         name: "check",
         about: "Read a line file, and say how many centres, tracks, sections and trains it has",
@@ -93,6 +93,14 @@ static FORMS: [Form; 15] = [
                 "FILE",
                 "Messages in hexadecimal, one a line, or `wait N` to read N answers",
             ),
+        ],
+    },
+    Form {
+        name: "trains",
+        about: "Run trains that obey over running centres, with messages lost by lot, and print where they are",
+        words: &[
+            ("PORT", "The port of the first centre, as given to `serve`"),
+            FILE,
         ],
     },
     Form {

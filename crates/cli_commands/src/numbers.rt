@@ -9,7 +9,7 @@ const PORTS: (u64, u64) = (1, 65_535);
 /// The bounds of a rate, of seconds, and of the number of an event.
 const COUNTS: (u64, u64) = (1, 4_294_967_295);
 
-static NUMBERS: [(&str, (u64, u64)); 13] = [
+static NUMBERS: [(&str, (u64, u64)); 15] = [
     ("PORT", PORTS),
     ("page", PORTS),
     ("SEED", (0, u64::MAX)),
@@ -21,8 +21,10 @@ static NUMBERS: [(&str, (u64, u64)); 13] = [
     ("train", (0, 16_777_215)),
     ("trains", (1, 64)),
     ("loss", (0, 100)),
+    ("late", (0, 100)),
     ("seed", (0, u64::MAX)),
     ("events", (1, 1_000_000)),
+    ("seconds", (1, 1_000_000)),
 ];
 
 /// The argument. If it is a number, it takes only numbers within its bounds.

@@ -3,8 +3,8 @@
 //!
 //! [`Demo::new`] puts trains on a line ([`Settings`]). [`Demo::run`] lets seconds pass until each train has arrived. It
 //! writes a table of the trains, or a script of the events. Trains, centres and messages are a `Railway`, so no two
-//! accepted trains are ever on one section (`IsSafeRailway`). The module `check` looks at the true places again. It
-//! does without the centres.
+//! accepted trains are ever on one section (`IsSafeRailway`). `is_safe` of `train_driver` looks at the true places
+//! again. It does without the centres.
 //!
 //! ```
 //! let line = Line::from_toml(alloc, BUILT_IN)?;
@@ -16,16 +16,10 @@
 #![tactic(auto)]
 
 mod built_in;
-mod check;
 mod demo;
-mod driver;
 mod fault;
-mod hearing;
 mod interlocking;
 mod links;
-mod lots;
-mod message;
-mod placing;
 mod radio;
 mod releasing;
 mod report;

@@ -3,18 +3,16 @@
 ghost use Rattle.std.specs.Prelude.{OnOk};
 ghost use Rattle.rbc_railway.specs.Railways.{IsSafeRailway};
 
-use crate::check::is_safe;
 use crate::demo::Demo;
-use crate::driver::MARGIN;
 use crate::fault::{DemoFault, happened};
 use crate::interlocking::Interlocking;
-use crate::lots::below;
-use crate::message::{LENGTH, Speech, message, position};
 use crate::radio::Flight;
+use cli_storm::below;
 use rbc_line::Section;
 use rbc_railway::each_railway_is_safe;
 use std::io::Write;
 use text_script::Answer;
+use train_driver::{LENGTH, MARGIN, Speech, has_front, is_safe, message, position};
 use train_unit::Ends;
 
 impl Demo {
@@ -212,11 +210,4 @@ impl Demo {
         }
         Ok(())
     }
-}
-
-// Whether the front end of a train is on the section.
-fn has_front(section: &Section, ends: Ends) -> bool {
-    let start = 10 * u64::from(section.start);
-    let front = u64::from(ends.front);
-    section.track == ends.track && start < front && front <= start + 10 * u64::from(section.metres)
 }

@@ -1,0 +1,103 @@
+//! A train on the line.
+
+use cli_storm::{Draws, below};
+use rbc_line::{Line, Section};
+use rbc_msgs::{TrackBody, TrackMsg, encode_train};
+use std::alloc::{AllocError, Global};
+use train_driver::{Driver, LENGTH, MARGIN, Place, Speech, has_front, message, position};
+use train_unit::{Ends, OnBoardUnit};
+
+/// A train with its true ends, its on-board unit and its driver.
+#[derive(Drop)]
+pub(crate) struct Train {
+    pub(crate) ends: Ends,
+    pub(crate) unit: OnBoardUnit,
+    pub(crate) driver: Driver,
+}
+
+impl Train {
+    pub(crate) fn new(place: Place) -> Train {
+        Train {
+            ends: place.ends,
+            unit: OnBoardUnit::new(place.nid_engine),
+            driver: Driver::new(place.goal),
+        }
+    }
+
+    /// It runs as far as it may, at a speed by lot.
+    pub(crate) fn run(&mut self, draws: &mut Draws) {
+        let speed = below(draws, 400) as u32 + 200;
+        let Some(limit) = self.unit.may_reach(self.ends.front) else {
+            return;
+        };
+        let most = (limit.min(20_000_000) as u32)
+            .min(self.driver.goal)
+            .saturating_sub(MARGIN);
+        let front = self.ends.front.saturating_add(speed).min(most);
+        if front > self.ends.front {
+            self.ends.front = front;
+            self.ends.rear = front as i32 - LENGTH as i32;
+        }
+    }
+
+    /// The section of its front end.
+    pub(crate) fn section(&self, sections: &[Section]) -> Option<usize> {
+        for s in 0..sections.len() {
+            if has_front(&sections[s], self.ends) {
+                return Some(s);
+            }
+        }
+        None
+    }
+
+    /// Whether it has arrived, and sent the end of its mission.
+    pub(crate) fn has_ended(&self) -> bool {
+        self.driver.has_arrived(self.ends) && self.driver.is_done()
+    }
+
+    /// The bytes of its next message to a centre, if one is due. The train is then the one after that message.
+    pub(crate) fn speak(
+        &mut self,
+        alloc: Global,
+        line: &Line,
+        (centre, section): (u8, Section),
+        now: u32,
+    ) -> Result<Option<Vec<u8>>, AllocError> {
+        self.driver.engage(section.home, now);
+        self.driver.reopen(centre, now);
+        let stamp = now.max(self.driver.clock.saturating_add(1));
+        let Some(speech) = self
+            .driver
+            .speech(&self.unit, centre, section.home, stamp, self.ends)
+        else {
+            return Ok(None);
+        };
+        let is_still = matches!(speech, Speech::EndOfMission);
+        let position = position(line.nid_c(), section, self.ends.front, is_still);
+        let message = message(alloc, stamp, self.unit.nid_engine(), speech, position)?;
+        let Ok(bytes) = encode_train(alloc, &message) else {
+            return Err(AllocError);
+        };
+        if self.unit.say(line, centre, &message, self.ends).is_err() {
+            return Ok(None);
+        }
+        self.driver.has_sent(centre, speech, stamp);
+        Ok(Some(bytes))
+    }
+
+    /// A message of a centre has come over a connection: by 41 the centre has accepted the train.
+    pub(crate) fn came(&mut self, message: &TrackMsg) {
+        if message.body() == TrackBody::TrainAccepted {
+            self.driver.is_accepted = true;
+        }
+    }
+
+    /// It receives a message of a centre. Returns whether it follows another centre since then.
+    pub(crate) fn hear(&mut self, line: &Line, centre: u8, message: &TrackMsg, now: u32) -> bool {
+        if centre >= line.centre_count() {
+            return false;
+        }
+        self.unit.hears(line, centre, message);
+        self.driver.hears(line, centre, message, now)
+    }
+}
