@@ -55,6 +55,13 @@ impl Calls {
         Ok(())
     }
 
+    /// The connection of a train to a centre ends.
+    pub(crate) fn end(&mut self, train: usize, centre: u8) {
+        if let Some(connection) = self.of(train, centre) {
+            connection.end();
+        }
+    }
+
     /// How many connections were opened.
     pub(crate) fn opened(&self) -> u64 {
         let mut opened = 0u64;

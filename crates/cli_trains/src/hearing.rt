@@ -27,14 +27,15 @@ impl<R: Net<Stream = TcpStream> + Clock> Running<'_, R> {
         };
         connection.read()?;
         for _ in 0..u64::MAX {
-            let Some(connection) = self.calls.of(train, centre) else {
-                return Ok(());
+            let came = match self.calls.of(train, centre) {
+                Some(connection) => connection.inbox.message()?,
+                None => Came::Nothing,
             };
-            match connection.inbox.message()? {
+            match came {
                 Came::Message(bytes) => self.put_down(train, centre, bytes)?,
                 Came::Nothing => break,
                 Came::Garbage => {
-                    connection.end();
+                    self.calls.end(train, centre);
                     break;
                 }
             }
@@ -64,8 +65,8 @@ impl<R: Net<Stream = TcpStream> + Clock> Running<'_, R> {
             Some(train) => !train.driver.talks_to(centre),
             None => true,
         };
-        if is_over && let Some(connection) = self.calls.of(train, centre) {
-            connection.end();
+        if is_over {
+            self.calls.end(train, centre);
         }
     }
 

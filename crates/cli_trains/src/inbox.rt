@@ -1,6 +1,6 @@
 //! The bytes of a connection, as messages of a centre or as lines.
 
-ghost use Rattle.std.specs.Prelude.{◌≡◌, ◌≤◌, ◌++◌, IfOk, IfSome, length};
+ghost use Rattle.std.specs.Prelude.{◌≡◌, ◌≤◌, drop, IfOk, OnOk, take, vec_len};
 ghost use Rattle.cli_trains.specs.Inboxes.{first_length, IsCut};
 
 use std::alloc::{AllocError, Global};
@@ -72,9 +72,9 @@ impl Inbox {
 
     // Takes this many bytes out.
     fn cut(&mut self, count: usize) -> Result<Vec<u8>, AllocError>
-        requires { count ≤ length self.old.bytes.items }
-        ensures { IfOk result (λ taken. (taken.items ++ self.new.bytes.items ≡ self.old.bytes.items)
-            × (length taken.items ≡ count)) }
+        requires { count ≤ vec_len self.old.bytes }
+        ensures taken { IfOk result (λ taken. taken.items ≡ take count self.old.bytes.items) }
+        ensures left { OnOk result (self.new.bytes.items ≡ drop count self.old.bytes.items) }
     {
         let rest = self.bytes.split_off(count)?;
         Ok(mem::replace(&mut self.bytes, rest))

@@ -117,7 +117,7 @@ impl<R: Net<Stream = TcpStream> + Clock> Running<'_, R> {
             let Some(train) = self.trains.get_mut(i) else {
                 return Ok(());
             };
-            let said = train.speak(self.alloc, self.line, (centre, section), self.now)?;
+            let said = train.speak(self.alloc, self.line, centre, section, self.now)?;
             if let Some(bytes) = said {
                 let letter = Letter {
                     train: i,

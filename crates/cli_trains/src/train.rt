@@ -60,7 +60,8 @@ impl Train {
         &mut self,
         alloc: Global,
         line: &Line,
-        (centre, section): (u8, Section),
+        centre: u8,
+        section: Section,
         now: u32,
     ) -> Result<Option<Vec<u8>>, AllocError> {
         self.driver.engage(section.home, now);
