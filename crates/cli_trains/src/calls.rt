@@ -41,7 +41,7 @@ impl Calls {
             .get_mut(first.saturating_add(usize::from(centre)))
     }
 
-    /// Sends a message to its centre. If there is no connection, and none can be opened now, the message is lost.
+    /// Sends a message to its centre. Without a connection, and if none can be opened now, the message is lost.
     pub(crate) fn send<R: Net<Stream = TcpStream>>(
         &mut self,
         rt: &R,

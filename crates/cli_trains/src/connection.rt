@@ -48,7 +48,7 @@ impl Connection {
         self.stream.is_some()
     }
 
-    /// It ends. What has arrived and is no whole message is dropped.
+    /// It ends. A part of a message that has arrived is dropped.
     pub(crate) fn end(&mut self) {
         self.stream = None;
         self.inbox = Inbox::new(self.alloc);
@@ -91,7 +91,7 @@ impl Connection {
         }
     }
 
-    /// Reads what has arrived. If the peer has ended the connection, it ends.
+    /// Reads the bytes that have arrived. If the peer has ended the connection, it ends.
     pub(crate) fn read(&mut self) -> Result<(), TrainsFault> {
         let mut piece = [0u8; 1_024];
         for _ in 0..MOST_PIECES {

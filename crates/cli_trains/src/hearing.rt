@@ -10,8 +10,8 @@ use std::net::{Net, TcpStream};
 use std::time::Clock;
 
 impl<R: Net<Stream = TcpStream> + Clock> Running<'_, R> {
-    /// Reads all connections. What has arrived is on the way to its train. A connection of a train that no longer talks
-    /// to the centre ends.
+    /// Reads all connections. Each message that has arrived is on the way to its train. A connection of a train that no
+    /// longer talks to the centre ends.
     pub(crate) fn collect(&mut self) -> Result<(), TrainsFault> {
         for train in 0..self.trains.len() {
             for centre in 0..self.line.centre_count() {

@@ -12,7 +12,7 @@ const HEAD: usize = 3;
 /// The longest line of the control endpoint that is kept, in bytes.
 const MOST_ROW: usize = 65_536;
 
-/// The bytes of a connection that are no whole message yet.
+/// The bytes of a connection that are not yet a whole message.
 #[derive(Debug, Drop)]
 pub(crate) struct Inbox {
     bytes: Vec<u8>,
@@ -25,7 +25,7 @@ pub(crate) enum Came {
     Message(Vec<u8>),
     /// It is not whole.
     Nothing,
-    /// The bytes are no message.
+    /// The bytes are not a message.
     Garbage,
 }
 

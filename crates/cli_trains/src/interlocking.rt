@@ -11,7 +11,7 @@ use std::str::from_utf8;
 /// After this time without a reply a command is sent again, in units of 10 ms.
 const AGAIN: u32 = 500;
 
-/// A section, and what the interlocking knows of it.
+/// A section as the interlocking knows it.
 #[derive(Clone, Copy, Debug)]
 struct Known {
     is_released: bool,

@@ -3,7 +3,7 @@
 //!
 //! [`run`] places trains on the line ([`Settings`]), and runs until all have arrived or the seconds are over. The
 //! on-board unit of each train (`train_unit`) decides which messages it may send, and how far it may run. The check at
-//! the end of each second looks at the true places of the trains alone. Sections are released over the control endpoint
+//! the end of each second looks only at the true places of the trains. Sections are released over the control endpoint
 //! of the centres.
 //!
 //! ```

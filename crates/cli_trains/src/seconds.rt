@@ -36,8 +36,8 @@ pub(crate) struct Running<'a, R> {
     pub(crate) tally: Tally,
 }
 
-/// Runs trains over the centres of a line that listen on this host, until all have ended their missions at their goals
-/// or the seconds are over. Returns whether no two trains were ever on one section at the end of a second.
+/// Runs trains over the centres of a line, which listen on this host. It ends when all trains have ended their missions
+/// at their goals, or when the seconds are over. Returns whether at the end of no second two trains were on one section.
 pub fn run<R: Net<Stream = TcpStream> + Clock + AllocGlobal, W: Write>(
     rt: &R,
     line: &Line,

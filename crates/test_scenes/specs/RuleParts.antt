@@ -1,5 +1,5 @@
 -- The five rules that trains keep (`Trains` of `law_trains`), in parts of which each may be left out. Played scenes of
--- trains, a radio and the centres of a line. The centres answer each event as `world_step` says.
+-- trains, a radio and the centres of a line. The answers of the centres are those of `world_step`.
 use Rattle.std.specs.List.{filter, find, list_all, range_with_len}
 use Rattle.std.specs.Option.{option_map_or}
 use Rattle.std.specs.Prelude.{[], ◌&&◌, ◌*◌, ◌++◌, ◌+◌, ◌==◌, ◌||◌, ◌∷◌, ◌≡◌, Bool, Err, false, if◌then◌else◌, int_le}
@@ -269,7 +269,7 @@ played kept scene = plays kept scene.line scene.acts (record {
   is_safe = true;
 })
 
--- ## What scenes show
+-- ## Claims of scenes
 
 -- both trains are accepted, and have a part on the section
 abbrev pub meet_on : (t u s : ℕ) → Line → Loop → Bool

@@ -32,7 +32,7 @@ abbrev pub trains_of : List ℕ → List TrainOfLine
 trains_of registrars =
     map (λ e. record { nid_engine = e.0; registrar = e.1 }) (zip (range_with_len 1 (length registrars)) registrars)
 
--- a line of so many centres with these tracks, and trains with these registrars
+-- a line of this number of centres with these tracks, and trains with these registrars
 abbrev pub line_with : ℕ → List (List (ℕ × ℕ)) → List ℕ → Line
 line_with centres tracks registrars = record (line_of centres names (tracks_from 0 0 tracks) 0 0) {
   trains = trains_of registrars;
@@ -62,8 +62,8 @@ abbrev pub placed : List (ℕ × Train) → ℕ → Train
 placed [] t = (new_train t 0 1 0).1
 placed (p ∷ ps) t = if p.0 == t then p.1 else placed ps t
 
--- a position of a train at standstill: its safe front end and its safe rear end in metres, from the group of balise
--- 100 + k at the start of its track
+-- A position of a train at standstill: its safe front end and its safe rear end, in metres. The balise is the one at
+-- the start of its track.
 abbrev pub span : (balise front rear : ℕ) → Position
 span balise front rear =
     record (at balise front (Some (front - rear))) { l_doubtover = 0; l_doubtunder = 0 }

@@ -1,4 +1,4 @@
--- Trains on sections, by their true ends alone.
+-- Trains on sections, only by their true ends.
 use Rattle.std.specs.List.{list_all}
 use Rattle.std.specs.Prelude.{[], ◌&&◌, ◌*◌, ◌+◌, ◌==◌, ◌||◌, ◌∷◌, Bool, int_lt, List, map, nat_lt, not, pos, true}
 use Rattle.rbc_line.specs.declared.parts.Section.{Section}

@@ -77,11 +77,6 @@ impl Driver {
         self.talk(centre).is_some()
     }
 
-    /// Whether the train has said often enough that its mission has ended. It sends nothing then.
-    pub fn is_silent(&self) -> bool {
-        self.ended >= ENDS
-    }
-
     pub(crate) fn talk(&self, centre: u8) -> Option<Talk> {
         self.talks.get(centre as usize).copied()?
     }
