@@ -37,7 +37,8 @@ pub(crate) struct Running<'a, R> {
 }
 
 /// Runs trains over the centres of a line, which listen on this host. It ends when all trains have ended their missions
-/// at their goals, or when the seconds are over. Returns whether at the end of no second two trains were on one section.
+/// at their goals, or when the seconds are over. Returns whether no two trains were on one section at the end of a
+/// second.
 pub fn run<R: Net<Stream = TcpStream> + Clock + AllocGlobal, W: Write>(
     rt: &R,
     line: &Line,
