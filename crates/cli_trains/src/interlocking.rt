@@ -67,7 +67,8 @@ impl Interlocking {
         }
         known.next = now.saturating_add(AGAIN);
         let name = line.centre_name(part.home).unwrap_or("?");
-        let command = format!(in self.alloc; "set {name} {section}\n")?;
+        let alloc = self.alloc;
+        let command = format!(in alloc; "set {name} {section}\n")?;
         self.connection.open(rt, now)?;
         self.connection.send(command.as_bytes());
         Ok(())
