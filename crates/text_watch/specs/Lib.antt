@@ -1,0 +1,5 @@
+pub mod Events
+pub mod Parts
+pub mod Exchanges
+pub mod Readers
+pub use Rattle.text_script.specs.rbc_world as rbc_world
