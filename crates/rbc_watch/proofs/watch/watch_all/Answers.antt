@@ -14,8 +14,8 @@ loop-exchange-init c = (
 pub loop-exchange-preserved : goal.loop-exchange-preserved
 loop-exchange-preserved c = (
   goes_on c.args.line.now c.args.exchanges.now c.loop-exchange.watch c.in-Ok.next c.loop-exchange.exchange-index
-      c.exchange-item.result c.loop-exchange-test.true c.exchange-item.is c.loop-exchange.invariant.0 c.in-Ok.ensures.line
-      c.in-Ok.ensures.seen c.in-Ok.ensures.safe,
+      c.exchange-item.result c.loop-exchange-test.true c.exchange-item.is c.loop-exchange.invariant.0
+      c.in-Ok.ensures.line c.in-Ok.ensures.seen c.in-Ok.ensures.safe,
   ap (λ (n : ℕ). n + 1) c.loop-exchange.invariant.1,
 )
 
