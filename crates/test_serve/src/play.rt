@@ -14,9 +14,9 @@ use std::time::Clock;
 /// A step of one connection, or a comparison beside the connections.
 #[derive(Clone, Copy)]
 pub enum Act<'a> {
-    /// It comes to centre A.
+    /// It connects to centre A.
     Train,
-    /// It comes to the control endpoint.
+    /// It connects to the control endpoint.
     Control,
     /// It sends this text, and gets this answer.
     Asks(&'a str, &'a str),
@@ -30,7 +30,7 @@ pub enum Act<'a> {
     Hears(&'a str),
     /// It receives this many bytes.
     Takes(usize),
-    /// The other side ends it.
+    /// The peer ends it.
     Ends,
     /// Two connections start train 1's missions at once.
     StartsOverTwo,
