@@ -145,7 +145,7 @@ fn frame(rt: &HostRuntime, name: &str, bytes: &[u8], turns: u32) -> io::Result<(
     print(rt, "encode", name, turns, &start)
 }
 
-// Each turn reads another T_TRAIN, or another stamp of a frame. The one byte that lies whole in this number gets the
+// Each turn reads another T_TRAIN, or another stamp of a frame. The byte that lies entirely in this number gets the
 // turn's lowest byte. A message without such a byte stays the same.
 #[tactic(auto, using(std::proofs::lemmas::List::set_past))]
 fn set_time(bytes: &mut [u8], turn: u32)

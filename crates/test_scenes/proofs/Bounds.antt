@@ -37,7 +37,7 @@ home_within line c s so = passing line s (λ p. p.home == c) so
 pub on_within : (line : Line) (track s : ℕ) → is_on line track s ≡ true → s < section_count line
 on_within line track s so = passing line s (λ p. p.track == track) so
 
--- if the numbers from a on that pass a test form a run, it ends at or before a + n
+-- the run of the numbers that pass a test, among n numbers from a on, ends at or before a + n
 run_end : (test : ℕ → Bool) (n a : ℕ) → next_after (run_of (filter test (range_with_len a n))) ≤ a + n
 run_end test zero a = omega arith
 run_end test (suc n) a = by_test (test a) refl (run_end test n (a + 1))
@@ -67,7 +67,7 @@ covered_within line place s so =
 
 -- ## Marks
 
--- a mark is one of two marks, and both give the same
+-- by cases: P follows from either of two marks, so it follows from the chosen one
 pub of_two : (t : ℕ) {P : Type 0} (b : Bool) (x y : Mark) → (b ≡ true → is_given_to t x ≡ true → P)
     → (is_given_to t y ≡ true → P)
     → is_given_to t (if b then x else y) ≡ true → P
@@ -114,7 +114,7 @@ within_release line c t is_released v was =
     (mark_all (λ s. is_released s && not (is_home line c s)) (Kept t) v)
     (within_kept line (λ s. is_released s && not (is_home line c s)) t v was)
 
--- the new state is one of two states
+-- if both of two states give only sections of the line, so does the chosen one
 pub within_one : (line : Line) (b : Bool) (x y : LineState) → IsWithinLine line x.mark → IsWithinLine line y.mark
     → IsWithinLine line (if b then x else y).mark
 within_one line true x y one two = one

@@ -38,7 +38,7 @@ use Rattle.test_scenes.specs.Turns.{start_new, Step, Turn, Unanswered, unset_tur
 
 -- ## Own steps
 
--- an accepted start meets the conditions of an acceptance
+-- a start at the registrar that meets the conditions is accepted
 accepts_by : (line : Line) (t c : ℕ) (v : LineState) (place : Place) (choice : Choice) (o : Option Place)
     → o ≡ Some place
     → may_start line v c place ≡ true → is_registrar_of line c t ≡ true → v.mission t ≡ None

@@ -28,7 +28,7 @@ use Rattle.test_scenes.specs.Turns.{Choice, end_at, extend, Extending, hand_of, 
 use Rattle.test_scenes.specs.Turns.{message_step, own_step, own_turn, Rejecting, report_at, request_at, restart}
 use Rattle.test_scenes.specs.Turns.{set_turn, start_at, start_here, start_new, Step, Turn, unset_turn}
 
--- the relation holds for the replies and the new state of a turn, if only sections of the line are given
+-- the relation holds for the messages, replies and new state of a turn, and only sections of the line are given
 abbrev pub Does : Line → (Said → LineState → Type 0) → Turn → Type 0
 Does line P turn = P turn.said turn.state × IsWithinLine line turn.state.mark
 

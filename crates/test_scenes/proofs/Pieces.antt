@@ -28,7 +28,7 @@ use Rattle.test_scenes.specs.Scene.{Scene}
 use Rattle.test_scenes.specs.Turns.{allowed, Choice, Extending, Listening, own_step, Plainly, quiet_turns, Rejecting}
 use Rattle.test_scenes.specs.Turns.{Step, Turn, Unanswered}
 
--- ## An answer is determined by the things that it shows
+-- ## From the shown content to the answer
 
 abbrev spoken_of : Shown → Option Spoken
 spoken_of (Speaks spoken) = Some spoken
@@ -46,7 +46,7 @@ abbrev is_never_sent : Shown → Bool
 is_never_sent NeverSent = true
 is_never_sent other = false
 
--- a property of all answers that show something
+-- P holds for each answer that shows this, if it holds for each outcome that shows this
 pub at_speaking : (P : Answer → Type 0) (spoken : Spoken)
     → ((outcome : Outcome) → spoken_in outcome ≡ spoken → P (Answered outcome))
     → (answer : Answer) → shown_by answer ≡ Speaks spoken → P answer
@@ -174,7 +174,7 @@ play_is line v event (Extending count) quiets bound = piece_is line v event (Ext
 
 -- ## Side by side
 
--- the first thing shown
+-- the content that is shown first
 abbrev pub shown_first : Shown → List Seen → Shown
 shown_first other (Shows shown line ∷ xs) = shown
 shown_first other xs = other

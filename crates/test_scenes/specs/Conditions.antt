@@ -32,7 +32,7 @@ two_sections_show = all_done 1 2 ++ opened 1 ++ (Says 1 2 unknown_group TrainAcc
 abbrev pub asked : ℕ → List Item
 asked s = Tells (Asked s) ∷ []
 
--- the request to shorten is sent when the session is established again
+-- no request before the session is established again; the next unset sends it
 abbrev pub unset_without_a_session : List Scene
 unset_without_a_session =
     two_sections
@@ -72,7 +72,7 @@ abbrev pub front_before_the_hand_shows : List (List Item)
 front_before_the_hand_shows =
     two_sections_show ++ nothing ∷ asked 1 ∷ (Says 1 3 82020 (ShorteningRequest 2000) ∷ Tells (Asked 2) ∷ []) ∷ []
 
--- no request for a section in which the front may be
+-- no request for a section if the front may be in it
 abbrev pub front_in_the_section : List Scene
 front_in_the_section =
     request_to_the_border ++ train 1 0 6 (Report (at 102 210 None)) ∷ Happens (Unset 0 2) ∷ Happens (Unset 0 3) ∷ []
@@ -95,7 +95,7 @@ section_out_of_reach_shows =
     ++ start_and_request_shows 82022 32000 []
     ++ nothing ∷ asked 17 ∷ (Says 1 5 82020 (ShorteningRequest 32000) ∷ Tells (Asked 16) ∷ []) ∷ []
 
--- the request ends with the session, and is sent again in the next session
+-- the request ends with the session, and an unset in the next session sends it again
 abbrev pub proposal_ends_with_the_session : List Scene
 proposal_ends_with_the_session =
     two_sections
@@ -133,7 +133,7 @@ start_outside_the_hand_shows =
     ++ done 3 ∷ (Says 1 3 unknown_group TrainRejected ∷ [])
     ∷ shows (IsShut ∷ times 2 (Given 1) ++ IsOpen ∷ times 4 IsShut) [] ((0 ∷ []) ∷ [] ∷ []) ∷ []
 
--- a handover is announced once, and sections are asked for once
+-- a second request over the border announces no second handover, and asks for no more sections
 abbrev pub request_again_over_the_border : List Scene
 request_again_over_the_border = over_the_border ++ train 1 0 7 (Request in_section_1) ∷ []
 

@@ -21,8 +21,8 @@ abbrev pub is_unasked : Line → LineState → (c s : ℕ) → Mark → Bool
 is_unasked line v c s (Given t) = option_map_or (is_barred line v t c s) (v.mission t) true
 is_unasked line v c s mark = true
 
--- The quiet steps are forced. After an unset it is message 9 for the section, or nothing if no train can be asked.
--- After any other event no quiet step follows.
+-- The quiet steps are forced. After an unset the quiet step is message 9 for the section, or there is none if no train
+-- can be asked. After any other event no quiet step follows.
 abbrev pub is_forced : Line → LineState → Event → List Quiet → Bool
 is_forced line mid (Unset c s) [] = is_unasked line mid c s (mid.mark s)
 is_forced line mid (Unset c s) (Propose t d e ∷ []) = (d == c) && (e == s)

@@ -12,7 +12,7 @@ use Rattle.rbc_spec.specs.World as world
 use Rattle.rbc_spec.specs.World.{World, Answer}
 use Rattle.test_scenes.specs.Scene.{line, group_1, times, Item, Says, items, done}
 
--- the stamp of a step and the link's answer, or the step's refusal
+-- the stamp of a step with the link's answer, or the refusal of the step
 abbrev pub Stamped : Type 0
 Stamped = Result (ℕ × Option Taken) Refusal
 

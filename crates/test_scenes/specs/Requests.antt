@@ -133,7 +133,7 @@ request_extends_over_the_border_shows = over_the_border_shows ++ shows_six_given
 
 -- ## The order of frames
 
--- a frame arrives before an earlier one, and the delivery of a frame that was never sent is tried
+-- a frame is delivered before an earlier one; and a delivery of a frame that was never sent
 abbrev pub early_frame : List Scene
 early_frame =
     over_the_border

@@ -124,7 +124,7 @@ abbrev pub another_answer_at_the_border_shows : List (List Item)
 another_answer_at_the_border_shows =
     request_to_the_border_shows ++ asks_to_shorten 5 ∷ silent Unasked ∷ shows_wished_at_the_border ∷ []
 
--- a proposal is dropped, asked for again, and rejected
+-- a request to shorten is dropped, sent again after another unset, and rejected
 abbrev pub asking_again_tries_again : List Scene
 asking_again_tries_again =
     request_to_the_border

@@ -67,8 +67,8 @@ session_opens_again = train 1 0 1 InitiationOfSession ∷ train 1 0 1 Initiation
 abbrev pub session_opens_again_shows : List (List Item)
 session_opens_again_shows = (Says 1 1 unknown_group SystemVersion ∷ []) ∷ silent StaleStamp ∷ []
 
--- Trains are listed in the order in which they are first named. A train that is not of the line is not listed, and a
--- message at no centre names no train.
+-- Trains are listed in the order in which they are first named. A train that is not of the line is not listed. Faulty
+-- bytes name no train, and nor does a message to an unknown centre.
 abbrev pub trains_are_named : List Scene
 trains_are_named =
     train 3 0 1 InitiationOfSession ∷ LookAtTrains ∷ train 1 2 1 InitiationOfSession ∷ Happens (Bytes 0 (Err 3))

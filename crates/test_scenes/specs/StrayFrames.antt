@@ -213,7 +213,7 @@ strays_to_a =
 abbrev pub strays_from_c : List Body
 strays_from_c = RouteInfo 1 (record { first = 4; count = 1 }) ∷ []
 
--- under another number, or of another train
+-- the reply that the train is taken over, with another number of the handover, or for another train
 abbrev pub strays_to_the_announcing : List Body
 strays_to_the_announcing = TakingOver 2 1 ∷ TakingOver 1 2 ∷ TakingOver 1 3 ∷ []
 

@@ -146,7 +146,8 @@ each_home_gets_its_section_back_shows =
     ∷ (Link Next ∷ Says 1 5 unknown_group (EndSession 5 2) ∷ [])
     ∷ shows (IsShut ∷ IsOpen ∷ IsOpen ∷ Given 1 ∷ IsShut ∷ []) [] ((2 ∷ []) ∷ [] ∷ []) ∷ []
 
--- A wishes its section back, and sends the wish to each other centre. The wish is met when C returns the section.
+-- The interlocking of A wishes a section back, and A sends the wish to each other centre. The wish is met when C
+-- returns the section.
 abbrev pub wish_at_a_third_centre : List Scene
 wish_at_a_third_centre =
     yielded_on

@@ -243,7 +243,7 @@ taken_up v t c m stamp = quietly
           (Some (option_map_or (max stamp) (v.heard t c) stamp));
     })
 
--- the stamp of a supervision that nobody has
+-- the stamp of a supervision while it is handed over
 abbrev pub parted_at : Supervisor → Option ℕ
 parted_at (At c) = None
 parted_at (Parted stamp) = Some stamp

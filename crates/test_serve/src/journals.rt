@@ -15,7 +15,7 @@ const EMPTY: Journals<'_> = Journals {
     before: &[],
 };
 
-// The section in which train 1, registered at A, starts its mission: section 2 of B.
+// A start of train 1, registered at A, in section 2 of B. First the interlocking releases the section.
 const SET: Before<'_> = (1, Taken::Set);
 
 const INITIATED: Before<'_> = (2, Taken::Said(INITIATION_OF_ONE));

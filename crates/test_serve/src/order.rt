@@ -20,7 +20,7 @@ const STARTS: u16 = 120;
 // The bytes of message 40.
 const REJECTED: usize = 10;
 
-// This many reads take everything that a play's connection sends.
+// Enough reads for everything that a play's connection sends.
 const MOST_READS: u32 = 1_000_000;
 
 /// The flags that the two connections share.

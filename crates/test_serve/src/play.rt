@@ -38,9 +38,9 @@ pub enum Act<'a> {
     Lasts(u64),
     /// The journal of centre A is this text.
     Written(&'a str),
-    /// It becomes this text, and the centre notices that it is full.
+    /// The journal becomes this text, and the centre notices that it is full.
     Fills(&'a str),
-    /// It may have this many bytes from now on.
+    /// The journal has room for this many bytes from now on.
     HasRoom(usize),
 }
 

@@ -1,4 +1,4 @@
-//! The way of a centre's answers: each goes to its train, over the connection that serves this train.
+//! The delivery of a centre's answers: each goes to its train, over the connection that serves this train.
 
 use crate::client::{Done, Missed, heard, say};
 use crate::line::{INITIATION_OF_ONE, MISSION_OF_ONE, REQUEST_OF_ONE, VERSION, bytes_of};

@@ -146,7 +146,7 @@ fn gated(gate: &Held) -> Gated {
     )
 }
 
-/// The results of the sets, the counts of the gate, and the counts of the shares' receipts.
+/// The results of the sets, those of the gate, and the counts of the shares' receipts.
 type SideBySide = ((Done, (Done, Done)), Gated, (usize, usize));
 
 fn side_by_side<R: Threads + Wait + Sync>(rt: &R, alloc: Global) -> Result<SideBySide, Fail> {

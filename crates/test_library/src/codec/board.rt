@@ -69,7 +69,7 @@ fn puts_all<C: Carrier>(carrier: &C, seen: &mut C::Seen, count: u32) -> bool
 }
 
 // One frame too many is put into a full queue: before the receiver takes the first frame, and after that. The result is
-// those of the puts, and of two gets of the first frame.
+// that of both puts, and of two gets of the first frame.
 fn put_past_the_room<C: Carrier>(
     carrier: &C,
     sender: &mut C::Seen,
@@ -97,8 +97,8 @@ fn a_queue_hands_back_what_it_has_no_room_for_and_gives_what_is_known_again(
     Ok(())
 }
 
-// The receiver puts a frame. The sender puts one under number 2, and then one under number 1 twice. The results of the
-// puts.
+// The receiver puts a frame. The sender puts one under number 2, and then one under number 1 twice. The result is that
+// of each put.
 fn put_by_each<C: Carrier>(
     carrier: &C,
     sender: &mut C::Seen,

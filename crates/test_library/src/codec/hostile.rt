@@ -7,7 +7,7 @@ use rbc_msgs::{MsgFault, Stream, StreamFault, decode_track, decode_train};
 use std::alloc::Global;
 use std::test::*;
 
-// The count of byte strings that are read of each kind.
+// The number of byte strings that are read of each kind.
 const TRIES: u32 = 100_000;
 
 const SEED: u32 = 20_261_126;
@@ -142,7 +142,7 @@ fn read_bent(
     Ok(())
 }
 
-// Memory suffices, so that fault never occurs. Each other result does.
+// Memory suffices, so the fault of missing memory never occurs. Each other result occurs.
 fn is_expected(number: usize, count: u32) -> bool {
     if number == 8 { count == 0 } else { count > 100 }
 }

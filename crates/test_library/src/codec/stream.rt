@@ -144,7 +144,7 @@ fn a_megabyte_comes_in_one_piece(rt: HostRuntime) -> Result<(), Fail> {
     Ok(())
 }
 
-// 40 330 whole messages, and after them the begin of one.
+// 40 330 whole messages, and after them the beginning of one.
 fn megabyte(alloc: Global, message: &[u8], begin: &[u8]) -> Result<Vec<u8>, Fail> {
     let mut bytes = Vec::new(alloc);
     for _ in 0..40_330 {

@@ -1,4 +1,5 @@
-//! The commits at a node. If memory is refused, node and share stay as they were, and the next attempt commits.
+//! The commits at a node. If memory is refused, node and share stay as they were, and the next attempt commits the
+//! event.
 
 use crate::refusals::line::{BEGINS, START};
 use crate::refusals::playing::Stopped;
