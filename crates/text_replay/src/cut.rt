@@ -13,8 +13,7 @@ pub struct Cut {
 
 impl Cut {
     /// The places of the first event that is drawn, and of the one after the last, in a run of `events` events. `None`
-    /// if `from` is 0 or past the run's last event, or if `to` is before the first event that is drawn. A `to` past the
-    /// run's last event is that event.
+    /// if `from` is 0 or no event of the run, or if `to` is before it. A `to` past the run's last event is that event.
     pub fn places(self, events: usize) -> Option<(usize, usize)>
         ensures within { IfSome result (λ p. (p.0 ≤ p.1) × (p.1 ≤ events)) }
         ensures whole { self.from ≡ None → self.to ≡ None → result ≡ Some (0, events) }

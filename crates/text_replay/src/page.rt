@@ -18,9 +18,9 @@ const MOST_EVENTS: usize = 10_000;
 /// The number of last events that are shown in words if no script runs.
 const TOLD: usize = 24;
 
-/// Makes the page of a print: the line before the first event of the cut and after each, with a slider. Only the lines
-/// that begin with `> ` are read. Errors: the cut names a train that is not of the line, or names no event. A line has
-/// no form of a script. A step is refused.
+/// Makes the page of a print: the line before the first event of the cut and after each, with a slider. Only the
+/// lines that begin with `> ` are read. Errors: the cut names a train that is not of the line, or no event; a line
+/// has no form of a script; a step is refused.
 pub fn page_of(
     alloc: Global,
     line: &Line,

@@ -40,9 +40,8 @@ impl Retelling {
         })
     }
 
-    /// Plays the event of the next line of a print, and puts the line into words. `None` if `run` prints no such line.
-    /// A frame has its contents if the answer to the last event has the frame; otherwise it has the meaning of its
-    /// name.
+    /// Plays the event of the next line of a print, and puts the line into words. None if `run` prints no such line. A
+    /// frame has its contents if the answer to the last event has the frame; otherwise it has the meaning of its name.
     pub fn told(
         &mut self,
         alloc: Global,
@@ -102,7 +101,7 @@ impl Retelling {
         Ok(())
     }
 
-    // The frame of a printed line with its contents. `None` if the answer to the last event has no such frame.
+    // The frame of a printed line with its contents. None if the answer to the last event has no such frame.
     fn frame_in_words(
         &self,
         alloc: Global,
