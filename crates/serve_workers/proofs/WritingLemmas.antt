@@ -1,2 +1,3 @@
-pub mod Order
+pub mod Lane
+pub mod Waiting
 pub mod Written

@@ -1,2 +1,2 @@
+pub mod Lane
 pub mod Row
-pub mod Turns

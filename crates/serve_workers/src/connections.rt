@@ -5,6 +5,7 @@
 
 mod connection;
 mod connections;
+mod releasing;
 mod route;
 mod routing_table;
 

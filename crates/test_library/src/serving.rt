@@ -1,6 +1,6 @@
-//! Tests of what serves a connection, over bytes in memory: its session, its shared writer, and the order of a train's
+//! Tests of what serves a connection, over bytes in memory: its session, its shared writer, and the lane of a train's
 //! answers.
 
-mod order;
+mod lane;
 mod replies;
 mod sessions;

@@ -17,6 +17,9 @@ use std::net::{IpAddr, Ipv4Addr, Net, Shutdown, SocketAddr, TcpListener, TcpStre
 use std::sync::{Arc, Wait};
 use std::test::*;
 
+// Train 2 initiates its session, and is answered as train 1.
+const INITIATION_OF_TWO: &str = "9B028000000040000080";
+
 // Train 1 initiates its session again, with T_TRAIN 2, 3 and 4.
 const SECOND_INITIATION: &str = "9B028000000080000040";
 
@@ -209,7 +212,7 @@ struct Case<'a> {
     second: &'a [&'a str],
 }
 
-static CASES: [Case<'_>; 4] = [
+static CASES: [Case<'_>; 5] = [
     // The train initiates its session over the first connection, and then over the second, over which it ends the
     // session.
     Case {
@@ -257,6 +260,21 @@ static CASES: [Case<'_>; 4] = [
         turns: &[(Some(0), 0), (Some(1), 1), (Some(0), 2)],
         first: &[VERSION],
         second: &[SECOND_VERSION, THIRD_VERSION, LAST],
+    },
+    // Two trains initiate their sessions over the first connection, and the first train once more. In between it is
+    // answered that its session has ended.
+    Case {
+        name: "a_connection_serves_the_train_that_initiated_last",
+        said: &[
+            INITIATION_OF_ONE,
+            SECOND_ESTABLISHED,
+            INITIATION_OF_TWO,
+            THIRD_TERMINATION,
+            FOURTH_INITIATION,
+        ],
+        turns: &[(Some(0), 0), (Some(0), 2), (Some(0), 3), (Some(0), 4)],
+        first: &[VERSION, VERSION, THIRD_VERSION, LAST],
+        second: &[LAST],
     },
 ];
 

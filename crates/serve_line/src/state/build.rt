@@ -1,3 +1,5 @@
+ghost use Rattle.std.specs.Prelude.{◌≡◌, All, IfOk};
+
 use crate::journaling::Journal;
 use crate::state::endpoints::{Listening, ListeningAt};
 use crate::state::limits::{CONTROLS, SPARE};
@@ -174,16 +176,14 @@ pub fn connections_of<'a>(
     line: &'a Line,
     wakers: &'a [Vec<Parker>],
     is_journaled: bool,
-) -> Result<Vec<TrainConnections<'a>>, AllocError> {
+) -> Result<Vec<TrainConnections<'a>>, AllocError>
+    ensures { IfOk result (λ all. All (λ connections. connections.is_held ≡ is_journaled) all.items) }
+{
     let mut connections = Vec::new(alloc);
     for row in wakers {
         let places = most_trains(line);
         let at_once = TrainConnections::new(alloc, line, places, row.as_slice())?;
-        connections.push(if is_journaled {
-            at_once.held()
-        } else {
-            at_once
-        })?;
+        connections.push(at_once.held(is_journaled))?;
     }
     Ok(connections)
 }

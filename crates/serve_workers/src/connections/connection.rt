@@ -1,3 +1,5 @@
+ghost use Rattle.std.specs.Prelude.{◌≡◌, false, IfSome};
+
 use crate::writing::{Reply, SharedWriter, Turn};
 use crossbeam_channel::{Sender, TrySendError};
 use std::alloc::Global;
@@ -46,7 +48,9 @@ impl Connection {
         replies: Sender<Reply>,
         shared_writer: Arc<SharedWriter<Shared>, Global>,
         stream: Arc<TcpStream, Global>,
-    ) -> Connection {
+    ) -> Connection
+        ensures { result.is_held ≡ false }
+    {
         Connection {
             replies,
             shared_writer,
@@ -58,14 +62,18 @@ impl Connection {
     }
 
     /// The same connection, whose replies wait for their events or not. If they do, only its writer writes.
-    pub(crate) fn held(self, is_held: bool) -> Connection {
+    pub(crate) fn held(self, is_held: bool) -> Connection
+        ensures { result.is_held ≡ is_held }
+    {
         let mut connection = self;
         connection.is_held = is_held;
         connection
     }
 
     /// The right to write to the train in the calling thread, if no reply waits.
-    pub(crate) fn turn(&self) -> Option<Turn<'_, Shared>> {
+    pub(crate) fn turn(&self) -> Option<Turn<'_, Shared>>
+        ensures { IfSome result (λ turn. self.now.is_held ≡ false) }
+    {
         if self.is_held {
             return None;
         }

@@ -1,23 +1,18 @@
-ghost use Rattle.std.specs.Prelude.{◌≡◌, if◌then◌else◌, IfOk};
+ghost use Rattle.std.specs.Prelude.{◌≡◌, false, if◌then◌else◌, length, IfErr, IfOk, IfSome, IsTrue, Some};
+ghost use Rattle.serve_workers.specs.Writing.Lane.{early_after, kept, serving_after, turn_after};
 
 use crate::AnswerSink;
 use crate::connections::connection::Connection;
+use crate::connections::releasing::{release, rest};
 use crate::connections::route::{Route, route_of};
 use crate::connections::routing_table::RoutingTable;
-use crate::writing::{Order, Reply};
+use crate::writing::{Lane, Reply};
 use rbc_centre::{Outcome, Saying};
 use rbc_line::Line;
 use rbc_msgs::EncodeFault;
 use std::alloc::{AllocError, Global};
-use std::sync::{Arc, Mutex, MutexGuard, Wait};
-use std::thread;
+use std::sync::{Arc, Mutex, Wait};
 use std::thread::Parker;
-
-/// The most replies to a train that wait for their turn before the thread that reads its connection rests.
-const FEW: usize = 64;
-
-/// The most rests of that thread.
-const RESTS: u32 = 10_000;
 
 /// The connections of trains at a centre, and the wakers of the links that carry its frames.
 #[derive(Drop)]
@@ -25,8 +20,8 @@ pub struct TrainConnections<'a> {
     alloc: Global,
     line: &'a Line,
     board: Mutex<RoutingTable<Arc<Connection, Global>>>,
-    // In the order of the trains in the line file: the order of the messages to each train.
-    orders: Vec<Mutex<Order>>,
+    // In the order of the trains in the line file.
+    lanes: Vec<Mutex<Lane>>,
     links: &'a [Parker],
     // Whether the replies wait for their events.
     is_held: bool,
@@ -39,23 +34,28 @@ impl<'a> TrainConnections<'a> {
         line: &'a Line,
         connections: usize,
         links: &'a [Parker],
-    ) -> Result<TrainConnections<'a>, AllocError> {
-        let trains = line.train_count();
-        let board = RoutingTable::new(alloc, connections, trains as usize)?;
+    ) -> Result<TrainConnections<'a>, AllocError>
+        ensures lanes { IfOk result (λ c. length c.lanes.items ≡ length line.now.trains) }
+        ensures held { IfOk result (λ c. c.is_held ≡ false) }
+    {
+        let board = RoutingTable::new(alloc, connections)?;
         Ok(TrainConnections {
             alloc,
             line,
             board: Mutex::new(board),
-            orders: orders_of(alloc, trains)?,
+            lanes: lanes_of(alloc, line.train_count())?,
             links,
             is_held: false,
         })
     }
 
-    /// The same connections, but each reply waits for its event: it leaves once a journal keeps that.
-    pub fn held(self) -> TrainConnections<'a> {
+    /// The same connections, whose replies wait for their events or not. If they do, each leaves once a journal keeps
+    /// its event.
+    pub fn held(self, is_held: bool) -> TrainConnections<'a>
+        ensures { result.is_held ≡ is_held }
+    {
         let mut connections = self;
-        connections.is_held = true;
+        connections.is_held = is_held;
         connections
     }
 
@@ -71,97 +71,146 @@ impl<'a> TrainConnections<'a> {
         Ok(())
     }
 
-    /// Removes the connection of this number. It returns false if the connection was cut, since its train was too slow,
-    /// or is not registered.
+    /// Removes the connection of this number. It serves no train any more. It returns false if the connection was cut,
+    /// since its train was too slow, or is not registered.
     pub fn leave<R: Wait>(&self, rt: &R, number: usize) -> bool {
+        let train = self.board.lock(rt).train_of(number);
+        self.leave_lane(rt, number, train);
         let connection = self.board.lock(rt).leave(number);
         connection.is_some_and(|connection| !connection.is_cut())
     }
 
+    // The connection of this number serves this train no more.
+    fn leave_lane<R: Wait>(&self, rt: &R, number: usize, train: Option<usize>) {
+        let Some(train) = train else {
+            return;
+        };
+        if let Some(place) = self.lanes.get(train) {
+            place.lock(rt).leave(number);
+        }
+    }
+
     /// Whether the connection of this number serves a train.
     pub fn is_serving<R: Wait>(&self, rt: &R, number: usize) -> bool {
-        self.board.lock(rt).is_serving(number)
+        let train = self.board.lock(rt).train_of(number);
+        match train {
+            Some(train) => self.is_served_by(rt, train, number),
+            None => false,
+        }
     }
 
     /// Whether the connection of this number serves the train of this engine.
     pub fn serves<R: Wait>(&self, rt: &R, number: usize, nid_engine: u32) -> bool {
         match self.line.train_number(nid_engine) {
-            Some(train) => self.board.lock(rt).serves(number, train as usize),
+            Some(train) => self.is_served_by(rt, train as usize, number),
             None => false,
         }
     }
 
-    // The connection for a message of this route, with its number, if one serves its train. A connection that served
-    // the train before is ended. The routing table is unlocked on return.
-    fn direct<R: Wait>(&self, rt: &R, route: &Route) -> Option<(usize, Arc<Connection, Global>)> {
-        let mut board = self.board.lock(rt);
-        let directed = board.direct(route);
-        if let Some(before) = directed.ended {
-            if let Some(connection) = board.connection(before) {
-                connection.shut();
-            }
+    // Whether the connection of this number serves this train.
+    fn is_served_by<R: Wait>(&self, rt: &R, train: usize, number: usize) -> bool {
+        match self.lanes.get(train) {
+            Some(place) => place.lock(rt).serves(number),
+            None => false,
         }
-        let number = directed.to?;
-        let connection = board.connection(number)?;
-        Some((number, Arc::try_clone(connection).ok()?))
     }
 
-    // Submits a message to the order of its train, and releases the messages whose turn has come. `own` is the number
-    // of the connection that the calling thread reads, and `stamp` that of the event.
+    // Submits a message to the lane of its train, and releases the messages whose turn has come. `own` is the number of
+    // the connection that the calling thread reads, and `stamp` that of the event.
     fn say<R: Wait>(&self, rt: &R, own: Option<usize>, saying: &Saying, stamp: u32) {
         let Some(route) = route_of(self.line, own, saying) else {
             return;
         };
-        let Some(place) = self.orders.get(route.train) else {
+        let Some(place) = self.lanes.get(route.train) else {
             return;
         };
-        let mut order = place.lock(rt);
-        let Some(route) = self.begin(rt, &mut order, route, saying.message.t_train()) else {
-            return;
-        };
-        let to = self.direct(rt, &route);
-        let is_taken = self.submit(&mut order, saying, stamp);
-        let is_long = release(rt, own, to, order, is_taken);
+        self.leave_other(rt, &route);
+        let reply = reply_to(self.alloc, saying, self.is_held, stamp);
+        let mut lane = place.lock(rt);
+        let begins = self.open(rt, route.begins);
+        let is_taken = self.submit(rt, &mut lane, begins, reply);
+        let to = self.connection_of(rt, &lane, route.train);
+        let is_long = release(rt, own, to, lane, is_taken);
         if is_long && own.is_some() {
             rest(rt, place);
         }
     }
 
-    // Lets the order go on with the session that a message of this route begins. If the connection already serves the
-    // train, or was ended, it begins nothing, and the message has its normal turn. `None` if a later session has begun
-    // over another connection: then this one ends.
-    fn begin<R: Wait>(
-        &self,
-        rt: &R,
-        order: &mut Order,
-        route: Route,
-        t_train: u32,
-    ) -> Option<Route> {
-        let Some(number) = route.begins else {
-            return Some(route);
-        };
-        let board = self.board.lock(rt);
-        match board.connection(number) {
-            Some(own) if !own.is_ended() && !board.serves(number, route.train) => {
-                if order.begin(t_train) {
-                    return Some(route);
-                }
-                own.shut();
-                None
-            }
-            _ => Some(Route {
-                begins: None,
-                ..route
-            }),
+    // The connection whose initiation is answered serves no other train any more.
+    fn leave_other<R: Wait>(&self, rt: &R, route: &Route) {
+        if let Some(number) = route.begins {
+            let before = self.board.lock(rt).serve(number, route.train);
+            self.leave_lane(rt, number, before);
         }
     }
 
-    // Submits a message, and returns whether there was room for it.
-    fn submit(&self, order: &mut Order, saying: &Saying, stamp: u32) -> bool {
-        match reply_to(self.alloc, saying, self.is_held, stamp) {
-            Ok(reply) => order.submit(reply).is_ok(),
-            Err(_) => false,
+    // The connection that begins to serve a train, if it is there and was not ended.
+    fn open<R: Wait>(&self, rt: &R, begins: Option<usize>) -> Option<usize>
+        ensures { IfSome result (λ number. begins ≡ Some number) }
+    {
+        let number = begins?;
+        let board = self.board.lock(rt);
+        if board.connection(number)?.is_ended() {
+            return None;
         }
+        Some(number)
+    }
+
+    // Submits a reply to the lane of its train, and returns whether there was room for it. The connection that the lane
+    // ends is shut; so is one whose initiation has no answer, since memory ran out.
+    fn submit<R: Wait>(
+        &self,
+        rt: &R,
+        lane: &mut Lane,
+        begins: Option<usize>,
+        reply: Result<Reply, EncodeFault>,
+    ) -> bool
+        ensures turn { IfOk reply (λ r. lane.new.next
+            ≡ turn_after begins r.message.t_train lane.old.next lane.old.serving) }
+        ensures serving { IfOk reply (λ r. lane.new.serving
+            ≡ serving_after begins r.message.t_train lane.old.next lane.old.serving) }
+        ensures taken { IsTrue result → IfOk reply (λ r. lane.new.early.items
+            ≡ kept (turn_after begins r.message.t_train lane.old.next lane.old.serving) r
+            (early_after begins r.message.t_train lane.old.next lane.old.serving lane.old.early.items)) }
+        ensures err { IfErr reply (λ e. lane.new ≡ lane.old) }
+    {
+        match reply {
+            Ok(reply) => {
+                let said = lane.say(begins, reply);
+                self.shut(rt, said.ended);
+                said.taken.is_ok()
+            }
+            Err(_) => {
+                self.shut(rt, begins);
+                false
+            }
+        }
+    }
+
+    // Shuts the connection of this number.
+    fn shut<R: Wait>(&self, rt: &R, ended: Option<usize>) {
+        let Some(number) = ended else {
+            return;
+        };
+        if let Some(connection) = self.board.lock(rt).connection(number) {
+            connection.shut();
+        }
+    }
+
+    // The connection that serves the train of the lane, with its number, if one does. The routing table is unlocked on
+    // return.
+    fn connection_of<R: Wait>(
+        &self,
+        rt: &R,
+        lane: &Lane,
+        train: usize,
+    ) -> Option<(usize, Arc<Connection, Global>)>
+        ensures { IfSome result (λ to. lane.now.serving ≡ Some to.0) }
+    {
+        let number = lane.serving()?;
+        let board = self.board.lock(rt);
+        let connection = board.connection_for(number, train)?;
+        Some((number, Arc::try_clone(connection).ok()?))
     }
 
     // Sends all messages of an outcome, and rings the wakers if it has frames.
@@ -187,71 +236,15 @@ fn reply_to(alloc: Global, saying: &Saying, is_held: bool, stamp: u32) -> Result
     Ok(reply.answering(if is_held { stamp } else { 0 }))
 }
 
-// The orders of the messages to the trains, before the first message.
-fn orders_of(alloc: Global, trains: u8) -> Result<Vec<Mutex<Order>>, AllocError> {
-    let mut orders = Vec::new(alloc);
+// The lanes of the trains, before the first message.
+fn lanes_of(alloc: Global, trains: u8) -> Result<Vec<Mutex<Lane>>, AllocError>
+    ensures { IfOk result (λ lanes. length lanes.items ≡ trains) }
+{
+    let mut lanes = Vec::new(alloc);
     for _ in 0..trains {
-        orders.push(Mutex::new(Order::new(alloc)))?;
+        lanes.push(Mutex::new(Lane::new(alloc)))?;
     }
-    Ok(orders)
-}
-
-// Sends the messages whose turn has come, over the connection that serves the train. It returns whether many replies
-// still wait. If a reply was not taken, no later reply can follow it: the connection is cut. The first reply is written
-// here if the calling thread reads the connection, and no other waits.
-fn release<R: Wait>(
-    rt: &R,
-    own: Option<usize>,
-    to: Option<(usize, Arc<Connection, Global>)>,
-    mut order: MutexGuard<'_, Order>,
-    is_taken: bool,
-) -> bool {
-    let Some((number, connection)) = to else {
-        say_due(rt, None, &mut order);
-        return order.waiting() > FEW;
-    };
-    if !is_taken {
-        connection.cut();
-    }
-    let turn = if own == Some(number) {
-        connection.turn()
-    } else {
-        None
-    };
-    let Some(turn) = turn else {
-        say_due(rt, Some(&connection), &mut order);
-        return order.waiting() > FEW;
-    };
-    let first = order.release();
-    say_due(rt, Some(&connection), &mut order);
-    let is_long = order.waiting() > FEW;
-    drop(order);
-    if let Some(first) = first {
-        connection.write(turn, &first);
-    }
-    is_long
-}
-
-// Sends the messages whose turn has come to the writer of the connection. If there is no connection, they are dropped.
-fn say_due<R: Wait>(rt: &R, connection: Option<&Connection>, order: &mut Order) {
-    for _ in 0..order.waiting() {
-        let Some(reply) = order.release() else {
-            break;
-        };
-        if let Some(connection) = connection {
-            connection.say(rt, reply);
-        }
-    }
-}
-
-// Rests while many replies wait for one that another thread is about to submit.
-fn rest<R: Wait>(rt: &R, order: &Mutex<Order>) {
-    for _ in 0..RESTS {
-        if order.lock(rt).waiting() <= FEW {
-            break;
-        }
-        thread::yield_now();
-    }
+    Ok(lanes)
 }
 
 impl AnswerSink for TrainConnections<'_> {

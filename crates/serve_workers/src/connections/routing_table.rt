@@ -1,40 +1,29 @@
-ghost use Rattle.std.specs.Prelude.{◌≡◌, ◌↔◌, IsTrue, Contains, IfOk, Some, None, replicate, slice_get, slice_set};
-ghost use Rattle.std.specs.Prelude.{option_and_then};
-ghost use Rattle.serve_workers.specs.Connections.Serving.{freed, released};
-ghost use Rattle.serve_workers.specs.Connections.Routes.{directed, other_than, served_by, serving_after};
+ghost use Rattle.std.specs.Prelude.{◌≡◌, IfOk, IfSome, Some, None, replicate, slice_get, slice_set, option_and_then};
+ghost use Rattle.serve_workers.specs.Connections.Routes.{other_than, served_by};
 
-use crate::connections::route::Route;
 use std::alloc::{AllocError, Global};
 
-/// The destination of a message to a train: the connection that serves the train, if there is one. `ended` is another
-/// connection, which served the train before, and ends.
-#[derive(Clone, Copy, Debug, PartialEq, Eq)]
-pub(crate) struct Directed {
-    pub to: Option<usize>,
-    pub ended: Option<usize>,
-}
-
-/// The connections of a centre, and the train that each serves. A connection serves at most one train, and at most one
-/// connection serves a train.
+/// The connections of a centre, and the train that each may serve: the last whose session was initiated over it. A
+/// connection serves at most one train. The lane of that train knows whether it does.
 #[derive(Drop)]
 pub(crate) struct RoutingTable<C: Drop> {
     // By the connections' numbers.
     connections: Vec<Option<C>>,
-    // By the trains' places in the line file: the number of the connection.
-    serving: Vec<Option<usize>>,
+    // By the connections' numbers: the place of the train in the line file.
+    trains: Vec<Option<usize>>,
 }
 
 impl<C: Drop> RoutingTable<C> {
-    /// Places for this many connections and this many trains.
-    pub fn new(alloc: Global, connections: usize, trains: usize) -> Result<Self, AllocError>
+    /// Places for this many connections.
+    pub fn new(alloc: Global, connections: usize) -> Result<Self, AllocError>
         ensures connections { IfOk result (λ b. b.connections.items ≡ replicate connections None) }
-        ensures serving { IfOk result (λ b. b.serving.items ≡ replicate trains None) }
+        ensures trains { IfOk result (λ b. b.trains.items ≡ replicate connections None) }
     {
+        let trains = vec![in alloc; None; connections]?;
         let connections = no_places(alloc, connections)?;
-        let serving = vec![in alloc; None; trains]?;
         Ok(RoutingTable {
             connections,
-            serving,
+            trains,
         })
     }
 
@@ -42,9 +31,9 @@ impl<C: Drop> RoutingTable<C> {
     pub fn enter(&mut self, number: usize, connection: C)
         ensures connections { self.new.connections.items
             ≡ slice_set self.old.connections.items number (Some connection) }
-        ensures serving { self.new.serving.items ≡ released number self.old.serving.items }
+        ensures trains { self.new.trains.items ≡ slice_set self.old.trains.items number None }
     {
-        self.release(number);
+        self.set_train(number, None);
         if let Some(place) = self.connections.get_mut(number) {
             *place = Some(connection);
         }
@@ -54,85 +43,56 @@ impl<C: Drop> RoutingTable<C> {
     pub fn leave(&mut self, number: usize) -> Option<C>
         ensures given { result ≡ option_and_then (λ c. c) (slice_get self.old.connections.items number) }
         ensures connections { self.new.connections.items ≡ slice_set self.old.connections.items number None }
-        ensures serving { self.new.serving.items ≡ released number self.old.serving.items }
+        ensures trains { self.new.trains.items ≡ slice_set self.old.trains.items number None }
     {
-        self.release(number);
+        self.set_train(number, None);
         self.connections.get_mut(number)?.take()
     }
 
-    /// From now on the connection serves this train and no other, and no other connection serves it.
-    pub fn serve(&mut self, number: usize, train: usize)
+    /// From now on the connection may serve this train and no other. The result is another train that it served before,
+    /// if there was one.
+    pub fn serve(&mut self, number: usize, train: usize) -> Option<usize>
+        ensures before { result ≡ other_than train (served_by number self.old.trains.items) }
         ensures connections { self.new.connections.items ≡ self.old.connections.items }
-        ensures serving { self.new.serving.items
-            ≡ slice_set (released number self.old.serving.items) train (Some number) }
+        ensures trains { self.new.trains.items ≡ slice_set self.old.trains.items number (Some train) }
     {
-        self.release(number);
-        if let Some(place) = self.serving.get_mut(train) {
-            *place = Some(number);
-        }
+        let before = self.train_of(number);
+        self.set_train(number, Some(train));
+        other_than(train, before)
     }
 
-    /// Routes a message, and returns its destination. If the message begins a session, another connection may serve its
-    /// train from now on.
-    pub fn direct(&mut self, route: &Route) -> Directed
-        ensures directed { result ≡ directed route.now self.old.serving.items }
-        ensures serving { self.new.serving.items ≡ serving_after route.now self.old.serving.items }
-        ensures connections { self.new.connections.items ≡ self.old.connections.items }
+    /// The train that the connection of this number may serve.
+    pub fn train_of(&self, number: usize) -> Option<usize>
+        ensures { result ≡ served_by number self.now.trains.items }
     {
-        let ended = match route.begins {
-            Some(number) => self.begin(number, route.train),
-            None => None,
-        };
-        let to = self.number_for(route.train);
-        Directed { to, ended }
-    }
-
-    // From now on the connection serves this train. The result is the other connection that served it before, if there
-    // was one.
-    fn begin(&mut self, number: usize, train: usize) -> Option<usize>
-        ensures ended { result ≡ other_than number (served_by train self.old.serving.items) }
-        ensures serving { self.new.serving.items
-            ≡ slice_set (released number self.old.serving.items) train (Some number) }
-        ensures connections { self.new.connections.items ≡ self.old.connections.items }
-    {
-        let before = self.number_for(train);
-        self.serve(number, train);
-        other_than(number, before)
-    }
-
-    /// The number of the connection that serves a train.
-    pub fn number_for(&self, train: usize) -> Option<usize>
-        ensures { result ≡ option_and_then (λ n. n) (slice_get self.now.serving.items train) }
-    {
-        *self.serving.get(train)?
-    }
-
-    /// Whether the connection of this number serves that train.
-    pub fn serves(&self, number: usize, train: usize) -> bool
-        ensures { IsTrue result ↔ (served_by train self.now.serving.items ≡ Some number) }
-    {
-        self.number_for(train) == Some(number)
+        *self.trains.get(number)?
     }
 
     /// The connection of this number, if it is there.
-    pub fn connection(&self, number: usize) -> Option<&C> {
+    pub fn connection(&self, number: usize) -> Option<&C>
+        ensures { IfSome result (λ c. slice_get self.now.connections.items number ≡ Some (Some c.now)) }
+    {
         self.connections.get(number)?.as_ref()
     }
 
-    /// Whether the connection of this number serves a train.
-    pub fn is_serving(&self, number: usize) -> bool
-        ensures { IsTrue result ↔ Contains self.now.serving.items (Some number) }
+    /// The connection of this number, if it is there and serves this train.
+    pub fn connection_for(&self, number: usize, train: usize) -> Option<&C>
+        ensures own { IfSome result (λ c. slice_get self.now.connections.items number ≡ Some (Some c.now)) }
+        ensures train { IfSome result (λ c. served_by number self.now.trains.items ≡ Some train) }
     {
-        self.serving.contains(&Some(number))
+        if self.train_of(number) != Some(train) {
+            return None;
+        }
+        self.connection(number)
     }
 
-    // The connection serves no train.
-    fn release(&mut self, number: usize)
+    // From now on the connection may serve this train, or none.
+    fn set_train(&mut self, number: usize, train: Option<usize>)
         ensures connections { self.new.connections.items ≡ self.old.connections.items }
-        ensures serving { self.new.serving.items ≡ released number self.old.serving.items }
+        ensures trains { self.new.trains.items ≡ slice_set self.old.trains.items number train }
     {
-        for place in self.serving.iter_mut() {
-            *place = freed(number, *place);
+        if let Some(place) = self.trains.get_mut(number) {
+            *place = train;
         }
     }
 }
@@ -148,22 +108,12 @@ fn no_places<C: Drop>(alloc: Global, count: usize) -> Result<Vec<Option<C>>, All
     Ok(places)
 }
 
-// The connection that serves a train, after the connection of this number has ceased to serve it.
-fn freed(number: usize, place: Option<usize>) -> Option<usize>
-    ensures { result ≡ freed number place }
+// The train, if it is not this one.
+fn other_than(train: usize, served: Option<usize>) -> Option<usize>
+    ensures { result ≡ other_than train served }
 {
-    match place {
-        Some(serving) if serving == number => None,
-        other => other,
-    }
-}
-
-// The connection, if it is not the one of this number.
-fn other_than(number: usize, connection: Option<usize>) -> Option<usize>
-    ensures { result ≡ other_than number connection }
-{
-    match connection {
-        Some(before) if before == number => None,
+    match served {
+        Some(before) if before == train => None,
         other => other,
     }
 }

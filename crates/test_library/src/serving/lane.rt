@@ -1,7 +1,7 @@
 //! The order in which a train hears what its centre says, over bytes in memory.
 
 use rbc_msgs::{NID_LRBG_UNKNOWN, TrackBody, TrackMsg};
-use serve_workers::writing::{Order, Reply};
+use serve_workers::writing::{Lane, Reply};
 use std::alloc::Global;
 use std::test::*;
 
@@ -15,11 +15,11 @@ fn rejection(alloc: Global, t_train: u16) -> Result<Reply, Fail> {
     Ok(Reply::new(alloc, message).ok().ok_or("there is memory")?)
 }
 
-// The T_TRAINs of what the order lets out now.
-fn release(alloc: Global, order: &mut Order) -> Result<Vec<u32>, Fail> {
+// The T_TRAINs of what the lane lets out now.
+fn release(alloc: Global, lane: &mut Lane) -> Result<Vec<u32>, Fail> {
     let mut numbers = Vec::new(alloc);
-    for _ in 0..order.waiting() {
-        match order.release() {
+    for _ in 0..lane.waiting() {
+        match lane.release() {
             Some(reply) => numbers.push(reply.message().t_train())?,
             None => break,
         }
@@ -27,38 +27,38 @@ fn release(alloc: Global, order: &mut Order) -> Result<Vec<u32>, Fail> {
     Ok(numbers)
 }
 
-// The same, once these were handed in.
-fn handed_in(alloc: Global, order: &mut Order, numbers: &[u16]) -> Result<Vec<u32>, Fail> {
+// The same, once these were handed in. Each but the first answers no initiation.
+fn handed_in(
+    alloc: Global,
+    lane: &mut Lane,
+    begins: Option<usize>,
+    numbers: &[u16],
+) -> Result<Vec<u32>, Fail> {
+    let mut begins = begins;
     for number in numbers {
-        if order.submit(rejection(alloc, *number)?).is_err() {
+        let said = lane.say(begins.take(), rejection(alloc, *number)?);
+        if said.taken.is_err() {
             return Err("there is room for the reply".into());
         }
     }
-    release(alloc, order)
+    release(alloc, lane)
 }
 
 #[test]
 fn a_reply_waits_for_those_before_it(rt: HostRuntime) -> Result<(), Fail> {
-    let mut order = Order::new(rt.alloc());
-    let early = handed_in(rt.alloc(), &mut order, &[3, 2])?;
-    let all = handed_in(rt.alloc(), &mut order, &[1])?;
+    let mut lane = Lane::new(rt.alloc());
+    let early = handed_in(rt.alloc(), &mut lane, None, &[3, 2])?;
+    let all = handed_in(rt.alloc(), &mut lane, None, &[1])?;
     assert!(rt; (early.as_slice(), all.as_slice()) == (&[], &[1, 2, 3]));
     Ok(())
 }
 
 #[test]
 fn what_was_said_before_a_session_is_let_go(rt: HostRuntime) -> Result<(), Fail> {
-    let mut order = Order::new(rt.alloc());
-    let (early, session) = begun_between(rt.alloc(), &mut order)?;
+    let mut lane = Lane::new(rt.alloc());
+    let early = handed_in(rt.alloc(), &mut lane, None, &[4, 7])?;
+    let session = handed_in(rt.alloc(), &mut lane, Some(0), &[6, 5])?;
     assert!(rt; (early.as_slice(), session.as_slice()) == (&[], &[6, 7]));
-    assert!(rt; order.waiting() == 0);
+    assert!(rt; (lane.waiting(), lane.serving()) == (0, Some(0)));
     Ok(())
-}
-
-// What the order lets out in front of a session with T_TRAIN 6, and in it.
-fn begun_between(alloc: Global, order: &mut Order) -> Result<(Vec<u32>, Vec<u32>), Fail> {
-    let early = handed_in(alloc, order, &[4, 7])?;
-    order.begin(6);
-    let session = handed_in(alloc, order, &[5, 6])?;
-    Ok((early, session))
 }

@@ -1,6 +1,6 @@
 use Rattle.std.proofs.Common.{◌<◌, ◌≡◌, HoldsAt, length, subst}
-use Rattle.serve_workers.proofs.writing.order.Order.release.Goals as goal
-use Rattle.serve_workers.proofs.WritingLemmas.Order.{turn_of}
+use Rattle.serve_workers.proofs.writing.lane.Lane.release.Goals as goal
+use Rattle.serve_workers.proofs.WritingLemmas.Lane.{turn_of}
 
 pub returns-clause-some : goal.returns-clause-some
 returns-clause-some c =
