@@ -96,6 +96,14 @@ static FORMS: [Form; 16] = [
         ],
     },
     Form {
+        name: "trains",
+        about: "Run trains that obey over running centres, with messages lost by lot, and print where they are",
+        words: &[
+            ("PORT", "The port of the first centre, as given to `serve`"),
+            FILE,
+        ],
+    },
+    Form {
         name: "print",
         about: "Print the run of the journals in a folder, as `serve` does after `stop`",
         words: &[FILE, ("FOLDER", "The folder of the line's journals")],

@@ -7,9 +7,11 @@
 mod centres;
 mod record;
 mod train;
+mod trains;
 
 use crate::centres::run_centres;
 use crate::train::run_train;
+use crate::trains::run_trains;
 use cli_commands::command::command;
 use cli_commands::disk::{Disk, words_of};
 use cli_commands::words::{Request, requested};
@@ -36,6 +38,10 @@ fn main(rt: HostRuntime) -> ExitCode {
             },
         ) => {
             let done = run_train(&rt, port, file, timeout_s, &mut out);
+            ended(done, &mut out, &mut err)
+        }
+        Ok(Request::Trains { port, file, words }) => {
+            let done = run_trains(&rt, port, file, &words, &mut out);
             ended(done, &mut out, &mut err)
         }
         _ => command(rt.alloc(), &words, &Disk(&rt), &mut out, &mut err),

@@ -1,2 +1,3 @@
 pub mod Units
 pub mod Policy
+pub mod Standing

@@ -1,0 +1,43 @@
+//! Runs trains over running centres.
+
+use cli_commands::disk::Disk;
+use cli_commands::line_file::line_file_in;
+use cli_commands::words::TrainsWords;
+use cli_drive::trains::{Settings, TrainsFault, run};
+use std::alloc::AllocError;
+use std::fs::File;
+use std::io::Write;
+use std::net::{Net, TcpStream};
+use std::rt::Files;
+use std::time::Clock;
+use text_script::status::Fault;
+
+/// Runs trains on the line of a file over its centres, which listen on this host. If two trains were on one section,
+/// the print has that, and the fault is `Differs`.
+pub fn run_trains<
+    'a,
+    R: Net<Stream = TcpStream> + Clock + Files<File = File> + AllocGlobal,
+    O: Write,
+>(rt: &R, port: u16, file: &'a str, words: &TrainsWords, out: &mut O) -> Result<(), Fault<'a>> {
+    let given = line_file_in(rt.alloc(), file, &Disk(rt))?;
+    match run(rt, &given.line, settings_of(port, words), out) {
+        Ok(true) => Ok(()),
+        Ok(false) => Err(Fault::Differs),
+        Err(TrainsFault::Memory) => Err(AllocError.into()),
+        Err(TrainsFault::Socket) => Err(Fault::Socket),
+        Err(TrainsFault::Write) => Err(Fault::Write),
+    }
+}
+
+// The settings of the arguments.
+fn settings_of(port: u16, words: &TrainsWords) -> Settings {
+    Settings {
+        port,
+        trains: words.trains.unwrap_or(64),
+        loss: words.loss.unwrap_or(0),
+        late: words.late.unwrap_or(0),
+        seed: words.seed.unwrap_or(0),
+        seconds: words.seconds.unwrap_or(20_000),
+        is_releasing: !words.is_shut,
+    }
+}
