@@ -57,9 +57,10 @@ fn obey<'a, S: AsStr, F: Files, O: Write, E: Write>(
         }
         Request::Demo { file, settings } => run_demo(alloc, file, settings, files, out),
         // This crate has files, but no sockets: the program itself runs these.
-        Request::Serve { .. } | Request::Drive { .. } | Request::Trains { .. } => {
-            Err(Fault::Socket)
-        }
+        Request::Serve { .. }
+        | Request::Drive { .. }
+        | Request::Trains { .. }
+        | Request::LivePage { .. } => { Err(Fault::Socket) }
         Request::Print { file, listing } => {
             tell_part(print_journals(alloc, file, listing, files, out)?, err)
         }

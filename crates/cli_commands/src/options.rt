@@ -86,7 +86,7 @@ static DRIVE: [(&str, &str, &str); 1] = [(
 )];
 
 // The options of `demo` with a value.
-static DEMO: [(&str, &str, &str); 4] = [
+static DEMO: [(&str, &str, &str); 5] = [
     (
         "trains",
         "N",
@@ -107,7 +107,20 @@ static DEMO: [(&str, &str, &str); 4] = [
         "N",
         "The most events at the centres, and the most seconds [default: 20000]",
     ),
+    (
+        "page",
+        "PORT",
+        "Run in real time, and show the line to browsers at http://127.0.0.1:PORT/; centres listen at the ports after it",
+    ),
 ];
+
+// The group of the options of `demo` that say how it is shown. At most one of them is given.
+const SHOWN: &str = "shown";
+
+/// The options of `demo` that exclude each other.
+pub fn shown<'a>(alloc: Global) -> Result<ArgGroup<'a>, AllocError> {
+    ArgGroup::new(alloc, SHOWN).arg("page")?.arg("script")
+}
 
 // The options of `trains` with a value.
 static TRAINS: [(&str, &str, &str); 5] = [

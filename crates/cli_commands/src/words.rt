@@ -72,6 +72,13 @@ pub enum Request<'a> {
         /// The longest time in seconds that the train waits for the centre, if it is given.
         timeout_s: Option<u32>,
     },
+    /// Run trains over centres in this process, on the line of this file or on a built-in line. Browsers see it at
+    /// this port.
+    LivePage {
+        file: Option<&'a str>,
+        page: u16,
+        words: TrainsWords,
+    },
     /// Run trains over the running centres of the line: the first of them listens at this port.
     Trains {
         port: u16,
@@ -346,8 +353,23 @@ fn named_trains<'a>(words: &ArgMatches<'a>) -> Option<Request<'a>> {
 }
 
 fn named_demo<'a>(words: &ArgMatches<'a>) -> Request<'a> {
+    let file = words.get_str("FILE");
+    if let Some(page) = words.get_one("page") {
+        return Request::LivePage {
+            file,
+            page,
+            words: TrainsWords {
+                trains: words.get_one("trains"),
+                loss: words.get_one("loss"),
+                late: None,
+                seed: words.get_one("seed"),
+                seconds: words.get_one("events"),
+                is_shut: false,
+            },
+        };
+    }
     Request::Demo {
-        file: words.get_str("FILE"),
+        file,
         settings: Settings {
             trains: words.get_one("trains").unwrap_or(64),
             loss: words.get_one("loss").unwrap_or(0),

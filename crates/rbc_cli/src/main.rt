@@ -5,11 +5,13 @@
 #![tactic(auto)]
 
 mod centres;
+mod live_page;
 mod record;
 mod train;
 mod trains;
 
 use crate::centres::run_centres;
+use crate::live_page::run_live_page;
 use crate::train::run_train;
 use crate::trains::run_trains;
 use cli_commands::command::command;
@@ -43,6 +45,9 @@ fn main(rt: HostRuntime) -> ExitCode {
         Ok(Request::Trains { port, file, words }) => {
             let done = run_trains(&rt, port, file, &words, &mut out);
             ended(done, &mut out, &mut err)
+        }
+        Ok(Request::LivePage { file, page, words }) => {
+            run_live_page(&rt, file, page, &words, &mut out, &mut err)
         }
         _ => command(rt.alloc(), &words, &Disk(&rt), &mut out, &mut err),
     };

@@ -17,9 +17,6 @@ use std::thread;
 use std::time::{Clock, Duration};
 use train_unit::driving::placed_on;
 
-/// How long a second of the trains takes, in milliseconds.
-const SECOND_MS: u64 = 50;
-
 /// Trains that run over the centres of a line.
 #[derive(Drop)]
 pub(crate) struct Running<'a, R> {
@@ -100,7 +97,7 @@ impl<R: Net<Stream = TcpStream> + Clock> Running<'_, R> {
             };
             self.calls.send(self.rt, &letter, self.now)?;
         }
-        thread::sleep(self.rt, Duration::from_millis(SECOND_MS));
+        thread::sleep(self.rt, Duration::from_millis(self.settings.second_ms));
         self.collect()?;
         self.deliver(out)?;
         self.look()?;

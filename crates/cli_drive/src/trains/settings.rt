@@ -13,6 +13,8 @@ pub struct Settings {
     pub seed: u64,
     /// The most seconds of the trains.
     pub seconds: u32,
+    /// How long a second of the trains takes, in milliseconds.
+    pub second_ms: u64,
     /// The trains' sections are released over the control endpoint.
     pub is_releasing: bool,
 }
