@@ -1,4 +1,4 @@
-//! Where a train is, by its true ends.
+//! The sections under a train, by its true ends.
 
 ghost use Rattle.std.specs.Prelude.{◌≡◌, position};
 ghost use Rattle.train_unit.specs.Standing.{has_front, stands_on};
