@@ -21,8 +21,5 @@ pub(crate) fn are_apart(sections: &[Section], trains: &[Ends]) -> bool
 fn count_on(section: &Section, trains: &[Ends]) -> usize
     ensures { result ≡ count_by (stands_on section.now) trains.now }
 {
-    trains
-        .iter()
-        .filter(|ends| covers(section, **ends))
-        .count()
+    trains.iter().filter(|ends| covers(section, **ends)).count()
 }

@@ -21,9 +21,7 @@ pub fn covers(section: &Section, ends: Ends) -> bool
 pub fn section_of(sections: &[Section], ends: Ends) -> Option<usize>
     ensures { result ≡ position (λ section. has_front section ends) sections.now }
 {
-    sections
-        .iter()
-        .position(|section| has_front(section, ends))
+    sections.iter().position(|section| has_front(section, ends))
 }
 
 // Whether the front end of a train is on the section.
