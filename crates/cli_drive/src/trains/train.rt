@@ -1,7 +1,7 @@
 //! A train on the line.
 
-ghost use Rattle.std.specs.Prelude.{◌≡◌, ◌<◌, ◌≤◌, IfSome, true};
-ghost use Rattle.train_unit.specs.law_trains.Trains as rules;
+ghost use Rattle.std.specs.Prelude.{◌≡◌, ◌<◌, ◌≤◌, IfSome, length, true};
+ghost use Rattle.train_unit.specs.Trains as rules;
 
 use cli_storm::{Draws, below};
 use rbc_line::{Line, Section};
@@ -19,7 +19,6 @@ pub(crate) struct Train {
 }
 
 impl Train {
-    ghost use Rattle.rbc_line.specs.rbc_spec.Line.{is_centre};
     ghost use Rattle.cli_drive.specs.Obedience.{HasRun, train_at};
 
     /// A train that has sent and received nothing.
@@ -117,7 +116,7 @@ impl Train {
 
     /// It receives a message of a centre. Returns whether it follows another centre since then.
     pub(crate) fn hear(&mut self, line: &Line, centre: u8, message: &TrackMsg, now: u32) -> bool
-        ensures { is_centre line.now centre ≡ true → train_at self.new
+        ensures { centre < length line.now.centres → train_at self.new
             ≡ rules.hears line.now centre message.now message.now.body (train_at self.old) }
     {
         if centre >= line.centre_count() {
