@@ -42,7 +42,7 @@ impl Train {
 
     // The next place of its front end at this speed, in decimetres a second. `None` if it stays.
     fn next_front(&self, speed: u32) -> Option<u32>
-        ensures range { IfSome result (λ front. front ≤ 20_000_000) }
+        ensures range { IfSome result (λ front. front ≤ 20000000) }
         ensures ahead { IfSome result (λ front. self.now.ends.front < front) }
         ensures may { IfSome result (λ front. rules.may_reach front (train_at self.now) ≡ true) }
     {
@@ -54,7 +54,7 @@ impl Train {
 
     // Its front end runs to this place. It does not run if its rear end would run back.
     fn run_to(&mut self, front: u32)
-        requires { front ≤ 20_000_000 }
+        requires { front ≤ 20000000 }
         requires { self.old.ends.front < front }
         requires { rules.may_reach front (train_at self.old) ≡ true }
         ensures { HasRun self.old self.new }
