@@ -1,8 +1,8 @@
 //! The independent check over the true places. It shares no code with the centres.
 
 use rbc_line::Section;
-use train_unit::driving::covers;
 use train_unit::Ends;
+use train_unit::driving::covers;
 
 /// Whether no two of these trains are on one section, and each section under an accepted one is released.
 pub(crate) fn is_safe(sections: &[Section], released: &[bool], trains: &[(Ends, bool)]) -> bool {

@@ -13,8 +13,8 @@ use rbc_line::Section;
 use rbc_railway::each_railway_is_safe;
 use std::io::Write;
 use text_script::Answer;
-use train_unit::driving::{LENGTH, MARGIN, Speech, message, position, section_of};
 use train_unit::Ends;
+use train_unit::driving::{LENGTH, MARGIN, Speech, message, position, section_of};
 
 impl Demo {
     /// Seconds pass until each train has arrived, or there are enough events. Returns whether the check of the true

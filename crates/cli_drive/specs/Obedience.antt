@@ -1,6 +1,6 @@
 -- Trains over TCP as trains of the closed loop.
 use Rattle.std.specs.Prelude.{◌≡◌, ◌⊎◌, true}
-use Rattle.train_unit.specs.law_trains.Trains as rules
+use Rattle.train_unit.specs.Trains as rules
 use Rattle.train_unit.specs.Units.{train_of}
 use Rattle.cli_drive.specs.declared.trains.train.Train.{Train}
 

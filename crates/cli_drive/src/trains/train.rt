@@ -1,7 +1,7 @@
 //! A train on the line.
 
-ghost use Rattle.std.specs.Prelude.{◌≡◌, ◌<◌, ◌≤◌, IfSome, true};
-ghost use Rattle.train_unit.specs.law_trains.Trains as rules;
+ghost use Rattle.std.specs.Prelude.{◌≡◌, ◌<◌, ◌≤◌, IfSome, length, true};
+ghost use Rattle.train_unit.specs.Trains as rules;
 
 use cli_storm::{Draws, below};
 use rbc_line::{Line, Section};
@@ -19,7 +19,6 @@ pub(crate) struct Train {
 }
 
 impl Train {
-    ghost use Rattle.rbc_line.specs.rbc_spec.Line.{is_centre};
     ghost use Rattle.cli_drive.specs.Obedience.{HasRun, train_at};
 
     /// A train that has sent and received nothing.
@@ -43,7 +42,7 @@ impl Train {
 
     // The next place of its front end at this speed, in decimetres a second. `None` if it stays.
     fn next_front(&self, speed: u32) -> Option<u32>
-        ensures range { IfSome result (λ front. front ≤ 20_000_000) }
+        ensures range { IfSome result (λ front. front ≤ 20000000) }
         ensures ahead { IfSome result (λ front. self.now.ends.front < front) }
         ensures may { IfSome result (λ front. rules.may_reach front (train_at self.now) ≡ true) }
     {
@@ -55,7 +54,7 @@ impl Train {
 
     // Its front end runs to this place. It does not run if its rear end would run back.
     fn run_to(&mut self, front: u32)
-        requires { front ≤ 20_000_000 }
+        requires { front ≤ 20000000 }
         requires { self.old.ends.front < front }
         requires { rules.may_reach front (train_at self.old) ≡ true }
         ensures { HasRun self.old self.new }
@@ -117,7 +116,7 @@ impl Train {
 
     /// It receives a message of a centre. Returns whether it follows another centre since then.
     pub(crate) fn hear(&mut self, line: &Line, centre: u8, message: &TrackMsg, now: u32) -> bool
-        ensures { is_centre line.now centre ≡ true → train_at self.new
+        ensures { centre < length line.now.centres → train_at self.new
             ≡ rules.hears line.now centre message.now message.now.body (train_at self.old) }
     {
         if centre >= line.centre_count() {

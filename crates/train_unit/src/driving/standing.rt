@@ -1,4 +1,4 @@
-//! Where a train is, by its true ends.
+//! The sections under a train, by its true ends.
 
 ghost use Rattle.std.specs.Prelude.{◌≡◌, position};
 ghost use Rattle.train_unit.specs.Standing.{has_front, stands_on};
@@ -21,9 +21,7 @@ pub fn covers(section: &Section, ends: Ends) -> bool
 pub fn section_of(sections: &[Section], ends: Ends) -> Option<usize>
     ensures { result ≡ position (λ section. has_front section ends) sections.now }
 {
-    sections
-        .iter()
-        .position(|section| has_front(section, ends))
+    sections.iter().position(|section| has_front(section, ends))
 }
 
 // Whether the front end of a train is on the section.
