@@ -12,11 +12,11 @@ _rbcline() {
         mapfile -t COMPREPLY < <(compgen -d -- "$word")
         return
         ;;
-    --trains | --loss | --seed | --events | --page | --rate | --burst | --timeout | --trains | --loss | --late | --seed | --seconds | --message | --from | --to | --train | --port) return ;;
+    --trains | --loss | --seed | --events | --page | --page | --rate | --burst | --timeout | --trains | --loss | --late | --seed | --seconds | --message | --from | --to | --train | --port) return ;;
     esac
     if [[ "$word" == --* ]]; then
         case "${COMP_WORDS[1]}" in
-        demo) options+=" --script --trains --loss --seed --events" ;;
+        demo) options+=" --script --trains --loss --seed --events --page" ;;
         serve) options+=" --quiet --tell --life --bind --no-sync --page --control --rate --burst --journal --resume" ;;
         drive) options+=" --timeout" ;;
         trains) options+=" --no-release --trains --loss --late --seed --seconds" ;;
