@@ -22,9 +22,9 @@ use std::io::Write;
 use text_script::status::{Fault, ended};
 
 /// Runs the command of the arguments after the program's name, and returns the exit status. It is 0 for success, and 1
-/// if an audit found a difference, `decode` a fault, or `demo` an unsafe place. It is 2 for refused arguments (help
-/// too), and 3 for an unreadable file, a script fault or journals. It is 4 for a line fault, 5 for a refused step, and
-/// 7 for a message fault. It is 6 for a refused write, or for a command that needs sockets.
+/// if an audit found a difference, `decode` a fault, or `demo` or `trains` an unsafe place. It is 2 for refused
+/// arguments (help too), and 3 for an unreadable file, a script fault or journals. It is 4 for a line fault, 5 for a
+/// refused step, and 7 for a message fault. It is 6 for a refused write, or for a command that needs sockets.
 pub fn command<S: AsStr, F: Files, O: Write, E: Write>(
     alloc: Global,
     words: &[S],
@@ -56,8 +56,11 @@ fn obey<'a, S: AsStr, F: Files, O: Write, E: Write>(
             run_storm(alloc, file, script, seed, files, out)
         }
         Request::Demo { file, settings } => run_demo(alloc, file, settings, files, out),
-        // This crate has files, but no sockets: the program itself runs these two.
-        Request::Serve { .. } | Request::Drive { .. } => Err(Fault::Socket),
+        // This crate has files, but no sockets: the program itself runs these.
+        Request::Serve { .. }
+        | Request::Drive { .. }
+        | Request::Trains { .. }
+        | Request::LivePage { .. } => { Err(Fault::Socket) }
         Request::Print { file, listing } => {
             tell_part(print_journals(alloc, file, listing, files, out)?, err)
         }

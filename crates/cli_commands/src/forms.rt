@@ -1,7 +1,7 @@
 //! The commands of `rbcline`, and the arguments of each besides its options.
 
 use crate::numbers::bounded;
-use crate::options::{flag, flags_of, journals, part, parts_of};
+use crate::options::{flag, flags_of, journals, part, parts_of, shown};
 use clap::{Arg, Command};
 use std::alloc::{AllocError, Global};
 
@@ -24,7 +24,7 @@ const SCRIPT: (&str, &str) = (
     "The script, one event a line; `-` is standard input",
 );
 
-static FORMS: [Form; 16] = [
+static FORMS: [Form; 17] = [
     Form {
         name: "check",
         about: "Read a line file, and say how many centres, tracks, sections and trains it has",
@@ -93,6 +93,14 @@ static FORMS: [Form; 16] = [
                 "FILE",
                 "Messages in hexadecimal, one a line, or `wait N` to read N answers",
             ),
+        ],
+    },
+    Form {
+        name: "trains",
+        about: "Run trains that obey over running centres, with messages lost by lot, and print where they are",
+        words: &[
+            ("PORT", "The port of the first centre, as given to `serve`"),
+            FILE,
         ],
     },
     Form {
@@ -182,19 +190,22 @@ fn command_of<'a>(alloc: Global, form: &Form) -> Result<Command<'a>, AllocError>
         let word = Arg::new(alloc, name).required(true).help(help);
         command = command.arg(bounded(word, name))?;
     }
-    if form.name == "demo" {
-        command = command.arg(line_of_demo(alloc))?;
+    with_own(alloc, form.name, command)
+}
+
+// The command with the arguments that only it has.
+fn with_own<'a>(
+    alloc: Global,
+    name: &str,
+    command: Command<'a>,
+) -> Result<Command<'a>, AllocError> {
+    match name {
+        "demo" => command.group(shown(alloc)?)?.arg(line_of_demo(alloc)),
+        "explain" => command.arg(script(alloc)),
+        "test" => command.arg(scenarios(alloc)),
+        "serve" => command.group(journals(alloc)?),
+        _ => Ok(command),
     }
-    if form.name == "explain" {
-        command = command.arg(script(alloc))?;
-    }
-    if form.name == "test" {
-        command = command.arg(scenarios(alloc))?;
-    }
-    if form.name == "serve" {
-        command = command.group(journals(alloc)?)?;
-    }
-    Ok(command)
 }
 
 fn bytes<'a>(alloc: Global) -> Arg<'a> {

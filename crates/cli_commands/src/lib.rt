@@ -9,7 +9,7 @@ mod audit;
 pub mod auditing;
 pub mod command;
 mod decode;
-mod demo;
+pub mod demo;
 mod diagram;
 pub mod disk;
 mod encode;

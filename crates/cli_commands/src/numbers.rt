@@ -9,7 +9,7 @@ const PORTS: (u64, u64) = (1, 65_535);
 /// The bounds of a rate, of seconds, and of the number of an event.
 const COUNTS: (u64, u64) = (1, 4_294_967_295);
 
-static NUMBERS: [(&str, (u64, u64)); 14] = [
+static NUMBERS: [(&str, (u64, u64)); 16] = [
     ("PORT", PORTS),
     ("page", PORTS),
     ("port", (1, 65_528)),
@@ -22,8 +22,10 @@ static NUMBERS: [(&str, (u64, u64)); 14] = [
     ("train", (0, 16_777_215)),
     ("trains", (1, 64)),
     ("loss", (0, 100)),
+    ("late", (0, 100)),
     ("seed", (0, u64::MAX)),
     ("events", (1, 1_000_000)),
+    ("seconds", (1, 1_000_000)),
 ];
 
 /// The argument. If it is a number, it takes only numbers within its bounds.

@@ -86,7 +86,7 @@ static DRIVE: [(&str, &str, &str); 1] = [(
 )];
 
 // The options of `demo` with a value.
-static DEMO: [(&str, &str, &str); 4] = [
+static DEMO: [(&str, &str, &str); 5] = [
     (
         "trains",
         "N",
@@ -107,6 +107,48 @@ static DEMO: [(&str, &str, &str); 4] = [
         "N",
         "The most events at the centres, and the most seconds [default: 20000]",
     ),
+    (
+        "page",
+        "PORT",
+        "Run in real time, and show the line to browsers at http://127.0.0.1:PORT/; centres listen at the ports after it",
+    ),
+];
+
+// The name of the group of the options of `demo` that exclude each other.
+const SHOWN: &str = "shown";
+
+/// The options of `demo` that exclude each other.
+pub fn shown<'a>(alloc: Global) -> Result<ArgGroup<'a>, AllocError> {
+    ArgGroup::new(alloc, SHOWN).arg("page")?.arg("script")
+}
+
+// The options of `trains` with a value.
+static TRAINS: [(&str, &str, &str); 5] = [
+    (
+        "trains",
+        "N",
+        "The most trains [default: all of the line file]",
+    ),
+    (
+        "loss",
+        "PERCENT",
+        "How many of 100 messages are lost [default: 0]",
+    ),
+    (
+        "late",
+        "PERCENT",
+        "How many of 100 messages arrive late, half of them twice [default: 0]",
+    ),
+    (
+        "seed",
+        "SEED",
+        "A number below 2^64; the same draws the same lots [default: 0]",
+    ),
+    (
+        "seconds",
+        "N",
+        "The most seconds of the trains, each of 50 ms [default: 20000]",
+    ),
 ];
 
 /// The options of a command with a value: the name, the name of the value, and the meaning.
@@ -117,6 +159,7 @@ pub fn parts_of(command: &str) -> &'static [(&'static str, &'static str, &'stati
         "serve" => &DOORS,
         "drive" => &DRIVE,
         "demo" => &DEMO,
+        "trains" => &TRAINS,
         _ => &[],
     }
 }
@@ -135,6 +178,11 @@ static PICTURE: [(&str, &str); 1] = [(
 static LIVING: [(&str, &str); 1] = [(
     "script",
     "Print the events as a script of `run`, in place of the table",
+)];
+
+static RELEASING: [(&str, &str); 1] = [(
+    "no-release",
+    "Release no section: another interlocking does",
 )];
 
 static DECODE: [(&str, &str); 2] = [
@@ -172,6 +220,7 @@ pub fn flags_of(command: &str) -> &'static [(&'static str, &'static str)] {
         "decode" => &DECODE,
         "encode" => &ENCODE,
         "demo" => &LIVING,
+        "trains" => &RELEASING,
         "print" | "words" => &NUMBERED,
         _ => &[],
     }

@@ -72,6 +72,19 @@ pub enum Request<'a> {
         /// The longest time in seconds that the train waits for the centre, if it is given.
         timeout_s: Option<u32>,
     },
+    /// Run trains over centres in this process, on the line of this file or on a built-in line. Browsers see it at
+    /// this port.
+    LivePage {
+        file: Option<&'a str>,
+        page: u16,
+        words: TrainsWords,
+    },
+    /// Run trains over the running centres of the line: the first of them listens at this port.
+    Trains {
+        port: u16,
+        file: &'a str,
+        words: TrainsWords,
+    },
     /// Show the bytes of the arguments field by field.
     Decode(Decoding),
     /// Print the bytes of the fields in the file.
@@ -131,6 +144,23 @@ pub struct ServeWords<'a> {
     pub journal: Option<JournalWords<'a>>,
 }
 
+/// The options of `trains` besides the line and the port.
+#[derive(Clone, Copy, Debug)]
+pub struct TrainsWords {
+    /// The most trains, if it is given.
+    pub trains: Option<u8>,
+    /// How many of 100 messages are lost, if it is given.
+    pub loss: Option<u8>,
+    /// How many of 100 messages are late, if it is given.
+    pub late: Option<u8>,
+    /// The seed of all that is drawn by lot, if it is given.
+    pub seed: Option<u64>,
+    /// The most seconds, if they are given.
+    pub seconds: Option<u32>,
+    /// Another interlocking releases the sections.
+    pub is_shut: bool,
+}
+
 /// The options of `serve` for journals.
 #[derive(Clone, Copy, Debug)]
 pub struct JournalWords<'a> {
@@ -174,6 +204,7 @@ fn named<'a>(matches: &ArgMatches<'a>) -> Option<Request<'a>> {
         "encode" => named_encode(words),
         "serve" => named_serve(words),
         "drive" => named_drive(words),
+        "trains" => named_trains(words),
         "demo" => Some(named_demo(words)),
         _ => named_of_file(command, words),
     }
@@ -306,9 +337,39 @@ fn named_drive<'a>(words: &ArgMatches<'a>) -> Option<Request<'a>> {
     })
 }
 
+fn named_trains<'a>(words: &ArgMatches<'a>) -> Option<Request<'a>> {
+    Some(Request::Trains {
+        port: words.get_one("PORT")?,
+        file: words.get_str("FILE")?,
+        words: TrainsWords {
+            trains: words.get_one("trains"),
+            loss: words.get_one("loss"),
+            late: words.get_one("late"),
+            seed: words.get_one("seed"),
+            seconds: words.get_one("seconds"),
+            is_shut: words.get_flag("no-release"),
+        },
+    })
+}
+
 fn named_demo<'a>(words: &ArgMatches<'a>) -> Request<'a> {
+    let file = words.get_str("FILE");
+    if let Some(page) = words.get_one("page") {
+        return Request::LivePage {
+            file,
+            page,
+            words: TrainsWords {
+                trains: words.get_one("trains"),
+                loss: words.get_one("loss"),
+                late: None,
+                seed: words.get_one("seed"),
+                seconds: words.get_one("events"),
+                is_shut: false,
+            },
+        };
+    }
     Request::Demo {
-        file: words.get_str("FILE"),
+        file,
         settings: Settings {
             trains: words.get_one("trains").unwrap_or(64),
             loss: words.get_one("loss").unwrap_or(0),

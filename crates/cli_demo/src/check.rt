@@ -2,15 +2,7 @@
 
 use rbc_line::Section;
 use train_unit::Ends;
-
-/// Whether a train with these true ends is on the section.
-pub(crate) fn covers(section: &Section, ends: Ends) -> bool {
-    let start = 10 * u64::from(section.start);
-    let end = start + 10 * u64::from(section.metres);
-    section.track == ends.track
-        && start < u64::from(ends.front)
-        && i64::from(ends.rear) < end as i64
-}
+use train_unit::driving::covers;
 
 /// Whether no two of these trains are on one section, and each section under an accepted one is released.
 pub(crate) fn is_safe(sections: &[Section], released: &[bool], trains: &[(Ends, bool)]) -> bool {

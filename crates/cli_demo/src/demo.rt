@@ -1,18 +1,17 @@
-use crate::driver::Driver;
 use crate::fault::{DemoFault, happened};
 use crate::interlocking::Interlocking;
 use crate::links::Links;
-use crate::placing::place_all;
 use crate::radio::Radio;
 use crate::report::{Tally, print_event};
 use crate::settings::Settings;
 use cli_storm::Draws;
 use rbc_line::Line;
 use rbc_msgs::TrackBody;
-use rbc_railway::{Railway, RunningTrain};
+use rbc_railway::{Fleet, Railway, RunningTrain};
 use std::alloc::Global;
 use std::io::Write;
 use text_script::{Answer, Saying, WorldEvent};
+use train_unit::driving::{Driver, placed_on};
 
 /// A line that lives.
 #[derive(Drop)]
@@ -35,12 +34,18 @@ impl Demo {
     /// A line before its first second, with trains on it.
     pub fn new(alloc: Global, line: &Line, settings: Settings) -> Result<Demo, DemoFault> {
         let interlocking = Interlocking::new(alloc, line)?;
-        let placed = place_all(alloc, line, &interlocking.sections, settings.trains)?;
+        let mut fleet = Fleet::new(alloc);
+        let mut drivers = Vec::new(alloc);
+        for place in placed_on(alloc, line, &interlocking.sections, settings.trains)? {
+            if happened(fleet.add(place.nid_engine, place.ends))? {
+                drivers.push(Driver::new(place.goal))?;
+            }
+        }
         Ok(Demo {
             alloc,
             settings,
-            railway: Railway::new(alloc, line, placed.fleet)?,
-            drivers: placed.drivers,
+            railway: Railway::new(alloc, line, fleet)?,
+            drivers,
             interlocking,
             radio: Radio::new(alloc, settings.loss),
             links: Links::new(alloc, line)?,

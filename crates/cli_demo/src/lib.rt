@@ -18,14 +18,9 @@
 mod built_in;
 mod check;
 mod demo;
-mod driver;
 mod fault;
-mod hearing;
 mod interlocking;
 mod links;
-mod lots;
-mod message;
-mod placing;
 mod radio;
 mod releasing;
 mod report;

@@ -1,7 +1,6 @@
 //! The links between centres: frames are delivered out of order, and again.
 
-use crate::lots::{below, in_hundred};
-use cli_storm::Draws;
+use cli_storm::{Draws, below, in_hundred};
 use rbc_line::Line;
 use std::alloc::{AllocError, Global};
 use text_script::{Frames, LinkAnswer, WorldEvent};

@@ -1,7 +1,6 @@
 //! The radio: messages between trains and centres are on the way for any time. They arrive in any order, some twice.
 
-use crate::lots::{below, in_hundred};
-use cli_storm::Draws;
+use cli_storm::{Draws, below, in_hundred};
 use std::alloc::{AllocError, Global};
 
 /// A message on the way, by its place in the railway.

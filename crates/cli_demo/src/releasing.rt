@@ -1,10 +1,10 @@
 //! The commands of the interlocking in a demo.
 
-use crate::check::covers;
 use crate::demo::Demo;
 use crate::fault::DemoFault;
-use crate::lots::{below, in_hundred};
+use cli_storm::{below, in_hundred};
 use std::io::Write;
+use train_unit::driving::covers;
 
 /// How many sections ahead of a train the interlocking releases.
 const AHEAD: usize = 4;

@@ -5,17 +5,16 @@ ghost use Rattle.rbc_railway.specs.Railways.{IsSafeRailway};
 
 use crate::check::is_safe;
 use crate::demo::Demo;
-use crate::driver::MARGIN;
 use crate::fault::{DemoFault, happened};
 use crate::interlocking::Interlocking;
-use crate::lots::below;
-use crate::message::{LENGTH, Speech, message, position};
 use crate::radio::Flight;
+use cli_storm::below;
 use rbc_line::Section;
 use rbc_railway::each_railway_is_safe;
 use std::io::Write;
 use text_script::Answer;
 use train_unit::Ends;
+use train_unit::driving::{LENGTH, MARGIN, Speech, message, position, section_of};
 
 impl Demo {
     /// Seconds pass until each train has arrived, or there are enough events. Returns whether the check of the true
@@ -83,14 +82,7 @@ impl Demo {
 
     // The section of a train's front end.
     pub(crate) fn section_of(&self, train: usize) -> Option<usize> {
-        let ends = self.ends(train)?;
-        let sections = self.interlocking.sections.as_slice();
-        for s in 0..sections.len() {
-            if has_front(&sections[s], ends) {
-                return Some(s);
-            }
-        }
-        None
+        section_of(&self.interlocking.sections, self.ends(train)?)
     }
 
     // A train runs as far as it may, at a speed by lot.
@@ -212,11 +204,4 @@ impl Demo {
         }
         Ok(())
     }
-}
-
-// Whether the front end of a train is on the section.
-fn has_front(section: &Section, ends: Ends) -> bool {
-    let start = 10 * u64::from(section.start);
-    let front = u64::from(ends.front);
-    section.track == ends.track && start < front && front <= start + 10 * u64::from(section.metres)
 }

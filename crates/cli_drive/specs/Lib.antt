@@ -1,2 +1,5 @@
+pub mod Apart
+pub mod Inboxes
 pub mod Lines
+pub mod Obedience
 pub mod Steps

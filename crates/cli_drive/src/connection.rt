@@ -1,6 +1,7 @@
 ghost use Rattle.std.specs.Prelude.{◌≡◌, IfOk};
 
 use crate::fault::DriveFault;
+use crate::head::{HEAD, length_of};
 use crate::steps::Step;
 use rbc_msgs::decode_track;
 use std::alloc::Global;
@@ -8,9 +9,6 @@ use std::io::{ErrorKind, Read, Write};
 
 /// The greatest length of a message in bytes.
 const MOST_BYTES: usize = 1023;
-
-/// The number of bytes with NID_MESSAGE and L_MESSAGE.
-const HEAD: usize = 3;
 
 /// Takes the steps in order over a connection to a centre. Prints each message that it reads in hexadecimal.
 pub fn drive<C: Read + Write, O: Write>(
@@ -84,9 +82,4 @@ fn print_next<C: Read, O: Write>(
         return Err(DriveFault::Write);
     }
     Ok(())
-}
-
-// L_MESSAGE: the ten bits after NID_MESSAGE.
-fn length_of(second: u8, third: u8) -> usize {
-    usize::from(second) * 4 + usize::from(third) / 64
 }

@@ -6,8 +6,10 @@
 
 mod draws;
 mod links;
+mod lots;
 mod storm;
 
 pub use draws::Draws;
 pub use links::{Link, draw_delivery, links_of};
+pub use lots::{below, in_hundred};
 pub use storm::Storm;

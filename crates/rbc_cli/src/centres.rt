@@ -41,8 +41,15 @@ pub fn run_centres<
     };
     match done {
         Ok(()) => 0,
-        Err(ServeFault::Run(fault)) => report(&fault, out, err),
-        Err(fault) => match writeln!(err, "{fault}") {
+        Err(fault) => refused(&fault, out, err),
+    }
+}
+
+/// Reports why the centres can't run, and gives the exit status.
+pub fn refused<O: Write, E: Write>(fault: &ServeFault, out: &mut O, err: &mut E) -> u8 {
+    match fault {
+        ServeFault::Run(fault) => report(fault, out, err),
+        fault => match writeln!(err, "{fault}") {
             Ok(()) => fault.status(),
             Err(_) => 6,
         },
@@ -122,8 +129,8 @@ fn run_opened<
     )
 }
 
-// Opens the ports, and the interlocking's socket if it has one.
-fn opened<
+/// Opens the ports, and the interlocking's socket if it has one.
+pub fn opened<
     R: Net<Stream = TcpStream, Listener = TcpListener> + Files<File = File> + AllocGlobal,
     N: Notes,
 >(

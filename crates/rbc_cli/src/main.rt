@@ -5,11 +5,15 @@
 #![tactic(auto)]
 
 mod centres;
+mod live_page;
 mod record;
 mod train;
+mod trains;
 
 use crate::centres::run_centres;
+use crate::live_page::run_live_page;
 use crate::train::run_train;
+use crate::trains::run_trains;
 use cli_commands::command::command;
 use cli_commands::disk::{Disk, words_of};
 use cli_commands::words::{Request, requested};
@@ -37,6 +41,13 @@ fn main(rt: HostRuntime) -> ExitCode {
         ) => {
             let done = run_train(&rt, port, file, timeout_s, &mut out);
             ended(done, &mut out, &mut err)
+        }
+        Ok(Request::Trains { port, file, words }) => {
+            let done = run_trains(&rt, port, file, &words, &mut out);
+            ended(done, &mut out, &mut err)
+        }
+        Ok(Request::LivePage { file, page, words }) => {
+            run_live_page(&rt, file, page, &words, &mut out, &mut err)
         }
         _ => command(rt.alloc(), &words, &Disk(&rt), &mut out, &mut err),
     };

@@ -1,13 +1,13 @@
 //! The effects of a centre's message on a driver.
 
-use crate::driver::{Driver, Talk};
+use crate::driving::driver::{Driver, Talk};
+use crate::policy::Session;
 use rbc_line::Line;
 use rbc_msgs::{TrackBody, TrackMsg};
-use train_unit::Session;
 
 impl Driver {
     /// The train received a message of this centre. Returns whether it follows another centre since then.
-    pub(crate) fn hears(&mut self, line: &Line, centre: u8, message: &TrackMsg, now: u32) -> bool {
+    pub fn hears(&mut self, line: &Line, centre: u8, message: &TrackMsg, now: u32) -> bool {
         let Some(mut talk) = self.talk(centre) else {
             return false;
         };

@@ -2,10 +2,10 @@
 
 ghost use Rattle.std.specs.Prelude.{◌≡◌, ◌<◌, ◌≤◌, false, true};
 
-use cli_storm::Draws;
+use crate::draws::Draws;
 
 /// A number below the bound.
-pub(crate) fn below(draws: &mut Draws, bound: usize) -> usize
+pub fn below(draws: &mut Draws, bound: usize) -> usize
     requires { 0 < bound }
     ensures { result < bound }
 {
@@ -13,7 +13,7 @@ pub(crate) fn below(draws: &mut Draws, bound: usize) -> usize
 }
 
 /// True with this chance, in per cent.
-pub(crate) fn in_hundred(draws: &mut Draws, chance: u8) -> bool
+pub fn in_hundred(draws: &mut Draws, chance: u8) -> bool
     ensures never { chance ≡ 0 → result ≡ false }
     ensures always { 100 ≤ chance → result ≡ true }
 {

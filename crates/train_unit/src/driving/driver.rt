@@ -1,7 +1,9 @@
 //! A train's driver: its sessions with centres, and its next message to each.
 
-use crate::message::{DOUBT, Speech};
-use train_unit::{Contact, Ends, NextMessage, OnBoardUnit, Session};
+use crate::driving::speech::{DOUBT, Speech};
+use crate::ends::Ends;
+use crate::policy::{Contact, NextMessage, Session};
+use crate::unit::OnBoardUnit;
 
 /// After this time a train sends a report or an end of a session again, in units of 10 ms.
 const REPORT: u32 = 600;
@@ -13,7 +15,7 @@ const SILENCE: u32 = 3_000;
 const ENDS: u8 = 20;
 
 /// How far from the end of its authority, or from its goal, a train stops, in decimetres.
-pub(crate) const MARGIN: u32 = 20;
+pub const MARGIN: u32 = 20;
 
 /// The knowledge of a train about a centre.
 #[derive(Clone, Copy, Debug)]
@@ -29,26 +31,27 @@ pub(crate) struct Talk {
 
 /// The knowledge of a train besides that of its on-board unit.
 #[derive(Clone, Copy, Debug)]
-pub(crate) struct Driver {
+pub struct Driver {
     /// The goal of its front end, in decimetres from the start of the track.
-    pub(crate) goal: u32,
+    pub goal: u32,
     /// T_TRAIN of its last message.
-    pub(crate) clock: u32,
+    pub clock: u32,
     /// The centre that it follows, as its on-board unit does.
-    pub(crate) follows: Option<u8>,
+    pub follows: Option<u8>,
     /// The centre that it followed last.
-    pub(crate) followed: Option<u8>,
+    pub followed: Option<u8>,
     /// T_TRAIN of the last message by which it gave something back.
     pub(crate) gave_back: u32,
     /// A centre has accepted it.
-    pub(crate) is_accepted: bool,
+    pub is_accepted: bool,
     /// How often it has sent the end of its mission at its goal.
     pub(crate) ended: u8,
     talks: [Option<Talk>; 8],
 }
 
 impl Driver {
-    pub(crate) fn new(goal: u32) -> Driver {
+    /// A driver before its first message.
+    pub fn new(goal: u32) -> Driver {
         Driver {
             goal,
             clock: 0,
@@ -62,13 +65,18 @@ impl Driver {
     }
 
     /// Whether the train is at its goal.
-    pub(crate) fn has_arrived(&self, ends: Ends) -> bool {
+    pub fn has_arrived(&self, ends: Ends) -> bool {
         ends.front.saturating_add(MARGIN) >= self.goal
     }
 
     /// Whether the train has ended its mission at its goal.
-    pub(crate) fn is_done(&self) -> bool {
+    pub fn is_done(&self) -> bool {
         self.ended > 0
+    }
+
+    /// Whether the train talks to this centre.
+    pub fn talks_to(&self, centre: u8) -> bool {
+        self.talk(centre).is_some()
     }
 
     pub(crate) fn talk(&self, centre: u8) -> Option<Talk> {
@@ -82,7 +90,7 @@ impl Driver {
     }
 
     /// The train is to have a session with this centre.
-    pub(crate) fn engage(&mut self, centre: u8, now: u32) {
+    pub fn engage(&mut self, centre: u8, now: u32) {
         if self.talk(centre).is_none() {
             self.set_talk(centre, Some(opened(centre, now)));
         }
@@ -96,7 +104,7 @@ impl Driver {
     }
 
     /// A session in which nothing was received for long is opened again, or is over if it was to end.
-    pub(crate) fn reopen(&mut self, centre: u8, now: u32) {
+    pub fn reopen(&mut self, centre: u8, now: u32) {
         if self.ended < ENDS
             && let Some(talk) = self.talk(centre)
             && talk.heard.saturating_add(SILENCE) < now
@@ -111,7 +119,7 @@ impl Driver {
     }
 
     /// The next message of the train to a centre, with this T_TRAIN. `home` is the home of its front end's section.
-    pub(crate) fn speech(
+    pub fn speech(
         &self,
         unit: &OnBoardUnit,
         centre: u8,
@@ -139,7 +147,7 @@ impl Driver {
     }
 
     /// The train has sent this to the centre.
-    pub(crate) fn has_sent(&mut self, centre: u8, speech: Speech, stamp: u32) {
+    pub fn has_sent(&mut self, centre: u8, speech: Speech, stamp: u32) {
         self.clock = stamp;
         let Some(mut talk) = self.talk(centre) else {
             return;

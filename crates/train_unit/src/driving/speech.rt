@@ -3,7 +3,7 @@
 ghost use Rattle.std.specs.Prelude.{◌≡◌, IfOk};
 ghost use Rattle.rbc_msgs.specs.TrainView.{HasItsPackets};
 
-use crate::fault::DemoFault;
+use crate::policy::NextMessage;
 use rbc_bits::BitReader;
 use rbc_line::Section;
 use rbc_msgs::{TrainBody, TrainMsg};
@@ -12,12 +12,10 @@ use rbc_vars::{
     DLrbg, Direction, LDoubtover, LDoubtunder, LTrainint, MMode, NidLrbg, QMarqstreason, QScale,
     QStatus, TTrain, VTrain,
 };
-use std::alloc::Global;
-use text_script::StepFault;
-use train_unit::NextMessage;
+use std::alloc::{AllocError, Global};
 
 /// The length of each train, in decimetres.
-pub(crate) const LENGTH: u32 = 800;
+pub const LENGTH: u32 = 800;
 
 /// The doubt of its odometry in both directions, in decimetres.
 pub(crate) const DOUBT: u32 = 10;
@@ -27,7 +25,7 @@ const REPORTED_LENGTH: u64 = 81;
 
 /// A message that a train is about to send.
 #[derive(Clone, Copy, Debug)]
-pub(crate) enum Speech {
+pub enum Speech {
     /// A message that the policy of the on-board unit proposes.
     Next(NextMessage),
     /// Message 136, Train Position Report.
@@ -39,20 +37,20 @@ pub(crate) enum Speech {
 }
 
 /// The message of a train.
-pub(crate) fn message(
+pub fn message(
     alloc: Global,
     t_train: u32,
     nid_engine: u32,
     speech: Speech,
     position: Position,
-) -> Result<TrainMsg, DemoFault> {
+) -> Result<TrainMsg, AllocError> {
     let body = body(alloc, speech, position)?;
     let t_train = t_train.min(4_000_000_000);
     let nid_engine = nid_engine.min(16_777_215);
     Ok(TrainMsg::new(t_train, nid_engine, body, Packets::none()))
 }
 
-fn body(alloc: Global, speech: Speech, position: Position) -> Result<TrainBody, DemoFault>
+fn body(alloc: Global, speech: Speech, position: Position) -> Result<TrainBody, AllocError>
     ensures { IfOk result HasItsPackets }
 {
     match speech {
@@ -63,7 +61,7 @@ fn body(alloc: Global, speech: Speech, position: Position) -> Result<TrainBody, 
     }
 }
 
-fn next_body(alloc: Global, next: NextMessage, position: Position) -> Result<TrainBody, DemoFault>
+fn next_body(alloc: Global, next: NextMessage, position: Position) -> Result<TrainBody, AllocError>
     ensures { IfOk result HasItsPackets }
 {
     Ok(match next {
@@ -93,21 +91,21 @@ fn next_body(alloc: Global, next: NextMessage, position: Position) -> Result<Tra
 }
 
 // Packet 11, of which no bit is read.
-fn train_data(alloc: Global) -> Result<Opaque, DemoFault>
+fn train_data(alloc: Global) -> Result<Opaque, AllocError>
     ensures { IfOk result (λ p. p.nid_packet ≡ 11) }
 {
     let none = BitReader::new(&[]);
     if none.remaining() > 0 {
-        return Err(DemoFault::Step(StepFault::Memory));
+        return Err(AllocError);
     }
     match Opaque::new(alloc, 11, none) {
         Ok(packet) => Ok(packet),
-        Err(_) => Err(DemoFault::Step(StepFault::Memory)),
+        Err(_) => Err(AllocError),
     }
 }
 
 /// The position report of a train whose front end is in this section.
-pub(crate) fn position(nid_c: u16, section: Section, front: u32, is_still: bool) -> Position {
+pub fn position(nid_c: u16, section: Section, front: u32, is_still: bool) -> Position {
     let group = u64::from(nid_c) * 16_384 + u64::from(section.balise);
     let start = 10 * u64::from(section.start);
     Position {

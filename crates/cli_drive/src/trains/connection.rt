@@ -1,0 +1,137 @@
+//! A connection to a port of this host that is opened again when it fails.
+
+use crate::trains::fault::TrainsFault;
+use crate::trains::inbox::Inbox;
+use std::alloc::Global;
+use std::io::{ErrorKind, Read, Write};
+use std::net::{IpAddr, Ipv4Addr, Net, SocketAddr, TcpStream};
+
+/// After this time a connection is opened again, in units of 10 ms.
+const AGAIN: u32 = 200;
+
+/// How often in succession a connection may fail to open.
+const MOST_TRIES: u32 = 600;
+
+/// How many pieces are read of a connection at once.
+const MOST_PIECES: u32 = 64;
+
+/// A connection to a port, if it is open.
+#[derive(Drop)]
+pub(crate) struct Connection {
+    alloc: Global,
+    port: u16,
+    stream: Option<TcpStream>,
+    pub(crate) inbox: Inbox,
+    /// When it may be opened, in units of 10 ms.
+    next: u32,
+    /// How often it has failed to open since it was open last.
+    tries: u32,
+    /// How often it was opened.
+    pub(crate) opened: u32,
+}
+
+impl Connection {
+    pub(crate) fn new(alloc: Global, port: u16) -> Connection {
+        Connection {
+            alloc,
+            port,
+            stream: None,
+            inbox: Inbox::new(alloc),
+            next: 0,
+            tries: 0,
+            opened: 0,
+        }
+    }
+
+    /// Whether it is open.
+    pub(crate) fn is_open(&self) -> bool {
+        self.stream.is_some()
+    }
+
+    /// It ends. A part of a message that has arrived is dropped.
+    pub(crate) fn end(&mut self) {
+        self.stream = None;
+        self.inbox = Inbox::new(self.alloc);
+    }
+
+    /// Opens it, if it is not open and it is time. An error means that it has failed too often.
+    pub(crate) fn open<R: Net<Stream = TcpStream>>(
+        &mut self,
+        rt: &R,
+        now: u32,
+    ) -> Result<(), TrainsFault> {
+        if self.is_open() || now < self.next {
+            return Ok(());
+        }
+        self.next = now.saturating_add(AGAIN);
+        match opened(rt, self.port) {
+            Some(stream) => {
+                self.inbox = Inbox::new(self.alloc);
+                self.stream = Some(stream);
+                self.tries = 0;
+                self.opened = self.opened.saturating_add(1);
+            }
+            None if self.tries >= MOST_TRIES => return Err(TrainsFault::Socket),
+            None => self.tries = self.tries.saturating_add(1),
+        }
+        Ok(())
+    }
+
+    /// Sends these bytes, if it is open. If it does not take all of them at once, it ends.
+    pub(crate) fn send(&mut self, bytes: &[u8]) {
+        let Some(stream) = &mut self.stream else {
+            return;
+        };
+        let is_sent = match stream.write(bytes) {
+            Ok(count) => count == bytes.len(),
+            Err(_) => false,
+        };
+        if !is_sent {
+            self.end();
+        }
+    }
+
+    /// Reads the bytes that have arrived. If the peer has ended the connection, it ends.
+    pub(crate) fn read(&mut self) -> Result<(), TrainsFault> {
+        let mut piece = [0u8; 1_024];
+        for _ in 0..MOST_PIECES {
+            let Some(stream) = &mut self.stream else {
+                return Ok(());
+            };
+            match stream.read(&mut piece) {
+                Ok(count) if count > 0 => {
+                    let Some(bytes) = piece.get(..count) else {
+                        return Ok(());
+                    };
+                    self.inbox.add(bytes)?;
+                }
+                Err(error) if is_nothing(error.kind()) => return Ok(()),
+                _ => {
+                    self.end();
+                    return Ok(());
+                }
+            }
+        }
+        Ok(())
+    }
+}
+
+// Whether a read has only found nothing yet.
+fn is_nothing(kind: ErrorKind) -> bool {
+    matches!(
+        kind,
+        ErrorKind::WouldBlock | ErrorKind::TimedOut | ErrorKind::Interrupted
+    )
+}
+
+// A connection to this port that never waits.
+fn opened<R: Net<Stream = TcpStream>>(rt: &R, port: u16) -> Option<TcpStream> {
+    let address = SocketAddr::new(IpAddr::V4(Ipv4Addr::LOCALHOST), port);
+    let Ok(stream) = TcpStream::connect(rt, address) else {
+        return None;
+    };
+    if stream.set_nodelay(true).is_err() || stream.set_nonblocking(true).is_err() {
+        return None;
+    }
+    Some(stream)
+}

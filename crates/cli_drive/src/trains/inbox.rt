@@ -1,0 +1,90 @@
+//! The bytes of a connection, as messages of a centre or as lines.
+
+ghost use Rattle.std.specs.Prelude.{◌≡◌, ◌≤◌, drop, IfOk, OnOk, take, vec_len};
+ghost use Rattle.cli_drive.specs.Inboxes.{first_length, IsCut};
+
+use crate::head::{HEAD, length_of};
+use std::alloc::{AllocError, Global};
+use std::mem;
+
+/// The longest line of the control endpoint that is kept, in bytes.
+const MOST_ROW: usize = 65_536;
+
+/// The bytes of a connection that are not yet a whole message.
+#[derive(Debug, Drop)]
+pub(crate) struct Inbox {
+    bytes: Vec<u8>,
+}
+
+/// The first message of an inbox.
+#[derive(Debug, Drop)]
+pub(crate) enum Came {
+    /// Its bytes.
+    Message(Vec<u8>),
+    /// It is not whole.
+    Nothing,
+    /// The bytes are not a message.
+    Garbage,
+}
+
+impl Inbox {
+    pub(crate) fn new(alloc: Global) -> Inbox {
+        Inbox {
+            bytes: Vec::new(alloc),
+        }
+    }
+
+    /// These bytes have arrived.
+    pub(crate) fn add(&mut self, piece: &[u8]) -> Result<(), AllocError> {
+        self.bytes.extend_from_slice(piece)
+    }
+
+    /// Takes the first message out.
+    pub(crate) fn message(&mut self) -> Result<Came, AllocError>
+        ensures { IfOk result (λ came. IsCut self.old.bytes.items came self.new.bytes.items) }
+    {
+        let Some(length) = first_length(&self.bytes) else {
+            return Ok(Came::Nothing);
+        };
+        if length < HEAD {
+            return Ok(Came::Garbage);
+        }
+        if self.bytes.len() < length {
+            return Ok(Came::Nothing);
+        }
+        Ok(Came::Message(self.cut(length)?))
+    }
+
+    /// Takes the first line out, without its line feed. A longer line than is kept is dropped.
+    pub(crate) fn row(&mut self) -> Result<Option<Vec<u8>>, AllocError> {
+        if let Some(end) = self.bytes.iter().position(|byte| *byte == b'\n') {
+            let mut row = self.cut(end + 1)?;
+            row.pop();
+            return Ok(Some(row));
+        }
+        if self.bytes.len() > MOST_ROW {
+            self.bytes.clear();
+        }
+        Ok(None)
+    }
+
+    // Takes this many bytes out.
+    fn cut(&mut self, count: usize) -> Result<Vec<u8>, AllocError>
+        requires { count ≤ vec_len self.old.bytes }
+        ensures taken { IfOk result (λ taken. taken.items ≡ take count self.old.bytes.items) }
+        ensures left { OnOk result (self.new.bytes.items ≡ drop count self.old.bytes.items) }
+    {
+        let rest = self.bytes.split_off(count)?;
+        Ok(mem::replace(&mut self.bytes, rest))
+    }
+}
+
+// L_MESSAGE of the first message.
+fn first_length(bytes: &[u8]) -> Option<usize>
+    ensures { result ≡ first_length bytes.now }
+{
+    match bytes {
+        [_, second, third, ..] => Some(length_of(*second, *third)),
+        _ => None,
+    }
+}

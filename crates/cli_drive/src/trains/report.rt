@@ -1,0 +1,125 @@
+//! The print of trains over TCP.
+
+use crate::trains::fault::TrainsFault;
+use crate::trains::seconds::Running;
+use std::io::Write;
+
+/// The number of seconds after which each train has a line.
+const OFTEN: u32 = 60;
+
+/// The counts of a run.
+#[derive(Clone, Copy, Debug)]
+pub(crate) struct Tally {
+    pub(crate) handovers: u32,
+    /// At the end of no second two trains were on one section.
+    pub(crate) are_apart: bool,
+    /// The second at which the trains were shown last.
+    shown: u32,
+}
+
+impl Tally {
+    pub(crate) fn new() -> Tally {
+        Tally {
+            handovers: 0,
+            are_apart: true,
+            shown: 0,
+        }
+    }
+}
+
+impl<R> Running<'_, R> {
+    // The head of the table.
+    pub(crate) fn begin<W: Write>(&self, out: &mut W) -> Result<(), TrainsFault> {
+        writeln!(
+            out,
+            "  second     train  track               front_m  authority_m  RBC"
+        )?;
+        out.flush()?;
+        Ok(())
+    }
+
+    fn second_now(&self) -> u32 {
+        self.now.saturating_sub(1_000) / 100
+    }
+
+    /// The train follows another centre since now.
+    pub(crate) fn follows_other<W: Write>(
+        &mut self,
+        train: usize,
+        is_first: bool,
+        out: &mut W,
+    ) -> Result<(), TrainsFault> {
+        if !is_first {
+            self.tally.handovers = self.tally.handovers.saturating_add(1);
+        }
+        self.show(train, out)
+    }
+
+    pub(crate) fn show_often<W: Write>(&mut self, out: &mut W) -> Result<(), TrainsFault> {
+        let second = self.second_now();
+        if second.saturating_sub(self.tally.shown) < OFTEN {
+            return Ok(());
+        }
+        self.tally.shown = second;
+        for train in 0..self.trains.len() {
+            self.show(train, out)?;
+        }
+        Ok(())
+    }
+
+    // A line of the table: the place of a train, the end of its authority, and the centre that it follows.
+    fn show<W: Write>(&self, train: usize, out: &mut W) -> Result<(), TrainsFault> {
+        let Some(train) = self.trains.get(train) else {
+            return Ok(());
+        };
+        let track = self.line.track_name(train.ends.track).unwrap_or("?");
+        let front = train.ends.front;
+        let limit = train.unit.may_reach(front).unwrap_or(u64::from(front)) / 10;
+        let centre = match train.driver.follows {
+            Some(centre) => self.line.centre_name(centre).unwrap_or("?"),
+            None => "-",
+        };
+        writeln!(
+            out,
+            "{:>8}{:>10}  {:<16}{:>11}{:>13}  {centre}",
+            self.second_now(),
+            train.unit.nid_engine(),
+            track,
+            front / 10,
+            limit
+        )?;
+        out.flush()?;
+        Ok(())
+    }
+
+    // The last lines of the table.
+    pub(crate) fn end<W: Write>(&self, out: &mut W) -> Result<(), TrainsFault> {
+        for train in 0..self.trains.len() {
+            self.show(train, out)?;
+        }
+        let mut arrived = 0u32;
+        for train in &self.trains {
+            if train.driver.has_arrived(train.ends) {
+                arrived = arrived.saturating_add(1);
+            }
+        }
+        writeln!(
+            out,
+            "{} seconds, {} messages, {} lost, {} late, {} connections, {} handovers",
+            self.second_now(),
+            self.radio.sent,
+            self.radio.lost,
+            self.radio.delayed,
+            self.calls.opened(),
+            self.tally.handovers
+        )?;
+        writeln!(out, "{arrived} of {} trains arrived", self.trains.len())?;
+        if self.tally.are_apart {
+            writeln!(out, "At no second were two trains on one section.")?;
+        } else {
+            writeln!(out, "FAILED: two trains were on one section.")?;
+        }
+        out.flush()?;
+        Ok(())
+    }
+}

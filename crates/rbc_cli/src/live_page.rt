@@ -1,0 +1,148 @@
+//! Runs trains over centres in this process, with the page of the line.
+
+use crate::centres::{opened, refused};
+use crate::trains::{run_on, settings_of};
+use cli_commands::demo::line_of_demo;
+use cli_commands::disk::Disk;
+use cli_commands::line_file::LineFile;
+use cli_commands::words::{ServeWords, TrainsWords};
+use serve_journal::SystemFile;
+use serve_line::{Endpoints, NoNotes, Record, ServeOptions, StderrNotes, serve};
+use std::alloc::AllocError;
+use std::fs::File;
+use std::io::{Eprint, Write};
+use std::net::{IpAddr, Ipv4Addr, Net, SocketAddr, TcpListener, TcpStream};
+use std::rt::Files;
+use std::sync::Wait;
+use std::thread::Threads;
+use std::time::{Clock, Duration};
+use std::{io, thread};
+use text_script::status::{Fault, ended, report};
+
+/// How long a second of the trains takes, in milliseconds.
+const SECOND_MS: u64 = 250;
+
+/// How often `stop` is sent, if the centres accept no connection.
+const STOPS: u32 = 100;
+
+/// The arguments of centres with a page at this port.
+const fn served_at(page: u16) -> ServeWords<'static> {
+    ServeWords {
+        is_quiet: true,
+        page: Some(page),
+        control: None,
+        is_bound: false,
+        is_telling: false,
+        shows_life: false,
+        per_second: None,
+        burst: None,
+        journal: None,
+    }
+}
+
+/// Runs the centres of a line, and trains that obey over them, until all trains have ended their missions. Browsers on
+/// this host see the line at the port `page`. The centres listen at the ports after it. Returns the exit status.
+pub fn run_live_page<
+    R: Threads
+        + Wait
+        + Sync
+        + Net<Stream = TcpStream, Listener = TcpListener>
+        + Clock
+        + Files<File = File>
+        + Eprint
+        + AllocGlobal,
+    O: Write,
+    E: Write,
+>(rt: &R, file: Option<&str>, page: u16, words: &TrainsWords, out: &mut O, err: &mut E) -> u8 {
+    let given = match line_of_demo(rt.alloc(), file, &Disk(rt)) {
+        Ok(given) => given,
+        Err(fault) => return report(&fault, out, err),
+    };
+    let port = page.saturating_add(1);
+    let endpoints = match opened(rt, &given, port, &served_at(page), &StderrNotes(rt)) {
+        Ok(endpoints) => endpoints,
+        Err(fault) => return refused(&fault, out, err),
+    };
+    if writeln!(err, "page: http://127.0.0.1:{page}/").is_err() {
+        return 6;
+    }
+    let done = run_all(rt, &given, endpoints, port, words, out);
+    ended(done, out, err)
+}
+
+// Serves in a thread of its own, runs the trains, and stops the centres.
+fn run_all<
+    R: Threads
+        + Wait
+        + Sync
+        + Net<Stream = TcpStream, Listener = TcpListener>
+        + Clock
+        + AllocGlobal,
+    O: Write,
+>(
+    rt: &R,
+    given: &LineFile,
+    endpoints: Endpoints,
+    port: u16,
+    words: &TrainsWords,
+    out: &mut O,
+) -> Result<(), Fault<'static>> {
+    thread::scope(thread::scope_env(), rt, |scope| {
+        if scope
+            .spawn(move || serve_unread(rt, given, endpoints))
+            .is_err()
+        {
+            return Err(AllocError.into());
+        }
+        let done = run_on(rt, given, settings_of(port, words, SECOND_MS), out);
+        let control = port.saturating_add(u16::from(given.line.centre_count()));
+        stop(rt, control);
+        done
+    })
+}
+
+// Serves until `stop`. Nobody reads the print of the run.
+fn serve_unread<R: Threads + Wait + Sync + Clock + AllocGlobal>(
+    rt: &R,
+    given: &LineFile,
+    endpoints: Endpoints,
+) {
+    let record: Record<SystemFile> = Record::none(rt.alloc());
+    let options = ServeOptions::default();
+    let _ = serve(
+        rt,
+        rt.alloc(),
+        &given.line,
+        endpoints,
+        record,
+        options,
+        &NoNotes,
+        &mut Unread,
+    );
+}
+
+// Sends `stop` to the centres at the port of their interlocking.
+fn stop<R: Net<Stream = TcpStream> + Clock>(rt: &R, control: u16) {
+    let address = SocketAddr::new(IpAddr::V4(Ipv4Addr::LOCALHOST), control);
+    for _ in 0..STOPS {
+        if let Ok(mut stream) = TcpStream::connect(rt, address)
+            && stream.write_all(b"stop\n").is_ok()
+        {
+            return;
+        }
+        thread::sleep(rt, Duration::from_millis(SECOND_MS));
+    }
+}
+
+/// A print that nobody reads.
+struct Unread;
+
+impl Write for Unread {
+    fn write(&mut self, bytes: &[u8]) -> io::Result<usize> {
+        Ok(bytes.len())
+    }
+
+    fn flush(&mut self) -> io::Result<()> {
+        Ok(())
+    }
+}

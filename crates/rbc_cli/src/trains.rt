@@ -1,0 +1,57 @@
+//! Runs trains over running centres.
+
+use cli_commands::disk::Disk;
+use cli_commands::line_file::{LineFile, line_file_in};
+use cli_commands::words::TrainsWords;
+use cli_drive::trains::{Settings, TrainsFault, run};
+use std::alloc::AllocError;
+use std::fs::File;
+use std::io::Write;
+use std::net::{Net, TcpStream};
+use std::rt::Files;
+use std::time::Clock;
+use text_script::status::Fault;
+
+/// How long a second of the trains takes, in milliseconds.
+const SECOND_MS: u64 = 50;
+
+/// Runs trains on the line of a file over its centres, which listen on this host. If two trains were on one section,
+/// the print has that, and the fault is `Differs`.
+pub fn run_trains<
+    'a,
+    R: Net<Stream = TcpStream> + Clock + Files<File = File> + AllocGlobal,
+    O: Write,
+>(rt: &R, port: u16, file: &'a str, words: &TrainsWords, out: &mut O) -> Result<(), Fault<'a>> {
+    let given = line_file_in(rt.alloc(), file, &Disk(rt))?;
+    run_on(rt, &given, settings_of(port, words, SECOND_MS), out)
+}
+
+/// Runs trains on a line over its centres.
+pub fn run_on<R: Net<Stream = TcpStream> + Clock + AllocGlobal, O: Write>(
+    rt: &R,
+    given: &LineFile,
+    settings: Settings,
+    out: &mut O,
+) -> Result<(), Fault<'static>> {
+    match run(rt, &given.line, settings, out) {
+        Ok(true) => Ok(()),
+        Ok(false) => Err(Fault::Differs),
+        Err(TrainsFault::Memory) => Err(AllocError.into()),
+        Err(TrainsFault::Socket) => Err(Fault::Socket),
+        Err(TrainsFault::Write) => Err(Fault::Write),
+    }
+}
+
+/// The settings of the arguments. A second of the trains takes this many milliseconds.
+pub fn settings_of(port: u16, words: &TrainsWords, second_ms: u64) -> Settings {
+    Settings {
+        port,
+        trains: words.trains.unwrap_or(64),
+        loss: words.loss.unwrap_or(0),
+        late: words.late.unwrap_or(0),
+        seed: words.seed.unwrap_or(0),
+        seconds: words.seconds.unwrap_or(20_000),
+        second_ms,
+        is_releasing: !words.is_shut,
+    }
+}
