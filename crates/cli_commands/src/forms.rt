@@ -153,7 +153,7 @@ pub fn rbcline<'a>(alloc: Global) -> Result<Command<'a>, AllocError> {
 }
 
 /// The version of the program.
-pub(crate) const VERSION: &str = "0.5.0";
+pub(crate) const VERSION: &str = "0.6.0";
 
 // The exit statuses, and a first command to try.
 const ENDS: &str =
