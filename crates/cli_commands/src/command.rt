@@ -15,6 +15,7 @@ use crate::printed::print_journals;
 use crate::run::{check, run};
 use crate::scenarios::{script_in_words, test};
 use crate::storm::run_storm;
+use crate::watch::watch_printed;
 use crate::words::{Request, requested};
 use std::alloc::Global;
 use std::convert::AsStr;
@@ -22,9 +23,9 @@ use std::io::Write;
 use text_script::status::{Fault, ended};
 
 /// Runs the command of the arguments after the program's name, and returns the exit status. It is 0 for success, and 1
-/// if an audit found a difference, `decode` a fault, or `demo` an unsafe place. It is 2 for refused arguments (help
-/// too), and 3 for an unreadable file, a script fault or journals. It is 4 for a line fault, 5 for a refused step, and
-/// 7 for a message fault. It is 6 for a refused write, or for a command that needs sockets.
+/// if an audit found a difference, `watch` a danger, `decode` a fault, or `demo` an unsafe place. It is 2 for refused
+/// arguments (help too), and 3 for an unreadable file, a script fault or journals. It is 4 for a line fault, 5 for a
+/// refused step, and 7 for a message fault. It is 6 for a refused write, or for a command that needs sockets.
 pub fn command<S: AsStr, F: Files, O: Write, E: Write>(
     alloc: Global,
     words: &[S],
@@ -63,6 +64,10 @@ fn obey<'a, S: AsStr, F: Files, O: Write, E: Write>(
         }
         Request::Audit { file, printed } => {
             tell_part(audit_printed(alloc, file, printed, files, out)?, err)
+        }
+        Request::Watch { file, printed } => {
+            let has_event = watch_printed(alloc, file, printed, files, out, err)?;
+            note_lack(has_event, "no event", printed, err)
         }
         Request::Decode(decoding) => decode(alloc, words, decoding, files, out),
         Request::Encode { fields, is_frame } => encode(alloc, fields, is_frame, files, out, err),

@@ -1,5 +1,5 @@
 -- The search for a danger, over all trains and all sections.
-use Rattle.std.proofs.Common.{⊎_elim, ◌&&◌, ◌+◌, ◌<◌, ◌==◌, ◌∙◌, ◌≡◌, ◌≤◌, ap, arith, eqb-true, false, length}
+use Rattle.std.proofs.Common.{⊎_elim, ◌+◌, ◌<◌, ◌==◌, ◌∙◌, ◌≡◌, ◌≤◌, ap, arith, eqb-true, false, length}
 use Rattle.std.proofs.Common.{nat_eq, None, Option, option_map, refl, slice_get, Some, subst, sym, true, ℕ}
 use Rattle.std.proofs.lemmas.Bool.{and_parts, cases_eq, true≢false}
 use Rattle.std.proofs.lemmas.Map.Entries.{place_from_lookup}
@@ -10,7 +10,6 @@ use Rattle.law_outside.specs.Outside as spec
 use Rattle.law_outside.specs.Outside.{is_in, IsSafeOutside, may_run_over}
 use Rattle.rbc_spec.specs.Line.{Line, Section, section}
 use Rattle.rbc_spec.specs.Maps.{has}
-use Rattle.rbc_spec.specs.Sections.{is_on}
 use Rattle.rbc_watch.specs.Dangers.{Breaks, IsFoundAt, IsFoundIn, IsFoundTrain, IsSafeIn}
 use Rattle.rbc_watch.specs.declared.danger.Danger.{Danger}
 use Rattle.rbc_watch.specs.declared.danger.Danger.TheVariants as danger

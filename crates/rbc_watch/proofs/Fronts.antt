@@ -1,5 +1,5 @@
 -- The section that has the front, one section at a time.
-use Rattle.std.proofs.Common.{◌+◌, ◌≡◌, ap, arith, None, refl, suc, ℕ}
+use Rattle.std.proofs.Common.{◌+◌, ◌≡◌, arith, None, refl, suc, ℕ}
 use Rattle.law_outside.specs.Outside.{front_end}
 use Rattle.rbc_spec.specs.Line.{Line}
 use Rattle.rbc_spec.specs.Place.{Place}

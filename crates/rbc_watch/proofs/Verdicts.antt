@@ -1,6 +1,6 @@
 -- The verdict on a list, one event at a time.
 use Rattle.std.proofs.Common.{[], ⊎_elim, ◌++◌, ◌+◌, ◌<◌, ◌∙◌, ◌∷◌, ◌≡◌, ◌≤◌, ap, arith, Err, get_or, length, List, map}
-use Rattle.std.proofs.Common.{option_map, Option, refl, subst, subst₂, sym, take, true, ℕ}
+use Rattle.std.proofs.Common.{option_map, Option, refl, subst, subst₂, sym, take, ℕ}
 use Rattle.std.proofs.lemmas.Bool.{cases_eq}
 use Rattle.law_outside.specs.Outside.{IsSafeOutside, nothing_seen, sees, sees_all, Spoken, View}
 use Rattle.rbc_spec.specs.Line.{Line}

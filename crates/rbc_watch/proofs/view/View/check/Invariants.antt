@@ -1,4 +1,4 @@
-use Rattle.std.proofs.Common.{◌≡◌, ◌<◌, ℕ}
+use Rattle.std.proofs.Common.{◌<◌, ℕ}
 use Rattle.rbc_watch.proofs.view.View.check.Given as goal
 use Rattle.rbc_watch.specs.Dangers.{IsSafeIn}
 use Rattle.rbc_watch.specs.Seen.{view_of}
