@@ -1,6 +1,3 @@
-pub mod Lists
-pub mod Runs
-pub mod Worlds
 pub mod WalkLemmas
 pub mod RulesLemmas
 pub mod CountingLemmas

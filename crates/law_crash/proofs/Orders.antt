@@ -5,11 +5,11 @@ use Rattle.std.proofs.Common.{true, ℕ}
 use Rattle.std.proofs.lemmas.Bool.{cases_Bool, cond-false}
 use Rattle.std.proofs.lemmas.Bool.Decides.{eqb_tells}
 use Rattle.std.proofs.lemmas.List.Elements.{filter-append}
-use Rattle.law_base.proofs.Lists.{itself, put_other, put_there}
 use Rattle.law_logs.proofs.Merged.{answers, IsThere, run_on}
 use Rattle.law_logs.proofs.Sorted.{sent_under}
 use Rattle.law_logs.specs.Beginnings.Beginnings.{IsWrittenAfter}
 use Rattle.law_logs.specs.Logs.{answered, entries_of, happened, IsFromLog, LogEntry, Replays}
+use Rattle.rbc_spec.proofs.Lists.{itself, put_other, put_there}
 use Rattle.rbc_spec.specs.Centre.{beginning, Centre}
 use Rattle.rbc_spec.specs.Line.{is_centre, Line}
 use Rattle.rbc_spec.specs.Maps.{put}

@@ -6,10 +6,10 @@ use Rattle.std.proofs.lemmas.Bool.{cases_Bool, cond-false, cond-true}
 use Rattle.std.proofs.lemmas.Bool.Decides.{eqb_tells}
 use Rattle.std.proofs.lemmas.List.Elements.{All-cons, All-filter, All-head, All-tail, All-weaker}
 use Rattle.std.specs.Option.{option_map_or}
-use Rattle.law_base.proofs.Lists.{itself, put_other, put_there}
 use Rattle.law_logs.proofs.Sorted.{frames_late, get_early, sent_replayed, sent_under, stamped}
 use Rattle.law_logs.specs.Logs.{answered, AreLogs, entries_of, happened, happening, IsAboveItsFrame, IsFromLog}
 use Rattle.law_logs.specs.Logs.{IsInOrder, IsLegal, IsMerge, IsWorldRun, LogEntry, Replays, sent_to}
+use Rattle.rbc_spec.proofs.Lists.{itself, put_other, put_there}
 use Rattle.rbc_spec.specs.Centre.{beginning, Centre}
 use Rattle.rbc_spec.specs.Frame.{Frame}
 use Rattle.rbc_spec.specs.Line.{is_centre, Line}

@@ -11,11 +11,11 @@ use Rattle.std.proofs.lemmas.List.Sorted.{Contains-permutation, sum_by-IsPermuta
 use Rattle.std.proofs.lemmas.List.Sums.{length-filter}
 use Rattle.std.proofs.lemmas.Option.{slice_get_read}
 use Rattle.std.specs.Option.{option_map_or}
-use Rattle.law_base.proofs.Lists.{get_append}
 use Rattle.law_base.proofs.WalkLemmas.Steps.{clock_kept, stamp_above}
-use Rattle.law_base.proofs.Worlds.{numbered_at}
 use Rattle.law_logs.specs.Logs.{AreLogs, entries_of, IsAboveItsFrame, IsInOrder, IsMerge, IsStamped, LogEntry, Replays}
 use Rattle.law_logs.specs.Logs.{sent_to}
+use Rattle.rbc_spec.proofs.Lists.{get_append}
+use Rattle.rbc_spec.proofs.Worlds.{numbered_at}
 use Rattle.rbc_spec.specs.Centre.{beginning, Centre}
 use Rattle.rbc_spec.specs.Frame.{Body, Frame}
 use Rattle.rbc_spec.specs.Line.{is_centre, Line}

@@ -6,9 +6,7 @@ use Rattle.std.proofs.lemmas.Bool.{and_parts}
 use Rattle.std.specs.List.{find, range_with_len}
 use Rattle.std.specs.Option.{option_map_or}
 use Rattle.law_base.proofs.CountingLemmas.Resource.{placed_sound, placed_sound_took}
-use Rattle.law_base.proofs.Lists.{put_there}
 use Rattle.law_base.proofs.LocalLemmas.Worlds.{is_ordered}
-use Rattle.law_base.proofs.Runs.{each_within}
 use Rattle.law_base.specs.Counting.Network.{IsCounted, TakesHead, took}
 use Rattle.law_base.specs.Counting.Resource.{IsFair, IsWithinCap}
 use Rattle.law_invariants.proofs.NoCopyLemmas.Leaving.{fair_yield}
@@ -23,6 +21,8 @@ use Rattle.law_invariants.specs.Flow.Counts.{rights, tokens}
 use Rattle.law_invariants.specs.Flow.Flow.{centre_count, Flow}
 use Rattle.law_invariants.specs.Flow.Leads.{replied}
 use Rattle.law_mutants.specs.Rules.{handed_over_by, sent_home_by}
+use Rattle.rbc_spec.proofs.Lists.{put_there}
+use Rattle.rbc_spec.proofs.Runs.{each_within}
 use Rattle.rbc_spec.specs.Acts.{◌>>◌, Act, become, booked, may_propose, propose, propose_if_so, Reply, rest}
 use Rattle.rbc_spec.specs.Acts.{return_pool, set_mission, where_so, with_some, yield}
 use Rattle.rbc_spec.specs.Centre.{Centre, Expectation, is_free, is_open, is_out_for, Mission, Taken}

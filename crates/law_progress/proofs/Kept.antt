@@ -5,7 +5,6 @@ use Rattle.std.proofs.Common.{Result, Some, subst, sym, true, ℕ}
 use Rattle.std.proofs.lemmas.Bool.{cases_eq}
 use Rattle.std.specs.Option.{option_map_or}
 use Rattle.law_base.proofs.CountingLemmas.Sums.{put_other, put_same}
-use Rattle.law_base.proofs.Lists.{itself, put_keeps}
 use Rattle.law_base.proofs.LocalLemmas.Worlds.{world_of}
 use Rattle.law_base.specs.Counting.Chain.{after_all}
 use Rattle.law_base.specs.Counting.Sums.{one_if}
@@ -18,6 +17,7 @@ use Rattle.law_invariants.specs.Handover.Steps.{left_by, sent_by}
 use Rattle.law_invariants.specs.Handover.Worlds.{IsWorldSound}
 use Rattle.law_progress.proofs.Announced.{heard_keeps, taken_keeps}
 use Rattle.law_progress.specs.Ends.{is_handing, IsGoingOn}
+use Rattle.rbc_spec.proofs.Lists.{itself, put_keeps}
 use Rattle.rbc_spec.specs.Acts.{rest}
 use Rattle.rbc_spec.specs.Centre.{Centre, Handing, Mission}
 use Rattle.rbc_spec.specs.Frame.{Announce, AskRight, Body, Cancel, Frame, GiveRight, RefuseRight, ReturnRight, RouteAsk}

@@ -6,11 +6,11 @@ use Rattle.std.proofs.Common.{subst, sym, true, ℕ}
 use Rattle.std.proofs.lemmas.Bool.{cases_Bool}
 use Rattle.std.specs.Option.{option_map_or}
 use Rattle.law_base.proofs.CountingLemmas.Sums.{put_same}
-use Rattle.law_base.proofs.Lists.{put_there}
 use Rattle.law_base.proofs.LocalLemmas.Worlds.{world_of}
 use Rattle.law_invariants.specs.Handover.Steps.{left_by}
 use Rattle.law_invariants.specs.NoCopy.Steps.{done}
 use Rattle.law_progress.specs.Ends.{is_handing}
+use Rattle.rbc_spec.proofs.Lists.{put_there}
 use Rattle.rbc_spec.specs.Acts.{◌>>◌, become, cancel, change_mission, close, freed, leave, rest, return_right, send}
 use Rattle.rbc_spec.specs.Acts.{set_mission}
 use Rattle.rbc_spec.specs.Centre.{Centre, Closed, Handing, is_closed, is_registrar_of, is_taken_for, is_up, Mission}

@@ -9,8 +9,6 @@ use Rattle.std.proofs.lemmas.List.Sums.{position_or_len_is}
 use Rattle.std.proofs.lemmas.Option.{get_or_from_slice_get, slice_get-get_or, slice_get_within}
 use Rattle.std.specs.List.{list_any, position_or_len, sum_by}
 use Rattle.std.specs.Option.{option_map_or}
-use Rattle.law_base.proofs.Lists.{any-range_none, each_at}
-use Rattle.law_base.proofs.Runs.{longest_is, within_from, within_true}
 use Rattle.law_base.specs.Counting.Chain.{after_all}
 use Rattle.law_base.specs.Counting.Network.{way}
 use Rattle.law_invariants.proofs.FlowLemmas.Seats.{way_is}
@@ -24,7 +22,9 @@ use Rattle.law_progress.proofs.Kept.{none_to}
 use Rattle.law_progress.proofs.RestLemmas.Rest.{no_way, work_is}
 use Rattle.law_progress.specs.Ends.{HasNoHandover, is_handing, IsGoingOn}
 use Rattle.law_progress.specs.Rest.Rest.{IsAtRest, IsDelivery, work_of}
+use Rattle.rbc_spec.proofs.Lists.{any-range_none, each_at}
 use Rattle.rbc_spec.proofs.Places.{end_of, ends_rise, IsAt, section_on, start_is}
+use Rattle.rbc_spec.proofs.Runs.{longest_is, within_from, within_true}
 use Rattle.rbc_spec.specs.Centre.{Expectation}
 use Rattle.rbc_spec.specs.Frame.{Body, Frame}
 use Rattle.rbc_spec.specs.Line.{end, group_of, is_centre, IsLine, Line, Section, section, section_of_group, start}

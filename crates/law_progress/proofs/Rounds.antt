@@ -5,7 +5,6 @@ use Rattle.std.proofs.lemmas.Bool.{both_ways, cases_Bool, cases_lt}
 use Rattle.std.proofs.lemmas.List.Elements.{All-cons, All-head, All-nil, All-tail}
 use Rattle.std.specs.List.{list_any}
 use Rattle.law_base.proofs.PiecesLemmas.Loop.{run_of_none, whole_run}
-use Rattle.law_base.proofs.Worlds.{bind_ok, same_ok}
 use Rattle.law_invariants.proofs.NoStrayLemmas.Worlds.{IsReachedSo, step_reached}
 use Rattle.law_invariants.proofs.RangesLemmas.Worlds.{step_in_range}
 use Rattle.law_invariants.specs.Flow.Flow.{centre_count}
@@ -17,6 +16,7 @@ use Rattle.law_progress.proofs.RestLemmas.Rest.{comes_to_rest}
 use Rattle.law_progress.specs.Ends.{GoesOn, HasNoHandover, is_handing, IsGoingOn, IsOutOfStamps, IsRefusedThere}
 use Rattle.law_progress.specs.Ends.{messages_for_report}
 use Rattle.law_progress.specs.Rest.Rest.{IsAtRest, IsDelivery, IsStopped}
+use Rattle.rbc_spec.proofs.Worlds.{bind_ok, same_ok}
 use Rattle.rbc_spec.specs.Centre.{Closed, Mission, Opened, Phase, Up}
 use Rattle.rbc_spec.specs.Line.{is_centre, IsLine, Line, Train, train_number}
 use Rattle.rbc_spec.specs.Message.{InitiationOfSession, Report, SessionEstablished, unknown_time}

@@ -3,16 +3,16 @@ use Rattle.std.proofs.Common.{ℤ, ◌*◌, ◌+◌, ◌∙◌, ◌≡◌, ◌�
 use Rattle.std.proofs.Common.{Option, option_map, pos, refl, Some, subst, sym, true, ℕ}
 use Rattle.std.proofs.lemmas.Bool.Decides.{eqb_tells}
 use Rattle.std.specs.Option.{option_and_then, option_map_or}
-use Rattle.law_base.proofs.Lists.{on_line, put_there}
 use Rattle.law_base.proofs.LocalLemmas.Homes.{IsFit}
 use Rattle.law_base.proofs.PiecesLemmas.Waits.{elsewhere, put_at, PutAt, there, WaitsKeep}
-use Rattle.law_base.proofs.Runs.{within_true}
 use Rattle.law_outside.specs.Outside.{begun, front_end, metres_from, starts, Stretch, View}
 use Rattle.law_promises.proofs.Marks.{if_true, IsReported, IsSince, Later, same_later, Tied, tied_as}
 use Rattle.law_promises.proofs.Spans.{lt_up}
 use Rattle.law_promises.proofs.SpansOfStarts.{first_stretch, last_covered, last_is}
 use Rattle.law_promises.proofs.Standstill.{front_at, has_front, IsFront}
+use Rattle.rbc_spec.proofs.Lists.{on_line, put_there}
 use Rattle.rbc_spec.proofs.Places.{covers_from, covers_parts, covers_run, ends_rise}
+use Rattle.rbc_spec.proofs.Runs.{within_true}
 use Rattle.rbc_spec.specs.Line.{end, IsLine, Line, section_of_group, start}
 use Rattle.rbc_spec.specs.LineCentre.{change_mission, is_given_to, LineMission, LineState, Mark}
 use Rattle.rbc_spec.specs.Maps.{has, put_pair}

@@ -5,12 +5,10 @@ use Rattle.std.proofs.lemmas.Bool.{and_from, and_parts, both_ways, cases_lt, or_
 use Rattle.std.proofs.lemmas.Option.{same_Some}
 use Rattle.std.specs.List.{list_any, range_with_len}
 use Rattle.std.specs.Option.{option_and_then, option_map_or}
-use Rattle.law_base.proofs.Lists.{itself, on_line, put_other, put_pair_there, put_same, put_there}
 use Rattle.law_base.proofs.PiecesLemmas.Frees.{by_test}
 use Rattle.law_base.proofs.PiecesLemmas.OwnFrees.{closed_mark, closed_wait, own_leaves}
 use Rattle.law_base.proofs.PiecesLemmas.Waits.{elsewhere, IsLoose, kept_for, opened, put_at, PutAt, there, WaitsKeep}
 use Rattle.law_base.proofs.RulesLemmas.Places.{extent_ahead, IsPlacedOn, placed_on}
-use Rattle.law_base.proofs.Runs.{each_within, same_tests, within_from, within_true}
 use Rattle.law_outside.specs.Outside as outside
 use Rattle.law_outside.specs.Outside.{accepted, after_message, all_told, begun, cleared, extended, front_end, gets}
 use Rattle.law_outside.specs.Outside.{is_told, metres_from, starts, Stretch, takes_back, up_to, View}
@@ -26,7 +24,9 @@ use Rattle.law_promises.proofs.QuietFollows.{accepted_first, accepts_is, begins_
 use Rattle.law_promises.proofs.SpansOfStarts.{cleared_less, first_stretch, IsLess}
 use Rattle.law_promises.proofs.Standstill.{at_place, by_place, end_less, report_less, stands, stands_less, way_stops}
 use Rattle.law_promises.proofs.Tied.{remade, tied_less, way_extends, way_reports, way_restarts, way_shortens}
+use Rattle.rbc_spec.proofs.Lists.{itself, on_line, put_other, put_pair_there, put_same, put_there}
 use Rattle.rbc_spec.proofs.Places.{ends_rise}
+use Rattle.rbc_spec.proofs.Runs.{each_within, same_tests, within_from, within_true}
 use Rattle.rbc_spec.specs.Centre.{is_registrar_of, Proposal}
 use Rattle.rbc_spec.specs.Line.{end, is_centre, is_home, IsLine, Line, section_of_group, start}
 use Rattle.rbc_spec.specs.LineCentre.{At, change_mission, close_if_empty, Given, is_at, is_given_to, is_kept_for}

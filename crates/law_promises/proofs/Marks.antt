@@ -3,10 +3,10 @@ use Rattle.std.proofs.Common.{◌&&◌, ◌*◌, ◌||◌, ◌∙◌, ◌≡◌,
 use Rattle.std.proofs.Common.{Option, refl, Some, subst, sym, true, ℕ}
 use Rattle.std.proofs.lemmas.Bool.{ne_eqb, or_left}
 use Rattle.std.proofs.lemmas.Option.{same_Some}
-use Rattle.law_base.proofs.Lists.{itself}
 use Rattle.law_base.proofs.PiecesLemmas.Waits.{IsLoose, kept_for, opened}
 use Rattle.law_outside.specs.Outside.{Shortening, Stretch}
 use Rattle.law_promises.proofs.Spans.{Spans}
+use Rattle.rbc_spec.proofs.Lists.{itself}
 use Rattle.rbc_spec.specs.Centre.{Proposal}
 use Rattle.rbc_spec.specs.Line.{end, is_home, Line, section_of_group}
 use Rattle.rbc_spec.specs.LineCentre.{At, Given, is_given_to, Kept, LineMission, LineState, Mark, Open, Parted, release}

@@ -7,7 +7,6 @@ use Rattle.std.proofs.lemmas.List.Elements.{All-nil}
 use Rattle.std.proofs.lemmas.Option.{same_Some}
 use Rattle.std.specs.List.{All, list_all}
 use Rattle.std.specs.Option.{option_map_or}
-use Rattle.law_base.proofs.Lists.{itself, none_passes, put_here, put_other, put_pair_there}
 use Rattle.law_base.proofs.PiecesLemmas.Frees.{by_test}
 use Rattle.law_base.proofs.PiecesLemmas.Waits.{wait_on}
 use Rattle.law_base.proofs.PiecesLemmas.Words.{Fits, own_fits, quiets_fit}
@@ -21,6 +20,7 @@ use Rattle.law_promises.proofs.Promised.{here_is}
 use Rattle.law_promises.proofs.QuietFollows.{quiet_follows, quiet_shut}
 use Rattle.law_promises.proofs.Released.{all_released, all_same, follows_as, heard_both, IsLater, later_other}
 use Rattle.law_promises.proofs.Released.{quiets_later, Released, released_on, says_released, told_both}
+use Rattle.rbc_spec.proofs.Lists.{itself, none_passes, put_here, put_other, put_pair_there}
 use Rattle.rbc_spec.specs.Centre.{Proposal}
 use Rattle.rbc_spec.specs.Line.{is_centre, is_home, IsLine, Line}
 use Rattle.rbc_spec.specs.LineCentre.{At, Given, hears, is_at, is_given_to, Kept, line_beginning, LineMission}

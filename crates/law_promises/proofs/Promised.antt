@@ -7,12 +7,10 @@ use Rattle.std.proofs.lemmas.Option.{same_Some}
 use Rattle.std.specs.List.{find, list_any, range_with_len}
 use Rattle.std.specs.Option.{option_and_then, option_map_or}
 use Rattle.std.specs.Prelude.{Contains}
-use Rattle.law_base.proofs.Lists.{any-range, put_other, put_there}
 use Rattle.law_base.proofs.LocalLemmas.Homes.{fit_parts}
 use Rattle.law_base.proofs.PiecesLemmas.GivenSections.{given_held, given_home, given_is}
 use Rattle.law_base.proofs.PiecesLemmas.Loop.{run_of_none, whole_run}
 use Rattle.law_base.proofs.RulesLemmas.Places.{extent_ahead, fit_is, has_group}
-use Rattle.law_base.proofs.Worlds.{bind_ok, same_ok}
 use Rattle.law_invariants.proofs.FlowLemmas.Neighbours.{home_below}
 use Rattle.law_invariants.proofs.HandoverLemmas.Worlds.{world_begins, world_run_sound, world_step_sound}
 use Rattle.law_outside.specs.Outside.{begun}
@@ -20,7 +18,9 @@ use Rattle.law_promises.proofs.Follows.{given, IsStart}
 use Rattle.law_promises.proofs.Marks.{by, IsReported, Left, none_left, some_left}
 use Rattle.law_promises.specs.Promised.{IsFreedWithin, IsTakenBack}
 use Rattle.law_refinement.proofs.Promises.{promises, run_further, run_sound, sound_after}
+use Rattle.rbc_spec.proofs.Lists.{any-range, put_other, put_there}
 use Rattle.rbc_spec.proofs.Safe.{given_mark}
+use Rattle.rbc_spec.proofs.Worlds.{bind_ok, same_ok}
 use Rattle.rbc_spec.specs.Centre as centre
 use Rattle.rbc_spec.specs.Line.{is_centre, is_home, IsLine, Line, Section, section}
 use Rattle.rbc_spec.specs.LineCentre.{At, close_if_empty, Given, is_at, is_given_to, LineMission, LineState, Parted}

@@ -3,9 +3,7 @@ use Rattle.std.proofs.Common.{◌+◌, ◌-◌, ◌==◌, ◌∙◌, ◌≡◌, 
 use Rattle.std.proofs.Common.{Option, option_map, refl, Some, subst, sym, true, ℕ}
 use Rattle.std.proofs.lemmas.Option.{same_Some}
 use Rattle.std.specs.Option.{option_and_then, option_map_or}
-use Rattle.law_base.proofs.Lists.{put_other, put_pair_there, put_there}
 use Rattle.law_base.proofs.PiecesLemmas.Waits.{is_waited, IsLoose, kept_for, opened, quiet_leaves, WaitsKeep}
-use Rattle.law_base.proofs.Runs.{within_from, within_true}
 use Rattle.law_outside.specs.Outside.{accepted, all_told, asked_for, gets, is_told, starts, Stretch, View}
 use Rattle.law_promises.proofs.Follows.{after_mission, after_none, after_one, begun_is, changed_there, Follows, given}
 use Rattle.law_promises.proofs.Follows.{heard_as, IsSeen, IsStart, metres_is, put_apart, put_later, wait_less}
@@ -14,7 +12,9 @@ use Rattle.law_promises.proofs.Marks.{Asks, given_moves, if_false, if_true, IsSi
 use Rattle.law_promises.proofs.Marks.{Stays, Tied, tied_as, under_way, Way}
 use Rattle.law_promises.proofs.SpansOfStarts.{first_stretch}
 use Rattle.law_promises.proofs.Tied.{accepted_begins, asked_way, remade, way_begins}
+use Rattle.rbc_spec.proofs.Lists.{put_other, put_pair_there, put_there}
 use Rattle.rbc_spec.proofs.Places.{before, end_is, section_on, start_is}
+use Rattle.rbc_spec.proofs.Runs.{within_from, within_true}
 use Rattle.rbc_spec.specs.Centre.{Proposal}
 use Rattle.rbc_spec.specs.Line.{end, IsLine, Line, section_of_group, start}
 use Rattle.rbc_spec.specs.LineCentre.{At, free, is_given_to, is_waiting_at, Kept, LineMission, LineState, Mark, Open}

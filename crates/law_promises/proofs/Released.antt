@@ -4,11 +4,11 @@ use Rattle.std.proofs.Common.{Option, refl, Some, subst, sym, true, ℕ}
 use Rattle.std.proofs.lemmas.Bool.Decides.{eqb_tells}
 use Rattle.std.proofs.lemmas.List.Elements.{All-append, All-cons, All-head, All-nil, All-tail}
 use Rattle.std.specs.List.{All}
-use Rattle.law_base.proofs.Lists.{put_here, put_other}
 use Rattle.law_base.proofs.PiecesLemmas.Words.{Fits}
 use Rattle.law_outside.specs.Outside as outside
 use Rattle.law_outside.specs.Outside.{all_heard, all_told, gets, is_told, starts, Stretch, View}
 use Rattle.law_promises.proofs.Follows.{after_none, Follows, heard_as, wait_still}
+use Rattle.rbc_spec.proofs.Lists.{put_here, put_other}
 use Rattle.rbc_spec.specs.Line.{Line}
 use Rattle.rbc_spec.specs.LineCentre.{hears, LineState, Said, Shut}
 use Rattle.rbc_spec.specs.Maps.{put}

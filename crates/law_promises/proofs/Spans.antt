@@ -3,10 +3,10 @@ use Rattle.std.proofs.Common.{ℤ, ◌&&◌, ◌*◌, ◌+◌, ◌-◌, ◌<◌,
 use Rattle.std.proofs.Common.{le-leb, leb-true, length, lt-ltb, ltb-true, max, min, nat_lt, negsuc, None, pos, refl}
 use Rattle.std.proofs.Common.{subst, sym, true, ℕ}
 use Rattle.std.proofs.lemmas.Bool.{and_from, and_parts, cases_lt, ltb-false}
-use Rattle.law_base.proofs.Lists.{each_at}
-use Rattle.law_base.proofs.Runs.{within_from, within_true}
 use Rattle.law_outside.specs.Outside.{is_in, Stretch}
+use Rattle.rbc_spec.proofs.Lists.{each_at}
 use Rattle.rbc_spec.proofs.Places.{end_of, ends_before, section_on, start_is}
+use Rattle.rbc_spec.proofs.Runs.{within_from, within_true}
 use Rattle.rbc_spec.specs.Line.{end, IsLine, Line, Section, start}
 use Rattle.rbc_spec.specs.SectionRuns.{next_after, SectionRun, within}
 use Rattle.rbc_spec.specs.Sections.{is_on}

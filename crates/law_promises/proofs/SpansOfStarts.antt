@@ -4,10 +4,10 @@ use Rattle.std.proofs.Common.{int_lt, max, None, Option, pos, refl, Some, subst,
 use Rattle.std.proofs.lemmas.Bool.{cases_lt}
 use Rattle.std.specs.Option.{option_map_or}
 use Rattle.law_base.proofs.LocalLemmas.Homes.{fit_covers, IsFit}
-use Rattle.law_base.proofs.Runs.{within_from, within_true}
 use Rattle.law_outside.specs.Outside.{cleared, is_in, Stretch, up_to}
 use Rattle.law_promises.proofs.Spans.{Ends, in_from, in_parts, no_later, rear_later, Spans}
 use Rattle.rbc_spec.proofs.Places.{covers_from, covers_parts, covers_run, IsCovered, starts_rise}
+use Rattle.rbc_spec.proofs.Runs.{within_from, within_true}
 use Rattle.rbc_spec.specs.Line.{end, IsLine, Line, start}
 use Rattle.rbc_spec.specs.Place.{covered, covers, Place}
 use Rattle.rbc_spec.specs.SectionRuns.{next_after, within}

@@ -5,11 +5,11 @@ use Rattle.std.proofs.Common.{subst, suc, sym, true, zero, ℕ}
 use Rattle.std.proofs.lemmas.Bool.{and_from, and_parts, both_ways, cases_lt}
 use Rattle.std.proofs.lemmas.Option.{none-some, same_Some}
 use Rattle.std.specs.Option.{option_map_or}
-use Rattle.law_base.proofs.Lists.{itself, on_line}
 use Rattle.law_outside.specs.Outside.{after_message, cleared, front_end, Stretch, up_to}
 use Rattle.law_promises.proofs.Marks.{by, if_true, talk_as, Way}
 use Rattle.law_promises.proofs.Spans.{in_parts, no_later, Spans}
 use Rattle.law_promises.proofs.SpansOfStarts.{cleared_less, IsLess, less_itself, less_then, up_to_less}
+use Rattle.rbc_spec.proofs.Lists.{itself, on_line}
 use Rattle.rbc_spec.proofs.Places.{starts_rise}
 use Rattle.rbc_spec.specs.Line.{end, Line, start}
 use Rattle.rbc_spec.specs.LineCentre.{LineMission}

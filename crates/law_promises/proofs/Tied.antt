@@ -4,7 +4,6 @@ use Rattle.std.proofs.Common.{refl, Some, subst, sym, true, ℕ}
 use Rattle.std.proofs.lemmas.Bool.{and_from, and_parts, both_ways, le-ltb, ltb-false, not-true, or_cases, or_left}
 use Rattle.std.proofs.lemmas.Option.{same_Some}
 use Rattle.std.specs.Option.{option_map_or}
-use Rattle.law_base.proofs.Lists.{itself, one_track}
 use Rattle.law_base.proofs.LocalLemmas.Homes.{fit_covers, IsFit}
 use Rattle.law_outside.specs.Outside.{accepted, cleared, Shortening, Stretch, up_to}
 use Rattle.law_promises.proofs.Marks.{by, if_false, if_true, IsReported, IsSince, Left, no_later, none_left}
@@ -13,6 +12,7 @@ use Rattle.law_promises.proofs.Spans.{cut_back, in_from, lengthened, not_in_rear
 use Rattle.law_promises.proofs.Spans.{Spans, trimmed}
 use Rattle.law_promises.proofs.SpansOfStarts.{begun_spans, cleared_less, first_stretch, goes_on_spans, IsLess}
 use Rattle.law_promises.proofs.SpansOfStarts.{spans_less}
+use Rattle.rbc_spec.proofs.Lists.{itself, one_track}
 use Rattle.rbc_spec.proofs.Places.{covers_convex, covers_parts, covers_run, ends_rise}
 use Rattle.rbc_spec.specs.Centre.{Proposal}
 use Rattle.rbc_spec.specs.Line.{end, IsLine, Line}

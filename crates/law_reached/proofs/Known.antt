@@ -7,7 +7,6 @@ use Rattle.std.proofs.Props.{props}
 pub use Rattle.law_base.proofs.PiecesLemmas.Loop.{at_end, at_start, goes_on, Reaches, run_names, run_of_cons}
 pub use Rattle.law_base.proofs.PiecesLemmas.Loop.{run_of_none, run_refused, stops_at, whole_run}
 use Rattle.law_base.proofs.PiecesLemmas.Promised.{keeps_promises}
-use Rattle.law_base.proofs.Runs.{same_tests}
 use Rattle.law_base.specs.Counting.Network.{EachOnTheWay, way}
 use Rattle.law_invariants.proofs.FlowLemmas.Stands.{counted, found}
 use Rattle.law_invariants.specs.Flow.Flow.{Flow, flow_of}
@@ -22,6 +21,7 @@ use Rattle.law_refinement.proofs.Promises.{is_read, stands_read, waits_keep}
 pub use Rattle.law_refinement.proofs.Promises.{run_read, run_sound, the_run}
 use Rattle.law_refinement.proofs.Silence.{heard_alike}
 use Rattle.law_refinement.specs.Meets.{Meets}
+use Rattle.rbc_spec.proofs.Runs.{same_tests}
 use Rattle.rbc_spec.specs.Frame.{Announce, Body, Cancel, carried_place, Frame, place_with_front, Yield, YieldedPlace}
 use Rattle.rbc_spec.specs.Line.{is_centre, IsLine, Line, next_centre}
 use Rattle.rbc_spec.specs.LineCentre.{LineState}

@@ -3,12 +3,12 @@ use Rattle.std.proofs.Common.{◌&&◌, ◌*◌, ◌==◌, ◌∙◌, ◌≡◌,
 use Rattle.std.proofs.Common.{is_some, max, nat_le, None, not, Option, refl, Some, sym, true, ℕ}
 use Rattle.std.specs.List.{find, range_with_len}
 use Rattle.std.specs.Option.{option_map_or}
-use Rattle.law_base.proofs.Lists.{one_home}
-use Rattle.law_base.proofs.Runs.{each_within}
 use Rattle.law_invariants.specs.Flow.Counts.{wait_has}
 use Rattle.law_refinement.proofs.Bordering.{both, branch, changes, chosen, Good, Keeps, next_apart, none_there, of_some}
 use Rattle.law_refinement.proofs.Bordering.{put_so, when}
 use Rattle.law_refinement.proofs.BorderMessages.{begun_so, propose_keeps, return_keeps}
+use Rattle.rbc_spec.proofs.Lists.{one_home}
+use Rattle.rbc_spec.proofs.Runs.{each_within}
 use Rattle.rbc_spec.specs.Acts.{◌>>◌, become, change_mission, propose_if_so, rest, return_right, send, with_some}
 use Rattle.rbc_spec.specs.Centre.{Centre, is_out_for, Taken}
 use Rattle.rbc_spec.specs.Frame.{RouteReturn}

@@ -4,16 +4,16 @@ use Rattle.std.proofs.Common.{is_some, nat_le, nat_lt, None, not, Option, option
 use Rattle.std.proofs.lemmas.Bool.{and_parts, cases_eq}
 use Rattle.std.proofs.lemmas.Option.{same_Some}
 use Rattle.std.specs.Option.{option_map_or}
-use Rattle.law_base.proofs.Lists.{put_here, put_other, put_there}
 use Rattle.law_base.proofs.LocalLemmas.Worlds.{is_ordered}
 use Rattle.law_base.proofs.RulesLemmas.Places.{fit_is, placed_on}
 use Rattle.law_base.proofs.RulesLemmas.SentAnswers.{report_leaves}
-use Rattle.law_base.proofs.Runs.{each_within, within_part_before, within_part_from}
-use Rattle.law_base.proofs.Worlds.{rests_or_cuts}
 use Rattle.law_invariants.proofs.SoundLemmas.Held.{fit_hand, reported, same_track}
 use Rattle.law_invariants.specs.Flow.Sound.{IsHandAt}
 use Rattle.law_refinement.proofs.Bordering.{at_mission, both, branch, changes, ends, Good, Is, IsSo, Keeps, of_option}
 use Rattle.law_refinement.proofs.Bordering.{of_some, own_is, part_of, put_so, when}
+use Rattle.rbc_spec.proofs.Lists.{put_here, put_other, put_there}
+use Rattle.rbc_spec.proofs.Runs.{each_within, within_part_before, within_part_from}
+use Rattle.rbc_spec.proofs.Worlds.{rests_or_cuts}
 use Rattle.rbc_spec.specs.Acts.{◌>>◌, Act, announce, ask_route, become, begun, booked, cancel, change_mission, close}
 use Rattle.rbc_spec.specs.Acts.{end_order, leave, may_propose, part_at, propose, propose_if_so, rest, return_pool}
 use Rattle.rbc_spec.specs.Acts.{return_right, say, send, set_mission, where_so, with_mission, yield}

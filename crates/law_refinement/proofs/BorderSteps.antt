@@ -2,8 +2,6 @@
 use Rattle.std.proofs.Common.{◌&&◌, ◌≡◌, Bool, false, if◌then◌else◌, is_none, is_some, length, nat_lt, None, not, Ok}
 use Rattle.std.proofs.Common.{Option, refl, Some, true, ℕ}
 use Rattle.std.specs.Option.{option_map_or}
-use Rattle.law_base.proofs.Lists.{put_holds}
-use Rattle.law_base.proofs.Worlds.{of_event}
 use Rattle.law_invariants.specs.Flow.Counts.{wait_has}
 use Rattle.law_invariants.specs.Flow.Sound.{IsCentreSound, IsHandAt}
 use Rattle.law_invariants.specs.Handover.Worlds.{IsWorldSound}
@@ -14,6 +12,8 @@ use Rattle.law_refinement.proofs.BorderMessages.{close_session_keeps, drop_keeps
 use Rattle.law_refinement.proofs.BorderMessages.{over_keeps, propose_keeps, report_good, request_good, return_keeps}
 use Rattle.law_refinement.proofs.BorderMessages.{start_good}
 use Rattle.law_refinement.specs.Announced.{HasAnnounced, IsAnnounced}
+use Rattle.rbc_spec.proofs.Lists.{put_holds}
+use Rattle.rbc_spec.proofs.Worlds.{of_event}
 use Rattle.rbc_spec.specs.Acts.{◌>>◌, Act, become, booked, change_mission, end_order, hear, propose_if_so, rest}
 use Rattle.rbc_spec.specs.Acts.{return_right, returned, send}
 use Rattle.rbc_spec.specs.Centre.{beginning, Centre, Entry, Handing, is_expected, is_open, is_registrar_of, is_unused}

@@ -3,11 +3,11 @@ use Rattle.std.proofs.Common.{◌==◌, ◌∙◌, ◌≡◌, ◌≢◌, ap, ari
 use Rattle.std.proofs.Common.{refl, Some, subst, sym, true, ℕ}
 use Rattle.std.proofs.lemmas.Bool.{and_from, and_parts, eqb-false, eqb-true}
 use Rattle.std.specs.Option.{option_map_or}
-use Rattle.law_base.proofs.Lists.{itself, one_home}
-use Rattle.law_base.proofs.Runs.{within_from, within_none, within_shared}
 use Rattle.law_invariants.proofs.FlowLemmas.Neighbours.{neighbours}
 use Rattle.law_refinement.specs.Announced.{HasAnnounced}
+use Rattle.rbc_spec.proofs.Lists.{itself, one_home}
 use Rattle.rbc_spec.proofs.Places.{homes_run}
+use Rattle.rbc_spec.proofs.Runs.{within_from, within_none, within_shared}
 use Rattle.rbc_spec.specs.Acts.{◌>>◌, Act, change_mission, part_at, rest, set_mission, where_so, with_some}
 use Rattle.rbc_spec.specs.Centre.{Centre, Mission}
 use Rattle.rbc_spec.specs.Line.{is_home, IsLine, Line, next_centre}

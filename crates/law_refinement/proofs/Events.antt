@@ -3,7 +3,6 @@ use Rattle.std.proofs.Common.{◌∙◌, ◌≡◌, ap, Bool, Err, false, if◌t
 use Rattle.std.proofs.Common.{subst, sym, true, ℕ}
 use Rattle.std.proofs.lemmas.Option.{same_Some}
 use Rattle.std.specs.Option.{option_map_or}
-use Rattle.law_base.proofs.Worlds.{same_ok}
 use Rattle.law_invariants.proofs.FlowLemmas.Steps.{next_sent}
 use Rattle.law_invariants.proofs.HandoverLemmas.Worlds.{linked_next, sent_between, world_step_sound}
 use Rattle.law_invariants.specs.Flow.Flow.{flow_of, in_world}
@@ -13,6 +12,7 @@ use Rattle.law_refinement.proofs.Silence.{silent_by_clock}
 use Rattle.law_refinement.proofs.Still.{silent_met, stray_met}
 use Rattle.law_refinement.specs.Announced.{IsAnnounced}
 use Rattle.law_refinement.specs.Meets.{Meets, StaysWith}
+use Rattle.rbc_spec.proofs.Worlds.{same_ok}
 use Rattle.rbc_spec.specs.Acts.{rest}
 use Rattle.rbc_spec.specs.Centre.{Centre}
 use Rattle.rbc_spec.specs.Frame.{Frame}

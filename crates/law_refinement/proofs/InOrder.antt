@@ -5,12 +5,12 @@ use Rattle.std.proofs.Common.{true, ℕ}
 use Rattle.std.proofs.lemmas.Bool.{cond-false, ne_eqb}
 use Rattle.std.specs.List.{range_with_len}
 use Rattle.std.specs.Option.{option_map_or}
-use Rattle.law_base.proofs.Lists.{put_there}
 use Rattle.law_base.proofs.PiecesLemmas.GivenSections.{none_in_order, range_in_order, ranges_in_order}
 use Rattle.law_base.proofs.RulesLemmas.SentActs.{close_leaves_none}
-use Rattle.law_base.proofs.Worlds.{rests_or_cuts}
 use Rattle.law_refinement.proofs.Words.{both, branch, cancel_silent, close_silent, IsNone, IsSilent, of_option, of_some}
 use Rattle.law_refinement.proofs.Words.{silent, Tells}
+use Rattle.rbc_spec.proofs.Lists.{put_there}
+use Rattle.rbc_spec.proofs.Worlds.{rests_or_cuts}
 use Rattle.rbc_spec.specs.Acts.{◌>>◌, Act, cancel, close, freed, leave, part_at, Reply, rest, returned, set_mission}
 use Rattle.rbc_spec.specs.Acts.{with_mission}
 use Rattle.rbc_spec.specs.Centre.{Centre, Entry, Handing, is_taken_for, Mission, Proposal}

@@ -4,7 +4,6 @@ use Rattle.std.proofs.Common.{Some, subst, sym, true, ℕ}
 use Rattle.std.proofs.lemmas.Option.{same_Some}
 use Rattle.std.specs.Option.{option_map_or}
 use Rattle.law_base.proofs.CountingLemmas.Sums.{put_same}
-use Rattle.law_base.proofs.Lists.{put_there}
 use Rattle.law_base.proofs.PiecesLemmas.GivenSections.{none_in_order, one_in_order}
 use Rattle.law_base.proofs.RulesLemmas.Places.{placed_on}
 use Rattle.law_base.proofs.WalkLemmas.Steps.{answered_walks, may_do}
@@ -24,6 +23,7 @@ use Rattle.law_refinement.proofs.Words.{wished_silent}
 use Rattle.law_refinement.specs.Announced.{HasAnnounced}
 use Rattle.law_refinement.specs.Followups.Borders.{MayAnnounce}
 use Rattle.law_refinement.specs.Missions.Parts.{at_border_then, border_of, extend, own_request}
+use Rattle.rbc_spec.proofs.Lists.{put_there}
 use Rattle.rbc_spec.specs.Acts.{◌>>◌, Act, become, end_order, hear, part_at, Reply, rest}
 use Rattle.rbc_spec.specs.Centre.{Centre, is_expected, is_out_for, is_unused, Mission, Open, Shut, uses_some}
 use Rattle.rbc_spec.specs.Frame.{Body, Frame, RefuseRight, RouteReturn}

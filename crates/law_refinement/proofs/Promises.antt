@@ -2,11 +2,9 @@
 use Rattle.std.proofs.Common.{[], ◌++◌, ◌∙◌, ◌∷◌, ◌≡◌, ap, arith, Bool, false, List, None, Ok, Option, refl, Some}
 use Rattle.std.proofs.Common.{subst, sym, true, ℕ}
 use Rattle.law_base.proofs.CountingLemmas.Sums.{one_if_some, one_if_true}
-use Rattle.law_base.proofs.Lists.{put_other}
 use Rattle.law_base.proofs.PiecesLemmas.Loop.{run_of_none, whole_run}
 use Rattle.law_base.proofs.PiecesLemmas.Promised.{keeps_promises}
 use Rattle.law_base.proofs.PiecesLemmas.Waits.{IsWaited, waiting_at, WaitsKeep}
-use Rattle.law_base.proofs.Worlds.{bind_ok, Brings, delivers, keeps_run, of_event, same_ok, says, sets, unsets}
 use Rattle.law_invariants.proofs.FlowLemmas.Lists.{taken_is}
 use Rattle.law_invariants.proofs.FlowLemmas.OnePlace.{has_one_place, line_shows}
 use Rattle.law_invariants.proofs.FlowLemmas.Stands.{stands}
@@ -25,7 +23,9 @@ use Rattle.law_refinement.proofs.Events.{each_event_goes}
 use Rattle.law_refinement.proofs.Silence.{heard_alike}
 use Rattle.law_refinement.specs.Announced.{IsAnnounced}
 use Rattle.law_refinement.specs.Meets.{Meets}
+use Rattle.rbc_spec.proofs.Lists.{put_other}
 use Rattle.rbc_spec.proofs.Safe.{safe}
+use Rattle.rbc_spec.proofs.Worlds.{bind_ok, Brings, delivers, keeps_run, of_event, same_ok, says, sets, unsets}
 use Rattle.rbc_spec.specs.Centre.{beginning, Centre, is_taken_for, is_used_for}
 use Rattle.rbc_spec.specs.Line.{is_centre, is_home, IsLine, Line}
 use Rattle.rbc_spec.specs.LineCentre.{line_beginning, LineState}

@@ -1,14 +1,14 @@
 -- The one line centre has a centre's reasons of silence.
 use Rattle.std.proofs.Common.{◌+◌, ◌-◌, ◌∙◌, ◌≡◌, ◌≤◌, ◌⊎◌, arith, Bool, false, None, Option, refl, Some, sym, true, ℕ}
 use Rattle.std.specs.List.{find}
-use Rattle.law_base.proofs.Lists.{on_line}
 use Rattle.law_base.proofs.RulesLemmas.SameReasons as reasons
-use Rattle.law_base.proofs.Runs.{within_from}
 use Rattle.law_base.specs.Rules.Silences.{EndsOnLine, HasEndIfAsked}
 use Rattle.law_invariants.proofs.FlowLemmas.Stands.{stands}
 use Rattle.law_invariants.specs.Flow.Flow.{flow_of}
 use Rattle.law_invariants.specs.Flow.Shows.{Shows}
 use Rattle.law_invariants.specs.Flow.Sound.{IsFlowSound, IsHandAt}
+use Rattle.rbc_spec.proofs.Lists.{on_line}
+use Rattle.rbc_spec.proofs.Runs.{within_from}
 use Rattle.rbc_spec.specs.Centre.{Centre}
 use Rattle.rbc_spec.specs.Line.{is_centre, Line}
 use Rattle.rbc_spec.specs.LineCentre.{LineState}

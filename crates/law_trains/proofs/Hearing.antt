@@ -5,15 +5,15 @@ use Rattle.std.proofs.lemmas.Bool.{and_parts}
 use Rattle.std.proofs.lemmas.Bool.Decides.{eqb_tells}
 use Rattle.std.proofs.lemmas.Option.{same_Some}
 use Rattle.std.specs.Option.{option_map_or}
-use Rattle.law_base.proofs.Lists.{put_here, put_other}
+use Rattle.law_outside.specs.Outside.{Stretch}
+use Rattle.law_trains.proofs.Keeps.{Saids, Tolds, IsTold, IsRequest, IsFollowed, Keeps}
+use Rattle.law_trains.proofs.Moments.{on_board, IsOver}
+use Rattle.law_trains.specs.Trains.{Train, Followed, Asked, end_from, hears, takes}
+use Rattle.rbc_spec.proofs.Lists.{put_here, put_other}
 use Rattle.rbc_spec.specs.Line.{Line}
 use Rattle.rbc_spec.specs.Maps.{has, put}
 use Rattle.rbc_spec.specs.Message.{TrackMessage, TrackBody, Authority, DataAcknowledged, ShorteningRequest, Transition}
 use Rattle.rbc_spec.specs.Message.{EndSession, SystemVersion, TerminationAcknowledged, TrainRejected, TrainAccepted}
-use Rattle.law_outside.specs.Outside.{Stretch}
-use Rattle.law_trains.specs.Trains.{Train, Followed, Asked, end_from, hears, takes}
-use Rattle.law_trains.proofs.Keeps.{Saids, Tolds, IsTold, IsRequest, IsFollowed, Keeps}
-use Rattle.law_trains.proofs.Moments.{on_board, IsOver}
 
 module _ (line : Line) (t : ℕ) (x : Train) (o : Option Stretch) (first : ℕ
     → Option Stretch) (said : Saids) (told : Tolds)

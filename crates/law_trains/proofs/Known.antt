@@ -1,11 +1,11 @@
 -- The messages that a centre has sent, and those that it has received.
 use Rattle.std.proofs.Common.{[], ◌+◌, ◌≤◌, ◌++◌, ◌∙◌, ◌∷◌, ◌≡◌, ap, arith, inl, inr, List, refl, subst, sym, ℕ}
 use Rattle.std.specs.Prelude.{Contains}
-use Rattle.law_base.proofs.Lists.{put_pair_there}
 use Rattle.law_promises.proofs.Marks.{IsSince, Later}
 use Rattle.law_trains.proofs.Keeps.{Tolds, contains_cases}
 use Rattle.law_trains.proofs.Speech.{Speaks, no_word, one_word, Speech, said_rises}
 use Rattle.law_trains.specs.Trains.{and_told}
+use Rattle.rbc_spec.proofs.Lists.{put_pair_there}
 use Rattle.rbc_spec.specs.LineCentre.{LineState, saying_of}
 use Rattle.rbc_spec.specs.Message.{DataAcknowledged, TrackBody}
 use Rattle.rbc_spec.specs.Outcome.{Saying}

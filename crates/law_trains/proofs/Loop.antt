@@ -3,7 +3,6 @@ use Rattle.std.proofs.Common.{[], ◌++◌, ◌∙◌, ◌∷◌, ◌≡◌, ap,
 use Rattle.std.proofs.Common.{refl, Some, subst, sym, true, ℕ}
 use Rattle.std.proofs.lemmas.Bool.Decides.{eqb_tells}
 use Rattle.std.specs.Prelude.{Contains}
-use Rattle.law_base.proofs.Lists.{put_here, put_other}
 use Rattle.law_outside.specs.Outside.{all_told, IsSafeOutside, said_by, sees, sees_all, spoken_of, Stretch, View}
 use Rattle.law_promises.proofs.Marks.{not_under_way}
 use Rattle.law_promises.proofs.Pieces.{run_safe, sets_follow, unsets_follow}
@@ -20,6 +19,7 @@ use Rattle.law_trains.proofs.Speech.{sets_say, unsets_say}
 use Rattle.law_trains.proofs.Within.{forward_is, loop_safe}
 use Rattle.law_trains.specs.Trains.{after, all_after, AllMay, and_told, answers_of, at_first, events_of, Happens, hears}
 use Rattle.law_trains.specs.Trains.{Hears, IsNew, IsSafeLoop, Loop, May, Moment, Runs, says, Says, told_after, Train}
+use Rattle.rbc_spec.proofs.Lists.{put_here, put_other}
 use Rattle.rbc_spec.specs.Line.{IsLine, Line}
 use Rattle.rbc_spec.specs.LineCentre.{line_beginning, LineState, Said}
 use Rattle.rbc_spec.specs.Maps.{put}

@@ -4,7 +4,6 @@ use Rattle.std.proofs.Common.{None, Ok, Option, refl, Some, subst, sym, true, â„
 use Rattle.std.proofs.lemmas.Bool.Decides.{eqb_tells}
 use Rattle.std.proofs.lemmas.Option.{same_Some}
 use Rattle.std.specs.Prelude.{Contains}
-use Rattle.law_base.proofs.Lists.{put_pair_there}
 use Rattle.law_base.proofs.PiecesLemmas.Waits.{elsewhere, put_at, PutAt, there}
 use Rattle.law_outside.specs.Outside as outside
 use Rattle.law_outside.specs.Outside.{all_told, said_by, starts, stamp_of, Stretch, View}
@@ -21,6 +20,7 @@ use Rattle.law_trains.proofs.SeenSteps.{any_said, IsGood}
 use Rattle.law_trains.proofs.Speech.{MaySay, own_speaks}
 use Rattle.law_trains.proofs.ToldSteps.{start_less}
 use Rattle.law_trains.specs.Trains.{and_told, Train}
+use Rattle.rbc_spec.proofs.Lists.{put_pair_there}
 use Rattle.rbc_spec.specs.Line.{is_centre, IsLine, Line}
 use Rattle.rbc_spec.specs.LineCentre.{hears, LineState, Said}
 use Rattle.rbc_spec.specs.Maps.{put_pair}

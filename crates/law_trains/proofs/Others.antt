@@ -1,7 +1,11 @@
 -- A message of another train or to another train changes nothing.
 use Rattle.std.proofs.Common.{◌≡◌, ℕ, ◌∙◌, ◌∷◌, Option, Some, None, refl, sym, ap, inl, inr}
 use Rattle.std.specs.Option.{option_and_then}
-use Rattle.law_base.proofs.Lists.{put_other}
+use Rattle.law_outside.specs.Outside.{Stretch, View, gets, says, starts, is_told, accepted}
+use Rattle.law_trains.proofs.Keeps.{Saids, Tolds, contains_cases, contains_later, IsSaid, IsTold, IsRequest, HasStarted}
+use Rattle.law_trains.proofs.Keeps.{IsEarly, Keeps}
+use Rattle.law_trains.specs.Trains.{Train}
+use Rattle.rbc_spec.proofs.Lists.{put_other}
 use Rattle.rbc_spec.specs.Line.{Line}
 use Rattle.rbc_spec.specs.Maps.{put}
 use Rattle.rbc_spec.specs.Message.{TrainBody, TrainMessage, TrainData, Request, Report, ShorteningGranted}
@@ -11,10 +15,6 @@ use Rattle.rbc_spec.specs.Message.{DataAcknowledged, ShorteningRequest, Transiti
 use Rattle.rbc_spec.specs.Message.{TerminationAcknowledged, TrainRejected, TrainAccepted}
 use Rattle.rbc_spec.specs.Outcome.{Saying}
 use Rattle.rbc_spec.specs.World.{Event, centre_of}
-use Rattle.law_outside.specs.Outside.{Stretch, View, gets, says, starts, is_told, accepted}
-use Rattle.law_trains.specs.Trains.{Train}
-use Rattle.law_trains.proofs.Keeps.{Saids, Tolds, contains_cases, contains_later, IsSaid, IsTold, IsRequest, HasStarted}
-use Rattle.law_trains.proofs.Keeps.{IsEarly, Keeps}
 
 -- the lists have the same messages of one train
 module _ (line : Line) (t : ℕ) (x : Train) (o : Option Stretch) (first : ℕ → Option Stretch) (said more : Saids)

@@ -1,13 +1,13 @@
 -- The section that has the front of a place.
 use Rattle.std.proofs.Common.{◌≡◌, ℕ, zero, suc, ◌+◌, ◌-◌, ◌*◌, ◌<◌, ◌≤◌, ◌==◌, true, false, List, [], ◌∷◌, length}
 use Rattle.std.proofs.Common.{take, filter, slice_get, Some, refl, ap, arith, ⊎_elim, eqb-true}
-use Rattle.std.specs.List.{sum_by}
 use Rattle.std.proofs.lemmas.Bool.{cases_lt, cases_Bool}
 use Rattle.std.proofs.Math.Seq.{take-length}
-use Rattle.law_base.proofs.Lists.{on_line}
+use Rattle.std.specs.List.{sum_by}
 use Rattle.law_outside.specs.Outside.{front_end, Stretch}
 use Rattle.law_promises.proofs.Spans.{Ends}
 use Rattle.law_promises.proofs.Standstill.{front_at}
+use Rattle.rbc_spec.proofs.Lists.{on_line}
 use Rattle.rbc_spec.proofs.Places.{IsAt, on_section, section_on, start_is, end_is, end_of, ends_rise, before}
 use Rattle.rbc_spec.proofs.Sums.{sum_up_to, sum_kept, sum_left, sum_rises}
 use Rattle.rbc_spec.specs.Line.{Line, Section}

@@ -3,12 +3,18 @@ use Rattle.std.proofs.Common.{◌≡◌, ℕ, ◌∙◌, Bool, if◌then◌else�
 use Rattle.std.proofs.Common.{arith}
 use Rattle.std.proofs.lemmas.Option.{same_Some}
 use Rattle.std.specs.Option.{option_and_then}
-use Rattle.law_base.proofs.Lists.{put_there}
-use Rattle.law_base.proofs.PiecesLemmas.Waits.{elsewhere, put_at, PutAt, there}
 use Rattle.law_base.proofs.LocalLemmas.Homes.{fit_parts, IsFit}
+use Rattle.law_base.proofs.PiecesLemmas.Waits.{elsewhere, put_at, PutAt, there}
 use Rattle.law_base.proofs.RulesLemmas.Places.{fit_is}
+use Rattle.law_outside.specs.Outside.{Stretch, View, says, after_message, begun, front_end}
 use Rattle.law_promises.proofs.Promised.{seen_is}
 use Rattle.law_promises.proofs.Spans.{Ends}
+use Rattle.law_trains.proofs.Keeps.{Saids, Tolds, IsSaid, HasBegun, Keeps}
+use Rattle.law_trains.proofs.Reach.{reaches}
+use Rattle.law_trains.proofs.Seen.{Less, still_under, report_less, granted_less, ended_less}
+use Rattle.law_trains.proofs.ToldSteps.{start_less, put_none}
+use Rattle.law_trains.specs.Trains.{Train}
+use Rattle.rbc_spec.proofs.Lists.{put_there}
 use Rattle.rbc_spec.specs.Line.{Line}
 use Rattle.rbc_spec.specs.Maps.{put, put_pair}
 use Rattle.rbc_spec.specs.Message.{TrainBody, TrainMessage, TrainData, Request, Report, ShorteningGranted}
@@ -16,12 +22,6 @@ use Rattle.rbc_spec.specs.Message.{ShorteningRejected, EndOfMission, InitiationO
 use Rattle.rbc_spec.specs.Message.{StartOfMission, SessionEstablished}
 use Rattle.rbc_spec.specs.Place.{Place, Position, extent, fit_place}
 use Rattle.rbc_spec.specs.Sections.{section_count}
-use Rattle.law_outside.specs.Outside.{Stretch, View, says, after_message, begun, front_end}
-use Rattle.law_trains.specs.Trains.{Train}
-use Rattle.law_trains.proofs.Keeps.{Saids, Tolds, IsSaid, HasBegun, Keeps}
-use Rattle.law_trains.proofs.Reach.{reaches}
-use Rattle.law_trains.proofs.Seen.{Less, still_under, report_less, granted_less, ended_less}
-use Rattle.law_trains.proofs.ToldSteps.{start_less, put_none}
 
 -- a start is at a place that is fit
 abbrev pub IsGood : Line → TrainBody → Type 0

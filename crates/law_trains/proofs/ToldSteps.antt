@@ -2,21 +2,21 @@
 use Rattle.std.proofs.Common.{◌≡◌, ℕ, ◌*◌, ◌<◌, ◌≤◌, ◌==◌, ◌∙◌, Bool, true, false, if◌then◌else◌, max, Option, Some}
 use Rattle.std.proofs.Common.{None, option_map, pos, int_lt, int_le, refl, sym, ap, subst, inl, inr, arith}
 use Rattle.std.specs.Option.{option_and_then}
-use Rattle.law_base.proofs.Lists.{put_there}
 use Rattle.law_base.proofs.PiecesLemmas.Waits.{elsewhere, put_at, PutAt, there}
+use Rattle.law_outside.specs.Outside.{Stretch, View, gets, starts, is_told, accepted, extended, asked_for, metres_from}
+use Rattle.law_outside.specs.Outside.{stamp_of}
 use Rattle.law_promises.proofs.Marks.{if_true}
+use Rattle.law_trains.proofs.Keeps.{Saids, Tolds, IsTold, IsAsked, UnderWay, HasBegun, Keeps}
+use Rattle.law_trains.proofs.Told.{ends_same, saying, more, cases, asked_none, asked_new, under_more, to_under}
+use Rattle.law_trains.proofs.Told.{keeps_more}
+use Rattle.law_trains.proofs.Within.{rear_after, rear_up, rear_itself, not_less}
+use Rattle.law_trains.specs.Trains.{Train, end_from}
+use Rattle.rbc_spec.proofs.Lists.{put_there}
 use Rattle.rbc_spec.specs.Line.{Line}
 use Rattle.rbc_spec.specs.Maps.{put, put_pair}
 use Rattle.rbc_spec.specs.Message.{TrackBody, TrackMessage, Authority, DataAcknowledged, ShorteningRequest, Transition}
 use Rattle.rbc_spec.specs.Message.{EndSession, SystemVersion, TerminationAcknowledged, TrainRejected, TrainAccepted}
 use Rattle.rbc_spec.specs.World.{Event, centre_of}
-use Rattle.law_outside.specs.Outside.{Stretch, View, gets, starts, is_told, accepted, extended, asked_for, metres_from}
-use Rattle.law_outside.specs.Outside.{stamp_of}
-use Rattle.law_trains.specs.Trains.{Train, end_from}
-use Rattle.law_trains.proofs.Within.{rear_after, rear_up, rear_itself, not_less}
-use Rattle.law_trains.proofs.Keeps.{Saids, Tolds, IsTold, IsAsked, UnderWay, HasBegun, Keeps}
-use Rattle.law_trains.proofs.Told.{ends_same, saying, more, cases, asked_none, asked_new, under_more, to_under}
-use Rattle.law_trains.proofs.Told.{keeps_more}
 
 -- fewer starts wait
 pub start_less : (line : Line) (t : ℕ) (x : Train) (o : Option Stretch) (first second : ℕ

@@ -3,7 +3,6 @@ use Rattle.std.proofs.Common.{[], ◌+◌, ◌-◌, ◌<◌, ◌∙◌, ◌∷�
 use Rattle.std.proofs.Common.{subst, suc, sym, true, zero, ℕ}
 use Rattle.std.proofs.lemmas.Bool.{and_right}
 use Rattle.std.specs.List.{insert}
-use Rattle.law_base.proofs.Runs.{within_after}
 use Rattle.rbc_book.proofs.Neighbours.{first-is, first_of, last-is, last_of, rest-is}
 use Rattle.rbc_book.proofs.Rows.{changed_is, stands_at}
 use Rattle.rbc_book.proofs.Splits.{at_first, at_second, before, from, inside_from, is_inside, IsSingledOut}
@@ -13,6 +12,7 @@ use Rattle.rbc_book.specs.declared.page.Page.{Page}
 use Rattle.rbc_book.specs.declared.run.Run.{Run}
 use Rattle.rbc_book.specs.Edits.{changed_at, IsFirst, IsInner, IsJoined, IsLast, IsWhole, IsWritten, resized, with_page}
 use Rattle.rbc_book.specs.Runs.{AreApart, AreInOrder, At, GoesOn, GoesOnAt, run_page, sections_of}
+use Rattle.rbc_spec.proofs.Runs.{within_after}
 use Rattle.rbc_spec.specs.SectionRuns.{within}
 
 -- ## A whole run

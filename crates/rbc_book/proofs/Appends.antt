@@ -6,7 +6,6 @@ use Rattle.std.proofs.lemmas.Bool.{cases_lt, le-ltb, lt-ltb}
 use Rattle.std.proofs.lemmas.Bool.Decides.{eqb_tells}
 use Rattle.std.proofs.lemmas.List.Elements.{All-head, All-push, All-tail, All-weaker}
 use Rattle.std.proofs.lemmas.Option.{slice_get_past}
-use Rattle.law_base.proofs.Runs.{within_after, within_before, within_from}
 use Rattle.rbc_book.proofs.Joins.{joined_apart, joined_before, joined_count, joined_order, joined_spots}
 use Rattle.rbc_book.proofs.Rows.{most_is, sheet_says}
 use Rattle.rbc_book.specs.declared.page.Page.{Page}
@@ -15,6 +14,7 @@ use Rattle.rbc_book.specs.Edits.{AreBefore, IsAppended, IsJoined}
 use Rattle.rbc_book.specs.Runs.{AreApart, AreInOrder, GoesOnAt, most, sections_in, sections_of, sheet_of, spot_at}
 use Rattle.rbc_book.specs.Runs.{spot_of}
 use Rattle.rbc_book.specs.Sheet.{home_track, page_in, page_on, Spot, track_in, track_on}
+use Rattle.rbc_spec.proofs.Runs.{within_after, within_before, within_from}
 use Rattle.rbc_spec.specs.Line.{IsLine, Line}
 use Rattle.rbc_spec.specs.SectionRuns.{within}
 

@@ -4,12 +4,12 @@ use Rattle.std.proofs.Common.{length, List, refl, set, Some, subst, suc, sym, tr
 use Rattle.std.proofs.lemmas.Bool.{cases_lt, or_cases, or_left, or_right}
 use Rattle.std.proofs.lemmas.List.Elements.{All-cons, All-head, All-tail}
 use Rattle.std.specs.List.{remove}
-use Rattle.law_base.proofs.Runs.{same_tests, within_from, within_true}
 use Rattle.rbc_book.proofs.Rows.{at_next, most_is, order_at}
 use Rattle.rbc_book.specs.declared.run.Run.{Run}
 use Rattle.rbc_book.specs.Edits.{AreBefore, IsJoined, joined, joined_at}
 use Rattle.rbc_book.specs.Runs.{AreApart, AreInOrder, At, GoesOn, GoesOnAt, IsFollowed, sections_in, sections_of}
 use Rattle.rbc_book.specs.Runs.{spot_at, spot_of}
+use Rattle.rbc_spec.proofs.Runs.{same_tests, within_from, within_true}
 use Rattle.rbc_spec.specs.SectionRuns.{within}
 
 -- ## Two runs as one

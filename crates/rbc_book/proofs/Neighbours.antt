@@ -2,7 +2,6 @@
 use Rattle.std.proofs.Common.{[], ◌+◌, ◌-◌, ◌<◌, ◌∙◌, ◌∷◌, ◌≡◌, ◌≢◌, ◌≤◌, ap, arith, false, inl, inr, List, nat_lt}
 use Rattle.std.proofs.Common.{refl, set, Some, subst, suc, sym, true, zero, ℕ}
 use Rattle.std.proofs.lemmas.Bool.{and_right, cases_Bool}
-use Rattle.law_base.proofs.Runs.{within_after, within_from, within_true}
 use Rattle.rbc_book.proofs.Joins.{goes_on_at}
 use Rattle.rbc_book.proofs.Rows.{at_is, at_next, changed_is, set_before, spot_of_run}
 use Rattle.rbc_book.proofs.Splits.{at_first, at_second, before, from, inside_from, is_inside, IsSingledOut}
@@ -14,6 +13,7 @@ use Rattle.rbc_book.specs.Edits.{changed_at, Has, IsFirst, IsLast, IsWritten, jo
 use Rattle.rbc_book.specs.Edits.{with_page}
 use Rattle.rbc_book.specs.Runs.{AreApart, AreInOrder, At, GoesOn, GoesOnAt, run_page, sections_of}
 use Rattle.rbc_book.specs.Sheet.{page_in}
+use Rattle.rbc_spec.proofs.Runs.{within_after, within_from, within_true}
 use Rattle.rbc_spec.specs.SectionRuns.{within}
 
 -- ## The page is the same

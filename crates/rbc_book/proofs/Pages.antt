@@ -6,7 +6,6 @@ use Rattle.std.proofs.lemmas.Bool.{cases_Bool, false≢true}
 use Rattle.std.proofs.lemmas.Bool.Decides.{eqb_tells}
 use Rattle.std.proofs.lemmas.List.{get_or_default}
 use Rattle.std.specs.Option.{option_map_or}
-use Rattle.law_base.proofs.Runs.{within_from}
 use Rattle.rbc_book.proofs.Rows.{at_read, order_at, sheet_says, spot_of_run}
 use Rattle.rbc_book.specs.Book.{entry_at, is_own, page_of, Pages, wish_at}
 use Rattle.rbc_book.specs.Changes.{entry_after, IsAfter, IsPageOf, wish_after}
@@ -17,6 +16,7 @@ use Rattle.rbc_book.specs.Entries.{entry_of}
 use Rattle.rbc_book.specs.Runs.{AreInOrder, sections_of, sheet_of, spot_at}
 use Rattle.rbc_book.specs.Sheet.{home_track, is_open_in, is_open_on, is_used_in, is_used_on, page_in, page_on, pages_on}
 use Rattle.rbc_book.specs.Sheet.{Sheet, Spot, spot_on}
+use Rattle.rbc_spec.proofs.Runs.{within_from}
 use Rattle.rbc_spec.specs.Centre.{is_open, is_used_for, Shut}
 use Rattle.rbc_spec.specs.Line.{is_home, Line, Section}
 use Rattle.rbc_spec.specs.Maps.{put}

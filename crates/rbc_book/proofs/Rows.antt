@@ -5,11 +5,11 @@ use Rattle.std.proofs.Common.{sym, true, zero, ℕ}
 use Rattle.std.proofs.lemmas.Bool.{cases_lt, cases_order, le-ltb, lt-ltb}
 use Rattle.std.proofs.lemmas.List.{get_or_default}
 use Rattle.std.specs.List.{range_with_len}
-use Rattle.law_base.proofs.Runs.{within_after, within_before, within_true}
 use Rattle.rbc_book.specs.declared.run.Run.{Run}
 use Rattle.rbc_book.specs.Edits.{changed_at}
 use Rattle.rbc_book.specs.Runs.{AreInOrder, At, IsRunOf, most, sections_in, sections_of, sheet_of, spot_at, spot_of}
 use Rattle.rbc_book.specs.Sheet.{spot_on}
+use Rattle.rbc_spec.proofs.Runs.{within_after, within_before, within_true}
 use Rattle.rbc_spec.specs.SectionRuns.{within}
 
 -- # Laws of lists of runs: the run at a position, the page of a section, and the search for it.

@@ -4,7 +4,6 @@ use Rattle.std.proofs.Common.{inr, is_some, List, None, Option, refl, Some, sym,
 use Rattle.std.proofs.lemmas.Bool.{both_ways, cases_Bool, cases_lt}
 use Rattle.std.proofs.lemmas.Bool.Decides.{eqb_tells, nat_tests}
 use Rattle.std.specs.Option.{option_map_or}
-use Rattle.law_base.proofs.Runs.{longest_is, longest_only, within_from, within_true}
 use Rattle.rbc_book.proofs.Pages.{page_of_sheet}
 use Rattle.rbc_book.proofs.Rows.{sheet_says, spot_of_run}
 use Rattle.rbc_book.specs.Book.{entry_at, is_own, page_of, Pages, wish_at}
@@ -17,6 +16,7 @@ use Rattle.rbc_book.specs.Edits.{Has, IsWritten, stretch}
 use Rattle.rbc_book.specs.Entries.{entry_of}
 use Rattle.rbc_book.specs.Runs.{AreInOrder, At, IsRunOf, run_page, sections_of, sheet_of}
 use Rattle.rbc_book.specs.Sheet.{is_open_in, is_open_on, page_in, page_on, pages_on, Sheet, spot_on, track_in, track_on}
+use Rattle.rbc_spec.proofs.Runs.{longest_is, longest_only, within_from, within_true}
 use Rattle.rbc_spec.specs.Centre.{Entry, is_open, Shut, Taken}
 use Rattle.rbc_spec.specs.Maps.{put}
 use Rattle.rbc_spec.specs.SectionRuns.{longest, within}

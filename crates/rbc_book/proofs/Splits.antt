@@ -3,12 +3,12 @@ use Rattle.std.proofs.Common.{[], ◌&&◌, ◌+◌, ◌-◌, ◌<◌, ◌||◌,
 use Rattle.std.proofs.Common.{if◌then◌else◌, inl, inr, List, nat_lt, refl, Some, subst, suc, true, zero, ℕ}
 use Rattle.std.proofs.lemmas.Bool.{and_from, and_parts, both_ways, cases_Bool, cases_lt, lt-ltb, ltb-true, or_cases}
 use Rattle.std.proofs.lemmas.Bool.{or_left, or_right}
-use Rattle.law_base.proofs.Runs.{same_tests, within_from, within_true}
 use Rattle.rbc_book.proofs.Rows.{at_from}
 use Rattle.rbc_book.specs.declared.run.Run.{Run}
 use Rattle.rbc_book.specs.Edits.{IsWhole}
 use Rattle.rbc_book.specs.Runs.{AreApart, AreInOrder, At, GoesOn, GoesOnAt, IsFollowed, sections_in, sections_of}
 use Rattle.rbc_book.specs.Runs.{spot_at, spot_of}
+use Rattle.rbc_spec.proofs.Runs.{same_tests, within_from, within_true}
 use Rattle.rbc_spec.specs.SectionRuns.{within}
 
 -- ## The definitions

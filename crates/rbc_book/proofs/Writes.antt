@@ -2,7 +2,6 @@
 use Rattle.std.proofs.Common.{[], ◌+◌, ◌∙◌, ◌∷◌, ◌≡◌, ◌⊎◌, ap, arith, cond, if◌then◌else◌, inl, inr, List, refl, set}
 use Rattle.std.proofs.Common.{Some, subst, suc, sym, true, zero, ℕ}
 use Rattle.std.proofs.lemmas.Bool.{cases_Bool}
-use Rattle.law_base.proofs.Runs.{within_after, within_true}
 use Rattle.rbc_book.proofs.Joins.{joined_after, joined_apart, joined_count, joined_order, joined_spots}
 use Rattle.rbc_book.proofs.Rows.{at_is, order_from, spot_of_run}
 use Rattle.rbc_book.proofs.Splits.{IsSingledOut}
@@ -11,6 +10,7 @@ use Rattle.rbc_book.specs.declared.run.Run.{Run}
 use Rattle.rbc_book.specs.Edits.{IsJoined, IsWhole, IsWritten, stretch, with_page}
 use Rattle.rbc_book.specs.Runs.{AreApart, AreInOrder, At, GoesOnAt, sections_in, sections_of, spot_at, spot_of}
 use Rattle.rbc_book.specs.Sheet.{page_in, track_in}
+use Rattle.rbc_spec.proofs.Runs.{within_after, within_true}
 use Rattle.rbc_spec.specs.SectionRuns.{within}
 
 order-set : (i n : ℕ) (page : Page) (runs : List Run) (r : Run) → At (λ q. q ≡ r) i runs → AreInOrder n runs

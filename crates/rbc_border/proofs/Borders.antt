@@ -4,8 +4,6 @@ use Rattle.std.proofs.Common.{length, min, nat_lt, None, not, Option, option_map
 use Rattle.std.proofs.Common.{true, ℕ}
 use Rattle.std.proofs.lemmas.List.{append-nil, length-take-le, take-replicate}
 use Rattle.std.specs.Option.{option_map_or}
-use Rattle.law_base.proofs.Lists.{put_same}
-use Rattle.law_base.proofs.Runs.{same_run, within_true}
 use Rattle.rbc_border.proofs.Lists.{and_false}
 use Rattle.rbc_border.specs.Border.{answers, BorderState, GoesOn, HasBorder, is_due, IsBorder, IsWayOf, wants}
 use Rattle.rbc_border.specs.Border.{with_border}
@@ -13,6 +11,8 @@ use Rattle.rbc_border.specs.declared.way.Way.{Way}
 use Rattle.rbc_hand.specs.Hands.{Holding}
 use Rattle.rbc_hand.specs.Tokens.{Name}
 use Rattle.rbc_line.specs.SectionRuns.{run_of}
+use Rattle.rbc_spec.proofs.Lists.{put_same}
+use Rattle.rbc_spec.proofs.Runs.{same_run, within_true}
 use Rattle.rbc_spec.specs.Acts.{◌>>◌, ask_route, become, change_mission, propose_if_so, Reply, rest, return_pool}
 use Rattle.rbc_spec.specs.Acts.{returned, send}
 use Rattle.rbc_spec.specs.Centre.{Centre, Mission}

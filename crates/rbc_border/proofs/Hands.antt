@@ -6,13 +6,13 @@ use Rattle.std.proofs.lemmas.Bool.{cases_Bool, cases_lt, false≢true}
 use Rattle.std.proofs.lemmas.List.{drop-drop, drop_more, length-replicate, take_more}
 use Rattle.std.proofs.lemmas.Option.{slice_get_past}
 use Rattle.std.specs.Option.{option_map_or}
-use Rattle.law_base.proofs.Lists.{any-range, any-range_none, each_of}
 use Rattle.rbc_book.proofs.Pages.{foreign_is_shut}
 use Rattle.rbc_book.specs.Book.{entry_at, Pages}
 use Rattle.rbc_border.specs.Lending.{HasBook}
 use Rattle.rbc_border.specs.Names.{PassesOn}
 use Rattle.rbc_hand.specs.Hands.{Holding}
 use Rattle.rbc_hand.specs.Tokens.{Name, Own}
+use Rattle.rbc_spec.proofs.Lists.{any-range, any-range_none, each_of}
 use Rattle.rbc_spec.specs.Centre.{Centre, is_out_for, is_used_for, uses_some}
 use Rattle.rbc_spec.specs.Line.{is_home, Line, next_centre, Section, section}
 use Rattle.rbc_spec.specs.Links.{may_arrive}

@@ -7,16 +7,16 @@ use Rattle.std.proofs.lemmas.Bool.{or_right}
 use Rattle.std.proofs.lemmas.Option.{same_Some, slice_get_within}
 use Rattle.std.specs.List.{list_all, range_with_len}
 use Rattle.std.specs.Option.{option_map_or}
-use Rattle.law_base.proofs.Lists.{each_of, on_line}
-use Rattle.law_base.proofs.Runs.{longest_each, longest_few, longest_is, run_only, same_tests, some_count, within_from}
-use Rattle.law_base.proofs.Runs.{within_shared, within_true}
 use Rattle.rbc_border.proofs.Lists.{both_all, full}
 use Rattle.rbc_border.specs.Homes.{is_of}
 use Rattle.rbc_line.specs.declared.parts.Section.{Section as SectionRow}
 use Rattle.rbc_line.specs.declared.section_run.SectionRun.{SectionRun as SectionRunCode}
 use Rattle.rbc_line.specs.SectionRuns.{run_of}
 use Rattle.rbc_line.specs.Views.{placed_section}
+use Rattle.rbc_spec.proofs.Lists.{each_of, on_line}
 use Rattle.rbc_spec.proofs.Places.{homes_run}
+use Rattle.rbc_spec.proofs.Runs.{longest_each, longest_few, longest_is, run_only, same_tests, some_count, within_from}
+use Rattle.rbc_spec.proofs.Runs.{within_shared, within_true}
 use Rattle.rbc_spec.specs.Acts.{returned}
 use Rattle.rbc_spec.specs.Centre.{Centre}
 use Rattle.rbc_spec.specs.Frame.{HasRunRange, RouteReturn}

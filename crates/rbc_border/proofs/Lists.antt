@@ -3,7 +3,7 @@ use Rattle.std.proofs.Common.{[], ◌&&◌, ◌+◌, ◌<◌, ◌==◌, ◌∙�
 use Rattle.std.proofs.Common.{List, None, refl, Some, suc, sym, true, zero, ℕ}
 use Rattle.std.proofs.lemmas.Bool.{cases_Bool, eq-eqb, eqb-true, ne_eqb}
 use Rattle.std.specs.List.{filter, list_all, range_with_len}
-use Rattle.law_base.proofs.Runs.{longest_is, longest_only, same_tests, within_true}
+use Rattle.rbc_spec.proofs.Runs.{longest_is, longest_only, same_tests, within_true}
 use Rattle.rbc_spec.specs.SectionRuns.{longest}
 
 -- # Laws of lists, tests, and choices.

@@ -4,8 +4,6 @@ use Rattle.std.proofs.Common.{false, inl, inr, is_some, length, None, Option, re
 use Rattle.std.proofs.lemmas.Bool.{cases_Bool, cases_lt}
 use Rattle.std.proofs.lemmas.Bool.Decides.{eqb_tells}
 use Rattle.std.proofs.lemmas.Option.{cond_some, slice_get_within}
-use Rattle.law_base.proofs.Lists.{itself}
-use Rattle.law_base.proofs.Runs.{longest_few}
 use Rattle.rbc_allocation.proofs.Runs.{within_more, within_none, within_one}
 use Rattle.rbc_book.specs.Book.{entry_at, is_own, Pages, wish_at}
 use Rattle.rbc_book.specs.Claim.{claim_if, claim_on, is_taken_by, section_of, train_of}
@@ -16,6 +14,8 @@ use Rattle.rbc_border.specs.Homes.{is_of}
 use Rattle.rbc_border.specs.Lending.{HasBook, LendsRun, with_book}
 use Rattle.rbc_hand.specs.Hands.{one}
 use Rattle.rbc_line.specs.declared.parts.Section.{Section as SectionRow}
+use Rattle.rbc_spec.proofs.Lists.{itself}
+use Rattle.rbc_spec.proofs.Runs.{longest_few}
 use Rattle.rbc_spec.specs.Acts.{◌>>◌, booked, rest, send}
 use Rattle.rbc_spec.specs.Centre.{Centre, Entry, is_free, is_open, is_taken_for, Out, Taken}
 use Rattle.rbc_spec.specs.Frame.{HasRunRange, RouteInfo}

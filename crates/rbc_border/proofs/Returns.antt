@@ -6,8 +6,6 @@ use Rattle.std.proofs.lemmas.Bool.Decides.{eqb_tells}
 use Rattle.std.proofs.lemmas.List.Elements.{filter-append}
 use Rattle.std.proofs.lemmas.Option.{cond_some}
 use Rattle.std.specs.List.{filter, range_with_len}
-use Rattle.law_base.proofs.Lists.{itself}
-use Rattle.law_base.proofs.Runs.{within_after, within_from}
 use Rattle.rbc_allocation.proofs.Freed.{back_to, entry_then, entry_twice, wish_then, wish_twice}
 use Rattle.rbc_allocation.proofs.Marks.{marked-more, more_in_range}
 use Rattle.rbc_allocation.proofs.Runs.{within_more, within_none, within_one}
@@ -20,6 +18,8 @@ use Rattle.rbc_border.proofs.Lists.{and_false, and_true, filter_same, none_chose
 use Rattle.rbc_border.proofs.Loans.{Writes}
 use Rattle.rbc_border.specs.Lending.{BringsBack, HasBook, is_lent, telling, told_back, with_book}
 use Rattle.rbc_hand.specs.Hands.{one}
+use Rattle.rbc_spec.proofs.Lists.{itself}
+use Rattle.rbc_spec.proofs.Runs.{within_after, within_from}
 use Rattle.rbc_spec.specs.Acts.{freed}
 use Rattle.rbc_spec.specs.Centre.{Centre, is_out_for, is_taken_for, Open, Shut, Taken}
 use Rattle.rbc_spec.specs.Line.{is_home, Line}

@@ -4,7 +4,6 @@ use Rattle.std.proofs.Common.{length, List, map, max, nat_le, None, Option, refl
 use Rattle.std.proofs.Common.{true, ℕ}
 use Rattle.std.proofs.lemmas.Bool.Decides.{eqb_tells}
 use Rattle.std.proofs.Math.Nat.{le-max_left}
-use Rattle.law_base.proofs.Lists.{put_same}
 use Rattle.rbc_book.specs.Book.{Pages}
 use Rattle.rbc_centre.proofs.Kept.{left_by, links_still, trains_still}
 use Rattle.rbc_centre.proofs.Posts.{linked_centre, mail_few}
@@ -27,6 +26,7 @@ use Rattle.rbc_link.specs.Outgoing.{frames_by}
 use Rattle.rbc_linkmsg.specs.Bodies.{body_of, engine_in}
 use Rattle.rbc_linkmsg.specs.declared.body.Body.{Body as BodyCode}
 use Rattle.rbc_right.specs.Rights.{Rights}
+use Rattle.rbc_spec.proofs.Lists.{put_same}
 use Rattle.rbc_spec.specs.Acts.{◌>>◌, Act, become, Reply, rest}
 use Rattle.rbc_spec.specs.Centre as centre
 use Rattle.rbc_spec.specs.Frame.{Announce, AskRight, Body, Cancel, Frame, GiveRight, HasBodyRange, RefuseRight}

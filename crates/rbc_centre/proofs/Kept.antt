@@ -5,9 +5,7 @@ use Rattle.std.proofs.Math.ListN.{length-set}
 use Rattle.std.proofs.Math.Logic.{∥∥₁_elim, ∥∥₁_map, ∥∥₁_map₂}
 use Rattle.std.proofs.Props.{props}
 use Rattle.std.specs.Coded.{le_prop}
-use Rattle.law_base.proofs.Lists.{on_line}
 use Rattle.law_base.proofs.LocalLemmas.Worlds.{is_ordered}
-use Rattle.law_base.proofs.Runs.{within_from}
 use Rattle.law_base.specs.Local.Local.{IsOrdered}
 use Rattle.law_invariants.proofs.RangesLemmas.Steps.{stays_in_range}
 use Rattle.law_invariants.proofs.SoundLemmas.Events.{stays_sound}
@@ -34,6 +32,8 @@ use Rattle.rbc_link.specs.Posted.{HasPosted}
 use Rattle.rbc_linkmsg.specs.Bodies.{body_of}
 use Rattle.rbc_linkmsg.specs.declared.body.Body.{Body}
 use Rattle.rbc_session.specs.Sessions.{Records}
+use Rattle.rbc_spec.proofs.Lists.{on_line}
+use Rattle.rbc_spec.proofs.Runs.{within_from}
 use Rattle.rbc_spec.specs.Centre as centre
 use Rattle.rbc_spec.specs.Centre.{Mission}
 use Rattle.rbc_spec.specs.Frame.{Body as BodySent, HasFrameRanges, last_stamp}

@@ -7,7 +7,6 @@ use Rattle.std.proofs.lemmas.Bool.Decides.{eqb_tells, nat_tests}
 use Rattle.std.proofs.lemmas.List.{length-map}
 use Rattle.std.proofs.lemmas.List.Elements.{All-head, All-weaker}
 use Rattle.std.specs.Option.{option_map_or}
-use Rattle.law_base.proofs.Lists.{any-range}
 use Rattle.law_invariants.specs.Ranges.Ranges.{IsSentInRange}
 use Rattle.rbc_book.specs.Book.{Pages}
 use Rattle.rbc_centre.proofs.Rows.{all_first, all_rest}
@@ -26,6 +25,7 @@ use Rattle.rbc_link.specs.Outgoing.{frame_by, frames_by}
 use Rattle.rbc_link.specs.Posted.{HasPosted}
 use Rattle.rbc_linkmsg.specs.Bodies.{body_of}
 use Rattle.rbc_linkmsg.specs.declared.body.Body.{Body}
+use Rattle.rbc_spec.proofs.Lists.{any-range}
 use Rattle.rbc_spec.specs.Centre as centre
 use Rattle.rbc_spec.specs.Centre.{Expectation}
 use Rattle.rbc_spec.specs.Frame as spec

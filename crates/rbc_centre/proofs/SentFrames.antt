@@ -4,7 +4,6 @@ use Rattle.std.proofs.Common.{Bool, false, if◌then◌else◌, inl, inr, length
 use Rattle.std.proofs.Common.{slice_get, Some, subst, suc, sym, true, zero, ℕ}
 use Rattle.std.proofs.lemmas.Bool.Decides.{eqb_tells}
 use Rattle.std.proofs.lemmas.List.Elements.{All-append, All-cons, All-head, All-nil, All-tail, All-weaker}
-use Rattle.law_base.proofs.Lists.{each_at}
 use Rattle.rbc_centre.proofs.Rows.{frames_more}
 use Rattle.rbc_centre.specs.declared.sent_frame.SentFrame.{SentFrame}
 use Rattle.rbc_centre.specs.Listed.{frames_in}
@@ -19,6 +18,7 @@ use Rattle.rbc_link.specs.Outgoing.{frame_by, frames_by}
 use Rattle.rbc_link.specs.Posted.{HasPosted}
 use Rattle.rbc_linkmsg.specs.Bodies.{body_of}
 use Rattle.rbc_linkmsg.specs.declared.body.Body.{Body}
+use Rattle.rbc_spec.proofs.Lists.{each_at}
 use Rattle.rbc_spec.specs.Frame as spec
 use Rattle.rbc_spec.specs.Frame.{HasBodyRange, HasFrameRanges, last_stamp}
 use Rattle.rbc_spec.specs.Step.{numbered}

@@ -5,7 +5,7 @@ use Rattle.std.proofs.lemmas.Bool.{ltb-false}
 use Rattle.std.proofs.lemmas.List.{length-map}
 use Rattle.std.specs.Result.{IfErr, OnOk}
 use Rattle.rbc_book.specs.Book.{Pages}
-use Rattle.rbc_centre.specs.Answer.{IsRefusal, IsRefusalOf, IsWantedBy}
+use Rattle.rbc_centre.specs.Answer.{IsRefusal, IsRefusalOf}
 use Rattle.rbc_centre.specs.declared.desk.Desk.{Desk}
 use Rattle.rbc_centre.specs.declared.event.Event.{Event as EventCode}
 use Rattle.rbc_centre.specs.declared.event.Event.TheVariants as code
@@ -180,13 +180,6 @@ unfolding step.step
 refused_step line c k event fault.Memory is = absurd is
 refused_step line c k event fault.LinkFull is = rw is refl
 refused_step line c k event fault.ClockEnd is = rw is refl
-
--- a refused step needs no memory
-pub wants_none : {X : Type 0} (line : Line) (c : ℕ) (k : centre.Centre) (event : Event) (f : StepFault)
-    (r : Result X StepFault) → r ≡ Err f → IsRefusalOf f (step.refusal line c k event) → IsWantedBy k event r
-wants_none line c k event fault.Memory r is why = absurd why
-wants_none line c k event fault.LinkFull r is why = rw is tt
-wants_none line c k event fault.ClockEnd r is why = rw is tt
 
 -- the answer for all events with this stamp is that for one of them
 pub ok_allowed : {T : Type 0} (line : Line) (c : ℕ) (k : centre.Centre) (event : Event) (stamp : ℕ)

@@ -2,7 +2,6 @@
 use Rattle.std.proofs.Common.{[], ◌&&◌, ◌<◌, ◌==◌, ◌∙◌, ◌∷◌, ◌≡◌, ap, arith, Bool, eq-eqb, false, if◌then◌else◌, inl}
 use Rattle.std.proofs.Common.{inr, length, List, None, not, refl, set, slice_get, Some, sym, true, ℕ}
 use Rattle.std.proofs.lemmas.Bool.{cases_Bool}
-use Rattle.law_base.proofs.Lists.{put_same}
 use Rattle.law_base.specs.Local.Local.{hand_has}
 use Rattle.law_invariants.specs.Flow.Counts.{wait_has}
 use Rattle.law_invariants.specs.Flow.Sound.{IsCentreSound}
@@ -23,6 +22,7 @@ use Rattle.rbc_handover.specs.Expectations.{expected_from}
 use Rattle.rbc_link.specs.declared.link.Link.{Link}
 use Rattle.rbc_linkmsg.specs.declared.body.Body.{Body}
 use Rattle.rbc_session.specs.SessionStates.{session_phase}
+use Rattle.rbc_spec.proofs.Lists.{put_same}
 use Rattle.rbc_spec.specs.Acts.{◌>>◌, propose_if_so}
 use Rattle.rbc_spec.specs.Centre as centre
 use Rattle.rbc_spec.specs.Centre.{Entry, is_taken_for, is_unused, Open, Out, Shut, Taken}

@@ -6,12 +6,12 @@ use Rattle.std.proofs.lemmas.Bool.Decides.{eqb_tells}
 use Rattle.std.proofs.lemmas.List.{get_or-map, get_or-set_other, get_or-set_same, get_or_past, length-map, map-set}
 use Rattle.std.specs.List.{list_any}
 use Rattle.std.specs.Option.{option_and_then}
-use Rattle.law_base.proofs.Lists.{put_here, put_other, put_same}
 use Rattle.rbc_handover.specs.Acceptings.{expectation_of}
 use Rattle.rbc_handover.specs.declared.accepting.AcceptingState.{AcceptingState}
 use Rattle.rbc_handover.specs.declared.accepting.AcceptingState.TheVariants.{Nothing}
 use Rattle.rbc_handover.specs.Expectations.{announced_as, ended_under, expected_from, HasExpectations}
 use Rattle.rbc_handover.specs.Expectations.{with_expectations}
+use Rattle.rbc_spec.proofs.Lists.{put_here, put_other, put_same}
 use Rattle.rbc_spec.specs.Acts.{rest}
 use Rattle.rbc_spec.specs.Centre.{Centre, Expectation}
 use Rattle.rbc_spec.specs.Line.{Line}

@@ -4,10 +4,10 @@ use Rattle.std.proofs.Common.{is_some, List, None, not, Option, option_map, refl
 use Rattle.std.proofs.lemmas.Bool.{false≢true}
 use Rattle.std.proofs.lemmas.List.{append-nil}
 use Rattle.std.specs.Option.{option_and_then, option_map_or}
-use Rattle.law_base.proofs.Lists.{put_same}
 use Rattle.rbc_handover.specs.declared.handing.HandoverName.{HandoverName}
 use Rattle.rbc_handover.specs.Giving.{announcing, begun, cancelling, HasMission, with_count, with_handover}
 use Rattle.rbc_handover.specs.Handings.{handover_name}
+use Rattle.rbc_spec.proofs.Lists.{put_same}
 use Rattle.rbc_spec.specs.Acts.{◌>>◌, announce, cancel, change_mission, part_at, Reply, rest, send}
 use Rattle.rbc_spec.specs.Centre.{Centre, Handing, Mission}
 use Rattle.rbc_spec.specs.Frame.{Announce, Body, Cancel}

@@ -8,13 +8,13 @@ use Rattle.std.proofs.lemmas.List.{get_or-set_other, get_or-set_same}
 use Rattle.std.proofs.lemmas.Option.{none-some}
 use Rattle.std.specs.List.{list_any, range_with_len}
 use Rattle.std.specs.Option.{option_map_or}
-use Rattle.law_base.proofs.Lists.{put_same}
 use Rattle.rbc_handover.proofs.Expects.{by_states, expected_past, state_at, state_set}
 use Rattle.rbc_handover.specs.Acceptings.{expectation_of}
 use Rattle.rbc_handover.specs.declared.accepting.AcceptingState.{AcceptingState}
 use Rattle.rbc_handover.specs.declared.announcers.Announcers.{Announcers}
 use Rattle.rbc_handover.specs.Expectations.{expected_from, HasExpectations, is_to_be_told, is_told, telling}
 use Rattle.rbc_handover.specs.Expectations.{with_expectations}
+use Rattle.rbc_spec.proofs.Lists.{put_same}
 use Rattle.rbc_spec.specs.Centre.{Centre, Expectation, is_expected}
 use Rattle.rbc_spec.specs.Frame.{TakingOver}
 use Rattle.rbc_spec.specs.Line.{is_centre, Line}

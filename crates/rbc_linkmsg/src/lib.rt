@@ -1,6 +1,12 @@
 //! The frames that centres exchange: a numbered and stamped body as a value and as bytes (profile). Each frame has one
 //! spelling, and no two frames share one.
 //!
+//! ```
+//! let frame = Frame::new(1, 4, Body::AskRight { engine: 2 });
+//! let bytes = encode_frame(alloc, &frame)?;
+//! let read = decode_frame(&bytes);
+//! ```
+//!
 //! Bodies and proofs may change. The clauses of public functions have to stay: the crates above depend on them.
 #![tactic(auto)]
 

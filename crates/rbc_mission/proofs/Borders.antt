@@ -7,8 +7,6 @@ use Rattle.std.proofs.lemmas.Bool.Decides.{nat_tests}
 use Rattle.std.proofs.lemmas.List.{append-nil}
 use Rattle.std.proofs.lemmas.Option.{none-some, same_Some}
 use Rattle.std.specs.Option.{option_map_or}
-use Rattle.law_base.proofs.Lists.{put_same}
-use Rattle.law_base.proofs.Runs.{within_none}
 use Rattle.rbc_book.specs.Book.{Pages}
 use Rattle.rbc_border.specs.Border.{answers, BorderState, GoesOn, HasBorder, wants, with_border}
 use Rattle.rbc_border.specs.declared.way.Way.{Way}
@@ -23,6 +21,8 @@ use Rattle.rbc_mission.specs.Passing.{IsBooked}
 use Rattle.rbc_mission.specs.Supervisions.{HasSupervision, IsSupervision, mission_of, supervision_state}
 use Rattle.rbc_mission.specs.Supervisions.{SupervisionState, with_supervision}
 use Rattle.rbc_place.specs.Places.{place_of}
+use Rattle.rbc_spec.proofs.Lists.{put_same}
+use Rattle.rbc_spec.proofs.Runs.{within_none}
 use Rattle.rbc_spec.specs.Acts.{◌>>◌, end_order, part_at, rest, returned, yield}
 use Rattle.rbc_spec.specs.Centre.{Centre, Handing, is_taken_for, Mission, Out}
 use Rattle.rbc_spec.specs.Frame.{Body, Yield, yielded_place}

@@ -7,7 +7,6 @@ use Rattle.std.proofs.lemmas.List.{length-append, length-replicate}
 use Rattle.std.proofs.lemmas.Option.{none-some, same_Some}
 use Rattle.std.specs.List.{AllByRecursion}
 use Rattle.std.specs.Option.{option_map_or}
-use Rattle.law_base.proofs.Runs.{within_after, within_from, within_none, within_true}
 use Rattle.rbc_allocation.proofs.Freed.{frees_none}
 use Rattle.rbc_allocation.proofs.Held.{held_more, own_held, own_more}
 use Rattle.rbc_allocation.proofs.Runs.{takes_none}
@@ -21,6 +20,7 @@ use Rattle.rbc_mission.specs.declared.facts.MissionFacts.{MissionFacts}
 use Rattle.rbc_mission.specs.declared.held.HeldRight.{HeldRight}
 use Rattle.rbc_mission.specs.Supervisions.{claims_on, hand_of, handing_in, HasRouteForm, IsSupervision, MayGrow}
 use Rattle.rbc_mission.specs.Supervisions.{mission_of, next_sections, pool_of, supervision_state, SupervisionState}
+use Rattle.rbc_spec.proofs.Runs.{within_after, within_from, within_none, within_true}
 use Rattle.rbc_spec.specs.Centre.{Handing, is_open, Mission, Taken}
 use Rattle.rbc_spec.specs.SectionRuns.{is_empty, next_after, no_run, SectionRun, within}
 

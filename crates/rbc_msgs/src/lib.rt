@@ -1,6 +1,19 @@
 //! Radio messages between trains and a radio block centre, as bytes and as values (SUBSET-026 chapters 7 and 8). A
 //! decoder reads one whole message or returns the first fault. An encoder writes the one spelling.
 //!
+//! ```
+//! let message = decode_train(alloc, bytes)?;
+//! let answer = match message.body() {
+//!     TrainBody::InitiationOfSession => TrackBody::SystemVersion,
+//!     TrainBody::TerminationOfSession => TrackBody::TerminationAcknowledged,
+//!     _ => return Ok(None),
+//! };
+//! let reply = TrackMsg::new(1, NID_LRBG_UNKNOWN, answer);
+//! let bytes = encode_track(alloc, &reply)?;
+//! ```
+//!
+//! Bytes of a connection arrive in pieces of any size. A [`Stream`] gives the messages that are whole.
+//!
 //! Bodies and proofs may change. The clauses of public functions have to stay: the crates above depend on them.
 #![tactic(auto)]
 

@@ -6,14 +6,14 @@ use Rattle.std.proofs.lemmas.List.{append-nil}
 use Rattle.std.proofs.Math.Bool.{and-false, and-true}
 use Rattle.std.specs.List.{filter, range_with_len}
 use Rattle.std.specs.Option.{option_map_or}
-use Rattle.law_base.proofs.Lists.{put_same}
-use Rattle.law_base.proofs.Runs.{within_from}
-use Rattle.law_base.proofs.Worlds.{alike_then}
 use Rattle.rbc_allocation.proofs.Runs.{within_none}
 use Rattle.rbc_allocation.specs.Sections.{FreesRun, is_held, wished}
 use Rattle.rbc_book.proofs.Pages.{foreign_is_shut}
 use Rattle.rbc_book.specs.Book.{entry_at, is_own, Pages, wish_at}
 use Rattle.rbc_pending_start.specs.Waits.{HasWait, nothing_waits, telling, WaitState, with_wait}
+use Rattle.rbc_spec.proofs.Lists.{put_same}
+use Rattle.rbc_spec.proofs.Runs.{within_from}
+use Rattle.rbc_spec.proofs.Worlds.{alike_then}
 use Rattle.rbc_spec.specs.Acts.{◌>>◌, become, freed, Reply, rest}
 use Rattle.rbc_spec.specs.Centre.{Centre, is_taken_for, Open, Shut}
 use Rattle.rbc_spec.specs.Line.{is_home, Line}

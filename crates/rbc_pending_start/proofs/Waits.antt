@@ -5,8 +5,6 @@ use Rattle.std.proofs.Common.{option_map, refl, Some, subst, sym, true, ℕ}
 use Rattle.std.proofs.lemmas.Bool.{and_parts, cases_Bool, false≢true, leb-true}
 use Rattle.std.proofs.lemmas.List.{append-nil}
 use Rattle.std.specs.Option.{option_map_or}
-use Rattle.law_base.proofs.Lists.{put_over, put_same, put_there}
-use Rattle.law_base.proofs.Worlds.{alike_then}
 use Rattle.rbc_allocation.specs.Sections.{IsAllOpen, IsAllTaken, TakesRun}
 use Rattle.rbc_book.proofs.Pages.{foreign_is_shut}
 use Rattle.rbc_book.specs.Book.{entry_at, is_own, Pages, wish_at}
@@ -15,6 +13,8 @@ use Rattle.rbc_pending_start.specs.Waits.{asking, HasWait, nothing_waits, reject
 use Rattle.rbc_pending_start.specs.Waits.{WaitState, with_wait}
 use Rattle.rbc_place.specs.declared.place.Place.{Place as PlaceCode}
 use Rattle.rbc_place.specs.Places.{place_of}
+use Rattle.rbc_spec.proofs.Lists.{put_over, put_same, put_there}
+use Rattle.rbc_spec.proofs.Worlds.{alike_then}
 use Rattle.rbc_spec.specs.Acts.{◌>>◌, Act, become, rest, return_right, send, where_so, with_some}
 use Rattle.rbc_spec.specs.Centre.{Centre, is_open, is_taken_for, Taken}
 use Rattle.rbc_spec.specs.Frame.{AskRight}

@@ -1,14 +1,14 @@
 -- Trains by their names.
 use Rattle.std.proofs.Common.{if◌then◌else◌, eq-eqb, [], ◌++◌, ◌<◌, ◌==◌, ◌||◌, ◌∙◌, ◌∷◌, ◌≡◌, ap, arith, Bool, false}
 use Rattle.std.proofs.Common.{inl, inr, length, List}
-use Rattle.std.specs.Option.{IfNone}
 use Rattle.std.proofs.Common.{◌⊎◌, is_some, None, Option, refl, set, slice_get, Some, subst, suc, sym, true, zero, ℕ}
-use Rattle.std.proofs.lemmas.Bool.Decides.{eqb_tells}
-use Rattle.law_base.proofs.Lists.{put_here, put_other}
 use Rattle.std.proofs.lemmas.Bool.{cond-false, cond-true, ne_eqb}
+use Rattle.std.proofs.lemmas.Bool.Decides.{eqb_tells}
+use Rattle.std.specs.Option.{IfNone}
 use Rattle.law_trains.specs.Trains.{IsNew, Train}
 use Rattle.rbc_railway.specs.declared.train.RunningTrain.{RunningTrain}
 use Rattle.rbc_railway.specs.History.{AreNew, first_of, HaveOwnNames, is_named, name_of, names_of, nobody, train_at}
+use Rattle.rbc_spec.proofs.Lists.{put_here, put_other}
 use Rattle.rbc_spec.specs.Maps.{put}
 
 -- ## Lists

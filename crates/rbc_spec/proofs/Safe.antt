@@ -1,4 +1,4 @@
--- A world that some state represents is safe.
+-- A world that some state represents is safe, and at most one state represents a world.
 use Rattle.std.proofs.Common.{◌∙◌, ◌≡◌, ap, eq-eqb, eqb-true, false, None, Option, refl, Some, subst, sym, true, ℕ}
 use Rattle.std.specs.Prelude.{Contains}
 use Rattle.rbc_spec.proofs.Held.{away_if_handed, held_as, held_on_way, is_seen, is_there, only_one}
@@ -78,3 +78,22 @@ module _ (line : Line) (w : World) (v : LineState) (stands : StandsFor line w v)
     one_train = λ t u s one two. one_train t u (v.mark s) (given_mark t s one) (given_mark u s two);
     in_use = in_use;
   }
+
+module _ (line : Line) (w : World) (u v : LineState) where
+  pub same_sessions : (t c : ℕ) → StandsFor line w u → StandsFor line w v
+      → (u.phase t c ≡ v.phase t c) × (u.heard t c ≡ v.heard t c) × (u.said t c ≡ v.said t c)
+      × (u.wait t c ≡ v.wait t c)
+  same_sessions t c one two = (
+    one.phase t c ∙ sym (two.phase t c),
+    one.heard t c ∙ sym (two.heard t c),
+    one.said t c ∙ sym (two.said t c),
+    one.wait t c ∙ sym (two.wait t c),
+  )
+
+  pub same_mission : (t : ℕ) → StandsFor line w u → StandsFor line w v → u.mission t ≡ v.mission t
+  same_mission t one two = one.mission t ∙ sym (two.mission t)
+
+  pub same_section : (s c : ℕ) → is_home line c s ≡ true → StandsFor line w u → StandsFor line w v
+      → (u.mark s ≡ v.mark s) × (u.wish s ≡ v.wish s)
+  same_section s c home one two =
+      (one.mark s c home ∙ sym (two.mark s c home), one.wish s c home ∙ sym (two.wish s c home))

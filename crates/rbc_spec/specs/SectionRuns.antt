@@ -1,8 +1,8 @@
 -- Runs of consecutive sections. A hand, a pool, and the sections that a frame names are each a run: the number of the
 -- first section, and their count.
 use Rattle.std.specs.List.{list_all, range_with_len}
-use Rattle.std.specs.Prelude.{[], if◌then◌else◌, ◌&&◌, ◌+◌, ◌-◌, ◌==◌, ◌∷◌, Bool, length, List, max, min, nat_le}
-use Rattle.std.specs.Prelude.{nat_lt, suc, zero, ℕ}
+use Rattle.std.specs.Prelude.{[], if◌then◌else◌, ◌&&◌, ◌+◌, ◌-◌, ◌<◌, ◌==◌, ◌∷◌, ◌≡◌, ◌≤◌, Bool, false, length, List}
+use Rattle.std.specs.Prelude.{max, min, nat_le, nat_lt, suc, true, zero, ℕ}
 
 -- Rules: LN-12
 pub record SectionRun : Type 0 where
@@ -65,3 +65,12 @@ longest test first (suc most) = if test first then suc (longest test (first + 1)
 -- how many sections of the run pass the test before the first one that does not
 abbrev pub passing : (ℕ → Bool) → SectionRun → ℕ
 passing test r = longest test r.first r.count
+
+-- # The longest run under a test, as a relation.
+
+-- The run of `count` sections from the first on passes the test. The next section does not pass, or the run has the
+-- greatest length.
+pub record IsLongest (test : ℕ → Bool) (first most count : ℕ) : Type 0 where
+  pub fits : count ≤ most
+  pub each : (s : ℕ) → within (record { first = first; count = count }) s ≡ true → test s ≡ true
+  pub ends : count < most → test (first + count) ≡ false

@@ -7,7 +7,6 @@ use Rattle.std.proofs.lemmas.Bool.Decides.{nat_tests}
 use Rattle.std.proofs.lemmas.Option.{same_Some, slice_get_past}
 use Rattle.std.specs.List.{find, range_with_len}
 use Rattle.std.specs.Option.{option_map_or}
-use Rattle.law_base.proofs.Lists.{each_of}
 use Rattle.rbc_book.specs.Book.{entry_at, is_own, Pages}
 use Rattle.rbc_border.specs.Lending.{with_book}
 use Rattle.rbc_hand.specs.Hands.{Holding}
@@ -18,6 +17,7 @@ use Rattle.rbc_linkmsg.specs.declared.body.Yielding.{Yielding}
 use Rattle.rbc_mission.specs.Passing.{IsBooked}
 use Rattle.rbc_mission.specs.Supervisions.{HasRouteForm}
 use Rattle.rbc_right.specs.Rights.{is_here, Rights}
+use Rattle.rbc_spec.proofs.Lists.{each_of}
 use Rattle.rbc_spec.specs.Acts.{◌>>◌, Act, become, booked, propose_if_so, Reply, rest, set_mission, with_some}
 use Rattle.rbc_spec.specs.Centre.{beginning, Centre, Expectation, is_out_for, Mission, Taken}
 use Rattle.rbc_spec.specs.Frame.{HasRunRange}

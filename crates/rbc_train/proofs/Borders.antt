@@ -3,11 +3,11 @@ use Rattle.std.proofs.Common.{[], if◌then◌else◌, ◌++◌, ◌+◌, ◌-�
 use Rattle.std.proofs.Common.{Option, Some, subst, sym, true, ℕ}
 use Rattle.std.proofs.lemmas.Bool.{cases_lt}
 use Rattle.std.proofs.lemmas.List.{append-nil}
-use Rattle.law_base.proofs.Lists.{put_over, put_there}
-use Rattle.law_base.proofs.Runs.{joined_is, within_from, within_true}
 use Rattle.rbc_handover.specs.Giving.{announcing, with_count}
 use Rattle.rbc_mission.specs.Supervisions.{HasSupervision, SupervisionState, with_next, with_supervision}
+use Rattle.rbc_spec.proofs.Lists.{put_over, put_there}
 use Rattle.rbc_spec.proofs.Places.{end_of, ends_rise, section_on, start_is}
+use Rattle.rbc_spec.proofs.Runs.{joined_is, within_from, within_true}
 use Rattle.rbc_spec.specs.Acts.{part_at}
 use Rattle.rbc_spec.specs.Centre.{Centre, Expectation, Mission}
 use Rattle.rbc_spec.specs.Frame.{Announce}

@@ -2,7 +2,6 @@
 use Rattle.std.proofs.Common.{[], if◌then◌else◌, ◌+◌, ◌-◌, ◌<◌, ◌==◌, ◌∙◌, ◌≡◌, ap, arith, Bool, false, length, List}
 use Rattle.std.proofs.Common.{max, None, Option, option_and_then, option_map, refl, Some, subst, sym, true, ℕ}
 use Rattle.std.proofs.lemmas.Bool.Decides.{nat_tests}
-use Rattle.law_base.proofs.Runs.{longest_few}
 use Rattle.rbc_allocation.specs.Sections.{FreesRun, front_of, rest_of, wished}
 use Rattle.rbc_book.specs.Book.{is_own, Pages}
 use Rattle.rbc_hand.specs.Hands.{Holding}
@@ -13,6 +12,7 @@ use Rattle.rbc_line.specs.SectionRuns.{run_of}
 use Rattle.rbc_mission.specs.Supervisions.{cleared_run, hand_of, handover_left, right_left, SupervisionState}
 use Rattle.rbc_mission.specs.Supervisions.{without_front}
 use Rattle.rbc_right.specs.Rights.{Rights}
+use Rattle.rbc_spec.proofs.Runs.{longest_few}
 use Rattle.rbc_spec.specs.Acts.{◌>>◌, close, leave, set_mission}
 use Rattle.rbc_spec.specs.Centre.{Centre, Expectation, Mission}
 use Rattle.rbc_spec.specs.Line.{Line}

@@ -5,8 +5,6 @@ use Rattle.std.proofs.Common.{refl, Some, subst, sym, true, ℕ}
 use Rattle.std.proofs.lemmas.Bool.{cond-true, eqb-false}
 use Rattle.std.proofs.lemmas.List.{append-nil}
 use Rattle.std.specs.Option.{option_map_or}
-use Rattle.law_base.proofs.Lists.{put_over, put_there}
-use Rattle.law_base.proofs.Runs.{longest_few, same_tests}
 use Rattle.rbc_allocation.specs.Sections.{FreesRun, rest_of, wished}
 use Rattle.rbc_book.specs.Book.{entry_at, is_own, Pages, wish_at}
 use Rattle.rbc_hand.specs.Hands.{Holding}
@@ -19,6 +17,8 @@ use Rattle.rbc_mission.specs.Supervisions.{with_front}
 use Rattle.rbc_right.specs.Rights.{Rights}
 use Rattle.rbc_shorten.specs.declared.answer.Cut.TheVariants.{Keep, Nothing}
 use Rattle.rbc_shorten.specs.Standstill.{ahead_of, begins_before}
+use Rattle.rbc_spec.proofs.Lists.{put_over, put_there}
+use Rattle.rbc_spec.proofs.Runs.{longest_few, same_tests}
 use Rattle.rbc_spec.specs.Acts.{◌>>◌, Act, cancel, close, leave, part_at, rest, set_mission}
 use Rattle.rbc_spec.specs.Centre.{Centre, Expectation, Handing, Mission, Proposal}
 use Rattle.rbc_spec.specs.Frame.{Cancel}

@@ -1,6 +1,5 @@
 -- The effect of a message of a train at a centre, by the parts of its state that it changes.
 use Rattle.std.proofs.Common.{[], ◌∙◌, ◌∷◌, ◌≡◌, ap, List, None, Option, option_map, refl, Some, sym, ℕ}
-use Rattle.law_base.proofs.Lists.{put_same}
 use Rattle.rbc_book.specs.Book.{entry_at, Pages, wish_at}
 use Rattle.rbc_hand.specs.Hands.{Holding}
 use Rattle.rbc_handover.specs.Expectations.{expected_from, HasExpectations, with_expectations}
@@ -10,6 +9,7 @@ use Rattle.rbc_pending_start.specs.Waits.{HasWait, WaitState, with_wait}
 use Rattle.rbc_right.specs.Rights.{is_here, Rights}
 use Rattle.rbc_session.specs.declared.session.SessionState.{SessionState}
 use Rattle.rbc_session.specs.SessionStates.{session_phase}
+use Rattle.rbc_spec.proofs.Lists.{put_same}
 use Rattle.rbc_spec.specs.Acts.{◌>>◌, Act, hear, Reply, rest}
 use Rattle.rbc_spec.specs.Centre.{Centre, Expectation, Mission, Phase}
 use Rattle.rbc_spec.specs.Line.{Line}

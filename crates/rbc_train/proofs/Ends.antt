@@ -3,7 +3,6 @@ use Rattle.std.proofs.Common.{[], if◌then◌else◌, ◌++◌, ◌+◌, ◌-�
 use Rattle.std.proofs.Common.{Option, option_map, refl, Some, sym, true, ℕ}
 use Rattle.std.proofs.lemmas.List.{append-nil, map-append}
 use Rattle.std.specs.Option.{option_map_or}
-use Rattle.law_base.proofs.Lists.{put_over, put_there}
 use Rattle.rbc_allocation.specs.Sections.{rest_of, wished}
 use Rattle.rbc_book.specs.Book.{is_own, Pages}
 use Rattle.rbc_line.specs.declared.section_run.SectionRun.{SectionRun as SectionRunCode}
@@ -14,6 +13,7 @@ use Rattle.rbc_session.specs.SessionStates.{session_phase}
 use Rattle.rbc_shorten.proofs.Requests.{ahead_is_cut}
 use Rattle.rbc_shorten.specs.declared.answer.Cut.TheVariants.{Nothing}
 use Rattle.rbc_shorten.specs.Standstill.{ahead_of, standing_act}
+use Rattle.rbc_spec.proofs.Lists.{put_over, put_there}
 use Rattle.rbc_spec.specs.Acts.{◌>>◌, Act, change_mission, Reply, rest, return_pool, returned, with_some}
 use Rattle.rbc_spec.specs.Centre.{Centre, Expectation, Mission, Up}
 use Rattle.rbc_spec.specs.Frame.{Body}

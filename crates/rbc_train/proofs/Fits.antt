@@ -2,12 +2,12 @@
 use Rattle.std.proofs.Common.{◌&&◌, ◌+◌, ◌-◌, ◌<◌, ◌||◌, ◌∙◌, ◌≡◌, ◌≤◌, ap, arith, Bool, false, refl, suc, sym, true}
 use Rattle.std.proofs.Common.{zero, ℕ}
 use Rattle.std.proofs.lemmas.Bool.{ne_eqb}
-use Rattle.law_base.proofs.Lists.{on_line}
-use Rattle.law_base.proofs.Runs.{each_within, within_true}
 use Rattle.rbc_allocation.specs.Sections.{IsAllOpen}
 use Rattle.rbc_book.specs.Book.{entry_at, is_own, Pages}
 use Rattle.rbc_grant.specs.Grants as grants
 use Rattle.rbc_mission.specs.Supervisions.{HasRouteForm, MayGrow}
+use Rattle.rbc_spec.proofs.Lists.{on_line}
+use Rattle.rbc_spec.proofs.Runs.{each_within, within_true}
 use Rattle.rbc_spec.specs.Centre as spec
 use Rattle.rbc_spec.specs.Centre.{is_free, is_open}
 use Rattle.rbc_spec.specs.Line.{IsLine, Line}

@@ -7,8 +7,6 @@ use Rattle.std.proofs.lemmas.List.{append-nil}
 use Rattle.std.proofs.lemmas.List.Elements.{filter-append}
 use Rattle.std.specs.List.{filter, range_with_len}
 use Rattle.std.specs.Option.{option_map_or}
-use Rattle.law_base.proofs.Lists.{filter-range_none, put_over, put_there, range-append}
-use Rattle.law_base.proofs.Runs.{joined_empty, within_from, within_joined}
 use Rattle.rbc_allocation.specs.Sections.{FreesRun, wished}
 use Rattle.rbc_book.proofs.Pages.{foreign_is_shut}
 use Rattle.rbc_book.specs.Book.{entry_at, is_own, Pages, wish_at}
@@ -21,6 +19,8 @@ use Rattle.rbc_mission.specs.declared.held.HeldRight.TheVariants.{Held, Nothing}
 use Rattle.rbc_mission.specs.Supervisions.{right_left, SupervisionState}
 use Rattle.rbc_pending_start.proofs.Dropped.{freed_is}
 use Rattle.rbc_right.specs.Rights.{is_here, right_of, Rights}
+use Rattle.rbc_spec.proofs.Lists.{filter-range_none, put_over, put_there, range-append}
+use Rattle.rbc_spec.proofs.Runs.{joined_empty, within_from, within_joined}
 use Rattle.rbc_spec.specs.Acts.{◌>>◌, Act, cancel, change_mission, close, freed, leave, rest, return_right, returned}
 use Rattle.rbc_spec.specs.Acts.{send, set_mission}
 use Rattle.rbc_spec.specs.Centre.{Centre, Expectation, Handing, is_taken_for, Mission, Open, Shut}

@@ -2,11 +2,11 @@
 use Rattle.std.proofs.Common.{[], if◌then◌else◌, ◌&&◌, ◌+◌, ◌∙◌, ◌≡◌, ap, Bool, cond, false, is_none, is_some, not}
 use Rattle.std.proofs.Common.{Option, refl, sym, true, ℕ}
 use Rattle.std.specs.List.{list_any}
-use Rattle.law_base.proofs.Lists.{put_same}
 use Rattle.rbc_book.specs.Book.{Pages}
 use Rattle.rbc_handover.proofs.TakesOver.{any_expected}
 use Rattle.rbc_right.specs.Rights.{Rights}
 use Rattle.rbc_session.specs.SessionStates.{session_phase}
+use Rattle.rbc_spec.proofs.Lists.{put_same}
 use Rattle.rbc_spec.specs.Acts.{Act, end_order, rest, say, where_so}
 use Rattle.rbc_spec.specs.Centre.{Centre, is_expected, is_up, uses_some}
 use Rattle.rbc_spec.specs.Line.{Line}

@@ -4,12 +4,12 @@ use Rattle.std.proofs.Common.{Some, sym, true, ℕ}
 use Rattle.std.proofs.lemmas.List.{append-nil}
 use Rattle.std.proofs.lemmas.Option.{same_Some}
 use Rattle.std.specs.Option.{option_map_or}
-use Rattle.law_base.proofs.Lists.{put_there}
 use Rattle.rbc_book.specs.Book.{Pages}
 use Rattle.rbc_handover.specs.declared.announcers.Announcers.{Announcers}
 use Rattle.rbc_handover.specs.Expectations.{claims, expected_from, HasExpectations, telling, with_expectations}
 use Rattle.rbc_right.specs.Rights.{Rights}
 use Rattle.rbc_session.specs.SessionStates.{session_phase}
+use Rattle.rbc_spec.proofs.Lists.{put_there}
 use Rattle.rbc_spec.specs.Acts.{Reply}
 use Rattle.rbc_spec.specs.Centre.{Centre, Expectation, Mission, Up}
 use Rattle.rbc_spec.specs.Line.{Line}

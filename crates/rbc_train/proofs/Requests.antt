@@ -3,7 +3,6 @@ use Rattle.std.proofs.Common.{[], if◌then◌else◌, ◌&&◌, ◌++◌, ◌+�
 use Rattle.std.proofs.Common.{List, None, Option, option_map, refl, Some, subst, sym, true, ℕ}
 use Rattle.std.proofs.lemmas.Bool.{cond-false, ne_eqb}
 use Rattle.std.specs.Option.{option_map_or}
-use Rattle.law_base.proofs.Lists.{put_over, put_there}
 use Rattle.rbc_allocation.specs.Sections.{next_of, TakesRun}
 use Rattle.rbc_book.specs.Book.{entry_at, Pages, wish_at}
 use Rattle.rbc_grant.specs.Grants as grants
@@ -13,6 +12,7 @@ use Rattle.rbc_handover.specs.Giving.{with_count}
 use Rattle.rbc_mission.specs.Supervisions.{HasSupervision, SupervisionState, with_next, with_supervision}
 use Rattle.rbc_right.specs.Rights.{is_here, Rights}
 use Rattle.rbc_session.specs.SessionStates.{session_phase}
+use Rattle.rbc_spec.proofs.Lists.{put_over, put_there}
 use Rattle.rbc_spec.specs.Acts.{◌>>◌, Act, booked, rest, say, set_mission}
 use Rattle.rbc_spec.specs.Centre.{Centre, Expectation, is_open, Mission, Taken, Up}
 use Rattle.rbc_spec.specs.Frame.{Body}

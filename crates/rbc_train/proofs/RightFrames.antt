@@ -1,7 +1,6 @@
 -- Frames about the right to supervise a train have the effect of their definitions.
 use Rattle.std.proofs.Common.{[], ◌&&◌, ◌+◌, ◌<◌, ◌∙◌, ◌≡◌, ap, Bool, false, is_none, is_some, length, List, lt-ltb}
 use Rattle.std.proofs.Common.{nat_lt, None, not, Option, option_map, refl, Some, subst, sym, true, ℕ}
-use Rattle.law_base.proofs.Lists.{put_same, put_there}
 use Rattle.rbc_book.specs.Book.{entry_at, Pages, wish_at}
 use Rattle.rbc_hand.specs.Hands.{Holding}
 use Rattle.rbc_linkmsg.specs.declared.body.Body.TheVariants as code
@@ -13,6 +12,7 @@ use Rattle.rbc_right.specs.Answers.{answer}
 use Rattle.rbc_right.specs.declared.registrar.Asked.TheVariants.{Given, NotHere}
 use Rattle.rbc_right.specs.declared.right.Right.{Right}
 use Rattle.rbc_right.specs.Rights.{is_here, right_of, Rights}
+use Rattle.rbc_spec.proofs.Lists.{put_same, put_there}
 use Rattle.rbc_spec.specs.Acts.{◌>>◌, begun, say}
 use Rattle.rbc_spec.specs.Centre.{Centre, is_registrar_of}
 use Rattle.rbc_spec.specs.Line.{Line}

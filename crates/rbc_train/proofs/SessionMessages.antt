@@ -1,12 +1,12 @@
 -- A train opens, confirms and closes its session, and sends its train data.
 use Rattle.std.proofs.Common.{[], ◌++◌, ◌+◌, ◌∙◌, ◌≡◌, ap, false, List, map, None, option_map, refl, Some, sym, true, ℕ}
 use Rattle.std.proofs.lemmas.List.{append-nil}
-use Rattle.law_base.proofs.Lists.{put_over}
 use Rattle.rbc_book.specs.Book.{Pages}
 use Rattle.rbc_pending_start.specs.Waits.{HasWait, nothing_waits, telling, WaitState, with_wait}
 use Rattle.rbc_right.specs.Rights.{Rights}
 use Rattle.rbc_session.specs.declared.session.SessionState.{SessionState}
 use Rattle.rbc_session.specs.SessionStates.{session_phase}
+use Rattle.rbc_spec.proofs.Lists.{put_over}
 use Rattle.rbc_spec.specs.Acts.{◌>>◌, Reply, say}
 use Rattle.rbc_spec.specs.Centre.{Centre, Closed, is_closed, Mission, Opened, Phase, Up}
 use Rattle.rbc_spec.specs.Line.{Line}

@@ -1,7 +1,6 @@
 -- How the session of one train changes among those of a centre.
 use Rattle.std.proofs.Common.{◌==◌, ◌∙◌, ◌≡◌, ap, cond, inl, inr, None, refl, Some, sym, ℕ}
 use Rattle.std.proofs.lemmas.Bool.Decides.{eqb_tells}
-use Rattle.law_base.proofs.Lists.{put_over}
 use Rattle.rbc_session.proofs.SessionStates.{ended_phases, opened_stands, phase_at-session_state, stands_beside_ended}
 use Rattle.rbc_session.proofs.SessionStates.{stands_beside_opened}
 use Rattle.rbc_session.specs.declared.session.Opened.{Opened as OpenedType}
@@ -11,6 +10,7 @@ use Rattle.rbc_session.specs.declared.session.SessionState.TheVariants as sessio
 use Rattle.rbc_session.specs.Session.{key_of}
 use Rattle.rbc_session.specs.Sessions.{phase_at, Records, train_at}
 use Rattle.rbc_session.specs.SessionStates.{has_key, session_phase, stands_with, StandsFor}
+use Rattle.rbc_spec.proofs.Lists.{put_over}
 use Rattle.rbc_spec.specs.Centre.{Closed, Opened, Phase}
 use Rattle.rbc_train.specs.SessionStates.{Enters, Stands}
 

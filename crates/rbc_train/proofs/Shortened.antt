@@ -2,7 +2,6 @@
 use Rattle.std.proofs.Common.{[], if◌then◌else◌, ◌&&◌, ◌*◌, ◌<◌, ◌==◌, ◌∙◌, ◌≡◌, ap, Bool, Err, false, is_none, is_some}
 use Rattle.std.proofs.Common.{length, List, nat_le, None, Ok, Option, option_and_then, option_map, refl, Result, Some}
 use Rattle.std.proofs.Common.{subst, sym, true, ℕ}
-use Rattle.law_base.proofs.Worlds.{then_rest}
 use Rattle.rbc_allocation.specs.Sections.{FreesRun, rest_of, wished}
 use Rattle.rbc_book.specs.Book.{Pages}
 use Rattle.rbc_hand.specs.Hands.{Holding}
@@ -21,6 +20,7 @@ use Rattle.rbc_shorten.specs.declared.answer.Cut.{Cut}
 use Rattle.rbc_shorten.specs.declared.answer.Cut.TheVariants.{Keep, Nothing}
 use Rattle.rbc_shorten.specs.declared.answer.Unasked.{Unasked}
 use Rattle.rbc_shorten.specs.declared.facts.Proposal.{Proposal as ProposalCode}
+use Rattle.rbc_spec.proofs.Worlds.{then_rest}
 use Rattle.rbc_spec.specs.Acts.{◌>>◌, Act, change_mission, rest}
 use Rattle.rbc_spec.specs.Centre.{Centre, Expectation, Mission, Proposal, Up}
 use Rattle.rbc_spec.specs.Line.{end, Line}

@@ -6,7 +6,6 @@ use Rattle.std.proofs.lemmas.Bool.{eqb-false, false≢true, ne_eqb}
 use Rattle.std.proofs.lemmas.Option.{same_Some}
 use Rattle.std.specs.List.{filter, range_with_len}
 use Rattle.std.specs.Option.{option_map_or}
-use Rattle.law_base.proofs.Runs.{within_after, within_none}
 use Rattle.rbc_allocation.specs.Sections.{FreesRun, front_of, rest_of, wished}
 use Rattle.rbc_book.specs.Book.{entry_at, Pages, wish_at}
 use Rattle.rbc_hand.specs.Hands.{Holding}
@@ -17,6 +16,7 @@ use Rattle.rbc_right.specs.Rights.{right_of}
 use Rattle.rbc_shorten.proofs.Requests.{ahead_is_cut}
 use Rattle.rbc_shorten.specs.declared.answer.Cut.TheVariants.{Nothing}
 use Rattle.rbc_shorten.specs.Standstill.{ahead_of, standing_act}
+use Rattle.rbc_spec.proofs.Runs.{within_after, within_none}
 use Rattle.rbc_spec.specs.Acts.{rest}
 use Rattle.rbc_spec.specs.Centre.{is_taken_for, Mission, Open, Shut}
 use Rattle.rbc_spec.specs.Line.{Line}

@@ -2,7 +2,6 @@
 use Rattle.std.proofs.Common.{[], if◌then◌else◌, ◌&&◌, ◌+◌, ◌==◌, ◌∙◌, ◌∷◌, ◌≡◌, ◌≤◌, ap, arith, Bool, false, is_some}
 use Rattle.std.proofs.Common.{None, Option, option_map, refl, Some, sym, true, ℕ}
 use Rattle.std.specs.Option.{option_map_or}
-use Rattle.law_base.proofs.Lists.{put_there}
 use Rattle.law_base.proofs.LocalLemmas.Homes.{begun_local, fit_parts}
 use Rattle.law_base.proofs.LocalLemmas.Worlds.{is_ordered}
 use Rattle.rbc_allocation.specs.Sections.{TakesRun}
@@ -16,6 +15,7 @@ use Rattle.rbc_right.specs.declared.registrar.Asked.TheVariants.{Given}
 use Rattle.rbc_right.specs.declared.right.Right.{Right}
 use Rattle.rbc_right.specs.Rights.{is_here, right_of, Rights}
 use Rattle.rbc_session.specs.SessionStates.{session_phase}
+use Rattle.rbc_spec.proofs.Lists.{put_there}
 use Rattle.rbc_spec.specs.Acts.{◌>>◌, Reply, say}
 use Rattle.rbc_spec.specs.Centre.{Centre, is_free, is_open, is_registrar_of, Mission, Taken, Up}
 use Rattle.rbc_spec.specs.Frame.{AskRight}

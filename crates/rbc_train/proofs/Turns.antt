@@ -1,10 +1,10 @@
 -- One act and then another at a centre, by the parts of its state that they change.
 use Rattle.std.proofs.Common.{[], ◌++◌, ◌+◌, ◌∙◌, ◌∷◌, ◌≡◌, ap, List, refl, Some, subst, sym, ℕ}
-use Rattle.law_base.proofs.Lists.{put_over, put_there}
 use Rattle.rbc_book.specs.Book.{entry_at, is_own, Pages, wish_at}
 use Rattle.rbc_handover.specs.Expectations.{expected_from}
 use Rattle.rbc_right.specs.Rights.{is_here, Rights}
 use Rattle.rbc_session.specs.SessionStates.{session_phase}
+use Rattle.rbc_spec.proofs.Lists.{put_over, put_there}
 use Rattle.rbc_spec.specs.Acts.{◌>>◌, Act, Reply, say}
 use Rattle.rbc_spec.specs.Centre.{Centre}
 use Rattle.rbc_spec.specs.Frame.{Body}

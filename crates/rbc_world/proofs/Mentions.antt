@@ -1,6 +1,6 @@
 -- Trains that messages name for the first time.
 use Rattle.std.proofs.Common.{[], ◌++◌, ◌==◌, ◌||◌, ◌∙◌, ◌∷◌, ◌≡◌, ◌≢◌, ◌≤◌, ap, arith, Bool, false}
-use Rattle.std.proofs.Common.{if◌then◌else◌, inl, inr, is_none, length, List, map, nat_eq, None, not, Option, refl}
+use Rattle.std.proofs.Common.{if◌then◌else◌, inl, inr, is_none, length, List, map, nat_eq, None, Option, refl}
 use Rattle.std.proofs.Common.{Some, subst, sym, true, ℕ}
 use Rattle.std.proofs.lemmas.Bool.Decides.{eqb_tells, nat_tests}
 use Rattle.std.proofs.lemmas.Cmp.{nat_eq_equiv}
@@ -16,21 +16,13 @@ use Rattle.rbc_centre.specs.declared.event.Event.{Event}
 use Rattle.rbc_centre.specs.declared.event.Event.TheVariants as code
 use Rattle.rbc_spec.specs.Line.{Line, Train, train_number}
 use Rattle.rbc_spec.specs.World.{mention}
-use Rattle.rbc_world.specs.Named.{AreOfLine, mentioned, NamesFirst, with_first}
+use Rattle.rbc_world.specs.Named.{AreOfLine, mentioned, NamesFirst}
 
 -- ## A mention and the list
-
-pub foreign_mention : (line : Line) (t : ℕ) (trains : List ℕ) → train_number line t ≡ None
-    → mention line t trains ≡ trains
-foreign_mention line t trains none = rw none refl
 
 pub first_names : (line : Line) (t i : ℕ) (trains : List ℕ) → train_number line t ≡ Some i
     → list_any (λ u. t == u) trains ≡ false → mention line t trains ≡ trains ++ t ∷ []
 first_names line t i trains at new = rw (at, new) refl
-
-pub first_inserted : (line : Line) (t i : ℕ) (trains : List ℕ) → train_number line t ≡ Some i
-    → list_any (λ u. t == u) trains ≡ false → with_first (Some t) trains ≡ mention line t trains
-first_inserted line t i trains at new = rw (at, new) refl
 
 kept_if : {T : Type 0} (foreign listed : Bool) (old new : T) → (foreign ≡ false → listed ≡ false → ⊥)
     → (if foreign then old else (if listed then old else new)) ≡ old

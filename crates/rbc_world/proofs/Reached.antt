@@ -1,8 +1,7 @@
 -- The events that led to a world go on by one.
-use Rattle.std.proofs.Common.{[], ◌++◌, ◌<◌, ◌∙◌, ◌∷◌, ◌≡◌, ap, Err, length, List, None, Ok, refl, Result, set}
+use Rattle.std.proofs.Common.{[], ◌++◌, ◌<◌, ◌∙◌, ◌∷◌, ◌≡◌, ap, length, List, Ok, Result, set}
 use Rattle.std.proofs.Common.{slice_get, Some, subst, sym, true, ℕ}
 use Rattle.std.proofs.Math.Logic.{∥∥₁_map}
-use Rattle.law_base.proofs.Worlds.{bind_ok}
 use Rattle.law_reached.proofs.Known.{run_of_cons, run_of_none, whole_run}
 use Rattle.rbc_centre.specs.declared.centre.Centre.{Centre}
 use Rattle.rbc_centre.specs.declared.event.Event.{Event as CentreEvent}
@@ -10,6 +9,7 @@ use Rattle.rbc_centre.specs.declared.event.Event.TheVariants as of_centre
 use Rattle.rbc_centre.specs.States as one
 use Rattle.rbc_centre.specs.Views.{event_of as one_event}
 use Rattle.rbc_msgs.specs.StepMessage.{step_message}
+use Rattle.rbc_spec.proofs.Worlds.{bind_ok}
 use Rattle.rbc_spec.specs.Line.{is_centre, Line}
 use Rattle.rbc_spec.specs.Outcome.{Outcome}
 use Rattle.rbc_spec.specs.Step as step

@@ -1,5 +1,5 @@
 -- The state of a world before and after a step.
-use Rattle.std.proofs.Common.{◌<◌, ◌∙◌, ◌≡◌, ◌≢◌, ◌≤◌, ap, arith, Err, false, length, List, None, Ok, Option, refl}
+use Rattle.std.proofs.Common.{◌<◌, ◌∙◌, ◌≡◌, ◌≤◌, ap, arith, Err, false, length, List, None, Ok, Option, refl}
 use Rattle.std.proofs.Common.{Result, set, slice_get, Some, sym, true, ℕ}
 use Rattle.std.proofs.lemmas.Bool.Decides.{nat_tests}
 use Rattle.std.specs.Option.{option_map_or}

@@ -10,7 +10,6 @@ use Rattle.rbc_centre.specs.declared.fault.StepFault.TheVariants.{ClockEnd, Link
 use Rattle.rbc_centre.specs.States as one
 use Rattle.rbc_centre.specs.Views.{event_of as one_event}
 use Rattle.rbc_msgs.specs.declared.fault.MsgFault.{MsgFault}
-use Rattle.rbc_msgs.specs.Kept.{kept_packets, MayKeep}
 use Rattle.rbc_msgs.specs.StepMessage.{step_message}
 use Rattle.rbc_msgs.specs.TrainText.{TrainText}
 use Rattle.rbc_spec.specs.Centre as centre
@@ -66,11 +65,6 @@ module _ (line : Line) (w : World) (c : ℕ) where
   unset_wants s (Err LinkFull) h = tt
   unset_wants s (Err ClockEnd) h = tt
 
-kept_wants : (line : Line) (trains : List ℕ) (read : Result TrainText MsgFault) → MayKeep kept_packets read
-    → BytesTakeMemory line trains read
-kept_wants line trains (Ok m) h = inl h
-kept_wants line trains (Err fault) h = h
-
 module _ (line : Line) (cs : List Centre) (trains : List ℕ) (c : ℕ) (read : Result TrainText MsgFault)
     (each : length cs ≡ length line.centres) (within : c < length cs) where
   -- by the message that they spell
@@ -81,7 +75,3 @@ module _ (line : Line) (cs : List Centre) (trains : List ℕ) (c : ℕ) (read : 
   heard_wants m (Err Memory) is h = (is_centre_within line cs c each within, rw is (inr h))
   heard_wants m (Err LinkFull) is h = tt
   heard_wants m (Err ClockEnd) is h = tt
-
-  -- or for a packet that is kept of them
-  pub unread_wants : MayKeep kept_packets read → (is_centre line c ≡ true) × BytesTakeMemory line trains read
-  unread_wants kept = (is_centre_within line cs c each within, kept_wants line trains read kept)

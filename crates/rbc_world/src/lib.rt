@@ -12,11 +12,10 @@
 //! let mut answer = Answer::nothing();
 //! world.step_to(&WorldEvent::Set { centre: 0, section: 1 }, &mut answer)?;
 //! world.step_to(&WorldEvent::Train { centre: 0, bytes }, &mut answer)?;
-//! match &answer {
-//!     Answer::Outcome(outcome) => send_all(&outcome.sayings)?,
-//!     Answer::Fault(fault) => refuse(fault)?,
-//!     Answer::NoCentre | Answer::NotSent => {}
-//! }
+//! let messages = match &answer {
+//!     Answer::Outcome(outcome) => outcome.sayings.len(),
+//!     Answer::Fault(_) | Answer::NoCentre | Answer::NotSent => 0,
+//! };
 //! let view = world.view(alloc)?;
 //! ```
 //!

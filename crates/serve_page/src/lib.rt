@@ -2,6 +2,13 @@
 //! on the request and on the state that the centres showed. Nothing here has a centre, a socket or a clock, so nothing
 //! here changes the line.
 //!
+//! ```
+//! let asked = asked_of(bytes);
+//! let text = answer(alloc, layout, &now, 1, asked)?;
+//! ```
+//!
+//! The text is empty while the request is not whole.
+//!
 //! Bodies are free. docs/FORMATS.md fixes the answers.
 #![tactic(auto)]
 

@@ -1,6 +1,14 @@
 //! The connections of trains at a centre: reading (`reading`), writing (`writing`), and the connection that serves each
 //! engine (`connections`). Workers commit messages and carry frames.
 //!
+//! ```
+//! let mut share = node.share();
+//! let mut source = Reads::new(reader);
+//! let end = run_session(rt, alloc, &node, &Open, &mut share, &mut source, &NoSink);
+//! ```
+//!
+//! A session reads messages and commits each whole one. The receipts are in the share.
+//!
 //! Bodies are free. docs/FORMATS.md fixes the bytes of each connection.
 #![tactic(auto)]
 

@@ -5,7 +5,8 @@ ghost use Rattle.std.specs.Prelude.{◌≤◌, length, IfOk};
 use rbc_line::Line;
 use std::alloc::Global;
 
-const TWO_CENTRES: &str = "nid_c = 5
+/// The line file of two centres.
+pub const TWO_CENTRES: &str = "nid_c = 5
 [[centre]]
 name = \"A\"
 nid_rbc = 1

@@ -3,7 +3,7 @@ use Rattle.std.proofs.Common.{◌&&◌, ◌+◌, ◌-◌, ◌<◌, ◌==◌, ◌
 use Rattle.std.proofs.Common.{nat_le, nat_lt, None, not, Ok, Option, refl, Some, sym, true, ℕ, ⊎_elim}
 use Rattle.std.proofs.lemmas.Bool.{and_parts, cases_Bool, cases_lt, eqb-true, leb-true, ltb-true, not-true, or_cases}
 use Rattle.std.specs.Option.{option_map_or}
-use Rattle.law_base.proofs.Lists.{each_of, none_is}
+use Rattle.rbc_spec.proofs.Lists.{each_of, none_is}
 use Rattle.rbc_spec.specs.Centre.{is_registrar_of}
 use Rattle.rbc_spec.specs.Line.{end, is_centre, is_home, Line}
 use Rattle.rbc_spec.specs.LineCentre.{hears, is_given_to, is_mark_open, is_waiting_at, IsHand, LineState, Open, Said}

@@ -5,7 +5,7 @@ use Rattle.std.proofs.lemmas.Bool.{and_parts, not-true, or_cases}
 use Rattle.std.proofs.lemmas.Option.{none-some, same_Some}
 use Rattle.std.specs.List.{filter_map, list_all}
 use Rattle.std.specs.Option.{option_map_or}
-use Rattle.law_base.proofs.Lists.{none_is}
+use Rattle.rbc_spec.proofs.Lists.{none_is}
 use Rattle.rbc_spec.specs.Line.{is_centre, Line}
 use Rattle.rbc_spec.specs.LineCentre.{line_beginning, LineState}
 use Rattle.rbc_spec.specs.Outcome.{Outcome, Reason}

@@ -5,7 +5,7 @@ use Rattle.std.proofs.lemmas.Bool.{and_parts, cases_Bool, eqb-true, leb-true, lt
 use Rattle.std.proofs.lemmas.Option.{none-some, same_Some}
 use Rattle.std.specs.List.{find, list_all, range_with_len}
 use Rattle.std.specs.Option.{option_map_or}
-use Rattle.law_base.proofs.Lists.{each_of, none_is}
+use Rattle.rbc_spec.proofs.Lists.{each_of, none_is}
 use Rattle.rbc_spec.specs.Centre.{Closed, is_up, Opened, Phase, Up}
 use Rattle.rbc_spec.specs.Line.{is_home, Line, next_centre, start}
 use Rattle.rbc_spec.specs.LineCentre.{At, Given, is_at, is_given_to, is_kept_for, is_mark_open, is_waiting_at, Kept}

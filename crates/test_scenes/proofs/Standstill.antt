@@ -3,7 +3,7 @@ use Rattle.std.proofs.Common.{◌*◌, ◌<◌, ◌∙◌, ◌≡◌, ◌≤◌,
 use Rattle.std.proofs.Common.{refl, Some, subst, suc, sym, true, true≢false, zero, ℕ}
 use Rattle.std.proofs.lemmas.Option.{same_Some}
 use Rattle.std.specs.Prelude.{is_some}
-use Rattle.law_base.proofs.Runs.{within_true}
+use Rattle.rbc_spec.proofs.Runs.{within_true}
 use Rattle.rbc_spec.specs.Acts.{◌>>◌}
 use Rattle.rbc_spec.specs.Centre.{beginning, Mission}
 use Rattle.rbc_spec.specs.Line.{end, start as line_start}

@@ -2,6 +2,17 @@
 //! event and a checksum. Lines are written one at a time. If a file is cut at any byte, its whole lines can still be
 //! read.
 //!
+//! ```
+//! let mut text = Vec::new(alloc);
+//! text.extend_from_slice(first_line(alloc, &line, B, FILE)?.as_bytes())?;
+//! text.push(b'\n')?;
+//! for (stamp, event) in [(1, set), (7, frame), (8, train)] {
+//!     add_entry(alloc, &line, &Entry { stamp, event }, &mut text)?;
+//! }
+//! ```
+//!
+//! Here `B` is the number of the centre, and `FILE` is the text of the line file.
+//!
 //! Bodies are free. docs/FORMATS.md fixes the format.
 #![tactic(auto)]
 

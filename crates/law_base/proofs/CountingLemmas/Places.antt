@@ -8,12 +8,12 @@ use Rattle.std.specs.List.{range_with_len}
 use Rattle.law_base.proofs.CountingLemmas.Resource.{carried_more}
 use Rattle.law_base.proofs.CountingLemmas.Sums.{link_le_links, links_some, put_other, put_same, sum_some, term_le_sum}
 use Rattle.law_base.proofs.CountingLemmas.Sums.{two_le_sum, two_links_le}
-use Rattle.law_base.proofs.Runs.{same_tests, within_before, within_from, within_none, within_true}
 use Rattle.law_base.specs.Counting.Network.{Net, TakesHead, took, way}
 use Rattle.law_base.specs.Counting.Resource.{carried, OnlyHeld, OnlyOnTheWay, placed, Resource}
 use Rattle.law_base.specs.Counting.Sections.{AreApart, is_among, sections}
 use Rattle.law_base.specs.Counting.Sums.{put, sum_below, sum_links}
 use Rattle.law_base.specs.Counting.Sweep.{at_section, changed, said, sweep}
+use Rattle.rbc_spec.proofs.Runs.{same_tests, within_before, within_from, within_none, within_true}
 use Rattle.rbc_spec.specs.SectionRuns.{SectionRun, within}
 
 -- # If there is at most one of a resource, it is in at most one place.

@@ -4,11 +4,11 @@ use Rattle.std.proofs.Common.{option_map, refl, Some, subst, sym, true, ℕ}
 use Rattle.std.proofs.lemmas.Bool.{and_left, and_parts, and_right, both_ways, true_from_ne_false}
 use Rattle.std.proofs.lemmas.Option.{same_Some}
 use Rattle.std.proofs.Math.Bool.{and-true}
-use Rattle.law_base.proofs.Lists.{put_here, put_other}
 use Rattle.law_base.proofs.LocalLemmas.Entries.{booked_for, given, hand_given, others_given, out_booked, out_given}
 use Rattle.law_base.proofs.LocalLemmas.Entries.{taken_elsewhere, taken_for_one, taken_given, taken_here, unused_booked}
 use Rattle.law_base.proofs.LocalLemmas.Stays.{remade, Stays}
 use Rattle.law_base.specs.Local.Local.{hand_has, IsLocalAt, IsLocalMission}
+use Rattle.rbc_spec.proofs.Lists.{put_here, put_other}
 use Rattle.rbc_spec.specs.Acts.{change_mission}
 use Rattle.rbc_spec.specs.Centre.{Centre, Entry, is_free, is_open, is_registrar_of, is_taken_for, is_unused, Mission}
 use Rattle.rbc_spec.specs.Centre.{Open, Shut, Taken}

@@ -10,10 +10,10 @@ use Rattle.std.proofs.lemmas.List.Folds.{find_at}
 use Rattle.std.proofs.lemmas.Option.{same_Some}
 use Rattle.std.specs.List.{All, find, position_or_len, sum_by, zip}
 use Rattle.std.specs.Option.{option_map_or}
-use Rattle.law_base.proofs.Lists.{each_at, itself, one_track}
-use Rattle.law_base.proofs.Runs.{each_within, same_tests, within_from, within_true}
 use Rattle.law_base.specs.Local.Local.{IsLocalMission, IsOrdered}
+use Rattle.rbc_spec.proofs.Lists.{each_at, itself, one_track}
 use Rattle.rbc_spec.proofs.Places.{covers_from, covers_parts, end_of, IsAt, on_section, start_is}
+use Rattle.rbc_spec.proofs.Runs.{each_within, same_tests, within_from, within_true}
 use Rattle.rbc_spec.proofs.Sums.{sum_kept, sum_left, sum_up_to}
 use Rattle.rbc_spec.specs.Acts.{begun}
 use Rattle.rbc_spec.specs.Centre as centre

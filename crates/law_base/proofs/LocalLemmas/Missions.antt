@@ -8,8 +8,8 @@ use Rattle.law_base.proofs.LocalLemmas.Changes.{booked_local, changed, goes_on, 
 use Rattle.law_base.proofs.LocalLemmas.Homes.{begun_local, fit_of, fit_parts, free_at_registrar, IsFit, none_next}
 use Rattle.law_base.proofs.LocalLemmas.Homes.{restarted_local}
 use Rattle.law_base.proofs.LocalLemmas.Stays.{if_stays, or_stays, other_parts, rest_stays, Stays, then_stays}
-use Rattle.law_base.proofs.Runs.{each_within, joined_count, longest_each, longest_few, within_joined, within_true}
 use Rattle.law_base.specs.Local.Local.{hand_has, IsLocalAt, IsLocalMission, IsOrdered}
+use Rattle.rbc_spec.proofs.Runs.{each_within, joined_count, longest_each, longest_few, within_joined, within_true}
 use Rattle.rbc_spec.specs.Acts.{◌>>◌, Act, become, begun, booked, rest, say, set_mission}
 use Rattle.rbc_spec.specs.Centre.{Centre, is_free, is_open, is_registrar_of, Mission, Taken}
 use Rattle.rbc_spec.specs.Line.{Line, next_centre, train_number}

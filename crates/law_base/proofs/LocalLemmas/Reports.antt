@@ -3,16 +3,16 @@ use Rattle.std.proofs.Common.{◌&&◌, ◌*◌, ◌+◌, ◌-◌, ◌==◌, ◌
 use Rattle.std.proofs.Common.{nat_le, None, not, option_map, refl, Some, subst, sym, true, ℕ}
 use Rattle.std.proofs.lemmas.Bool.{and_parts, eqb-false}
 use Rattle.std.specs.Option.{option_map_or}
-use Rattle.law_base.proofs.Lists.{put_here}
 use Rattle.law_base.proofs.LocalLemmas.Changes.{changed, ends_here, freed_local, goes_on, hand_home}
 use Rattle.law_base.proofs.LocalLemmas.Changes.{registrar_of_mission}
 use Rattle.law_base.proofs.LocalLemmas.Homes.{within_kept, within_rest}
 use Rattle.law_base.proofs.LocalLemmas.Missions.{if_act, or_act, place_of, then_both}
 use Rattle.law_base.proofs.LocalLemmas.Stays.{alike_stays, all_home, close_here, leave_home, no_pool_returned}
 use Rattle.law_base.proofs.LocalLemmas.Stays.{no_take_over, or_stays, rest_stays, Stays, then_stays}
-use Rattle.law_base.proofs.Runs.{joined_empty, longest_few, same_tests, within_from, within_true}
-use Rattle.law_base.proofs.Worlds.{alike_then, resting_then, rests_or_cuts, then_alike, then_resting}
 use Rattle.law_base.specs.Local.Local.{hand_has, IsLocalAt, IsLocalMission, IsOrdered}
+use Rattle.rbc_spec.proofs.Lists.{put_here}
+use Rattle.rbc_spec.proofs.Runs.{joined_empty, longest_few, same_tests, within_from, within_true}
+use Rattle.rbc_spec.proofs.Worlds.{alike_then, resting_then, rests_or_cuts, then_alike, then_resting}
 use Rattle.rbc_spec.specs.Acts.{◌>>◌, Act, cancel, change_mission, close, freed, leave, part_at, rest, return_pool}
 use Rattle.rbc_spec.specs.Acts.{set_mission, with_some}
 use Rattle.rbc_spec.specs.Centre.{Centre, is_taken_for, Mission, Proposal}

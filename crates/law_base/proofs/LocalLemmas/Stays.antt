@@ -5,9 +5,9 @@ use Rattle.std.proofs.Common.{refl, Some, subst, sym, true, ℕ}
 use Rattle.std.proofs.lemmas.Bool.{and_from, and_parts, and_right, cases_Bool, cases_eq, cases_lt, cond-false}
 use Rattle.std.proofs.lemmas.Bool.{cond-true, le-leb, lt-ltb, or_left, or_right}
 use Rattle.std.specs.Option.{option_map_or}
-use Rattle.law_base.proofs.Lists.{put_here, put_other}
-use Rattle.law_base.proofs.Worlds.{alike_then, resting_then, then_resting}
 use Rattle.law_base.specs.Local.Local.{hand_has, IsLocalAt, IsLocalMission, IsOrdered}
+use Rattle.rbc_spec.proofs.Lists.{put_here, put_other}
+use Rattle.rbc_spec.proofs.Worlds.{alike_then, resting_then, then_resting}
 use Rattle.rbc_spec.specs.Acts.{◌>>◌, Act, become, cancel, change_mission, close, freed, leave, Reply, rest}
 use Rattle.rbc_spec.specs.Acts.{return_pool, return_right, returned, send, set_mission}
 use Rattle.rbc_spec.specs.Centre.{Centre, Entry, is_out_for, is_registrar_of, is_taken_for, is_unused, Mission, Phase}

@@ -3,7 +3,6 @@ use Rattle.std.proofs.Common.{[], ◌++◌, ◌+◌, ◌-◌, ◌==◌, ◌∙�
 use Rattle.std.proofs.Common.{length, None, not, Option, refl, slice_get, Some, sym, true, ℕ}
 use Rattle.std.proofs.lemmas.Bool.{both_ways, not-false}
 use Rattle.std.specs.Option.{option_map_or}
-use Rattle.law_base.proofs.Lists.{none_passes, put_here, put_other}
 use Rattle.law_base.proofs.LocalLemmas.Changes.{changed}
 use Rattle.law_base.proofs.LocalLemmas.Entries.{unused_out, unused_taken}
 use Rattle.law_base.proofs.LocalLemmas.Missions.{answered_request, answered_start, if_act, said, then_both}
@@ -12,6 +11,7 @@ use Rattle.law_base.proofs.LocalLemmas.Stays.{alike_stays, by_same, if_stays, no
 use Rattle.law_base.proofs.LocalLemmas.Stays.{rest_stays, Stays, then_stays}
 use Rattle.law_base.specs.Local.Local.{hand_has, IsLocalAt, IsOrdered}
 use Rattle.law_base.specs.Local.Stays.{StaysLocal}
+use Rattle.rbc_spec.proofs.Lists.{none_passes, put_here, put_other}
 use Rattle.rbc_spec.specs.Acts.{◌>>◌, become, change_mission, hear, may_propose, propose, propose_if_so, rest, say}
 use Rattle.rbc_spec.specs.Centre.{Centre, Closed, Entry, is_out_for, is_taken_for, is_unused, Open, Opened, Out, Phase}
 use Rattle.rbc_spec.specs.Centre.{Shut, Taken, Up}

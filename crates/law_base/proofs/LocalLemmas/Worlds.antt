@@ -2,11 +2,11 @@
 use Rattle.std.proofs.Common.{◌-◌, ◌==◌, ◌∙◌, ◌≡◌, ap, Bool, Err, false, if◌then◌else◌, List, None, Ok, Option, refl}
 use Rattle.std.proofs.Common.{Result, slice_get, Some, sym, true, ℕ}
 use Rattle.std.proofs.Math.Bool.{and-true}
-use Rattle.law_base.proofs.Lists.{put_holds}
 use Rattle.law_base.proofs.LocalLemmas.Steps.{set_step_stays, train_stays, unset_step_stays}
-use Rattle.law_base.proofs.Worlds.{Brings, delivers, keeps_run, of_event, says, sets, unsets}
 use Rattle.law_base.specs.Local.Local.{IsLocal, IsLocalAt, IsOrdered}
+use Rattle.rbc_spec.proofs.Lists.{put_holds}
 use Rattle.rbc_spec.proofs.Places as places
+use Rattle.rbc_spec.proofs.Worlds.{Brings, delivers, keeps_run, of_event, says, sets, unsets}
 use Rattle.rbc_spec.specs.Centre.{beginning, Centre, is_registrar_of}
 use Rattle.rbc_spec.specs.Frame.{Frame}
 use Rattle.rbc_spec.specs.Line.{IsLine, Line}

@@ -8,7 +8,7 @@ use Rattle.std.specs.Bool.{MatchBool}
 use Rattle.law_base.proofs.PiecesLemmas.Waits.{elsewhere, if_not, IsLoose, IsWaited, kept_for, Leaves, loose_leaves}
 use Rattle.law_base.proofs.PiecesLemmas.Waits.{not_waiting_kept, opened, plain_leaves, put_at, PutAt, there, wait_on}
 use Rattle.law_base.proofs.PiecesLemmas.Waits.{waiting_at, WaitsKeep}
-use Rattle.law_base.proofs.Runs.{each_within}
+use Rattle.rbc_spec.proofs.Runs.{each_within}
 use Rattle.rbc_spec.specs.Centre.{is_registrar_of}
 use Rattle.rbc_spec.specs.Line.{end, is_centre, is_home, Line, start}
 use Rattle.rbc_spec.specs.LineCentre.{Given, is_given_to, is_kept_for, is_mark_open, is_waiting, Kept, LineState, Mark}

@@ -6,9 +6,9 @@ use Rattle.std.proofs.lemmas.Bool.{and_parts, not-false}
 use Rattle.std.proofs.lemmas.Option.{slice_get_cases}
 use Rattle.std.specs.List.{filter, range_with_len}
 use Rattle.std.specs.Option.{option_map_or}
-use Rattle.law_base.proofs.Lists.{none_passes}
 use Rattle.law_base.proofs.PiecesLemmas.Frees.{by_cut, by_end, by_report, by_standstill, Frees}
 use Rattle.rbc_spec.proofs.Held.{found_passes, is_the_centres}
+use Rattle.rbc_spec.proofs.Lists.{none_passes}
 use Rattle.rbc_spec.specs.Centre as centre
 use Rattle.rbc_spec.specs.Line.{end, is_home, Line, Section, section, start}
 use Rattle.rbc_spec.specs.LineCentre.{Given, hears, is_at, is_given_to, Kept, LineMission, LineState, Mark, Open, Shut}

@@ -2,11 +2,11 @@
 use Rattle.std.proofs.Common.{◌&&◌, ◌*◌, ◌==◌, ◌∙◌, ◌≡◌, ap, arith, Bool, false, if◌then◌else◌, inl, inr, nat_le}
 use Rattle.std.proofs.Common.{nat_lt, None, not, Option, refl, Some, subst, sym, true, ℕ}
 use Rattle.std.proofs.lemmas.Bool.{and_parts}
-use Rattle.law_base.proofs.Lists.{any-range_some}
 use Rattle.law_base.proofs.PiecesLemmas.Frees.{by_cut, by_end, by_report, by_standstill, extends_leave, Frees}
 use Rattle.law_base.proofs.PiecesLemmas.Frees.{of_leaves, OwnLeaves, release_leaves, released_gone, released_stay}
 use Rattle.law_base.proofs.PiecesLemmas.Frees.{starts_leave}
 use Rattle.law_base.proofs.PiecesLemmas.Waits.{end_leaves, Leaves, plain_leaves, WaitsKeep}
+use Rattle.rbc_spec.proofs.Lists.{any-range_some}
 use Rattle.rbc_spec.specs.Line.{end, is_centre, Line, start}
 use Rattle.rbc_spec.specs.LineCentre.{close_if_empty, is_given_to, LineState, Mark, release, Said}
 use Rattle.rbc_spec.specs.Message.{EndOfMission, InitiationOfSession, Report, Request, SessionEstablished}

@@ -2,12 +2,12 @@ use Rattle.std.proofs.Common.{[], ◌++◌, ◌==◌, ◌∙◌, ◌∷◌, ◌�
 use Rattle.std.proofs.Common.{List, None, Ok, Option, refl, Some, subst, sym, true, ℕ}
 use Rattle.std.proofs.lemmas.List.Elements.{All-append, All-cons, All-contains}
 use Rattle.std.specs.List.{All}
-use Rattle.law_base.proofs.Lists.{put_there}
 use Rattle.law_base.proofs.PiecesLemmas.Frees.{by_test, Frees, of_leaves, OwnLeaves}
 use Rattle.law_base.proofs.PiecesLemmas.GivenSections.{frees_is, given_held, given_home, given_is, is_not_used}
 use Rattle.law_base.proofs.PiecesLemmas.OwnFrees.{own_leaves}
 use Rattle.law_base.proofs.PiecesLemmas.Waits.{if_not, Leaves, plain_leaves, quiets_leave, wait_on, WaitsKeep}
 use Rattle.law_base.proofs.PiecesLemmas.Words.{Fits, fits_on, IsShut, no_words, own_fits, quiets_fit}
+use Rattle.rbc_spec.proofs.Lists.{put_there}
 use Rattle.rbc_spec.proofs.Safe.{given_mark}
 use Rattle.rbc_spec.specs.Centre as centre
 use Rattle.rbc_spec.specs.Line.{is_centre, is_home, Line}

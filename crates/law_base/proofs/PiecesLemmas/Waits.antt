@@ -3,7 +3,7 @@ use Rattle.std.proofs.Common.{[], ◌&&◌, ◌==◌, ◌∙◌, ◌∷◌, ◌�
 use Rattle.std.proofs.Common.{length, List, ltb-true, None, not, Option, refl, Some, subst, sym, true, ℕ}
 use Rattle.std.proofs.lemmas.Bool.Decides.{eqb_tells}
 use Rattle.std.specs.Option.{option_map_or}
-use Rattle.law_base.proofs.Lists.{any-range, one_home}
+use Rattle.rbc_spec.proofs.Lists.{any-range, one_home}
 use Rattle.rbc_spec.specs.Line.{is_centre, is_home, Line}
 use Rattle.rbc_spec.specs.LineCentre.{free, Given, is_waiting, is_waiting_at, Kept, LineState, Mark, Open, Said, says}
 use Rattle.rbc_spec.specs.LineCentre.{Shut}

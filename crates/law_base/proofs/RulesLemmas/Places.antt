@@ -7,10 +7,10 @@ use Rattle.std.proofs.lemmas.Bool.{not-false, or_cases}
 use Rattle.std.proofs.lemmas.List.{append-nil}
 use Rattle.std.proofs.lemmas.Option.{same_Some}
 use Rattle.std.specs.Option.{option_map_or}
-use Rattle.law_base.proofs.Lists.{itself, none_passes}
-use Rattle.law_base.proofs.Runs.{longest_is, within_from, within_joined, within_shared, within_true}
 use Rattle.law_base.specs.Rules.Distances.{extended, IsAhead, IsRequestHeard}
+use Rattle.rbc_spec.proofs.Lists.{itself, none_passes}
 use Rattle.rbc_spec.proofs.Places.{ends_before, ends_rise, homes_run}
+use Rattle.rbc_spec.proofs.Runs.{longest_is, within_from, within_joined, within_shared, within_true}
 use Rattle.rbc_spec.specs.Acts.{may_propose, part_at, rest}
 use Rattle.rbc_spec.specs.Centre.{Centre, is_free, is_up, Mission}
 use Rattle.rbc_spec.specs.Line.{end, is_home, IsLine, Line, Section, section, section_of_group, start}

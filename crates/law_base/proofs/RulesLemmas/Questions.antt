@@ -4,13 +4,13 @@ use Rattle.std.proofs.Common.{option_map, refl, Some, subst, sym, true, ℕ}
 use Rattle.std.proofs.lemmas.Bool.{cases_eq, cond-true}
 use Rattle.std.proofs.lemmas.Option.{same_Some}
 use Rattle.std.proofs.Math.Bool.{and-true}
-use Rattle.law_base.proofs.Lists.{put_here, put_other}
 use Rattle.law_base.proofs.WalkLemmas.Causes.{begins as mission_begins, Change, clears, comes, cuts, grows, hand_to}
 use Rattle.law_base.proofs.WalkLemmas.Causes.{less_pool, May, no_pool, pools, Turn}
 use Rattle.law_base.proofs.WalkLemmas.Moves.{announces, Answer, asks_route, changes, closes, closes_handed, Move}
 use Rattle.law_base.proofs.WalkLemmas.Moves.{no_handover, recalls, sets, told, yields}
 use Rattle.law_base.proofs.WalkLemmas.Steps.{of_effect}
 use Rattle.law_base.specs.Rules.Asks.{AsksForEmptyPools, follows_hand}
+use Rattle.rbc_spec.proofs.Lists.{put_here, put_other}
 use Rattle.rbc_spec.specs.Acts.{◌>>◌, Act, change_mission, Reply, set_mission}
 use Rattle.rbc_spec.specs.Centre.{beginning, Centre, Mission}
 use Rattle.rbc_spec.specs.Frame.{Body}

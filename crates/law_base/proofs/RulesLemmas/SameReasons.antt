@@ -5,10 +5,10 @@ use Rattle.std.proofs.Common.{sym, true, ℕ}
 use Rattle.std.proofs.lemmas.Bool.{and_left, and_parts, cases_Bool}
 use Rattle.std.specs.List.{find}
 use Rattle.std.specs.Option.{option_map_or}
-use Rattle.law_base.proofs.Lists.{find-range}
-use Rattle.law_base.proofs.Runs.{within_after, within_from, within_true}
 use Rattle.law_base.specs.Rules.Silences.{EndsOnLine, HasEndIfAsked}
 use Rattle.rbc_spec.proofs.Held.{held_as, held_first, is_seen, is_the_centres, is_there}
+use Rattle.rbc_spec.proofs.Lists.{find-range}
+use Rattle.rbc_spec.proofs.Runs.{within_after, within_from, within_true}
 use Rattle.rbc_spec.specs.Centre as centre
 use Rattle.rbc_spec.specs.Centre.{is_closed, is_expected, is_up}
 use Rattle.rbc_spec.specs.Line.{end, Line}

@@ -5,9 +5,9 @@ use Rattle.std.proofs.Common.{option_map, refl, Some, suc, true, zero, ℕ}
 use Rattle.std.proofs.lemmas.Bool.{cond-true, eqb-false, le-ltb, lt-ltb, not-true, or_parts, or_right}
 use Rattle.std.specs.List.{range_with_len}
 use Rattle.std.specs.Option.{option_map_or}
-use Rattle.law_base.proofs.Lists.{put_there}
 use Rattle.law_base.proofs.RulesLemmas.Sends.{IsBeyond, key, Sends, sends_if, sends_less, sends_none, sends_saying}
 use Rattle.law_base.proofs.RulesLemmas.Sends.{sends_some, sends_then, sends_words, sends_yes, side, side_below}
+use Rattle.rbc_spec.proofs.Lists.{put_there}
 use Rattle.rbc_spec.specs.Acts.{◌>>◌, Act, become, booked, cancel, change_mission, close, end_order, freed, leave}
 use Rattle.rbc_spec.specs.Acts.{may_propose, part_at, propose, propose_if_so, rest, return_right, returned, say, send}
 use Rattle.rbc_spec.specs.Acts.{set_mission, where_so, yield}

@@ -4,12 +4,12 @@ use Rattle.std.proofs.Common.{option_map, refl, Some, subst, sym, true, ℕ}
 use Rattle.std.proofs.lemmas.Bool.{and_parts, eqb-false}
 use Rattle.std.proofs.lemmas.Option.{same_Some}
 use Rattle.std.specs.Option.{option_map_or}
-use Rattle.law_base.proofs.Lists.{put_there}
 use Rattle.law_base.proofs.RulesLemmas.Places.{placed_on}
 use Rattle.law_base.proofs.RulesLemmas.Sends.{Sends, sends_less, sends_none, sends_quiet, sends_then}
 use Rattle.law_base.proofs.RulesLemmas.SentActs.{close_leaves_none, close_sends, home_high, home_none, leave_any}
 use Rattle.law_base.proofs.RulesLemmas.SentActs.{leave_low}
-use Rattle.law_base.proofs.Runs.{joined_count, longest_is, within_part_from}
+use Rattle.rbc_spec.proofs.Lists.{put_there}
+use Rattle.rbc_spec.proofs.Runs.{joined_count, longest_is, within_part_from}
 use Rattle.rbc_spec.specs.Acts.{◌>>◌, Act, change_mission, close, leave, Reply, rest, return_pool, returned}
 use Rattle.rbc_spec.specs.Acts.{set_mission, with_mission}
 use Rattle.rbc_spec.specs.Centre.{Centre, Mission}

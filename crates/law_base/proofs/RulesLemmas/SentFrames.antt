@@ -8,8 +8,8 @@ use Rattle.law_base.proofs.RulesLemmas.SentActs.{freed_sends, sends_one}
 use Rattle.law_base.proofs.RulesLemmas.SentAnswers.{report_few}
 use Rattle.law_base.proofs.RulesLemmas.SentStandstill.{end_few}
 use Rattle.law_base.proofs.RulesLemmas.SentSteps.{granted_few, request_sends, some_sends}
-use Rattle.law_base.proofs.Worlds.{alike_then}
 use Rattle.law_base.specs.Rules.Sending.{HoldsFew}
+use Rattle.rbc_spec.proofs.Worlds.{alike_then}
 use Rattle.rbc_spec.specs.Acts.{◌>>◌, Act, become, booked, change_mission, freed, Reply, rest, return_pool, say, send}
 use Rattle.rbc_spec.specs.Acts.{where_so, with_some}
 use Rattle.rbc_spec.specs.Centre.{Centre, Closed, Expectation, is_free, is_open, is_registrar_of, is_taken_for, Mission}

@@ -3,13 +3,13 @@ use Rattle.std.proofs.Common.{⊎_elim, ◌+◌, ◌-◌, ◌<◌, ◌==◌, ◌
 use Rattle.std.proofs.Common.{false, if◌then◌else◌, inl, inr, None, Option, option_map, refl, Some, subst, sym, true, ℕ}
 use Rattle.std.proofs.lemmas.Bool.{cases_eq, cond-false, cond-true, eqb-false, ne_eqb}
 use Rattle.std.specs.Option.{option_map_or}
-use Rattle.law_base.proofs.Lists.{put_there}
 use Rattle.law_base.proofs.RulesLemmas.Sends.{Sends, sends_less, sends_none, sends_quiet, sends_then}
 use Rattle.law_base.proofs.RulesLemmas.SentActs.{cancel_sends, home_none, leave_high, leave_low, without_handing}
 use Rattle.law_base.proofs.RulesLemmas.SentAnswers.{after_cleared, cleared_count, closed_sends, closed_state}
 use Rattle.law_base.proofs.RulesLemmas.SentAnswers.{end_closed, end_open, Few, kept_state}
-use Rattle.law_base.proofs.Runs.{joined_count}
-use Rattle.law_base.proofs.Worlds.{alike_then, rests_or_cuts, then_alike}
+use Rattle.rbc_spec.proofs.Lists.{put_there}
+use Rattle.rbc_spec.proofs.Runs.{joined_count}
+use Rattle.rbc_spec.proofs.Worlds.{alike_then, rests_or_cuts, then_alike}
 use Rattle.rbc_spec.specs.Acts.{◌>>◌, Act, cancel, change_mission, close, leave, part_at, Reply, rest, return_pool}
 use Rattle.rbc_spec.specs.Acts.{returned, send, set_mission}
 use Rattle.rbc_spec.specs.Centre.{Centre, Handing, Mission}

@@ -5,7 +5,7 @@ use Rattle.std.specs.Option.{option_map_or}
 use Rattle.law_base.proofs.RulesLemmas.Sends.{Sends, sends_if, sends_less, sends_none, sends_quiet, sends_some}
 use Rattle.law_base.proofs.RulesLemmas.Sends.{sends_then}
 use Rattle.law_base.proofs.RulesLemmas.SentActs.{cancel_sends, close_sends, leave_any, sends_one}
-use Rattle.law_base.proofs.Runs.{joined_count}
+use Rattle.rbc_spec.proofs.Runs.{joined_count}
 use Rattle.rbc_spec.specs.Acts.{◌>>◌, Act, announce, ask_route, become, booked, cancel, change_mission, close, leave}
 use Rattle.rbc_spec.specs.Acts.{part_at, Reply, rest, say, send, set_mission, where_so, with_some}
 use Rattle.rbc_spec.specs.Centre.{Centre, Handing, is_open, Mission, Proposal, Taken}

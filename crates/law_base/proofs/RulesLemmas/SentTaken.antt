@@ -6,12 +6,12 @@ use Rattle.std.proofs.lemmas.Bool.{and_from, and_parts, both_ways, cases_Bool, l
 use Rattle.std.proofs.lemmas.List.Elements.{All-cons, All-nil}
 use Rattle.std.specs.List.{All}
 use Rattle.std.specs.Option.{option_map_or}
-use Rattle.law_base.proofs.Lists.{any-range}
 use Rattle.law_base.proofs.RulesLemmas.Sends.{Sends, sends_less, sends_quiet, sends_then, sends_yes}
 use Rattle.law_base.proofs.RulesLemmas.SentActs.{propose_sends}
 use Rattle.law_base.proofs.RulesLemmas.SentEvents.{IsFew, plain, taken_few}
 use Rattle.law_base.proofs.RulesLemmas.SentFrames.{answer_few, Few, few, few_if, quiet}
 use Rattle.law_base.specs.Rules.Sending.{GoInOrder, HoldsFew, IsCountedInRange, TakesFew}
+use Rattle.rbc_spec.proofs.Lists.{any-range}
 use Rattle.rbc_spec.specs.Acts.{◌>>◌, Act, become, hear, rest}
 use Rattle.rbc_spec.specs.Centre.{Centre, Entry, is_unused, Open, Out, Shut, Taken}
 use Rattle.rbc_spec.specs.Frame.{Body, Frame, last_stamp, RouteWithdraw}

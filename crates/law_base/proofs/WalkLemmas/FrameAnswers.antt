@@ -3,7 +3,6 @@ use Rattle.std.proofs.Common.{[], ◌&&◌, ◌++◌, ◌∙◌, ◌≡◌, ap, 
 use Rattle.std.proofs.Common.{nat_lt, None, Option, refl, Some, true, ℕ}
 use Rattle.std.proofs.lemmas.Bool.{and_parts}
 use Rattle.std.specs.Option.{option_map_or}
-use Rattle.law_base.proofs.Lists.{none_is, put_there}
 use Rattle.law_base.proofs.WalkLemmas.Acts.{begin_walks, reject_walks, return_right_walks, taking_over_walks}
 use Rattle.law_base.proofs.WalkLemmas.Causes.{goes_home, has_place_for_route, May, pools, waited}
 use Rattle.law_base.proofs.WalkLemmas.Frames.{announced_walks, answers, answers_then, cancelled_walks, foreign}
@@ -14,6 +13,7 @@ use Rattle.law_base.proofs.WalkLemmas.Moves.{Answer, begins_at, branch, by_bool,
 use Rattle.law_base.proofs.WalkLemmas.Moves.{lends_some, not_needed, nothing_waits, of_walk, refuses, resting, rests}
 use Rattle.law_base.proofs.WalkLemmas.Moves.{sends, step, told, Walk, Walks}
 use Rattle.law_base.specs.Walk.Trains.{train_of}
+use Rattle.rbc_spec.proofs.Lists.{none_is, put_there}
 use Rattle.rbc_spec.specs.Acts.{◌>>◌, Act, become, change_mission, freed, Reply, rest, return_right, send}
 use Rattle.rbc_spec.specs.Centre.{Centre, is_registrar_of, is_taken_for}
 use Rattle.rbc_spec.specs.Frame.{Announce, AskRight, Body, Cancel, carried_place, GiveRight, RefuseRight, ReturnRight}

@@ -4,8 +4,6 @@ use Rattle.std.proofs.Common.{nat_le, nat_lt, None, not, Option, option_map, ref
 use Rattle.std.proofs.lemmas.Bool.{and_parts}
 use Rattle.std.proofs.lemmas.Option.{same_Some}
 use Rattle.std.specs.Option.{option_map_or}
-use Rattle.law_base.proofs.Lists.{none_is, put_there}
-use Rattle.law_base.proofs.Runs.{joined_count, longest_few}
 use Rattle.law_base.proofs.WalkLemmas.Acts.{accept_walks, announce_walks, begin_walks, close_walks, leave_walks}
 use Rattle.law_base.proofs.WalkLemmas.Acts.{recall_walks, reject_walks, return_pool_walks}
 use Rattle.law_base.proofs.WalkLemmas.Causes.{all_free, clears, cuts, ends, grows, IsAhead, May, MayBegin, next_of}
@@ -13,7 +11,9 @@ use Rattle.law_base.proofs.WalkLemmas.Causes.{no_proposal, Reports, restarts, St
 use Rattle.law_base.proofs.WalkLemmas.Moves.{asks_right, asks_route, books, both, by_bool, by_option, changes, if_some}
 use Rattle.law_base.proofs.WalkLemmas.Moves.{joined, resting, rights, says, sets, step, takes_over, waits, Walk, Walks}
 use Rattle.law_base.proofs.WalkLemmas.Moves.{with}
-use Rattle.law_base.proofs.Worlds.{rests_or_cuts}
+use Rattle.rbc_spec.proofs.Lists.{none_is, put_there}
+use Rattle.rbc_spec.proofs.Runs.{joined_count, longest_few}
+use Rattle.rbc_spec.proofs.Worlds.{rests_or_cuts}
 use Rattle.rbc_spec.specs.Acts.{◌>>◌, Act, announce, ask_route, become, booked, cancel, change_mission, close, leave}
 use Rattle.rbc_spec.specs.Acts.{part_at, rest, return_pool, say, send, set_mission, where_so, with_some}
 use Rattle.rbc_spec.specs.Centre.{Centre, Handing, is_free, is_open, is_registrar_of, Mission, Proposal, Taken}

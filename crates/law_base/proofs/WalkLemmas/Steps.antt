@@ -2,7 +2,6 @@
 use Rattle.std.proofs.Common.{◌<◌, ◌∙◌, ◌≡◌, arith, Bool, false, if◌then◌else◌, is_none, is_some, None, not, Option}
 use Rattle.std.proofs.Common.{refl, slice_get, Some, true, ℕ}
 use Rattle.std.specs.Option.{option_map_or}
-use Rattle.law_base.proofs.Lists.{none_passes}
 use Rattle.law_base.proofs.WalkLemmas.Acts.{close_session_walks, propose_if_walks}
 use Rattle.law_base.proofs.WalkLemmas.Causes.{data_known, May, Message, no_proposal, said_now, setting}
 use Rattle.law_base.proofs.WalkLemmas.FrameAnswers.{of_taking, received_taking}
@@ -12,6 +11,7 @@ use Rattle.law_base.proofs.WalkLemmas.Messages.{start_mission_walks}
 use Rattle.law_base.proofs.WalkLemmas.Moves.{Answer, both, branch, by_bool, changes, Closed, hears, joined, makes, Move}
 use Rattle.law_base.proofs.WalkLemmas.Moves.{nothing_waits, of_walk, phases, resting, rests, says, step, tells, Walk}
 use Rattle.law_base.proofs.WalkLemmas.Moves.{Walks, wishes, withdraws}
+use Rattle.rbc_spec.proofs.Lists.{none_passes}
 use Rattle.rbc_spec.specs.Acts.{◌>>◌, Act, become, change_mission, hear, Reply, rest, say}
 use Rattle.rbc_spec.specs.Centre.{Centre, Entry, is_out_for, is_unused, Open, Opened, Out, Shut, Taken, Up}
 use Rattle.rbc_spec.specs.Frame.{Body, Frame}

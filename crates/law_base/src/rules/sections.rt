@@ -4,7 +4,7 @@
 ghost use Rattle.std.specs.Prelude.{◌≡◌, ℕ, ◌+◌, ◌≤◌, ◌&&◌, ◌||◌, Bool, true, false, nat_lt, nat_le};
 ghost use Rattle.rbc_spec.specs.SectionRuns.{SectionRun, within, next_after, is_empty, part_before, part_from};
 ghost use Rattle.rbc_spec.specs.SectionRuns.{shared, joined, longest, passing};
-ghost use Rattle.law_base.specs.Runs.{IsLongest};
+ghost use Rattle.rbc_spec.specs.SectionRuns.{IsLongest};
 
 /// A number cuts a run in two. The part before the number has the lower sections of the run, the part from it on has
 /// the others.

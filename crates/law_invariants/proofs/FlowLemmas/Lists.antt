@@ -9,13 +9,13 @@ use Rattle.std.proofs.lemmas.Option.{same_Some}
 use Rattle.std.specs.List.{count_by, filter_map, flat_map, position_or_len, range_with_len}
 use Rattle.std.specs.Prelude.{Contains}
 use Rattle.law_base.proofs.CountingLemmas.Sums.{sum_more, sum_none, sum_some}
-use Rattle.law_base.proofs.Lists.{put_at_pair}
-pub use Rattle.law_base.proofs.Lists.{itself, one_home, registrar_below, taken_is}
-pub use Rattle.law_base.proofs.Runs.{all_within}
 use Rattle.law_base.specs.Counting.Resource.{allowed, carried, Resource}
 use Rattle.law_base.specs.Counting.Sums.{one_if, put, sum_below}
 use Rattle.law_invariants.specs.Flow.Counts.{missions, right_inside, rights, yield_inside}
 use Rattle.law_invariants.specs.Flow.Flow.{Flow}
+use Rattle.rbc_spec.proofs.Lists.{put_at_pair}
+pub use Rattle.rbc_spec.proofs.Lists.{itself, one_home, registrar_below, taken_is}
+pub use Rattle.rbc_spec.proofs.Runs.{all_within}
 use Rattle.rbc_spec.specs.Centre as centre
 use Rattle.rbc_spec.specs.Centre.{Centre, Entry, is_used_for}
 use Rattle.rbc_spec.specs.Frame.{Announce, AskRight, Body, Cancel, GiveRight, RefuseRight, ReturnRight, RouteAsk}

@@ -9,13 +9,13 @@ use Rattle.std.proofs.lemmas.Option.{same_Some}
 use Rattle.std.specs.List.{All, find, zip}
 use Rattle.std.specs.Option.{option_map_or}
 use Rattle.law_base.proofs.CountingLemmas.Sums.{one_if_le_one, sum_only, sum_zero}
-use Rattle.law_base.proofs.Lists.{one_home}
 use Rattle.law_base.specs.Counting.Resource.{allowed}
 use Rattle.law_base.specs.Counting.Sums.{one_if, sum_below}
 use Rattle.law_invariants.specs.Flow.Counts.{rights}
 use Rattle.law_invariants.specs.Flow.Flow.{Flow}
 use Rattle.law_invariants.specs.Flow.Neighbours.{AreNeighbours}
 use Rattle.law_invariants.specs.Flow.Sound.{HasComeTo}
+use Rattle.rbc_spec.proofs.Lists.{one_home}
 use Rattle.rbc_spec.proofs.Places.{section_on}
 use Rattle.rbc_spec.specs.Acts.{begun}
 use Rattle.rbc_spec.specs.Line.{is_centre, is_home, is_joint, is_linked, IsLine, Line, next_centre, registrar, seams}

@@ -7,7 +7,6 @@ use Rattle.std.specs.Bool.{MatchBool}
 use Rattle.std.specs.List.{list_all}
 use Rattle.std.specs.Option.{option_map_or}
 use Rattle.law_base.proofs.CountingLemmas.Sums.{one_if_some, put_other, put_same, sum_le}
-use Rattle.law_base.proofs.Lists.{none_passes}
 use Rattle.law_base.specs.Counting.Network.{acted, Net, way}
 use Rattle.law_base.specs.Counting.Resource.{carried, placed}
 use Rattle.law_base.specs.Counting.Sums.{put, sum_below, sum_links}
@@ -17,6 +16,7 @@ use Rattle.law_invariants.specs.Flow.Flow.{centre_count, Flow}
 use Rattle.law_invariants.specs.Flow.Leads.{HeardAs, Leads, LeadsHeard, LeadsOwn, replied, Reports, said_by}
 use Rattle.law_invariants.specs.Flow.Shows.{is_in_hand, shown, Shows}
 use Rattle.law_invariants.specs.Flow.Sound.{IsFlowSound}
+use Rattle.rbc_spec.proofs.Lists.{none_passes}
 use Rattle.rbc_spec.specs.Acts.{◌>>◌, Act, rest}
 use Rattle.rbc_spec.specs.Centre.{Centre, Entry, is_used_for, Open, Out, Shut, Taken}
 use Rattle.rbc_spec.specs.Frame.{Body, Yield}

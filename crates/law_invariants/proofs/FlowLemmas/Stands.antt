@@ -6,7 +6,6 @@ use Rattle.std.specs.List.{find}
 use Rattle.std.specs.Prelude.{Contains}
 use Rattle.law_base.proofs.CountingLemmas.Places.{held_carried_le_placed, held_le_placed, placed_parts}
 use Rattle.law_base.proofs.CountingLemmas.Sums.{links_some, one_if_some, one_if_true, sum_some}
-use Rattle.law_base.proofs.Runs.{same_tests}
 use Rattle.law_base.specs.Counting.Network.{way}
 use Rattle.law_base.specs.Counting.Resource.{carried, placed}
 use Rattle.law_base.specs.Counting.Sums.{one_if, sum_below}
@@ -21,6 +20,7 @@ use Rattle.law_invariants.specs.Flow.Flow.{centre_count, flow_of}
 use Rattle.law_invariants.specs.Flow.Shows.{is_in_hand, parted, shown, Shows}
 use Rattle.law_invariants.specs.Flow.Sound.{IsFlowSound}
 use Rattle.rbc_spec.proofs.Held.{found_passes, held_as}
+use Rattle.rbc_spec.proofs.Runs.{same_tests}
 use Rattle.rbc_spec.specs.Centre as centre
 use Rattle.rbc_spec.specs.Centre.{Entry, is_used_for, Open, Out, Shut, Taken}
 use Rattle.rbc_spec.specs.Frame.{Body, Yield, yielded_place}

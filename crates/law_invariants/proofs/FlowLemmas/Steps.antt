@@ -10,8 +10,6 @@ use Rattle.std.proofs.lemmas.Option.{same_Some}
 use Rattle.law_base.proofs.CountingLemmas.Network.{next_is_head}
 use Rattle.law_base.proofs.CountingLemmas.Resource.{fair_still}
 use Rattle.law_base.proofs.CountingLemmas.Sums.{put_keeps, put_other, put_same}
-use Rattle.law_base.proofs.Lists.{get_append, put_holds}
-use Rattle.law_base.proofs.Worlds.{numbered_at, of_event}
 use Rattle.law_base.specs.Counting.Network.{acted, TakesHead, took}
 use Rattle.law_base.specs.Counting.Sums.{one_if, put, put_link}
 use Rattle.law_base.specs.Local.Local.{hand_has}
@@ -22,6 +20,8 @@ use Rattle.law_invariants.specs.Flow.Keeping.{IsAside, IsNeutral}
 use Rattle.law_invariants.specs.Flow.Numbers.{HasNumbers, IsNumbered}
 use Rattle.law_invariants.specs.Flow.Pairs.{handing_to}
 use Rattle.law_invariants.specs.Flow.Sound.{IsBodySound, IsCentreSound, IsFlowSound, IsMissionAt}
+use Rattle.rbc_spec.proofs.Lists.{get_append, put_holds}
+use Rattle.rbc_spec.proofs.Worlds.{numbered_at, of_event}
 use Rattle.rbc_spec.specs.Centre.{Centre, Entry, Expectation, is_taken_for, is_unused, is_used_for, Mission}
 use Rattle.rbc_spec.specs.Frame.{Body, Frame}
 use Rattle.rbc_spec.specs.Line.{is_centre, is_home, Line}

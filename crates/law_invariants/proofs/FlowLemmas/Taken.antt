@@ -10,7 +10,6 @@ use Rattle.law_base.proofs.CountingLemmas.Network.{each_head}
 use Rattle.law_base.proofs.CountingLemmas.Places.{head_only, held_carried_le_placed}
 use Rattle.law_base.proofs.CountingLemmas.Resource.{carried_more, carried_none}
 use Rattle.law_base.proofs.CountingLemmas.Sums.{one_if_le, one_if_some, one_if_true, sum_le, sum_only, sum_zero}
-use Rattle.law_base.proofs.Runs.{within_shared}
 use Rattle.law_base.specs.Counting.Network.{TakesHead, took, way}
 use Rattle.law_base.specs.Counting.Resource.{allowed, carried, placed, Resource, sent_by}
 use Rattle.law_base.specs.Counting.Sums.{one_if, sum_below}
@@ -22,6 +21,7 @@ use Rattle.law_invariants.specs.Flow.Flow.{centre_count, Flow}
 use Rattle.law_invariants.specs.Flow.Pairs.{after, before, count_if, follows, is_number, IsPaired, yields}
 use Rattle.law_invariants.specs.Flow.Sound.{IsBodySound, IsFlowSound, IsYieldSound}
 use Rattle.rbc_spec.proofs.Places.{section_on}
+use Rattle.rbc_spec.proofs.Runs.{within_shared}
 use Rattle.rbc_spec.specs.Acts.{returned}
 use Rattle.rbc_spec.specs.Centre.{Centre, Entry, Expectation, is_out_for, is_taken_for, is_used_for, Open, Out, Shut}
 use Rattle.rbc_spec.specs.Centre.{Taken}

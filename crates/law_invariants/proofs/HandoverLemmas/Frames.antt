@@ -7,7 +7,6 @@ use Rattle.std.proofs.Math.Bool.{and-true}
 use Rattle.std.specs.List.{find, range_with_len}
 use Rattle.std.specs.Option.{option_map_or}
 use Rattle.law_base.proofs.CountingLemmas.Sums.{put_other, put_same}
-use Rattle.law_base.proofs.Lists.{itself, none_is}
 use Rattle.law_base.proofs.WalkLemmas.FrameAnswers.{of_taking, received_taking}
 use Rattle.law_base.proofs.WalkLemmas.Frames.{frame_expects, frame_may, frame_yields}
 use Rattle.law_base.specs.Counting.Sums.{one_if}
@@ -17,6 +16,7 @@ use Rattle.law_invariants.proofs.HandoverLemmas.Taking.{expect_taking}
 use Rattle.law_invariants.specs.Flow.Pairs.{follows, handing_to, is_number}
 use Rattle.law_invariants.specs.Handover.Orderly.{allowed_by, IsOrderly, IsTakenWith, IsTaking, none_allowed}
 use Rattle.law_invariants.specs.Handover.Orderly.{number_expected, waiting}
+use Rattle.rbc_spec.proofs.Lists.{itself, none_is}
 use Rattle.rbc_spec.specs.Acts.{◌>>◌, Act, become, booked, propose_if_so, Reply, rest, set_mission}
 use Rattle.rbc_spec.specs.Centre.{Centre, Expectation, is_out_for, Mission, Taken}
 use Rattle.rbc_spec.specs.Frame.{Announce, Body, Cancel, carried_place, TakingOver, Yield, YieldedPlace}

@@ -4,11 +4,11 @@ use Rattle.std.proofs.Common.{inr, is_none, None, Option, option_map, refl, Some
 use Rattle.std.proofs.lemmas.Bool.{cases_eq, ne_eqb}
 use Rattle.std.specs.Option.{option_map_or}
 use Rattle.law_base.proofs.CountingLemmas.Sums.{put_other, put_same}
-use Rattle.law_base.proofs.Lists.{itself}
 use Rattle.law_base.proofs.WalkLemmas.Causes.{hand_to}
 use Rattle.law_invariants.proofs.HandoverLemmas.Orderly.{IsSent}
 use Rattle.law_invariants.specs.Flow.Pairs.{follows, handing_to, is_number}
 use Rattle.law_invariants.specs.Handover.Orderly.{Allowance, none_allowed, number_announced}
+use Rattle.rbc_spec.proofs.Lists.{itself}
 use Rattle.rbc_spec.specs.Centre.{Centre, Handing, Mission}
 use Rattle.rbc_spec.specs.Frame.{Announce, Body, Cancel, Yield, YieldedPlace}
 use Rattle.rbc_spec.specs.Maps.{put}

@@ -7,7 +7,6 @@ use Rattle.std.proofs.lemmas.List.Elements.{All-append, All-cons, All-nil}
 use Rattle.std.proofs.lemmas.Option.{same_Some}
 use Rattle.std.specs.Option.{option_map_or}
 use Rattle.law_base.proofs.CountingLemmas.Sums.{put_other, put_same}
-use Rattle.law_base.proofs.Lists.{itself}
 use Rattle.law_base.proofs.WalkLemmas.Acts.{end_order_walks, propose_if_walks, taking_over_walks}
 use Rattle.law_base.proofs.WalkLemmas.Causes.{asking, begins, by_itself, Change, clears, comes, cuts, goes_back}
 use Rattle.law_base.proofs.WalkLemmas.Causes.{goes_home, grows, May, MaySend, no_proposal, speaking, still as of_train}
@@ -26,6 +25,7 @@ use Rattle.law_invariants.proofs.HandoverLemmas.Taking.{goes_take_over}
 use Rattle.law_invariants.specs.Flow.Keeping.{IsNeutral}
 use Rattle.law_invariants.specs.Flow.Pairs.{handing_to}
 use Rattle.law_invariants.specs.Handover.Orderly.{Allowance, allowed_by, IsOrderly, none_allowed}
+use Rattle.rbc_spec.proofs.Lists.{itself}
 use Rattle.rbc_spec.specs.Acts.{◌>>◌, booked, change_mission, end_order, propose_if_so, Reply, say, set_mission}
 use Rattle.rbc_spec.specs.Centre.{Centre, Handing, is_open, Mission, Taken}
 use Rattle.rbc_spec.specs.Frame.{Announce, AskRight, Body, Cancel, GiveRight, RefuseRight, RouteAsk, RouteInfo}

@@ -6,7 +6,6 @@ use Rattle.std.specs.Option.{option_map_or}
 use Rattle.law_base.proofs.CountingLemmas.Chain.{chain_took}
 use Rattle.law_base.proofs.CountingLemmas.Network.{counted_acted, counted_took, each_head}
 use Rattle.law_base.proofs.CountingLemmas.Sums.{put_same}
-use Rattle.law_base.proofs.Lists.{itself}
 use Rattle.law_base.proofs.WalkLemmas.Causes.{setting}
 use Rattle.law_base.proofs.WalkLemmas.Steps.{heard_walks, may_do, set_walks, unset_walks}
 use Rattle.law_base.specs.Counting.Network.{acted, IsCounted, TakesHead, took}
@@ -22,6 +21,7 @@ use Rattle.law_invariants.specs.Flow.Sound.{ArePaired, IsBodySound, IsFlowSound}
 use Rattle.law_invariants.specs.Handover.Orderly.{allowed_by, IsOrderly, IsOrderlyWith, IsTakenWith, none_allowed}
 use Rattle.law_invariants.specs.Handover.Orderly.{number_expected}
 use Rattle.law_invariants.specs.Handover.Steps.{IsByItself, left_by, sent_by}
+use Rattle.rbc_spec.proofs.Lists.{itself}
 use Rattle.rbc_spec.specs.Acts.{◌>>◌, become, hear, rest}
 use Rattle.rbc_spec.specs.Centre.{Centre, Expectation}
 use Rattle.rbc_spec.specs.Frame.{Announce, AskRight, Body, Cancel, Frame, Yield}

@@ -6,11 +6,11 @@ use Rattle.std.proofs.lemmas.List.Elements.{All-cons, All-nil}
 use Rattle.std.specs.Option.{option_map_or}
 use Rattle.law_base.proofs.CountingLemmas.Chain.{chain_still}
 use Rattle.law_base.proofs.CountingLemmas.Sums.{put_other, put_same}
-use Rattle.law_base.proofs.Lists.{itself, put_pair_there}
 use Rattle.law_base.specs.Counting.Sums.{one_if}
 use Rattle.law_invariants.proofs.HandoverLemmas.Orderly.{Goes}
 use Rattle.law_invariants.specs.Flow.Pairs.{announces, count_if, follows, handing_to, takes_over, yields}
 use Rattle.law_invariants.specs.Handover.Orderly.{IsTaking, number_announced, number_expected, waiting}
+use Rattle.rbc_spec.proofs.Lists.{itself, put_pair_there}
 use Rattle.rbc_spec.specs.Centre.{Centre, Expectation}
 use Rattle.rbc_spec.specs.Frame.{Body, TakingOver}
 use Rattle.rbc_spec.specs.Line.{is_centre, Line}

@@ -2,7 +2,6 @@
 use Rattle.std.proofs.Common.{[], ◌+◌, ◌-◌, ◌==◌, ◌∙◌, ◌∷◌, ◌≡◌, ◌≢◌, ap, Bool, false, if◌then◌else◌, inl, inr, List}
 use Rattle.std.proofs.Common.{map, None, Ok, Option, refl, slice_get, Some, subst, sym, true, ℕ}
 use Rattle.law_base.proofs.CountingLemmas.Network.{each_head}
-use Rattle.law_base.proofs.Worlds.{Brings, delivers, keeps_run, of_event, says, sets, unsets}
 use Rattle.law_base.specs.Counting.Network.{acted, TakesHead, took}
 use Rattle.law_base.specs.Counting.Resource.{IsFair, Resource}
 use Rattle.law_invariants.proofs.FlowLemmas.Kept.{acted_sound, delivered_sound}
@@ -23,6 +22,7 @@ use Rattle.law_invariants.specs.Handover.Steps.{IsByItself, left_by, sent_by}
 use Rattle.law_invariants.specs.Handover.Worlds.{IsWorldSound}
 use Rattle.law_invariants.specs.NoCopy.Steps.{came_by, came_to, done}
 use Rattle.law_invariants.specs.Sound.Stays.{IsInRange}
+use Rattle.rbc_spec.proofs.Worlds.{Brings, delivers, keeps_run, of_event, says, sets, unsets}
 use Rattle.rbc_spec.specs.Centre.{beginning, Centre}
 use Rattle.rbc_spec.specs.Frame.{Body, Frame}
 use Rattle.rbc_spec.specs.Line.{is_centre, is_linked, IsLine, Line}

@@ -5,12 +5,12 @@ use Rattle.std.proofs.lemmas.Bool.{and_parts, eqb-true}
 use Rattle.std.specs.Option.{option_map_or}
 use Rattle.law_base.proofs.RulesLemmas.Places.{placed_on}
 use Rattle.law_base.proofs.RulesLemmas.SentAnswers.{report_leaves}
-use Rattle.law_base.proofs.Runs.{none_within, within_after, within_part_before, within_part_from, within_true}
-use Rattle.law_base.proofs.Worlds.{rests_or_cuts}
 use Rattle.law_base.specs.Local.Local.{hand_has}
 use Rattle.law_invariants.proofs.NoCopyLemmas.Parts.{Follows, out_of_joined, tail_follows}
 use Rattle.law_invariants.proofs.NoCopyLemmas.Ready.{Leaves, Ready, ready_cancel, ready_closed, ready_left}
 use Rattle.law_invariants.proofs.NoCopyLemmas.Tally.{Tally}
+use Rattle.rbc_spec.proofs.Runs.{none_within, within_after, within_part_before, within_part_from, within_true}
+use Rattle.rbc_spec.proofs.Worlds.{rests_or_cuts}
 use Rattle.rbc_spec.specs.Acts.{◌>>◌, cancel, close, leave, part_at, rest, set_mission, with_mission}
 use Rattle.rbc_spec.specs.Centre.{Centre, Handing, Mission}
 use Rattle.rbc_spec.specs.Line.{Line}

@@ -4,7 +4,6 @@ use Rattle.std.proofs.Common.{inl, inr, is_none, min, nat_le, nat_lt, None, not,
 use Rattle.std.proofs.Common.{ℕ}
 use Rattle.std.proofs.lemmas.Bool.{and_from, and_parts, cases_lt, eqb-true, le-leb, leb-true}
 use Rattle.std.specs.Option.{option_map_or}
-use Rattle.law_base.proofs.Runs.{longest_is, within_from, within_part_from, within_true}
 use Rattle.law_invariants.proofs.NoCopyLemmas.Leaving.{Makes, sends_plain}
 use Rattle.law_invariants.proofs.NoCopyLemmas.Parts.{covered_parts, Follows, from_part, joined_back, joined_part}
 use Rattle.law_invariants.proofs.NoCopyLemmas.Parts.{open_unused}
@@ -12,6 +11,7 @@ use Rattle.law_invariants.proofs.NoCopyLemmas.Starts.{booked_back, booked_open}
 use Rattle.law_invariants.proofs.NoCopyLemmas.Tally.{eased, fair_booked, fair_both, fair_change, fair_if, fair_or}
 use Rattle.law_invariants.proofs.NoCopyLemmas.Tally.{fair_plain, fair_rest, fair_say, fair_set, fair_then, IsTally}
 use Rattle.law_invariants.proofs.NoCopyLemmas.Tally.{mission_back, mission_of, mission_put, part, Tally, whole}
+use Rattle.rbc_spec.proofs.Runs.{longest_is, within_from, within_part_from, within_true}
 use Rattle.rbc_spec.specs.Acts.{◌>>◌, announce, ask_route, become, booked, change_mission, may_propose, part_at}
 use Rattle.rbc_spec.specs.Acts.{propose, propose_if_so, rest, say, send, set_mission}
 use Rattle.rbc_spec.specs.Centre.{Centre, Entry, is_free, is_open, Mission, Taken}

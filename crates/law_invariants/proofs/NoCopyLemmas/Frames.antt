@@ -5,8 +5,6 @@ use Rattle.std.proofs.Common.{true, ℕ}
 use Rattle.std.proofs.lemmas.Bool.{and_parts}
 use Rattle.std.specs.List.{find, range_with_len}
 use Rattle.std.specs.Option.{option_map_or}
-use Rattle.law_base.proofs.Lists.{none_is}
-use Rattle.law_base.proofs.Runs.{all_within, each_within}
 use Rattle.law_base.specs.Walk.Trains.{train_of}
 use Rattle.law_invariants.proofs.NoCopyLemmas.Borders.{fair_propose_if}
 use Rattle.law_invariants.proofs.NoCopyLemmas.Leaving.{fair_yield_over, gives_back}
@@ -20,6 +18,8 @@ use Rattle.law_invariants.proofs.NoCopyLemmas.Tally.{eased, fair_booked, fair_bo
 use Rattle.law_invariants.proofs.NoCopyLemmas.Tally.{fair_rest, fair_set, fair_then, IsTally, mission_back, mission_of}
 use Rattle.law_invariants.proofs.NoCopyLemmas.Tally.{mission_put, part, Tally}
 use Rattle.law_invariants.specs.NoCopy.Stray.{has_place_for, is_plain}
+use Rattle.rbc_spec.proofs.Lists.{none_is}
+use Rattle.rbc_spec.proofs.Runs.{all_within, each_within}
 use Rattle.rbc_spec.specs.Acts.{◌>>◌, Act, become, booked, propose_if_so, rest, set_mission, with_some}
 use Rattle.rbc_spec.specs.Centre.{Centre, is_out_for, Mission, Taken}
 use Rattle.rbc_spec.specs.Frame.{Announce, AskRight, Body, Cancel, carried_place, GiveRight, RefuseRight, ReturnRight}

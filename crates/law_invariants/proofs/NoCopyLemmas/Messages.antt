@@ -6,8 +6,6 @@ use Rattle.std.proofs.lemmas.Bool.{and_from, and_parts, cases_lt, le-leb, leb-tr
 use Rattle.std.specs.Option.{option_map_or}
 use Rattle.law_base.proofs.CountingLemmas.Resource.{carried_more, carried_none, sent_none}
 use Rattle.law_base.proofs.CountingLemmas.Sums.{put_same, sum_zero}
-use Rattle.law_base.proofs.Runs.{longest_is, parts_count, within_after, within_from, within_part_from, within_true}
-use Rattle.law_base.proofs.Worlds.{rests_or_cuts}
 use Rattle.law_base.specs.Counting.Resource.{carried, sent_by}
 use Rattle.law_invariants.proofs.NoCopyLemmas.After.{follows_reported, ready_both, ready_reported}
 use Rattle.law_invariants.proofs.NoCopyLemmas.Borders.{fair_request}
@@ -22,6 +20,8 @@ use Rattle.law_invariants.proofs.NoCopyLemmas.Tally.{alike, eased, Fair, fair_bo
 use Rattle.law_invariants.proofs.NoCopyLemmas.Tally.{fair_rest, fair_say, fair_set, fair_then, gone, IsTally}
 use Rattle.law_invariants.proofs.NoCopyLemmas.Tally.{mission_back, mission_of, mission_put, part, Tally, whole}
 use Rattle.law_invariants.specs.Flow.Flow.{centre_count}
+use Rattle.rbc_spec.proofs.Runs.{longest_is, parts_count, within_after, within_from, within_part_from, within_true}
+use Rattle.rbc_spec.proofs.Worlds.{rests_or_cuts}
 use Rattle.rbc_spec.specs.Acts.{◌>>◌, Act, cancel, change_mission, close, leave, part_at, rest, return_pool, returned}
 use Rattle.rbc_spec.specs.Acts.{say, set_mission, with_mission}
 use Rattle.rbc_spec.specs.Centre.{Centre, Expectation, Handing, Mission, Opened, Proposal, Up}

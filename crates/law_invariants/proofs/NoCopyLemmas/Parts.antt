@@ -3,9 +3,9 @@ use Rattle.std.proofs.Common.{⊎_elim, ◌&&◌, ◌+◌, ◌-◌, ◌<◌, ◌
 use Rattle.std.proofs.Common.{eqb-true, false, if◌then◌else◌, inl, inr, leb-true, ltb-true, max, nat_le, nat_lt, refl}
 use Rattle.std.proofs.Common.{subst, sym, true, ℕ}
 use Rattle.std.proofs.lemmas.Bool.{and_from, and_parts, cases_eq, cases_lt, eqb-false, le-leb, lt-ltb, ne_eqb}
-use Rattle.law_base.proofs.Runs.{joined_empty, within_joined, within_none, within_part_before, within_part_from}
-use Rattle.law_base.proofs.Runs.{within_true}
 use Rattle.law_invariants.proofs.NoCopyLemmas.Tally.{gone, IsTally, part, part_away, Tally}
+use Rattle.rbc_spec.proofs.Runs.{joined_empty, within_joined, within_none, within_part_before, within_part_from}
+use Rattle.rbc_spec.proofs.Runs.{within_true}
 use Rattle.rbc_spec.specs.Acts.{freed}
 use Rattle.rbc_spec.specs.Centre.{Centre, Entry, is_open, is_out_for, is_taken_for, is_unused, is_used_for, Mission}
 use Rattle.rbc_spec.specs.Centre.{Open, Out, Shut, Taken}

@@ -4,7 +4,6 @@ use Rattle.std.proofs.Common.{if◌then◌else◌, is_none, is_some, None, not, 
 use Rattle.std.proofs.lemmas.Bool.{and_parts, cases_eq, eqb-true, ne_eqb}
 use Rattle.law_base.proofs.CountingLemmas.Resource.{carried_more, carried_none}
 use Rattle.law_base.proofs.CountingLemmas.Sums.{one_if_le_one, one_if_true, sum_zero}
-use Rattle.law_base.proofs.Lists.{itself}
 use Rattle.law_base.specs.Counting.Resource.{carried, sent_by}
 use Rattle.law_base.specs.Counting.Sums.{one_if}
 use Rattle.law_base.specs.Walk.Trains.{train_of}
@@ -17,6 +16,7 @@ use Rattle.law_invariants.proofs.NoCopyLemmas.Tally.{mission_of, Tally, wait_of}
 use Rattle.law_invariants.specs.Flow.Counts.{rights}
 use Rattle.law_invariants.specs.Flow.Flow.{centre_count}
 use Rattle.law_invariants.specs.NoCopy.Stray.{has_place_for, is_plain}
+use Rattle.rbc_spec.proofs.Lists.{itself}
 use Rattle.rbc_spec.specs.Acts.{◌>>◌, become, Reply, rest, returned, send}
 use Rattle.rbc_spec.specs.Centre.{Centre, Entry, is_out_for, is_registrar_of, is_used_for, Mission, Open, Out, Shut}
 use Rattle.rbc_spec.specs.Centre.{Taken}

@@ -2,8 +2,6 @@
 use Rattle.std.proofs.Common.{⊎_elim, ◌&&◌, ◌+◌, ◌==◌, ◌∙◌, ◌≡◌, ◌≢◌, ◌≤◌, arith, Bool, false, if◌then◌else◌, is_some}
 use Rattle.std.proofs.Common.{nat_le, None, not, Option, option_map, refl, Some, subst, sym, true, ℕ}
 use Rattle.std.proofs.lemmas.Bool.{and_from, and_parts, cases_eq, ne_eqb}
-use Rattle.law_base.proofs.Lists.{one_home}
-use Rattle.law_base.proofs.Runs.{each_within, longest_is, within_part_from}
 use Rattle.law_invariants.proofs.NoCopyLemmas.Borders.{fair_propose_if}
 use Rattle.law_invariants.proofs.NoCopyLemmas.Leaving.{fair_end_order, Makes, sends}
 use Rattle.law_invariants.proofs.NoCopyLemmas.Messages.{fair_changed, pool_goes, standing}
@@ -14,6 +12,8 @@ use Rattle.law_invariants.proofs.NoCopyLemmas.Starts.{booked_back, booked_open}
 use Rattle.law_invariants.proofs.NoCopyLemmas.Tally.{eased, fair_booked, fair_freed, fair_if, fair_or, fair_plain}
 use Rattle.law_invariants.proofs.NoCopyLemmas.Tally.{fair_rest, fair_then, IsTally, mission_back, mission_of}
 use Rattle.law_invariants.proofs.NoCopyLemmas.Tally.{mission_put, part, Tally}
+use Rattle.rbc_spec.proofs.Lists.{one_home}
+use Rattle.rbc_spec.proofs.Runs.{each_within, longest_is, within_part_from}
 use Rattle.rbc_spec.specs.Acts.{◌>>◌, become, booked, change_mission, freed, propose_if_so, rest, returned, send}
 use Rattle.rbc_spec.specs.Centre.{Centre, Entry, is_free, is_open, is_out_for, is_unused, Mission, Open, Out, Shut}
 use Rattle.rbc_spec.specs.Frame.{RouteInfo, RouteReturn}

@@ -5,8 +5,6 @@ use Rattle.std.proofs.lemmas.Bool.{and_parts, cases_eq}
 use Rattle.std.specs.Option.{option_map_or}
 use Rattle.law_base.proofs.CountingLemmas.Resource.{sent_none}
 use Rattle.law_base.proofs.CountingLemmas.Sums.{put_other, put_same}
-use Rattle.law_base.proofs.Lists.{none_is}
-use Rattle.law_base.proofs.Runs.{each_within}
 use Rattle.law_invariants.proofs.NoCopyLemmas.Leaving.{back_le, back_other, back_own, fair_return_right, Makes}
 use Rattle.law_invariants.proofs.NoCopyLemmas.Leaving.{sends_plain}
 use Rattle.law_invariants.proofs.NoCopyLemmas.Parts.{freed_back, freed_other, none_part, open_here, open_unused}
@@ -15,6 +13,8 @@ use Rattle.law_invariants.proofs.NoCopyLemmas.Tally.{fair_freed, fair_if, fair_o
 use Rattle.law_invariants.proofs.NoCopyLemmas.Tally.{fair_set, fair_then, HasRegistrar, IsTally, mission_back}
 use Rattle.law_invariants.proofs.NoCopyLemmas.Tally.{mission_of, mission_put, part, right_of, start_of, Tally, wait_of}
 use Rattle.law_invariants.specs.Flow.Flow.{centre_count}
+use Rattle.rbc_spec.proofs.Lists.{none_is}
+use Rattle.rbc_spec.proofs.Runs.{each_within}
 use Rattle.rbc_spec.specs.Acts.{◌>>◌, become, begun, booked, change_mission, freed, Reply, rest, return_right, send}
 use Rattle.rbc_spec.specs.Acts.{set_mission, where_so, with_some}
 use Rattle.rbc_spec.specs.Centre.{Centre, Closed, Entry, is_free, is_open, is_out_for, is_registrar_of, is_taken_for}

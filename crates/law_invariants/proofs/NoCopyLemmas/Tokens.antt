@@ -4,7 +4,6 @@ use Rattle.std.proofs.Common.{None, not, Option, refl, Some, sym, true, ℕ}
 use Rattle.std.proofs.lemmas.Bool.{and_from, and_parts, eqb-true, ne_eqb}
 use Rattle.law_base.proofs.CountingLemmas.Resource.{carried_more, carried_none}
 use Rattle.law_base.proofs.CountingLemmas.Sums.{one_if_le, one_if_le_one, one_if_true, sum_le}
-use Rattle.law_base.proofs.Lists.{itself, one_home}
 use Rattle.law_base.specs.Counting.Resource.{carried, Resource, sent_by}
 use Rattle.law_base.specs.Counting.Sums.{one_if}
 use Rattle.law_base.specs.Local.Local.{hand_has, IsOrdered}
@@ -17,6 +16,7 @@ use Rattle.law_invariants.proofs.NoCopyLemmas.Tally.{gone, IsTally, mission_of, 
 use Rattle.law_invariants.specs.Flow.Counts.{pool_has, tokens, wait_has}
 use Rattle.law_invariants.specs.Flow.Flow.{centre_count}
 use Rattle.law_invariants.specs.NoCopy.Stray.{is_plain}
+use Rattle.rbc_spec.proofs.Lists.{itself, one_home}
 use Rattle.rbc_spec.specs.Acts.{returned}
 use Rattle.rbc_spec.specs.Centre.{Centre, Entry, is_open, is_out_for, is_taken_for, is_unused, is_used_for, Mission}
 use Rattle.rbc_spec.specs.Centre.{Open, Out, Shut, Taken}

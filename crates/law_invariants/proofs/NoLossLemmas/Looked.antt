@@ -10,8 +10,6 @@ use Rattle.law_base.proofs.CountingLemmas.Network.{each_head}
 use Rattle.law_base.proofs.CountingLemmas.Places.{held_carried_le_placed, held_le_placed}
 use Rattle.law_base.proofs.CountingLemmas.Resource.{carried_more}
 use Rattle.law_base.proofs.CountingLemmas.Sums.{one_if_some, one_if_true}
-use Rattle.law_base.proofs.Lists.{itself}
-use Rattle.law_base.proofs.Runs.{all_within, each_within}
 use Rattle.law_base.specs.Counting.Network.{TakesHead, took, way}
 use Rattle.law_base.specs.Counting.Resource.{carried, placed}
 use Rattle.law_base.specs.Counting.Sums.{one_if}
@@ -25,6 +23,8 @@ use Rattle.law_invariants.specs.NoCopy.Stray.{is_looked_for}
 use Rattle.law_invariants.specs.NoLoss.Keeps.{HasRightOnce}
 use Rattle.law_invariants.specs.NoUnasked.Asked.{answers, IsAsked, IsBodyAsked, OfRight, OfRoute, Question, questions}
 use Rattle.law_invariants.specs.NoUnasked.Asked.{stands}
+use Rattle.rbc_spec.proofs.Lists.{itself}
+use Rattle.rbc_spec.proofs.Runs.{all_within, each_within}
 use Rattle.rbc_spec.specs.Centre.{is_out_for, is_registrar_of}
 use Rattle.rbc_spec.specs.Frame.{Announce, AskRight, Body, Cancel, carried_place, GiveRight, RefuseRight, ReturnRight}
 use Rattle.rbc_spec.specs.Frame.{RouteAsk, RouteInfo, RouteReturn, RouteWithdraw, TakingOver, Yield, YieldedPlace}

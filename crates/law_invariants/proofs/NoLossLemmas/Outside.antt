@@ -3,9 +3,7 @@ use Rattle.std.proofs.Common.{if◌then◌else◌, ltb-true, None, not, Option, 
 use Rattle.std.proofs.lemmas.Bool.{and_from}
 use Rattle.law_base.proofs.CountingLemmas.Resource.{carried_more}
 use Rattle.law_base.proofs.CountingLemmas.Sums.{one_if_le_one, one_if_true, term_le_sum}
-use Rattle.law_base.proofs.Lists.{itself}
 use Rattle.law_base.proofs.LocalLemmas.Worlds.{is_ordered}
-use Rattle.law_base.proofs.Runs.{within_none, within_shared}
 use Rattle.law_base.specs.Counting.Resource.{carried, sent_by}
 use Rattle.law_base.specs.Counting.Sums.{one_if}
 use Rattle.law_base.specs.Local.Local.{hand_has}
@@ -18,6 +16,8 @@ use Rattle.law_invariants.proofs.NoCopyLemmas.Tokens.{home_goes_once, open_none,
 use Rattle.law_invariants.proofs.NoLossLemmas.Rights.{away_used, outside, outside_kept, registrar_known, taken_at_home}
 use Rattle.law_invariants.specs.Flow.Counts.{pool_has}
 use Rattle.law_invariants.specs.Flow.Flow.{centre_count}
+use Rattle.rbc_spec.proofs.Lists.{itself}
+use Rattle.rbc_spec.proofs.Runs.{within_none, within_shared}
 use Rattle.rbc_spec.specs.Acts.{returned}
 use Rattle.rbc_spec.specs.Centre.{Centre, Entry, is_out_for, is_taken_for, Mission, Out, Taken}
 use Rattle.rbc_spec.specs.Frame.{RouteReturn}

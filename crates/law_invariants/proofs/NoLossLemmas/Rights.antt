@@ -5,7 +5,6 @@ use Rattle.std.proofs.lemmas.List.Folds.{find_at}
 use Rattle.std.proofs.lemmas.Option.{slice_get-get_or}
 use Rattle.std.specs.List.{find, position_or_len}
 use Rattle.law_base.proofs.CountingLemmas.Sums.{one_if_le_one, one_if_some, one_if_true}
-use Rattle.law_base.proofs.Lists.{itself, registrar_below}
 use Rattle.law_base.specs.Counting.Resource.{Resource}
 use Rattle.law_base.specs.Counting.Sums.{one_if}
 use Rattle.law_base.specs.Local.Local.{hand_has}
@@ -24,6 +23,7 @@ use Rattle.law_invariants.specs.Flow.Sound.{IsCentreSound}
 use Rattle.law_invariants.specs.NoCopy.Steps.{IsExactStep}
 use Rattle.law_invariants.specs.NoCopy.Stray.{is_plain}
 use Rattle.law_invariants.specs.NoLoss.Keeps.{BringsNoStray, HasRightOnce}
+use Rattle.rbc_spec.proofs.Lists.{itself, registrar_below}
 use Rattle.rbc_spec.specs.Centre.{Centre, Entry, is_out_for, is_registrar_of, is_taken_for, is_used_for, Open, Out}
 use Rattle.rbc_spec.specs.Centre.{Shut, Taken}
 use Rattle.rbc_spec.specs.Frame.{Body}

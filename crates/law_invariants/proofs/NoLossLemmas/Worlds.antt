@@ -2,7 +2,6 @@
 use Rattle.std.proofs.Common.{◌≡◌, ◌≢◌, ap, List, ltb-true, None, Ok, refl, Some, subst, true, ℕ}
 use Rattle.law_base.proofs.CountingLemmas.Network.{each_head}
 use Rattle.law_base.proofs.CountingLemmas.Resource.{exact_still, placed_exact, placed_exact_took}
-use Rattle.law_base.proofs.Worlds.{keeps_run}
 use Rattle.law_base.specs.Counting.Network.{acted, IsCounted, TakesHead, took}
 use Rattle.law_base.specs.Counting.Resource.{IsExact, Resource}
 use Rattle.law_invariants.proofs.FlowLemmas.OnePlace.{line_begins_whole}
@@ -22,6 +21,7 @@ use Rattle.law_invariants.specs.NoCopy.Steps.{came_by, came_to}
 use Rattle.law_invariants.specs.NoLoss.Keeps.{BringsNoStray, HasRightOnce, IsExactAct}
 use Rattle.law_invariants.specs.NoUnasked.Asked.{IsAsked}
 use Rattle.law_invariants.specs.Sound.Stays.{IsInRange}
+use Rattle.rbc_spec.proofs.Worlds.{keeps_run}
 use Rattle.rbc_spec.specs.Centre.{Centre}
 use Rattle.rbc_spec.specs.Frame.{Body, Frame}
 use Rattle.rbc_spec.specs.Line.{is_centre, IsLine, Line}

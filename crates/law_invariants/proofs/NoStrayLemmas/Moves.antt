@@ -6,7 +6,6 @@ use Rattle.std.proofs.lemmas.Bool.{and_from, and_parts, cases_eq, eqb-true}
 use Rattle.std.proofs.lemmas.List.Elements.{All-append, All-cons, All-nil}
 use Rattle.std.specs.Option.{option_map_or}
 use Rattle.law_base.proofs.CountingLemmas.Sums.{put_other, put_same}
-use Rattle.law_base.proofs.Lists.{itself}
 use Rattle.law_base.proofs.WalkLemmas.Causes.{goes_back, goes_home, May, MaySend, to_some}
 use Rattle.law_base.proofs.WalkLemmas.Frames.{answers, answers_then, foreign, frame_may, Idle, idle, no_place}
 use Rattle.law_base.proofs.WalkLemmas.Frames.{no_registrar, no_section, not_asked, not_refused, Taking, walks}
@@ -30,6 +29,7 @@ use Rattle.law_invariants.specs.Flow.Flow.{centre_count}
 use Rattle.law_invariants.specs.NoStray.Due.{IsDue}
 use Rattle.law_invariants.specs.NoStray.Questions.{HasAsked, HasKnownOuts, IsBodyKnown}
 use Rattle.law_invariants.specs.NoUnasked.Asked.{OfRight, OfRoute, Question, questions}
+use Rattle.rbc_spec.proofs.Lists.{itself}
 use Rattle.rbc_spec.specs.Acts.{◌>>◌, Act, booked, freed, Reply, returned}
 use Rattle.rbc_spec.specs.Centre.{Centre, Entry, Expectation, is_open, is_out_for, is_taken_for, Out, Taken}
 use Rattle.rbc_spec.specs.Frame.{Announce, AskRight, Body, Cancel, GiveRight, RefuseRight, RouteAsk, RouteInfo}

@@ -5,14 +5,14 @@ use Rattle.std.proofs.lemmas.Bool.{and_parts}
 use Rattle.std.proofs.lemmas.Option.{same_Some}
 use Rattle.std.specs.List.{find, range_with_len}
 use Rattle.std.specs.Option.{option_map_or}
-use Rattle.law_base.proofs.Lists.{put_pair_there, put_there}
 use Rattle.law_base.proofs.LocalLemmas.Worlds.{world_of}
-use Rattle.law_base.proofs.Runs.{each_within}
 use Rattle.law_base.specs.Walk.Trains.{train_of}
 use Rattle.law_invariants.proofs.NoStrayLemmas.Counts.{is_answered}
 use Rattle.law_invariants.proofs.NoStrayLemmas.Worlds.{each_reached, frame_due, IsReachedSo}
 use Rattle.law_invariants.specs.NoStray.Due.{IsDue, IsFrameDue, IsTakenOver}
 use Rattle.law_invariants.specs.NoStray.Questions.{IsAnswered}
+use Rattle.rbc_spec.proofs.Lists.{put_pair_there, put_there}
+use Rattle.rbc_spec.proofs.Runs.{each_within}
 use Rattle.rbc_spec.specs.Acts.{◌>>◌, become, booked, may_propose, propose, propose_if_so, Reply, rest, set_mission}
 use Rattle.rbc_spec.specs.Centre.{Centre, is_out_for, Mission, Taken}
 use Rattle.rbc_spec.specs.Frame.{Body, Frame, GiveRight, RefuseRight, RouteInfo, RouteReturn, Yield, yielded_place}

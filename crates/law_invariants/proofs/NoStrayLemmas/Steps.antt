@@ -8,7 +8,6 @@ use Rattle.law_base.proofs.CountingLemmas.Network.{each_head}
 use Rattle.law_base.proofs.CountingLemmas.Places.{held_carried_le_placed}
 use Rattle.law_base.proofs.CountingLemmas.Resource.{carried_more}
 use Rattle.law_base.proofs.CountingLemmas.Sums.{one_if_some, one_if_true}
-use Rattle.law_base.proofs.Lists.{itself, none_is}
 use Rattle.law_base.proofs.WalkLemmas.Causes.{setting}
 use Rattle.law_base.proofs.WalkLemmas.FrameAnswers.{received_taking}
 use Rattle.law_base.proofs.WalkLemmas.Steps.{heard_train, heard_walks, may_do, set_walks, unset_walks}
@@ -31,6 +30,7 @@ use Rattle.law_invariants.specs.NoCopy.Stray.{has_place_for}
 use Rattle.law_invariants.specs.NoStray.Due.{IsDue}
 use Rattle.law_invariants.specs.NoStray.Questions.{HasKnownOuts, IsBodyKnown}
 use Rattle.law_invariants.specs.NoUnasked.Asked.{IsAsked, IsBodyAsked, OfRight, OfRoute, Question, questions}
+use Rattle.rbc_spec.proofs.Lists.{itself, none_is}
 use Rattle.rbc_spec.specs.Acts.{◌>>◌, become, hear, rest}
 use Rattle.rbc_spec.specs.Centre.{Centre, Expectation}
 use Rattle.rbc_spec.specs.Frame.{Announce, AskRight, Body, Cancel, Frame, GiveRight, RefuseRight, ReturnRight, RouteAsk}

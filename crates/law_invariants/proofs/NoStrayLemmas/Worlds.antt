@@ -5,7 +5,6 @@ use Rattle.std.proofs.lemmas.Bool.{cases_eq}
 use Rattle.law_base.proofs.CountingLemmas.Network.{counted_took, each_acted, each_head, each_start, each_took}
 use Rattle.law_base.proofs.CountingLemmas.Resource.{at_cap_start, placed_exact, placed_exact_took}
 use Rattle.law_base.proofs.CountingLemmas.Sums.{put_other, put_same}
-use Rattle.law_base.proofs.Worlds.{keeps_run}
 use Rattle.law_base.specs.Counting.Network.{acted, IsCounted, TakesHead, took}
 use Rattle.law_base.specs.Counting.Resource.{IsFair}
 use Rattle.law_base.specs.Counting.Sums.{one_if}
@@ -23,6 +22,7 @@ use Rattle.law_invariants.specs.Handover.Worlds.{IsWorldSound}
 use Rattle.law_invariants.specs.NoStray.Due.{IsFrameDue}
 use Rattle.law_invariants.specs.NoStray.Questions.{HasAsked, HasKnownOuts, IsBodyKnown, LeavesNone}
 use Rattle.law_invariants.specs.NoUnasked.Asked.{IsAsked, IsBodyAsked, OfRight, OfRoute, Question, questions}
+use Rattle.rbc_spec.proofs.Worlds.{keeps_run}
 use Rattle.rbc_spec.specs.Centre.{beginning, Centre}
 use Rattle.rbc_spec.specs.Frame.{Body, Frame}
 use Rattle.rbc_spec.specs.Line.{is_centre, is_linked, IsLine, Line}

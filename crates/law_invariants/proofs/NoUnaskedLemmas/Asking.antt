@@ -8,8 +8,6 @@ use Rattle.std.specs.Option.{option_map_or}
 use Rattle.law_base.proofs.CountingLemmas.Network.{to_one_other}
 use Rattle.law_base.proofs.CountingLemmas.Resource.{carried_more, carried_none, fair_more, fair_seq, sent_single}
 use Rattle.law_base.proofs.CountingLemmas.Sums.{put_other, put_same, sum_same, sum_zero}
-use Rattle.law_base.proofs.Lists.{itself}
-use Rattle.law_base.proofs.Runs.{all_within, within_shared}
 use Rattle.law_base.proofs.WalkLemmas.Causes.{May}
 use Rattle.law_base.proofs.WalkLemmas.Frames.{is_question}
 use Rattle.law_base.specs.Counting.Network.{to_one}
@@ -17,7 +15,9 @@ use Rattle.law_base.specs.Counting.Resource.{carried, IsFair, Resource, sent_by}
 use Rattle.law_base.specs.Counting.Sums.{one_if}
 use Rattle.law_invariants.specs.Flow.Flow.{centre_count}
 use Rattle.law_invariants.specs.NoUnasked.Asked.{IsBodyAsked, OfRight, OfRoute, Question, questions, stands}
+use Rattle.rbc_spec.proofs.Lists.{itself}
 use Rattle.rbc_spec.proofs.Places.{homes_run}
+use Rattle.rbc_spec.proofs.Runs.{all_within, within_shared}
 use Rattle.rbc_spec.specs.Acts.{◌>>◌, Act, booked, Reply, rest, returned, send}
 use Rattle.rbc_spec.specs.Centre.{Centre, Entry, Taken}
 use Rattle.rbc_spec.specs.Frame.{AskRight, Body, GiveRight, RefuseRight, RouteAsk, RouteInfo, RouteReturn}

@@ -4,8 +4,6 @@ use Rattle.std.proofs.lemmas.Bool.{and_parts, eqb-true}
 use Rattle.std.proofs.lemmas.List.Elements.{All-append, All-cons, All-nil}
 use Rattle.std.specs.Option.{option_map_or}
 use Rattle.law_base.proofs.CountingLemmas.Sums.{put_same}
-use Rattle.law_base.proofs.Lists.{itself}
-use Rattle.law_base.proofs.Runs.{all_within, longest_is}
 use Rattle.law_base.proofs.WalkLemmas.Causes.{goes_back, goes_home, May, MaySend, to_some}
 use Rattle.law_base.proofs.WalkLemmas.Frames.{answers, answers_then, foreign, frame_may, idle, Taking, walks}
 use Rattle.law_base.proofs.WalkLemmas.Moves.{announces, Answer, asks_right, asks_route, begins_at, closes_handed, drops}
@@ -20,6 +18,8 @@ use Rattle.law_invariants.proofs.NoUnaskedLemmas.Asking.{IsOfLine, less_stands, 
 use Rattle.law_invariants.proofs.NoUnaskedLemmas.Asking.{other_named, put_apart, return_aside, returned_aside}
 use Rattle.law_invariants.proofs.NoUnaskedLemmas.Asking.{sends_one, still}
 use Rattle.law_invariants.specs.NoUnasked.Asked.{IsBodyAsked, OfRight, OfRoute, Question, questions}
+use Rattle.rbc_spec.proofs.Lists.{itself}
+use Rattle.rbc_spec.proofs.Runs.{all_within, longest_is}
 use Rattle.rbc_spec.specs.Acts.{booked, Reply, rest, returned}
 use Rattle.rbc_spec.specs.Centre.{Centre, Expectation, is_free, is_open, Out}
 use Rattle.rbc_spec.specs.Frame.{Announce, AskRight, Body, Cancel, GiveRight, RefuseRight, RouteAsk, RouteInfo}

@@ -2,7 +2,6 @@
 use Rattle.std.proofs.Common.{◌+◌, ◌∙◌, ◌≡◌, ◌≢◌, ap, arith, List, Ok, refl, Some, subst, sym, true, ℕ}
 use Rattle.law_base.proofs.CountingLemmas.Network.{each_head, each_start}
 use Rattle.law_base.proofs.CountingLemmas.Resource.{within_start}
-use Rattle.law_base.proofs.Worlds.{Brings, delivers, of_event, says, sets, unsets}
 use Rattle.law_base.specs.Counting.Network.{acted, TakesHead, took}
 use Rattle.law_invariants.proofs.FlowLemmas.OnePlace.{none_way}
 use Rattle.law_invariants.proofs.FlowLemmas.Steps.{at_head, by_itself, is_next, next_sent}
@@ -16,6 +15,7 @@ use Rattle.law_invariants.specs.Handover.Steps.{IsByItself, left_by, sent_by}
 use Rattle.law_invariants.specs.Handover.Worlds.{IsWorldSound}
 use Rattle.law_invariants.specs.NoCopy.Steps.{done}
 use Rattle.law_invariants.specs.NoUnasked.Asked.{IsAsked, IsBodyAsked, questions}
+use Rattle.rbc_spec.proofs.Worlds.{Brings, delivers, of_event, says, sets, unsets}
 use Rattle.rbc_spec.specs.Centre.{beginning}
 use Rattle.rbc_spec.specs.Frame.{Frame}
 use Rattle.rbc_spec.specs.Line.{is_centre, is_linked, IsLine, Line}

@@ -7,8 +7,6 @@ use Rattle.std.specs.List.{Contains, flat_map}
 use Rattle.std.specs.Option.{option_map_or}
 use Rattle.law_base.proofs.CountingLemmas.Places.{one_place}
 use Rattle.law_base.proofs.CountingLemmas.Sums.{one_if_true, sum_only}
-use Rattle.law_base.proofs.Lists.{itself, one_home}
-use Rattle.law_base.proofs.Runs.{each_within}
 use Rattle.law_base.specs.Counting.Network.{way}
 use Rattle.law_base.specs.Counting.Resource.{allowed, carried, OnlyHeld, OnlyOnTheWay, placed}
 use Rattle.law_base.specs.Counting.Sums.{one_if}
@@ -24,6 +22,8 @@ use Rattle.law_invariants.specs.Flow.Flow.{centre_count, flow_of}
 use Rattle.law_invariants.specs.Flow.Sound.{IsFlowSound, LosesNothing}
 use Rattle.law_invariants.specs.NoUnasked.Asked.{IsAsked, IsBodyAsked}
 use Rattle.law_invariants.specs.OnePlace.Where.{GoesBetween, IsFoundAs, IsWhereHomeHasIt}
+use Rattle.rbc_spec.proofs.Lists.{itself, one_home}
+use Rattle.rbc_spec.proofs.Runs.{each_within}
 use Rattle.rbc_spec.specs.Centre.{Centre, Entry, is_taken_for, is_used_for, Mission, Open, Out, Shut, Taken}
 use Rattle.rbc_spec.specs.Frame.{Body, Frame, RouteInfo, RouteReturn, Yield}
 use Rattle.rbc_spec.specs.Line.{is_centre, is_home, IsLine, Line, Section, section}

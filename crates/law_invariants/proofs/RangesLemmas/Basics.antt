@@ -11,14 +11,14 @@ use Rattle.std.proofs.lemmas.Nat.{mul-le}
 use Rattle.std.proofs.lemmas.Option.{get_or_from_slice_get, same_Some, slice_get_within}
 use Rattle.std.specs.List.{position, sum_by}
 use Rattle.std.specs.Option.{option_map_or}
-use Rattle.law_base.proofs.Lists.{each_at, on_line, registrar_below}
 use Rattle.law_base.proofs.LocalLemmas.Homes.{begun_local, fit_parts}
 use Rattle.law_base.proofs.LocalLemmas.Worlds.{is_ordered}
 use Rattle.law_base.proofs.RulesLemmas.Places.{ahead_of_group, placed_on}
-use Rattle.law_base.proofs.Runs.{within_from}
 use Rattle.law_invariants.proofs.FlowLemmas.Neighbours.{home_below as centre_at, neighbours}
 use Rattle.law_invariants.proofs.FlowLemmas.Taken.{in_both}
 use Rattle.law_invariants.specs.Ranges.Ranges.{HasPositionRanges}
+use Rattle.rbc_spec.proofs.Lists.{each_at, on_line, registrar_below}
+use Rattle.rbc_spec.proofs.Runs.{within_from}
 use Rattle.rbc_spec.proofs.Sums.{sum_kept, sum_left, sum_up_to}
 use Rattle.rbc_spec.specs.Centre.{is_registrar_of}
 use Rattle.rbc_spec.specs.Frame.{carried_place, HasPlaceRange, HasRunRange, is_short_distance, IsEngine}

@@ -5,13 +5,13 @@ use Rattle.std.proofs.Common.{ℕ}
 use Rattle.std.proofs.lemmas.Bool.{and_parts, eqb-false, or_parts}
 use Rattle.std.proofs.lemmas.List.Elements.{All-append, All-cons, All-nil}
 use Rattle.std.specs.Option.{option_map_or}
-use Rattle.law_base.proofs.Lists.{itself, put_holds}
 use Rattle.law_base.proofs.LocalLemmas.Worlds.{is_ordered}
-use Rattle.law_base.proofs.Runs.{within_from}
 use Rattle.law_base.proofs.WalkLemmas.Causes.{to_some}
 use Rattle.law_invariants.proofs.FlowLemmas.Taken.{in_both}
 use Rattle.law_invariants.proofs.RangesLemmas.Basics.{each_home, of_some, part_range}
 use Rattle.law_invariants.specs.Ranges.Ranges.{HasMissionRanges, HasStartRanges, HasStateParts, IsSentInRange}
+use Rattle.rbc_spec.proofs.Lists.{itself, put_holds}
+use Rattle.rbc_spec.proofs.Runs.{within_from}
 use Rattle.rbc_spec.specs.Acts.{Reply, returned}
 use Rattle.rbc_spec.specs.Centre.{Centre, Entry, Expectation, is_out_for, Mission, Out}
 use Rattle.rbc_spec.specs.Frame.{Body, HasBodyRange, IsEngine, IsHandoverNumber, RouteReturn, RouteWithdraw, TakingOver}

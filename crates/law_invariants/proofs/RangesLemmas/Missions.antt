@@ -2,9 +2,9 @@
 use Rattle.std.proofs.Common.{⊎_elim, ◌&&◌, ◌+◌, ◌-◌, ◌==◌, ◌||◌, ◌∙◌, ◌≡◌, ◌≤◌, ap, arith, Bool, eqb-true, false}
 use Rattle.std.proofs.Common.{if◌then◌else◌, inl, inr, None, not, refl, Some, sym, true, ℕ}
 use Rattle.std.proofs.lemmas.Bool.{and_parts, eqb-false, or_cases}
-use Rattle.law_base.proofs.Runs.{joined_count, joined_is, longest_each, longest_few, within_joined, within_true}
 use Rattle.law_invariants.proofs.RangesLemmas.Basics.{of_some, on_below, run_range}
 use Rattle.law_invariants.specs.Ranges.Ranges.{HasMissionRanges, HasStartRanges}
+use Rattle.rbc_spec.proofs.Runs.{joined_count, joined_is, longest_each, longest_few, within_joined, within_true}
 use Rattle.rbc_spec.specs.Acts.{begun}
 use Rattle.rbc_spec.specs.Centre.{Centre, is_free, Mission}
 use Rattle.rbc_spec.specs.Frame.{HasPlaceRange, HasRunRange, IsHandoverNumber, yielded_place}

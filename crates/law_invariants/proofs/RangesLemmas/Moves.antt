@@ -5,7 +5,6 @@ use Rattle.std.proofs.lemmas.Bool.{eqb-false}
 use Rattle.std.proofs.lemmas.List.Elements.{All-append, All-nil}
 use Rattle.std.specs.Option.{option_map_or}
 use Rattle.law_base.proofs.RulesLemmas.Places.{fit_is}
-use Rattle.law_base.proofs.Runs.{longest_few}
 use Rattle.law_base.proofs.WalkLemmas.Causes.{all_free, Alone, begins, by_itself, Came, Cause, Change, clears, comes}
 use Rattle.law_base.proofs.WalkLemmas.Causes.{cuts, Expects, goes_back, goes_home, grows, hand_to, Hears, IsAhead}
 use Rattle.law_base.proofs.WalkLemmas.Causes.{less_pool, May, MayBegin, MaySend, Message, next_of, no_more, no_pool}
@@ -26,6 +25,7 @@ use Rattle.law_invariants.proofs.RangesLemmas.Missions.{extended_range, handed_r
 use Rattle.law_invariants.proofs.RangesLemmas.Missions.{shorter_range, unhanded_range, unpooled_range}
 use Rattle.law_invariants.specs.Ranges.Ranges.{HasMessageRanges, HasMissionRanges, HasPositionRanges, HasStartRanges}
 use Rattle.law_invariants.specs.Ranges.Ranges.{IsReportInRange, IsSentInRange}
+use Rattle.rbc_spec.proofs.Runs.{longest_few}
 use Rattle.rbc_spec.specs.Acts.{◌>>◌, Act, begun, freed, Reply, set_mission}
 use Rattle.rbc_spec.specs.Centre.{Centre, Entry, Expectation, Handing, is_free, is_open, is_registrar_of, is_taken_for}
 use Rattle.rbc_spec.specs.Centre.{Mission, Open, Out, Shut, Taken}

@@ -1,15 +1,15 @@
 -- Each frame of a world is in range, and each of its answers has few messages, replies and frames.
 use Rattle.std.proofs.Common.{◌≡◌, All, List, None, Ok, ℕ}
 use Rattle.std.proofs.lemmas.List.Elements.{All-append, All-nil}
-use Rattle.law_base.proofs.Lists.{put_holds}
 use Rattle.law_base.proofs.RulesLemmas.SentTaken.{few_frames, few_sayings, few_words, in_order}
-use Rattle.law_base.proofs.Worlds.{Brings, delivers, faulty, IsIdle, no_centre, not_sent, of_event, of_run, of_sent}
-use Rattle.law_base.proofs.Worlds.{says, sets, unsets}
 use Rattle.law_invariants.proofs.RangesLemmas.Steps.{begins_in_range, holds_few, sends_in_range, stays_in_range}
 use Rattle.law_invariants.proofs.RangesLemmas.Steps.{takes_few}
 use Rattle.law_invariants.specs.Ranges.Few.{IsFewAnswer, SaysFew}
 use Rattle.law_invariants.specs.Ranges.Ranges.{HasEventRanges, HasStateRanges}
 use Rattle.law_invariants.specs.Ranges.Stays.{IsFrameInRange, IsReadInRange, IsWorldInRange}
+use Rattle.rbc_spec.proofs.Lists.{put_holds}
+use Rattle.rbc_spec.proofs.Worlds.{Brings, delivers, faulty, IsIdle, no_centre, not_sent, of_event, of_run, of_sent}
+use Rattle.rbc_spec.proofs.Worlds.{says, sets, unsets}
 use Rattle.rbc_spec.specs.Centre.{beginning, Centre}
 use Rattle.rbc_spec.specs.Line.{IsLine, Line}
 use Rattle.rbc_spec.specs.Maps.{put}

@@ -3,7 +3,6 @@ use Rattle.std.proofs.Common.{◌&&◌, ◌==◌, ◌∙◌, ◌≡◌, ◌≢�
 use Rattle.std.proofs.Common.{is_some, length, nat_lt, None, not, Option, refl, Some, subst, sym, true, ℕ}
 use Rattle.std.proofs.lemmas.Bool.{and_parts, both_ways, not-true, or_parts}
 use Rattle.std.specs.Option.{option_map_or}
-use Rattle.law_base.proofs.Lists.{put_here, put_other}
 use Rattle.law_base.proofs.LocalLemmas.Stays.{by_same}
 use Rattle.law_base.proofs.RulesLemmas.Places.{not_for}
 use Rattle.law_invariants.proofs.SoundLemmas.Again.{changed_sound, dropped_sound, free_sound, IsKnown, phase_sound}
@@ -19,6 +18,7 @@ use Rattle.law_invariants.proofs.SoundLemmas.Starts.{asked_sound, given_sound, r
 use Rattle.law_invariants.proofs.SoundLemmas.Starts.{start_sound}
 use Rattle.law_invariants.specs.Flow.Sound.{IsCentreSound}
 use Rattle.law_invariants.specs.Sound.Stays.{HasHandRange, IsInRange, StaysSound}
+use Rattle.rbc_spec.proofs.Lists.{put_here, put_other}
 use Rattle.rbc_spec.specs.Acts.{◌>>◌, Act, become, change_mission, hear, rest}
 use Rattle.rbc_spec.specs.Centre.{Centre, Closed, is_up, Opened, Up}
 use Rattle.rbc_spec.specs.Frame.{Announce, AskRight, Body, Cancel, carried_place, Frame, GiveRight, RefuseRight}

@@ -6,11 +6,9 @@ use Rattle.std.proofs.lemmas.Bool.{and_parts, cond-false, cond-true, ne_eqb, or_
 use Rattle.std.proofs.lemmas.Option.{same_Some}
 use Rattle.std.specs.List.{find, range_with_len}
 use Rattle.std.specs.Option.{option_map_or}
-use Rattle.law_base.proofs.Lists.{none_is, one_home, put_here, put_other}
 use Rattle.law_base.proofs.LocalLemmas.Entries.{booked_for, unused_booked}
 use Rattle.law_base.proofs.LocalLemmas.Missions.{none_within}
 use Rattle.law_base.proofs.LocalLemmas.Stays.{by_same}
-use Rattle.law_base.proofs.Runs.{each_within}
 use Rattle.law_base.specs.Counting.Sums.{one_if}
 use Rattle.law_base.specs.Local.Local.{hand_has}
 use Rattle.law_invariants.proofs.FlowLemmas.Neighbours.{next_apart}
@@ -22,6 +20,8 @@ use Rattle.law_invariants.proofs.SoundLemmas.Sends.{Held, if_reply, leaves, none
 use Rattle.law_invariants.proofs.SoundLemmas.Sends.{shut_unbooked, Sound, then_sound}
 use Rattle.law_invariants.specs.Flow.Counts.{wait_has}
 use Rattle.law_invariants.specs.Flow.Sound.{IsCentreSound, IsMissionAt}
+use Rattle.rbc_spec.proofs.Lists.{none_is, one_home, put_here, put_other}
+use Rattle.rbc_spec.proofs.Runs.{each_within}
 use Rattle.rbc_spec.specs.Acts.{◌>>◌, become, booked, propose_if_so, rest, set_mission, with_some}
 use Rattle.rbc_spec.specs.Centre.{Centre, Entry, Expectation, is_out_for, is_taken_for, Mission, Open, Out, Shut, Taken}
 use Rattle.rbc_spec.specs.Line.{is_home, IsLine, Line, next_centre, Section, section, section_of_group, train_number}

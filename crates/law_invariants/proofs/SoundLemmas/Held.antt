@@ -2,18 +2,18 @@
 use Rattle.std.proofs.Common.{⊎_elim, ◌&&◌, ◌*◌, ◌+◌, ◌||◌, ◌∙◌, ◌≡◌, ◌≢◌, ◌≤◌, ap, arith, Bool, false, inl, inr}
 use Rattle.std.proofs.Common.{is_some, not, Option, refl, Some, subst, sym, true, ℕ}
 use Rattle.std.proofs.lemmas.Bool.{and_parts, both_ways, cases_eq}
-use Rattle.law_base.proofs.Lists.{one_track, put_here, put_other}
 use Rattle.law_base.proofs.LocalLemmas.Entries.{given, hand_given, others_given, taken_elsewhere, taken_for_one}
 use Rattle.law_base.proofs.LocalLemmas.Entries.{taken_given, taken_here, unused_booked}
 use Rattle.law_base.proofs.LocalLemmas.Homes.{begun_local, fit_parts}
 use Rattle.law_base.proofs.RulesLemmas.Places.{extent_ahead, has_group}
-use Rattle.law_base.proofs.Runs.{each_within, within_from}
 use Rattle.law_base.specs.Counting.Sums.{one_if}
 use Rattle.law_base.specs.Local.Local.{hand_has, IsOrdered}
 use Rattle.law_invariants.proofs.SoundLemmas.Sends.{away, both_or, given_unused, Held, lent_others, lent_taken}
 use Rattle.law_invariants.proofs.SoundLemmas.Sends.{lent_unused, Owes, shut_unbooked}
 use Rattle.law_invariants.specs.Flow.Counts.{wait_has}
 use Rattle.law_invariants.specs.Flow.Sound.{HasComeTo, IsCentreSound, IsHandAt, IsMissionAt, IsOfNext}
+use Rattle.rbc_spec.proofs.Lists.{one_track, put_here, put_other}
+use Rattle.rbc_spec.proofs.Runs.{each_within, within_from}
 use Rattle.rbc_spec.specs.Acts.{booked, freed, set_mission}
 use Rattle.rbc_spec.specs.Centre.{Centre, Entry, is_open, is_taken_for, is_unused, Mission, Out, Taken}
 use Rattle.rbc_spec.specs.Line.{is_home, Line, next_centre, section_of_group, train_number}

@@ -4,7 +4,6 @@ use Rattle.std.proofs.Common.{lt-ltb, None, not, Option, option_map, refl, Some,
 use Rattle.std.proofs.lemmas.Bool.{and_parts}
 use Rattle.std.proofs.lemmas.Option.{same_Some}
 use Rattle.std.specs.Option.{option_map_or}
-use Rattle.law_base.proofs.Lists.{registrar_below}
 use Rattle.law_base.specs.Counting.Sums.{one_if}
 use Rattle.law_base.specs.Local.Local.{hand_has}
 use Rattle.law_invariants.proofs.FlowLemmas.Neighbours.{neighbours}
@@ -14,6 +13,7 @@ use Rattle.law_invariants.proofs.SoundLemmas.Sends.{Held, if_reply, if_sound, le
 use Rattle.law_invariants.proofs.SoundLemmas.Sends.{rest_sound, returned_sent, Sends, sends_of, Sound, then_sent}
 use Rattle.law_invariants.specs.Flow.Counts.{wait_has}
 use Rattle.law_invariants.specs.Flow.Sound.{IsCentreSound, IsMissionAt, IsYieldSound}
+use Rattle.rbc_spec.proofs.Lists.{registrar_below}
 use Rattle.rbc_spec.specs.Acts.{◌>>◌, Act, become, booked, cancel, change_mission, close, end_order, leave, part_at}
 use Rattle.rbc_spec.specs.Acts.{rest, return_right, send, set_mission, where_so, yield}
 use Rattle.rbc_spec.specs.Centre.{Centre, Handing, is_registrar_of, is_taken_for, is_up, Mission, Out}

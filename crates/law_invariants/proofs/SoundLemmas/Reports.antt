@@ -7,8 +7,6 @@ use Rattle.std.specs.Option.{option_map_or}
 use Rattle.law_base.proofs.LocalLemmas.Homes.{within_kept, within_rest}
 use Rattle.law_base.proofs.LocalLemmas.Missions.{none_within}
 use Rattle.law_base.proofs.RulesLemmas.Places.{placed_on}
-use Rattle.law_base.proofs.Runs.{longest_few, within_from, within_true}
-use Rattle.law_base.proofs.Worlds.{rests_or_cuts}
 use Rattle.law_invariants.proofs.SoundLemmas.Again.{changed_sound, free_sound}
 use Rattle.law_invariants.proofs.SoundLemmas.Held.{ends_less, IsReported, reported, still}
 use Rattle.law_invariants.proofs.SoundLemmas.Leaving.{part_leaves, part_then, to_centre, whole_leaves}
@@ -16,6 +14,8 @@ use Rattle.law_invariants.proofs.SoundLemmas.Sends.{if_sound, joined_without, le
 use Rattle.law_invariants.proofs.SoundLemmas.Sends.{or_sound, rest_sound, returned_sent, Sound, tail_after, tail_part}
 use Rattle.law_invariants.proofs.SoundLemmas.Sends.{then_sound, whole_tail}
 use Rattle.law_invariants.specs.Flow.Sound.{IsBodySound, IsCentreSound, IsMissionAt}
+use Rattle.rbc_spec.proofs.Runs.{longest_few, within_from, within_true}
+use Rattle.rbc_spec.proofs.Worlds.{rests_or_cuts}
 use Rattle.rbc_spec.specs.Acts.{◌>>◌, Act, cancel, change_mission, close, leave, part_at, rest, return_pool, returned}
 use Rattle.rbc_spec.specs.Acts.{send, set_mission, with_mission}
 use Rattle.rbc_spec.specs.Centre.{Centre, Expectation, Mission, Proposal}

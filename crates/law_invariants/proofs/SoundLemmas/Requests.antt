@@ -7,10 +7,8 @@ use Rattle.std.proofs.lemmas.Bool.{and_parts, both_ways, cases_eq, eqb-true, fal
 use Rattle.std.proofs.lemmas.List.Elements.{All-head, All-tail}
 use Rattle.std.proofs.lemmas.Option.{same_Some}
 use Rattle.std.specs.Option.{option_map_or}
-use Rattle.law_base.proofs.Lists.{none_is, one_home, put_here, put_other}
 use Rattle.law_base.proofs.LocalLemmas.Worlds.{is_ordered}
 use Rattle.law_base.proofs.RulesLemmas.Places.{placed_on}
-use Rattle.law_base.proofs.Runs.{joined_is, longest_each, longest_few, within_from, within_joined, within_true}
 use Rattle.law_base.specs.Counting.Sums.{one_if}
 use Rattle.law_base.specs.Local.Local.{hand_has}
 use Rattle.law_invariants.proofs.FlowLemmas.Neighbours.{neighbours, next_apart}
@@ -22,7 +20,9 @@ use Rattle.law_invariants.proofs.SoundLemmas.Sends.{Held, if_reply, leaves, none
 use Rattle.law_invariants.proofs.SoundLemmas.Sends.{rest_sound, Sound, then_sent, then_sound}
 use Rattle.law_invariants.specs.Flow.Counts.{wait_has}
 use Rattle.law_invariants.specs.Flow.Sound.{HasComeTo, IsCentreSound, IsHandAt, IsMissionAt, IsOfNext}
+use Rattle.rbc_spec.proofs.Lists.{none_is, one_home, put_here, put_other}
 use Rattle.rbc_spec.proofs.Places.{section_on}
+use Rattle.rbc_spec.proofs.Runs.{joined_is, longest_each, longest_few, within_from, within_joined, within_true}
 use Rattle.rbc_spec.specs.Acts.{◌>>◌, Act, announce, ask_route, booked, change_mission, part_at, rest, say, set_mission}
 use Rattle.rbc_spec.specs.Centre.{Centre, Entry, Handing, is_free, is_open, is_taken_for, Mission, Open, Out, Shut}
 use Rattle.rbc_spec.specs.Centre.{Taken}

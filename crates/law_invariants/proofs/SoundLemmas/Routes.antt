@@ -6,9 +6,7 @@ use Rattle.std.proofs.lemmas.Bool.{and_parts, and_right, both_ways, cases_eq, eq
 use Rattle.std.proofs.lemmas.Bool.{not-false}
 use Rattle.std.proofs.lemmas.List.Elements.{All-cons, All-nil}
 use Rattle.std.specs.Option.{option_map_or}
-use Rattle.law_base.proofs.Lists.{one_home, put_here, put_other}
 use Rattle.law_base.proofs.LocalLemmas.Entries.{given, taken_given, unused_taken}
-use Rattle.law_base.proofs.Runs.{each_within, within_from, within_true}
 use Rattle.law_invariants.proofs.SoundLemmas.Again.{book_sound, changed_sound, free_sound, said_sound}
 use Rattle.law_invariants.proofs.SoundLemmas.Leaving.{ordered_end}
 use Rattle.law_invariants.proofs.SoundLemmas.Reports.{other_words}
@@ -16,6 +14,8 @@ use Rattle.law_invariants.proofs.SoundLemmas.Sends.{away, given_unused, if_reply
 use Rattle.law_invariants.proofs.SoundLemmas.Sends.{lent_unused, none_sent, one_sent, or_reply, rest_sound}
 use Rattle.law_invariants.proofs.SoundLemmas.Sends.{returned_sent, shut_unbooked, Sound, then_sound}
 use Rattle.law_invariants.specs.Flow.Sound.{IsBodySound, IsCentreSound, IsMissionAt, IsOfNext}
+use Rattle.rbc_spec.proofs.Lists.{one_home, put_here, put_other}
+use Rattle.rbc_spec.proofs.Runs.{each_within, within_from, within_true}
 use Rattle.rbc_spec.specs.Acts.{◌>>◌, become, booked, change_mission, end_order, freed, may_propose, propose}
 use Rattle.rbc_spec.specs.Acts.{propose_if_so, rest, returned, send, where_so}
 use Rattle.rbc_spec.specs.Centre.{Centre, Entry, is_expected, is_open, is_out_for, is_taken_for, is_unused, Mission}

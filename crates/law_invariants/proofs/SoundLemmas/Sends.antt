@@ -7,7 +7,6 @@ use Rattle.std.proofs.lemmas.List.Elements.{All-append, All-cons, All-nil}
 use Rattle.std.specs.Option.{option_map_or}
 use Rattle.law_base.proofs.LocalLemmas.Entries.{given, taken_for_one}
 use Rattle.law_base.proofs.LocalLemmas.Worlds.{is_ordered}
-use Rattle.law_base.proofs.Runs.{joined_empty, same_tests, within_from, within_joined, within_none, within_true}
 use Rattle.law_base.specs.Counting.Sums.{one_if}
 use Rattle.law_base.specs.Local.Local.{hand_has}
 use Rattle.law_invariants.proofs.FlowLemmas.Neighbours.{home_below}
@@ -15,6 +14,7 @@ use Rattle.law_invariants.proofs.FlowLemmas.Taken.{in_both}
 use Rattle.law_invariants.specs.Flow.Counts.{wait_has}
 use Rattle.law_invariants.specs.Flow.Keeping.{LeavesSound}
 use Rattle.law_invariants.specs.Flow.Sound.{IsBodySound, IsCentreSound, IsHandAt, IsMissionAt, IsOfNext}
+use Rattle.rbc_spec.proofs.Runs.{joined_empty, same_tests, within_from, within_joined, within_none, within_true}
 use Rattle.rbc_spec.specs.Acts.{◌>>◌, Act, Reply, rest, returned, send}
 use Rattle.rbc_spec.specs.Centre.{Centre, Entry, is_taken_for, is_unused, Mission, Out, Shut}
 use Rattle.rbc_spec.specs.Frame.{Body, RouteReturn}

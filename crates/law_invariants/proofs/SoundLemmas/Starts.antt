@@ -4,11 +4,9 @@ use Rattle.std.proofs.Common.{Option, refl, Some, subst, sym, true, ℕ}
 use Rattle.std.proofs.lemmas.Bool.{and_parts}
 use Rattle.std.proofs.lemmas.Option.{same_Some}
 use Rattle.std.specs.Option.{option_map_or}
-use Rattle.law_base.proofs.Lists.{none_is}
 use Rattle.law_base.proofs.LocalLemmas.Missions.{none_within}
 use Rattle.law_base.proofs.LocalLemmas.Worlds.{is_ordered}
 use Rattle.law_base.proofs.RulesLemmas.Places.{fit_is}
-use Rattle.law_base.proofs.Runs.{each_within}
 use Rattle.law_base.specs.Counting.Sums.{one_if}
 use Rattle.law_base.specs.Local.Local.{hand_has}
 use Rattle.law_invariants.proofs.FlowLemmas.Neighbours.{begun_ends}
@@ -23,6 +21,8 @@ use Rattle.law_invariants.proofs.SoundLemmas.Sends.{Held, if_reply, if_sound, le
 use Rattle.law_invariants.proofs.SoundLemmas.Sends.{or_sound, rest_sound, Sound, then_sound}
 use Rattle.law_invariants.specs.Flow.Counts.{wait_has}
 use Rattle.law_invariants.specs.Flow.Sound.{IsCentreSound, IsHandAt, IsMissionAt}
+use Rattle.rbc_spec.proofs.Lists.{none_is}
+use Rattle.rbc_spec.proofs.Runs.{each_within}
 use Rattle.rbc_spec.specs.Acts.{◌>>◌, Act, become, begun, booked, change_mission, rest, return_right, send, set_mission}
 use Rattle.rbc_spec.specs.Acts.{where_so}
 use Rattle.rbc_spec.specs.Centre.{Centre, is_free, is_open, is_registrar_of, is_taken_for, Mission, Taken}

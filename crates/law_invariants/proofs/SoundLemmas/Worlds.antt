@@ -1,13 +1,13 @@
 -- Each centre of a world is sound, and each Yield has its sections.
 use Rattle.std.proofs.Common.{[], ◌+◌, ◌∷◌, ◌≡◌, All, length, List, Ok, ℕ}
 use Rattle.std.proofs.lemmas.List.Elements.{All-append, All-cons, All-head, All-nil, All-tail}
-use Rattle.law_base.proofs.Lists.{put_holds}
-use Rattle.law_base.proofs.Worlds.{Brings, delivers, keeps_run, of_event, of_sent, says, sets, unsets}
 use Rattle.law_invariants.proofs.FlowLemmas.OnePlace.{centre_begins}
 use Rattle.law_invariants.proofs.SoundLemmas.Events.{stays_sound}
 use Rattle.law_invariants.specs.Flow.Sound.{IsBodySound, IsCentreSound}
 use Rattle.law_invariants.specs.Sound.Stays.{HasHandRange, IsInRange}
 use Rattle.law_invariants.specs.Sound.Worlds.{AreCentresSound}
+use Rattle.rbc_spec.proofs.Lists.{put_holds}
+use Rattle.rbc_spec.proofs.Worlds.{Brings, delivers, keeps_run, of_event, of_sent, says, sets, unsets}
 use Rattle.rbc_spec.specs.Centre.{beginning, Centre}
 use Rattle.rbc_spec.specs.Frame.{Announce, AskRight, Body, Cancel, Frame, GiveRight, HasBodyRange, RefuseRight}
 use Rattle.rbc_spec.specs.Frame.{ReturnRight, RouteAsk, RouteInfo, RouteReturn, RouteWithdraw, TakingOver, Yield}

@@ -5,7 +5,6 @@ use Rattle.std.proofs.lemmas.Bool.{eqb-true}
 use Rattle.std.specs.Option.{option_map_or}
 use Rattle.law_base.proofs.CountingLemmas.Resource.{placed_exact_took, placed_sound, placed_sound_took}
 use Rattle.law_base.proofs.CountingLemmas.Sums.{put_other, put_same}
-use Rattle.law_base.proofs.Lists.{itself}
 use Rattle.law_base.proofs.WalkLemmas.Causes.{still as still_for}
 use Rattle.law_base.proofs.WalkLemmas.Moves.{Answer as TakenUp, gives, refuses}
 use Rattle.law_base.specs.Counting.Network.{IsCounted, TakesHead, took}
@@ -24,6 +23,7 @@ use Rattle.law_invariants.specs.Flow.Counts.{rights, tokens}
 use Rattle.law_invariants.specs.Flow.Flow.{centre_count, Flow, flow_of}
 use Rattle.law_invariants.specs.Flow.Leads.{replied}
 use Rattle.law_invariants.specs.NoUnasked.Asked.{OfRight, OfRoute, Question, questions}
+use Rattle.rbc_spec.proofs.Lists.{itself}
 use Rattle.rbc_spec.specs.Acts.{◌>>◌, Act, become, booked, Reply, rest, send, where_so}
 use Rattle.rbc_spec.specs.Centre.{Centre, is_open, is_registrar_of, Taken}
 use Rattle.rbc_spec.specs.Frame.{AskRight, RefuseRight}

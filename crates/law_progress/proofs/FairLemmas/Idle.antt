@@ -4,7 +4,6 @@ use Rattle.std.proofs.Common.{Ok, Option, refl, Result, Some, subst, suc, sym, z
 use Rattle.std.proofs.lemmas.List.{append-nil}
 use Rattle.std.specs.List.{flat_map, sum_by}
 use Rattle.std.specs.Option.{option_map_or}
-use Rattle.law_base.proofs.Lists.{put_keeps}
 use Rattle.law_base.proofs.PiecesLemmas.Loop.{run_of_none}
 use Rattle.law_base.specs.Counting.Network.{TakesHead}
 use Rattle.law_invariants.proofs.FlowLemmas.Seats.{way_is}
@@ -15,6 +14,7 @@ use Rattle.law_invariants.specs.Flow.Flow.{centre_count, flow_of}
 use Rattle.law_progress.proofs.RestLemmas.Rest.{no_way, work_is}
 use Rattle.law_progress.specs.Fair.Schedule.{after, clockless, IsSameButClocks, IsSilent, next_number, world_after}
 use Rattle.law_progress.specs.Rest.Rest.{work, work_of}
+use Rattle.rbc_spec.proofs.Lists.{put_keeps}
 use Rattle.rbc_spec.specs.Centre.{Centre}
 use Rattle.rbc_spec.specs.Frame.{Frame}
 use Rattle.rbc_spec.specs.Line.{is_linked, IsLine, Line}

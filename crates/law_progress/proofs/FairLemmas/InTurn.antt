@@ -8,7 +8,6 @@ use Rattle.std.proofs.lemmas.Nat.{div-mul-add, mod-mul-add}
 use Rattle.std.proofs.lemmas.Option.{slice_get_past}
 use Rattle.std.proofs.Math.Nat.{le-mul_of_pos_right}
 use Rattle.std.specs.Option.{option_map_or}
-use Rattle.law_base.proofs.Lists.{put_here, put_other}
 use Rattle.law_base.proofs.LocalLemmas.Worlds.{world_of}
 use Rattle.law_invariants.proofs.NoStrayLemmas.Worlds.{IsReachedSo}
 use Rattle.law_invariants.specs.Flow.Flow.{centre_count, flow_of}
@@ -17,6 +16,7 @@ use Rattle.law_logs.specs.Logs.{IsStamped}
 use Rattle.law_progress.proofs.FairLemmas.Idle.{reached_at}
 use Rattle.law_progress.specs.Fair.Schedule.{after, BeginsWith, EndsInDeliveries, IsFair, next_number, world_after}
 use Rattle.law_progress.specs.Rest.Rest.{IsDelivery}
+use Rattle.rbc_spec.proofs.Lists.{put_here, put_other}
 use Rattle.rbc_spec.specs.Centre.{Centre}
 use Rattle.rbc_spec.specs.Frame.{Frame, last_stamp}
 use Rattle.rbc_spec.specs.Line.{is_centre, IsLine, Line}

@@ -4,9 +4,9 @@ use Rattle.std.proofs.Common.{ne_eqb, None, Ok, Option, refl, Some, subst, sym, 
 use Rattle.std.proofs.lemmas.Bool.{and_from, and_parts, eqb-true}
 use Rattle.std.proofs.lemmas.List.Elements.{All-cons, All-nil}
 use Rattle.law_base.proofs.CountingLemmas.Network.{counted_took, each_acted, each_start, each_took}
+use Rattle.law_base.proofs.CountingLemmas.Network.{each_head}
 use Rattle.law_base.proofs.CountingLemmas.Resource.{carried_more}
 use Rattle.law_base.proofs.CountingLemmas.Sums.{one_if_some, one_if_true, term_le_sum}
-use Rattle.law_base.proofs.Lists.{itself, one_home}
 use Rattle.law_base.specs.Counting.Network.{EachOnTheWay, took}
 use Rattle.law_base.specs.Counting.Resource.{carried, IsFair, sent_by as all_sent}
 use Rattle.law_base.specs.Counting.Sums.{one_if}
@@ -16,13 +16,13 @@ use Rattle.law_invariants.proofs.NoStrayLemmas.Worlds.{IsReachedSo}
 use Rattle.law_invariants.proofs.NoUnaskedLemmas.Asking.{comes_with, none_comes}
 use Rattle.law_invariants.proofs.NoUnaskedLemmas.Steps.{step_asking, taken_asking}
 use Rattle.law_invariants.proofs.NoUnaskedLemmas.Worlds.{world_step_keeps}
-use Rattle.law_base.proofs.CountingLemmas.Network.{each_head}
 use Rattle.law_invariants.specs.Flow.Flow.{centre_count, flow_of}
 use Rattle.law_invariants.specs.Handover.Steps.{left_by, sent_by}
 use Rattle.law_invariants.specs.NoStray.Questions.{IsBodyKnown}
 use Rattle.law_invariants.specs.NoUnasked.Asked.{answers, asks, IsBodyAsked, OfRight, OfRoute, Question, questions}
 use Rattle.law_invariants.specs.NoUnasked.Asked.{stands}
 use Rattle.law_progress.specs.Prompt.Answering.{is_asked_of}
+use Rattle.rbc_spec.proofs.Lists.{itself, one_home}
 use Rattle.rbc_spec.specs.Centre.{Centre, is_registrar_of}
 use Rattle.rbc_spec.specs.Frame.{AskRight, Body, RouteAsk}
 use Rattle.rbc_spec.specs.Line.{is_home, IsLine, Line, registrar}

@@ -6,9 +6,7 @@ use Rattle.std.proofs.lemmas.Bool.{cases_eq}
 use Rattle.std.proofs.lemmas.List.{append-nil}
 use Rattle.std.proofs.lemmas.List.Elements.{All-cons, All-head, All-nil}
 use Rattle.law_base.proofs.CountingLemmas.Sums.{cases_link}
-use Rattle.law_base.proofs.Lists.{put_here, put_holds, put_other}
 use Rattle.law_base.proofs.PiecesLemmas.Loop.{run_of_none, whole_run}
-use Rattle.law_base.proofs.Worlds.{Brings, delivers, of_event, says, sets, unsets}
 use Rattle.law_invariants.proofs.FlowLemmas.Steps.{is_next, sent_number}
 use Rattle.law_invariants.proofs.FlowLemmas.Takes.{deliver_taken, set_keeps, train_keeps, unset_keeps}
 use Rattle.law_invariants.proofs.HandoverLemmas.Worlds.{linked_next}
@@ -17,6 +15,8 @@ use Rattle.law_invariants.specs.Flow.Numbers.{IsNumbered, taken_after}
 use Rattle.law_invariants.specs.Ranges.Few.{IsFewAnswer}
 use Rattle.law_invariants.specs.Ranges.Stays.{IsReadInRange, IsWorldInRange}
 use Rattle.law_progress.proofs.RestLemmas.Delivers.{IsHead}
+use Rattle.rbc_spec.proofs.Lists.{put_here, put_holds, put_other}
+use Rattle.rbc_spec.proofs.Worlds.{Brings, delivers, of_event, says, sets, unsets}
 use Rattle.rbc_spec.specs.Centre.{Centre}
 use Rattle.rbc_spec.specs.Frame.{Frame}
 use Rattle.rbc_spec.specs.Line.{is_linked, IsLine, Line}

@@ -1,10 +1,9 @@
 -- In a prompt schedule each pending question between centres is answered in time.
 use Rattle.std.proofs.Common.{⊎_elim, ◌&&◌, ◌*◌, ◌+◌, ◌<◌, ◌==◌, ◌∙◌, ◌≡◌, ◌≢◌, ◌≤◌, ap, arith, Bool, eq-eqb, false}
 use Rattle.std.proofs.Common.{length, ltb-true, not, slice_get, Some, subst, suc, sym, true, zero, ℕ}
-use Rattle.std.proofs.Math.Nat.{mul-le-mul_left}
 use Rattle.std.proofs.lemmas.Bool.{and_parts, cases_lt}
+use Rattle.std.proofs.Math.Nat.{mul-le-mul_left}
 use Rattle.std.specs.List.{count_by}
-use Rattle.law_base.proofs.Lists.{each_at}
 use Rattle.law_base.specs.Counting.Network.{EachOnTheWay}
 use Rattle.law_base.specs.Counting.Network as net
 use Rattle.law_base.specs.Counting.Sums.{one_if}
@@ -22,6 +21,7 @@ use Rattle.law_progress.proofs.PromptLemmas.Queue.{by_result, in_range, known}
 use Rattle.law_progress.proofs.PromptLemmas.Soon.{answer_ends, question_ends, Soon}
 use Rattle.law_progress.specs.Fair.Schedule.{world_after}
 use Rattle.law_progress.specs.Prompt.Answering.{answer_time, is_asked_of, IsAnsweredSoon, IsPrompt}
+use Rattle.rbc_spec.proofs.Lists.{each_at}
 use Rattle.rbc_spec.specs.Frame.{Body, Frame}
 use Rattle.rbc_spec.specs.Line.{is_centre, IsLine, Line}
 use Rattle.rbc_spec.specs.World.{Event, way, World}

@@ -2,21 +2,21 @@
 use Rattle.std.proofs.Common.{[], ⊎_elim, ◌*◌, ◌+◌, ◌-◌, ◌<◌, ◌∙◌, ◌∷◌, ◌≡◌, ◌≢◌, ◌≤◌, ◌⊎◌, ap, arith, drop}
 use Rattle.std.proofs.Common.{Err, inl, inr, length, length-append, List, Ok, refl}
 use Rattle.std.proofs.Common.{Result, slice_get, Some, subst, suc, sym, zero, ℕ}
-use Rattle.std.proofs.Math.Nat.{mul-suc, mul-zero}
 use Rattle.std.proofs.lemmas.Bool.{cases_lt}
 use Rattle.std.proofs.lemmas.List.{append-nil, length-drop}
-use Rattle.law_base.proofs.Lists.{put_here}
+use Rattle.std.proofs.Math.Nat.{mul-suc, mul-zero}
 use Rattle.law_invariants.proofs.NoStrayLemmas.Reached.{delivered_at}
 use Rattle.law_invariants.proofs.NoStrayLemmas.Worlds.{IsReachedSo}
 use Rattle.law_invariants.specs.Ranges.Stays.{IsReadInRange, IsWorldInRange}
 use Rattle.law_progress.proofs.FairLemmas.Fair.{in_range_at, one_on}
 use Rattle.law_progress.proofs.FairLemmas.Idle.{reached_at}
 use Rattle.law_progress.proofs.FairLemmas.InTurn.{got_front}
-use Rattle.law_progress.proofs.PromptLemmas.Lists.{some_left}
 use Rattle.law_progress.proofs.PromptLemmas.Links.{HasSent, Keeps, link_step, sent_step, Takes}
+use Rattle.law_progress.proofs.PromptLemmas.Lists.{some_left}
 use Rattle.law_progress.proofs.RestLemmas.Delivers.{head_of, IsHead, one_more}
 use Rattle.law_progress.specs.Fair.Schedule.{after, next_number, world_after}
 use Rattle.law_progress.specs.Prompt.Answering.{IsHeldUp, IsPrompt}
+use Rattle.rbc_spec.proofs.Lists.{put_here}
 use Rattle.rbc_spec.specs.Centre.{Centre}
 use Rattle.rbc_spec.specs.Frame.{Frame}
 use Rattle.rbc_spec.specs.Line.{IsLine, Line}

@@ -4,10 +4,10 @@ use Rattle.std.proofs.Common.{None}
 use Rattle.std.proofs.Common.{Option, refl, Some, sym, true, ℕ}
 use Rattle.std.proofs.lemmas.Bool.{and_parts, eqb-true}
 use Rattle.std.specs.Option.{option_map_or}
-use Rattle.law_base.proofs.Lists.{itself, put_here}
 use Rattle.law_base.specs.Walk.Trains.{train_of}
 use Rattle.law_invariants.specs.NoStray.Due.{IsDue}
 use Rattle.law_invariants.specs.NoUnasked.Asked.{answers, asks, OfRight, OfRoute, Question, stands}
+use Rattle.rbc_spec.proofs.Lists.{itself, put_here}
 use Rattle.rbc_spec.specs.Acts.{◌>>◌, Act, become, change_mission, freed, rest, return_right, send, with_some}
 use Rattle.rbc_spec.specs.Centre.{Centre, is_registrar_of, is_taken_for}
 use Rattle.rbc_spec.specs.Frame.{AskRight, Body, GiveRight, RefuseRight, ReturnRight, RouteAsk, RouteInfo, RouteReturn}

@@ -2,8 +2,6 @@
 use Rattle.std.proofs.Common.{⊎_elim, ◌+◌, ◌-◌, ◌∙◌, ◌≡◌, ◌≢◌, ◌⊎◌, ap, arith, false, inl, inr}
 use Rattle.std.proofs.Common.{is_some, List, None, Ok, Option, refl, Result, Some, subst, suc, sym, true, zero, ℕ}
 use Rattle.std.proofs.lemmas.Bool.{cases_eq}
-use Rattle.law_base.proofs.Lists.{put_here, put_other}
-use Rattle.law_base.proofs.Worlds.{Brings, delivers, of_event, says, sets, unsets}
 use Rattle.law_base.specs.Walk.Trains.{train_of}
 use Rattle.law_invariants.proofs.NoStrayLemmas.Worlds.{frame_due, IsReachedSo}
 use Rattle.law_invariants.specs.NoStray.Due.{IsDue}
@@ -18,6 +16,8 @@ use Rattle.law_progress.proofs.PromptLemmas.WaitSteps.{message_keeps, OfSession}
 use Rattle.law_progress.specs.Fair.Schedule.{world_after}
 use Rattle.law_progress.specs.Prompt.Answering.{AnswersStart, IsAnsweredSoon, IsHeldUp, IsPrompt, IsSessionOf}
 use Rattle.law_progress.specs.Prompt.Answering.{IsStartAnswered, IsStartEnded}
+use Rattle.rbc_spec.proofs.Lists.{put_here, put_other}
+use Rattle.rbc_spec.proofs.Worlds.{Brings, delivers, of_event, says, sets, unsets}
 use Rattle.rbc_spec.specs.Acts.{◌>>◌, Reply}
 use Rattle.rbc_spec.specs.Centre.{Centre, is_registrar_of}
 use Rattle.rbc_spec.specs.Frame.{Body, Frame, GiveRight, RefuseRight}

@@ -3,10 +3,10 @@ use Rattle.std.proofs.Common.{[], ◌&&◌, ◌+◌, ◌==◌, ◌||◌, ◌∙�
 use Rattle.std.proofs.Common.{inr, is_none, is_some, None, not, Option, refl, Some, subst, sym, true, ℕ}
 use Rattle.std.specs.List.{list_any}
 use Rattle.std.specs.Option.{option_map_or}
-use Rattle.law_base.proofs.Lists.{itself, put_other}
 use Rattle.law_invariants.proofs.FlowLemmas.Takes.{given_is}
 use Rattle.law_progress.proofs.PromptLemmas.Waits.{Still}
 use Rattle.law_progress.specs.Prompt.Answering.{is_start_answer}
+use Rattle.rbc_spec.proofs.Lists.{itself, put_other}
 use Rattle.rbc_spec.specs.Acts.{◌>>◌, Act, become, booked, change_mission, freed, Reply, rest, return_right}
 use Rattle.rbc_spec.specs.Acts.{send, where_so, with_some}
 use Rattle.rbc_spec.specs.Centre.{Centre, is_closed, is_free, is_open, is_registrar_of, is_taken_for, Mission, Taken}

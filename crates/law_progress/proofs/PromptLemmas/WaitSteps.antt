@@ -3,10 +3,10 @@ use Rattle.std.proofs.Common.{⊎_elim, ◌||◌, ◌∙◌, ◌≡◌, ◌≢�
 use Rattle.std.proofs.Common.{is_some, None, not, Option, refl, slice_get, Some, subst, sym, true, ℕ}
 use Rattle.std.proofs.lemmas.Bool.{cases_eq, or_parts}
 use Rattle.std.specs.Option.{option_map_or}
-use Rattle.law_base.proofs.Lists.{none_passes}
 use Rattle.law_progress.proofs.PromptLemmas.WaitEnds.{close_other, Keeps, of_still, start_other}
 use Rattle.law_progress.proofs.PromptLemmas.Waits.{both, plain, Still, still_end_mission, still_granted, still_report}
 use Rattle.law_progress.proofs.PromptLemmas.Waits.{still_request}
+use Rattle.rbc_spec.proofs.Lists.{none_passes}
 use Rattle.rbc_spec.specs.Acts.{◌>>◌, Act, change_mission, hear, rest, say}
 use Rattle.rbc_spec.specs.Centre.{Centre, is_up, Up}
 use Rattle.rbc_spec.specs.Line.{Line}

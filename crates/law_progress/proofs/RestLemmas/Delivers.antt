@@ -9,7 +9,6 @@ use Rattle.law_base.proofs.CountingLemmas.Network.{counted_took}
 use Rattle.law_base.proofs.CountingLemmas.Places.{placed_parts}
 use Rattle.law_base.proofs.CountingLemmas.Resource.{carried_none, placed_acted, placed_took}
 use Rattle.law_base.proofs.CountingLemmas.Sums.{links_some, sum_zero}
-use Rattle.law_base.proofs.Lists.{each_at, itself}
 use Rattle.law_base.proofs.LocalLemmas.Worlds.{world_of}
 use Rattle.law_base.specs.Counting.Network.{TakesHead, took, way}
 use Rattle.law_base.specs.Counting.Resource.{carried, placed}
@@ -25,6 +24,7 @@ use Rattle.law_invariants.specs.NoCopy.Steps.{done}
 use Rattle.law_invariants.specs.Ranges.Stays.{IsFrameInRange}
 use Rattle.law_progress.proofs.RestLemmas.Load.{left_of, less_left, load}
 use Rattle.law_progress.proofs.RestLemmas.Sends.{received_sends, Sends}
+use Rattle.rbc_spec.proofs.Lists.{each_at, itself}
 use Rattle.rbc_spec.specs.Acts.{◌>>◌}
 use Rattle.rbc_spec.specs.Centre.{Centre}
 use Rattle.rbc_spec.specs.Frame.{Frame}

@@ -4,10 +4,10 @@ use Rattle.std.proofs.lemmas.Bool.{and_parts, ne_eqb}
 use Rattle.std.proofs.lemmas.List.Elements.{All-append, All-cons, All-map, All-nil, All-weaker, filter_passes}
 use Rattle.std.specs.List.{All, range_with_len}
 use Rattle.std.specs.Option.{option_map_or}
-use Rattle.law_base.proofs.Lists.{put_other}
 use Rattle.law_base.specs.Walk.Trains.{train_of}
 use Rattle.law_promises.proofs.ApartLemmas.Speaks.{IsOf, quiet, same_itself, same_then, speaks_then}
 use Rattle.law_promises.specs.Apart.Apart.{IsSameOf, IsToldOf}
+use Rattle.rbc_spec.proofs.Lists.{put_other}
 use Rattle.rbc_spec.specs.Acts.{◌>>◌, Act, become, booked, freed, Reply, rest, returned, say, send, where_so, with_some}
 use Rattle.rbc_spec.specs.Centre.{Centre, Entry, Expectation, is_open, is_taken_for, is_used_for, Mission, Open, Out}
 use Rattle.rbc_spec.specs.Centre.{Phase, Shut, Taken}

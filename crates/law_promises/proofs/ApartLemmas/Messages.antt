@@ -4,7 +4,6 @@ use Rattle.std.proofs.lemmas.Bool.Decides.{eqb_tells}
 use Rattle.std.proofs.lemmas.List.Elements.{All-cons, All-head, All-nil, All-tail, All-weaker}
 use Rattle.std.specs.List.{All}
 use Rattle.std.specs.Option.{option_map_or}
-use Rattle.law_base.proofs.Lists.{put_here, put_other}
 use Rattle.law_base.specs.Walk.Trains.{train_of}
 use Rattle.law_promises.proofs.ApartLemmas.Acts.{Its, its_become, its_freed, its_if, its_option, its_rest, its_returned}
 use Rattle.law_promises.proofs.ApartLemmas.Acts.{its_say, its_take_over, its_then, its_with, of_option, same_heard}
@@ -12,6 +11,7 @@ use Rattle.law_promises.proofs.ApartLemmas.Speaks.{IsOf, same_itself, words_of}
 use Rattle.law_promises.proofs.ApartLemmas.Starts.{its_cancel, its_change, its_close, its_phase, its_pool, its_request}
 use Rattle.law_promises.proofs.ApartLemmas.Starts.{its_set, its_start, its_wait}
 use Rattle.law_promises.specs.Apart.Apart.{IsOfTrain, IsolationTheorem, IsSameOf, IsToldOf}
+use Rattle.rbc_spec.proofs.Lists.{put_here, put_other}
 use Rattle.rbc_spec.specs.Acts.{◌>>◌, Act, become, cancel, change_mission, close, freed, hear, leave, part_at, rest}
 use Rattle.rbc_spec.specs.Acts.{return_pool, returned, say, set_mission, with_mission}
 use Rattle.rbc_spec.specs.Centre.{Centre, Closed, is_taken_for, Mission, Opened, Proposal, Up}

@@ -4,7 +4,6 @@ use Rattle.std.proofs.Common.{int_lt, List, max, None, Ok, Option, option_map, p
 use Rattle.std.proofs.lemmas.Bool.{both_ways}
 use Rattle.std.proofs.lemmas.Bool.Decides.{eqb_tells}
 use Rattle.std.proofs.lemmas.Option.{none-some, same_Some}
-use Rattle.law_base.proofs.Lists.{put_here, put_other}
 use Rattle.law_base.proofs.PiecesLemmas.Waits.{elsewhere, put_at, PutAt, there}
 use Rattle.law_outside.specs.Outside as outside
 use Rattle.law_outside.specs.Outside.{accepted, after_message, all_told, gets, is_told, said_by, sees, Shortening}
@@ -14,6 +13,7 @@ use Rattle.law_promises.proofs.Marks.{if_true}
 use Rattle.law_promises.proofs.Released.{all_same}
 use Rattle.law_promises.proofs.Spans.{lt_up, rear_later, rear_other}
 use Rattle.law_promises.specs.Arrival.Arrival.{GrantsWhatCame}
+use Rattle.rbc_spec.proofs.Lists.{put_here, put_other}
 use Rattle.rbc_spec.specs.Line.{end, Line, start}
 use Rattle.rbc_spec.specs.Maps.{put, put_pair}
 use Rattle.rbc_spec.specs.Message.{Authority, DataAcknowledged, EndOfMission, EndSession, InitiationOfSession, Report}

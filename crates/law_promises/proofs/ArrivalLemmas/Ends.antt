@@ -5,7 +5,6 @@ use Rattle.std.proofs.Common.{Option, pos, refl, Some, subst, sym, true, ℕ}
 use Rattle.std.proofs.lemmas.Bool.{and_parts}
 use Rattle.std.proofs.lemmas.Option.{none-some}
 use Rattle.std.specs.List.{list_all}
-use Rattle.law_base.proofs.Lists.{put_pair_there}
 use Rattle.law_outside.specs.Outside as outside
 use Rattle.law_outside.specs.Outside.{all_heard, all_told, is_in, is_told, IsSafeOutside, may_run_over, nothing_seen}
 use Rattle.law_outside.specs.Outside.{said_by, sees, sees_all, Spoken, Stretch, View}
@@ -22,6 +21,7 @@ use Rattle.law_promises.specs.Arrival.Arrival.{Arrive, GrantsWhatCame, IsSafeByW
 use Rattle.law_promises.specs.Arrival.Arrival.{some_spoken}
 use Rattle.law_promises.specs.Arrival.Meeting.{DoNotMeet, Extent, is_over, IsTruthful, IsWithin}
 use Rattle.law_promises.specs.Arrival.Received.{after_coming, after_loss, Known, lost, none_left, Reaches, reaches}
+use Rattle.rbc_spec.proofs.Lists.{put_pair_there}
 use Rattle.rbc_spec.specs.Line.{end, IsLine, Line, start}
 use Rattle.rbc_spec.specs.LineCentre.{LineState, Said, saying_of}
 use Rattle.rbc_spec.specs.Maps.{has, put}

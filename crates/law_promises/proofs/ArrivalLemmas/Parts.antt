@@ -4,7 +4,6 @@ use Rattle.std.proofs.Common.{None, not, Option, option_map, refl, Some, subst, 
 use Rattle.std.proofs.lemmas.Bool.{and_parts, ne_eqb, or_cases}
 use Rattle.std.proofs.lemmas.Option.{none-some, same_Some}
 use Rattle.std.specs.Option.{option_and_then}
-use Rattle.law_base.proofs.Lists.{put_other, put_there}
 use Rattle.law_outside.specs.Outside.{asked_for, extended, gets, is_told, metres_from, Shortening, stamp_of, Stretch}
 use Rattle.law_outside.specs.Outside.{View}
 use Rattle.law_promises.proofs.ArrivalLemmas.Arrives.{Lies, lies_then}
@@ -13,6 +12,7 @@ use Rattle.law_promises.proofs.ArrivalLemmas.ArrivesTold.{true_false}
 use Rattle.law_promises.proofs.ArrivalLemmas.Reached.{begins_on, Fit, is_nothing, is_part, IsOut, Rel, rel_changed}
 use Rattle.law_promises.proofs.ArrivalLemmas.Reached.{SameAsked}
 use Rattle.law_promises.specs.Arrival.Received.{after_coming, Known}
+use Rattle.rbc_spec.proofs.Lists.{put_other, put_there}
 use Rattle.rbc_spec.specs.Line.{Line}
 use Rattle.rbc_spec.specs.Maps.{put}
 use Rattle.rbc_spec.specs.Message.{Authority, ShorteningRequest}

@@ -3,7 +3,6 @@ use Rattle.std.proofs.Common.{◌*◌, ◌<◌, ◌==◌, ◌∙◌, ◌≡◌, 
 use Rattle.std.proofs.Common.{max, None, Option, pos, refl, Some, subst, sym, true, ℕ}
 use Rattle.std.proofs.lemmas.Option.{none-some, same_Some}
 use Rattle.std.specs.Option.{option_and_then}
-use Rattle.law_base.proofs.Lists.{put_other, put_there}
 use Rattle.law_outside.specs.Outside.{accepted, gets, is_told, starts, Stretch, View}
 use Rattle.law_promises.proofs.ArrivalLemmas.Arrives.{Lies, lies_then}
 use Rattle.law_promises.proofs.ArrivalLemmas.ArrivesTold.{accepted_both, true_false}
@@ -13,6 +12,7 @@ use Rattle.law_promises.proofs.ArrivalLemmas.Reached.{begins_both, begins_but, e
 use Rattle.law_promises.proofs.ArrivalLemmas.Reached.{none_plain, out_less, Rel, rel_changed, rel_ended, rel_starts}
 use Rattle.law_promises.proofs.Spans.{Ends, rear_other}
 use Rattle.law_promises.specs.Arrival.Received.{after_coming, after_loss, Known, may_come}
+use Rattle.rbc_spec.proofs.Lists.{put_other, put_there}
 use Rattle.rbc_spec.specs.Line.{Line}
 use Rattle.rbc_spec.specs.Maps.{put}
 use Rattle.rbc_spec.specs.Message.{Authority, DataAcknowledged, EndSession, ShorteningRequest, SystemVersion}

@@ -3,7 +3,6 @@ use Rattle.std.proofs.Common.{ℤ, ◌&&◌, ◌*◌, ◌==◌, ◌∙◌, ◌�
 use Rattle.std.proofs.Common.{None, Ok, Option, option_map, refl, Some, subst, sym, true, ℕ}
 use Rattle.std.proofs.lemmas.Option.{none-some, same_Some}
 use Rattle.std.specs.Option.{option_and_then, option_map_or}
-use Rattle.law_base.proofs.Lists.{put_here, put_other}
 use Rattle.law_outside.specs.Outside as outside
 use Rattle.law_outside.specs.Outside.{after_message, begun, cleared, front_end, position_of, said_by, Shortening}
 use Rattle.law_outside.specs.Outside.{Stretch, takes_back, up_to, View}
@@ -11,6 +10,7 @@ use Rattle.law_promises.proofs.ArrivalLemmas.Arrives.{back_lies, Lies, lies_itse
 use Rattle.law_promises.proofs.ArrivalLemmas.Reached.{begins_on, Fit, is_nothing, is_part, none_plain, out_less, Rel}
 use Rattle.law_promises.proofs.ArrivalLemmas.Reached.{rel_changed, rel_starts}
 use Rattle.law_promises.specs.Arrival.Received.{Known, may_happen, may_say}
+use Rattle.rbc_spec.proofs.Lists.{put_here, put_other}
 use Rattle.rbc_spec.specs.Line.{end, Line}
 use Rattle.rbc_spec.specs.Maps.{put}
 use Rattle.rbc_spec.specs.Message.{EndOfMission, InitiationOfSession, Report, Request, SessionEstablished}

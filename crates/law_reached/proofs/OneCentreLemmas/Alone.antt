@@ -4,9 +4,7 @@ use Rattle.std.proofs.Common.{List, None, not, Option, refl, Some, subst, sym, t
 use Rattle.std.proofs.lemmas.Bool.{both_ways}
 use Rattle.std.specs.Bool.{MatchBool}
 use Rattle.std.specs.Option.{option_map_or}
-use Rattle.law_base.proofs.Lists.{any-range_none}
 use Rattle.law_base.proofs.LocalLemmas.Homes.{none_next}
-use Rattle.law_base.proofs.Worlds.{then_resting}
 use Rattle.law_base.specs.Local.Local.{IsLocal}
 use Rattle.law_invariants.specs.Flow.Flow.{flow_of}
 use Rattle.law_invariants.specs.Flow.Leads.{replied, said_by}
@@ -26,6 +24,8 @@ use Rattle.law_refinement.specs.Meets.{Meets}
 use Rattle.law_refinement.specs.Missions.Parts.{at_border_then, border_of, IsInParts, IsOwnStep, IsWhole, own_end}
 use Rattle.law_refinement.specs.Missions.Parts.{own_granted, own_report, own_request}
 use Rattle.law_refinement.specs.Sessions.Heard.{LeadsAlone}
+use Rattle.rbc_spec.proofs.Lists.{any-range_none}
+use Rattle.rbc_spec.proofs.Worlds.{then_resting}
 use Rattle.rbc_spec.specs.Acts.{◌>>◌, Act, hear, Reply, rest}
 use Rattle.rbc_spec.specs.Centre.{Centre, is_expected, is_free, is_registrar_of, Mission}
 use Rattle.rbc_spec.specs.Line.{is_centre, IsLine, Line}

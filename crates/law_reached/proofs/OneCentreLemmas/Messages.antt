@@ -5,8 +5,6 @@ use Rattle.std.proofs.Common.{Some, subst, sym, true, ℕ}
 use Rattle.std.proofs.lemmas.Bool.Decides.{eqb_tells}
 use Rattle.std.proofs.lemmas.Option.{same_Some}
 use Rattle.std.specs.Option.{option_map_or}
-use Rattle.law_base.proofs.Lists.{itself, put_there}
-use Rattle.law_base.proofs.Runs.{within_from, within_true}
 use Rattle.law_base.specs.Local.Local.{hand_has, IsLocal}
 use Rattle.law_invariants.proofs.FlowLemmas.Shown.{own_of}
 use Rattle.law_invariants.proofs.FlowLemmas.Takes.{train_keeps}
@@ -20,6 +18,8 @@ use Rattle.law_refinement.proofs.SessionsLemmas.Changes.{supervises_is}
 use Rattle.law_refinement.proofs.Silence.{silent_by_clock}
 use Rattle.law_refinement.proofs.Still.{shown_after, silent_met}
 use Rattle.law_refinement.specs.Meets.{Meets}
+use Rattle.rbc_spec.proofs.Lists.{itself, put_there}
+use Rattle.rbc_spec.proofs.Runs.{within_from, within_true}
 use Rattle.rbc_spec.specs.Acts.{may_propose, rest}
 use Rattle.rbc_spec.specs.Centre as centre
 use Rattle.rbc_spec.specs.Centre.{Centre, is_taken_for, is_up}

@@ -4,7 +4,6 @@ use Rattle.std.proofs.Common.{None, Ok, Option, refl, Some, subst, sym, true, â„
 use Rattle.std.proofs.lemmas.Bool.{both_ways}
 use Rattle.std.specs.Bool.{MatchBool}
 use Rattle.law_base.proofs.LocalLemmas.Worlds.{is_ordered, new_local, none_delivered, world_step_local}
-use Rattle.law_base.proofs.Worlds.{bind_ok, same_ok}
 use Rattle.law_base.specs.Local.Local.{hand_has, IsLocal}
 use Rattle.law_invariants.proofs.FlowLemmas.Takes.{set_keeps, unset_keeps}
 use Rattle.law_invariants.proofs.HandoverLemmas.Worlds.{world_step_sound}
@@ -22,6 +21,7 @@ use Rattle.law_refinement.proofs.Still.{at_work, shown_after}
 use Rattle.law_refinement.proofs.Words.{begun, begun_at_work, begun_replied, IsAtWork}
 use Rattle.law_refinement.specs.Meets.{Meets}
 use Rattle.law_refinement.specs.Routes.Interlocking.{asked_for, LeadsAtOnce, LeadsFrom, LeadsUnset}
+use Rattle.rbc_spec.proofs.Worlds.{bind_ok, same_ok}
 use Rattle.rbc_spec.specs.Acts.{may_propose}
 use Rattle.rbc_spec.specs.Centre as centre
 use Rattle.rbc_spec.specs.Centre.{Centre, Entry, is_taken_for, Mission}

@@ -8,7 +8,6 @@ use Rattle.std.specs.Prelude.{Contains}
 use Rattle.law_base.proofs.CountingLemmas.Network.{to_one_other, to_one_same}
 use Rattle.law_base.proofs.CountingLemmas.Resource.{carried_append, carried_more, carried_none}
 use Rattle.law_base.proofs.CountingLemmas.Sums.{one_if_le_one, one_if_true, sum_only, sum_zero, term_le_sum}
-use Rattle.law_base.proofs.Lists.{put_here, put_keeps, put_other}
 use Rattle.law_base.specs.Counting.Network.{to_one}
 use Rattle.law_base.specs.Counting.Resource.{allowed, carried, placed, Resource, sent_by}
 use Rattle.law_base.specs.Counting.Sums.{one_if, sum_below}
@@ -23,6 +22,7 @@ use Rattle.law_refinement.specs.Abstraction.Acts.{hand_after, hand_before, IsAct
 use Rattle.law_refinement.specs.Abstraction.After.{handed_over, is_given, is_kept, is_opened, is_shut, MarkAfter}
 use Rattle.law_refinement.specs.Abstraction.After.{MissionAfter, stays}
 use Rattle.rbc_spec.proofs.Held.{contains_head}
+use Rattle.rbc_spec.proofs.Lists.{put_here, put_keeps, put_other}
 use Rattle.rbc_spec.specs.Acts.{returned}
 use Rattle.rbc_spec.specs.Centre as centre
 use Rattle.rbc_spec.specs.Centre.{Centre, Entry, is_used_for}

@@ -6,7 +6,6 @@ use Rattle.std.specs.Option.{option_map_or}
 use Rattle.std.specs.Prelude.{Contains}
 use Rattle.law_base.proofs.CountingLemmas.Places.{held_carried_le_placed, held_le_placed}
 use Rattle.law_base.proofs.CountingLemmas.Sums.{one_if_true, sum_plus, sum_same}
-use Rattle.law_base.proofs.Runs.{same_tests}
 use Rattle.law_base.specs.Counting.Network.{way}
 use Rattle.law_base.specs.Counting.Resource.{carried, placed, Resource}
 use Rattle.law_base.specs.Counting.Sums.{one_if, sum_below, sum_links}
@@ -23,6 +22,7 @@ use Rattle.law_invariants.specs.Flow.Sound.{IsFlowSound}
 use Rattle.law_refinement.proofs.AbstractionLemmas.Hands.{kept_shown, one_token}
 use Rattle.law_refinement.specs.Abstraction.Acts.{IsAct, right_alone_inside, rights_alone, token_aside_inside}
 use Rattle.law_refinement.specs.Abstraction.Acts.{tokens_aside}
+use Rattle.rbc_spec.proofs.Runs.{same_tests}
 use Rattle.rbc_spec.specs.Centre as centre
 use Rattle.rbc_spec.specs.Centre.{Centre, is_used_for, Mission}
 use Rattle.rbc_spec.specs.Frame.{Body, Yield, YieldedPlace}

@@ -5,7 +5,6 @@ use Rattle.std.proofs.lemmas.Bool.{cases_eq}
 use Rattle.std.specs.Prelude.{Contains}
 use Rattle.law_base.proofs.CountingLemmas.Places.{held_carried_le_placed, two_held_le_placed}
 use Rattle.law_base.proofs.CountingLemmas.Sums.{one_if_true}
-use Rattle.law_base.proofs.Lists.{put_here, put_other}
 use Rattle.law_base.specs.Counting.Network.{way}
 use Rattle.law_base.specs.Counting.Resource.{placed, Resource, sent_by}
 use Rattle.law_base.specs.Counting.Sums.{one_if}
@@ -20,6 +19,7 @@ use Rattle.law_refinement.proofs.AbstractionLemmas.Hands.{sends_none}
 use Rattle.law_refinement.proofs.AbstractionLemmas.Marks.{rights_split}
 use Rattle.law_refinement.specs.Abstraction.Acts.{IsAct, IsMissionHere, rights_alone, SendsNone}
 use Rattle.law_refinement.specs.Abstraction.After.{ended, handed_over, is_here, MissionAfter, ShowsMission, stays}
+use Rattle.rbc_spec.proofs.Lists.{put_here, put_other}
 use Rattle.rbc_spec.specs.Centre as centre
 use Rattle.rbc_spec.specs.Centre.{Centre}
 use Rattle.rbc_spec.specs.Frame.{Body, Yield, yielded_place}

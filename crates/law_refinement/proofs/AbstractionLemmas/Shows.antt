@@ -8,7 +8,6 @@ use Rattle.law_base.proofs.CountingLemmas.Network.{counted_took, way_acted, way_
 use Rattle.law_base.proofs.CountingLemmas.Places.{held_carried_le_placed, held_le_placed}
 use Rattle.law_base.proofs.CountingLemmas.Resource.{carried_more, placed_acted, placed_took}
 use Rattle.law_base.proofs.CountingLemmas.Sums.{cases_link, one_if_some}
-use Rattle.law_base.proofs.Lists.{put_here, put_keeps, put_other}
 use Rattle.law_base.specs.Counting.Network.{acted, IsCounted, TakesHead, took, way}
 use Rattle.law_base.specs.Counting.Resource.{carried, Resource}
 use Rattle.law_base.specs.Counting.Sums.{one_if}
@@ -28,6 +27,7 @@ use Rattle.law_refinement.specs.Abstraction.After.{ShowsMission}
 use Rattle.law_refinement.specs.Abstraction.After.MarkAfter.{is_given, is_kept, is_opened, is_shut}
 use Rattle.law_refinement.specs.Abstraction.After.MissionAfter.{stays}
 use Rattle.rbc_spec.proofs.Held.{contains_more}
+use Rattle.rbc_spec.proofs.Lists.{put_here, put_keeps, put_other}
 use Rattle.rbc_spec.specs.Centre as centre
 use Rattle.rbc_spec.specs.Centre.{Centre, is_used_for, Phase}
 use Rattle.rbc_spec.specs.Frame.{Body}

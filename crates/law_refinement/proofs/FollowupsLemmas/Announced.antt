@@ -4,12 +4,12 @@ use Rattle.std.proofs.Common.{is_none, nat_le, nat_lt, None, not, Option, option
 use Rattle.std.proofs.lemmas.Bool.{and_from, and_parts, cases_eq, eqb-false}
 use Rattle.std.proofs.lemmas.Option.{same_Some}
 use Rattle.std.specs.Option.{option_map_or}
-use Rattle.law_base.proofs.Lists.{itself, one_home, put_other, put_there}
-use Rattle.law_base.proofs.Runs.{each_within, within_from, within_none, within_part_before, within_part_from}
-use Rattle.law_base.proofs.Runs.{within_shared}
 use Rattle.law_invariants.proofs.FlowLemmas.Neighbours.{neighbours}
 use Rattle.law_refinement.specs.Followups.Announced.{IsAnnounced}
+use Rattle.rbc_spec.proofs.Lists.{itself, one_home, put_other, put_there}
 use Rattle.rbc_spec.proofs.Places.{homes_run}
+use Rattle.rbc_spec.proofs.Runs.{each_within, within_from, within_none, within_part_before, within_part_from}
+use Rattle.rbc_spec.proofs.Runs.{within_shared}
 use Rattle.rbc_spec.specs.Acts.{◌>>◌, announce, booked, change_mission, part_at, rest, set_mission}
 use Rattle.rbc_spec.specs.Centre.{Centre, Handing, is_open, is_out_for, Mission, Taken}
 use Rattle.rbc_spec.specs.Line.{is_home, IsLine, Line, next_centre, Section, section}

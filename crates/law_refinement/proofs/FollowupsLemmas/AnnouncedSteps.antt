@@ -4,10 +4,8 @@ use Rattle.std.proofs.Common.{ℕ}
 use Rattle.std.proofs.lemmas.Bool.{and_parts}
 use Rattle.std.proofs.lemmas.Option.{same_Some}
 use Rattle.std.specs.Option.{option_map_or}
-use Rattle.law_base.proofs.Lists.{put_there}
 use Rattle.law_base.proofs.LocalLemmas.Worlds.{is_ordered}
 use Rattle.law_base.proofs.RulesLemmas.Places.{fit_is, placed_on}
-use Rattle.law_base.proofs.Runs.{each_within}
 use Rattle.law_base.proofs.WalkLemmas.Causes.{all_free, begins, by_itself, Change, clears, comes, cuts, grows, May}
 use Rattle.law_base.proofs.WalkLemmas.Causes.{MayBegin, restarts, setting, still, Turn, waited}
 use Rattle.law_base.proofs.WalkLemmas.FrameAnswers.{of_taking, received_taking}
@@ -23,6 +21,8 @@ use Rattle.law_invariants.specs.Handover.Steps.{left_by}
 use Rattle.law_refinement.proofs.FollowupsLemmas.Announced.{before_part, came_fits, change_all, Fits, FitsAll}
 use Rattle.law_refinement.proofs.FollowupsLemmas.Announced.{from_part, grant_all, moved, own_hand, set_all, unhanded}
 use Rattle.law_refinement.specs.Followups.Announced.{AnnouncesAll}
+use Rattle.rbc_spec.proofs.Lists.{put_there}
+use Rattle.rbc_spec.proofs.Runs.{each_within}
 use Rattle.rbc_spec.specs.Acts.{◌>>◌, Act, begun, hear, part_at, Reply, rest, set_mission}
 use Rattle.rbc_spec.specs.Centre.{beginning, Centre, Handing, is_free, is_open, Mission}
 use Rattle.rbc_spec.specs.Frame.{Body, Frame}

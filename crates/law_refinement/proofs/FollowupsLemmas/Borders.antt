@@ -6,8 +6,6 @@ use Rattle.std.proofs.lemmas.Bool.{and_from, and_parts, eqb-false}
 use Rattle.std.proofs.lemmas.Option.{slice_get_within}
 use Rattle.std.specs.Option.{option_map_or}
 use Rattle.law_base.proofs.CountingLemmas.Resource.{carried_none}
-use Rattle.law_base.proofs.Lists.{find-range, itself, none_is, put_there}
-use Rattle.law_base.proofs.Runs.{within_from, within_shared, within_true}
 use Rattle.law_base.specs.Counting.Resource.{Resource}
 use Rattle.law_invariants.proofs.FlowLemmas.Shown.{leads_then}
 use Rattle.law_invariants.proofs.FlowLemmas.Steps.{aside_sound}
@@ -28,7 +26,9 @@ use Rattle.law_refinement.proofs.FollowupsLemmas.Moves.{leading, leads_or_act, M
 use Rattle.law_refinement.proofs.FollowupsLemmas.Moves.{said_moves, unseen_change, unseen_moves, unseen_still}
 use Rattle.law_refinement.specs.Abstraction.Acts.{SendsNone}
 use Rattle.law_refinement.specs.Followups.Borders.{IsNextOf, MayAnnounce, MayOrder}
+use Rattle.rbc_spec.proofs.Lists.{find-range, itself, none_is, put_there}
 use Rattle.rbc_spec.proofs.Places.{homes_run}
+use Rattle.rbc_spec.proofs.Runs.{within_from, within_shared, within_true}
 use Rattle.rbc_spec.specs.Acts.{◌>>◌, Act, announce, ask_route, part_at, rest}
 use Rattle.rbc_spec.specs.Centre.{Centre, Mission}
 use Rattle.rbc_spec.specs.Frame.{Announce, Body, RouteAsk}

@@ -7,7 +7,6 @@ use Rattle.std.specs.Prelude.{Contains}
 use Rattle.law_base.proofs.CountingLemmas.Places.{placed_parts}
 use Rattle.law_base.proofs.CountingLemmas.Resource.{carried_none}
 use Rattle.law_base.proofs.CountingLemmas.Sums.{links_some, one_if_some, sum_some}
-use Rattle.law_base.proofs.Lists.{itself}
 use Rattle.law_base.specs.Counting.Network.{way}
 use Rattle.law_base.specs.Counting.Resource.{carried, placed}
 use Rattle.law_base.specs.Counting.Sums.{sum_below}
@@ -25,6 +24,7 @@ use Rattle.law_refinement.proofs.FollowupsLemmas.Keeps.{act_sound}
 use Rattle.law_refinement.proofs.FollowupsLemmas.Moves.{leading, Moves, moves_if, rest_moves, said_moves}
 use Rattle.law_refinement.proofs.FollowupsLemmas.Proposals.{up_is}
 use Rattle.law_refinement.specs.Abstraction.After.{IsUnseen}
+use Rattle.rbc_spec.proofs.Lists.{itself}
 use Rattle.rbc_spec.specs.Acts.{end_order, rest, say}
 use Rattle.rbc_spec.specs.Centre as centre
 use Rattle.rbc_spec.specs.Centre.{Centre, is_up}

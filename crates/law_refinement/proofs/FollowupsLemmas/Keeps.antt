@@ -2,7 +2,6 @@
 use Rattle.std.proofs.Common.{[], ◌++◌, ◌+◌, ◌∙◌, ◌≡◌, ◌≤◌, ap, arith, None, Option, option_map, refl, Some, subst, sym}
 use Rattle.std.proofs.Common.{true, ℕ}
 use Rattle.law_base.proofs.CountingLemmas.Resource.{carried_none}
-use Rattle.law_base.proofs.Lists.{put_over, put_there}
 use Rattle.law_base.proofs.LocalLemmas.Worlds.{is_ordered}
 use Rattle.law_base.specs.Counting.Network.{TakesHead, took}
 use Rattle.law_base.specs.Counting.Resource.{IsFair, Resource}
@@ -33,6 +32,7 @@ use Rattle.law_refinement.proofs.AbstractionLemmas.Shows.{part_stays}
 use Rattle.law_refinement.proofs.FollowupsLemmas.Moves.{changed_shown}
 use Rattle.law_refinement.specs.Abstraction.Acts.{SendsNone}
 use Rattle.law_refinement.specs.Followups.Shown.{ends, IsShownSo}
+use Rattle.rbc_spec.proofs.Lists.{put_over, put_there}
 use Rattle.rbc_spec.specs.Acts.{◌>>◌, change_mission, Reply, return_pool, returned}
 use Rattle.rbc_spec.specs.Centre.{Centre, Mission}
 use Rattle.rbc_spec.specs.Frame.{Body}

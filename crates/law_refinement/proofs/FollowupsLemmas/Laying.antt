@@ -4,8 +4,6 @@ use Rattle.std.proofs.Common.{[], ◌&&◌, ◌++◌, ◌+◌, ◌==◌, ◌∙�
 use Rattle.std.proofs.Common.{if◌then◌else◌, is_some, List, None, Option, refl, Some, subst, sym, true, ℕ}
 use Rattle.std.proofs.lemmas.Bool.{and_from, and_parts}
 use Rattle.std.specs.Option.{option_map_or}
-use Rattle.law_base.proofs.Lists.{itself, put_there}
-use Rattle.law_base.proofs.Runs.{within_none, within_shared}
 use Rattle.law_base.specs.Counting.Network.{acted, to_one}
 use Rattle.law_invariants.proofs.HandoverLemmas.Moves.{goes_taking_over}
 use Rattle.law_invariants.proofs.NoCopyLemmas.Leaving.{fair_yield_over}
@@ -23,7 +21,9 @@ use Rattle.law_refinement.proofs.FollowupsLemmas.Keeps.{act_sound_with}
 use Rattle.law_refinement.proofs.FollowupsLemmas.Moves.{leading, Moves, moves_if, moves_or, one_quiet, rest_moves}
 use Rattle.law_refinement.proofs.FollowupsLemmas.Proposals.{up_is}
 use Rattle.law_refinement.proofs.FollowupsLemmas.Yields as yields
+use Rattle.rbc_spec.proofs.Lists.{itself, put_there}
 use Rattle.rbc_spec.proofs.Places.{homes_run}
+use Rattle.rbc_spec.proofs.Runs.{within_none, within_shared}
 use Rattle.rbc_spec.specs.Acts.{◌>>◌, Act, booked, end_order, part_at, rest, returned, say, send, set_mission, yield}
 use Rattle.rbc_spec.specs.Centre.{Centre, Handing, is_taken_for, is_up, Mission, Out}
 use Rattle.rbc_spec.specs.Frame.{Body, TakingOver}

@@ -5,7 +5,6 @@ use Rattle.std.proofs.lemmas.Bool.{and_from, cases_eq}
 use Rattle.std.specs.List.{list_all}
 use Rattle.std.specs.Option.{option_map_or}
 use Rattle.law_base.proofs.CountingLemmas.Resource.{carried_none}
-use Rattle.law_base.proofs.Lists.{put_here, put_other, put_there}
 use Rattle.law_base.specs.Counting.Network.{acted}
 use Rattle.law_base.specs.Counting.Sums.{one_if}
 use Rattle.law_base.specs.Local.Local.{hand_has}
@@ -22,6 +21,7 @@ use Rattle.law_refinement.proofs.AbstractionLemmas.Shows.{unseen_shown}
 use Rattle.law_refinement.specs.Abstraction.Acts.{IsAct, SendsNone}
 use Rattle.law_refinement.specs.Abstraction.After.{IsUnseen, MissionAfter, PartAfter}
 use Rattle.law_refinement.specs.Abstraction.After.MissionAfter.{is_here, stays}
+use Rattle.rbc_spec.proofs.Lists.{put_here, put_other, put_there}
 use Rattle.rbc_spec.specs.Acts.{Act, Reply}
 use Rattle.rbc_spec.specs.Centre as centre
 use Rattle.rbc_spec.specs.Centre.{Centre, Entry, Mission, Phase}

@@ -5,9 +5,7 @@ use Rattle.std.proofs.Common.{subst, sym, true, ℕ}
 use Rattle.std.proofs.lemmas.Bool.{and_from, and_parts, cases_eq, eqb-false, eqb-true, ne_eqb, not-false, or_cases}
 use Rattle.std.proofs.lemmas.Option.{same_Some}
 use Rattle.law_base.proofs.CountingLemmas.Resource.{carried_none}
-use Rattle.law_base.proofs.Lists.{none_is}
 use Rattle.law_base.proofs.RulesLemmas.Places.{border_ahead, not_for, placed_on}
-use Rattle.law_base.proofs.Runs.{longest_is, within_from, within_joined, within_none, within_shared, within_true}
 use Rattle.law_base.specs.Rules.Distances.{extended, IsRequestHeard}
 use Rattle.law_invariants.proofs.HandoverLemmas.Moves.{goes_propose_if}
 use Rattle.law_invariants.proofs.NoCopyLemmas.Borders.{fair_propose_if}
@@ -24,7 +22,9 @@ use Rattle.law_refinement.proofs.FollowupsLemmas.Moves.{changed_shown, leading, 
 use Rattle.law_refinement.proofs.FollowupsLemmas.Moves.{rest_moves}
 use Rattle.law_refinement.specs.Followups.Announced.{AnnouncesAll}
 use Rattle.law_refinement.specs.Followups.Borders.{MayAnnounce, MayOrder}
+use Rattle.rbc_spec.proofs.Lists.{none_is}
 use Rattle.rbc_spec.proofs.Places.{end_of, section_on, start_is}
+use Rattle.rbc_spec.proofs.Runs.{longest_is, within_from, within_joined, within_none, within_shared, within_true}
 use Rattle.rbc_spec.specs.Acts.{◌>>◌, may_propose, part_at, propose, propose_if_so, rest}
 use Rattle.rbc_spec.specs.Centre.{Centre, Closed, is_free, is_up, Mission, Opened, Phase, Up}
 use Rattle.rbc_spec.specs.Line.{end, is_centre, IsLine, Line, next_centre, start}

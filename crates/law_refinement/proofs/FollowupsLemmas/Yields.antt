@@ -6,7 +6,6 @@ use Rattle.std.proofs.lemmas.Bool.{and_parts, cases_eq, ne_eqb}
 use Rattle.std.specs.Option.{option_map_or}
 use Rattle.law_base.proofs.CountingLemmas.Resource.{sent_append, sent_single}
 use Rattle.law_base.proofs.CountingLemmas.Sums.{one_if_true}
-use Rattle.law_base.proofs.Lists.{itself, put_here, put_other, put_there}
 use Rattle.law_base.specs.Counting.Network.{acted, to_one}
 use Rattle.law_base.specs.Counting.Resource.{sent_by}
 use Rattle.law_base.specs.Counting.Sums.{one_if}
@@ -24,6 +23,7 @@ use Rattle.law_refinement.specs.Abstraction.Acts.{hand_after, hand_before, IsAct
 use Rattle.law_refinement.specs.Abstraction.After.{MarkAfter, MissionAfter, PartAfter}
 use Rattle.law_refinement.specs.Abstraction.After.MarkAfter.{is_given}
 use Rattle.law_refinement.specs.Abstraction.After.MissionAfter.{stays}
+use Rattle.rbc_spec.proofs.Lists.{itself, put_here, put_other, put_there}
 use Rattle.rbc_spec.specs.Acts.{returned}
 use Rattle.rbc_spec.specs.Centre.{Centre, Entry, is_taken_for, is_used_for, Mission, Out, Phase}
 use Rattle.rbc_spec.specs.Frame.{Body, Yield, yielded_place}

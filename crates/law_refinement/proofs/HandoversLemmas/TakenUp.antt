@@ -6,8 +6,6 @@ use Rattle.std.specs.Option.{option_map_or}
 use Rattle.std.specs.Prelude.{Contains}
 use Rattle.law_base.proofs.CountingLemmas.Resource.{carried_none}
 use Rattle.law_base.proofs.CountingLemmas.Sums.{one_if_true, put_same}
-use Rattle.law_base.proofs.Lists.{itself, put_other, put_there}
-use Rattle.law_base.proofs.Worlds.{rest_then}
 use Rattle.law_base.specs.Counting.Network.{acted, TakesHead, took, way}
 use Rattle.law_base.specs.Counting.Resource.{Resource}
 use Rattle.law_base.specs.Counting.Sums.{one_if}
@@ -39,6 +37,8 @@ use Rattle.law_refinement.specs.Abstraction.Acts.{IsAct, IsMissionHere}
 use Rattle.law_refinement.specs.Abstraction.After.{MarkAfter, MissionAfter}
 use Rattle.law_refinement.specs.Abstraction.After.MissionAfter.{is_here, stays}
 use Rattle.rbc_spec.proofs.Held.{contains_head}
+use Rattle.rbc_spec.proofs.Lists.{itself, put_other, put_there}
+use Rattle.rbc_spec.proofs.Worlds.{rest_then}
 use Rattle.rbc_spec.specs.Acts.{Reply, rest}
 use Rattle.rbc_spec.specs.Centre.{Centre, Entry, is_out_for, is_used_for, Mission, Phase, Taken}
 use Rattle.rbc_spec.specs.Frame.{Body, TakingOver, Yield, yielded_place, YieldedPlace}

@@ -7,8 +7,6 @@ use Rattle.std.specs.List.{find, range_with_len}
 use Rattle.std.specs.Option.{option_map_or}
 use Rattle.law_base.proofs.CountingLemmas.Network.{each_head}
 use Rattle.law_base.proofs.CountingLemmas.Sums.{put_same}
-use Rattle.law_base.proofs.Lists.{itself}
-use Rattle.law_base.proofs.Runs.{each_within}
 use Rattle.law_base.specs.Counting.Network.{TakesHead, took}
 use Rattle.law_invariants.proofs.FlowLemmas.Shown.{leads_then}
 use Rattle.law_invariants.proofs.HandoverLemmas.Orderly.{goes_rest}
@@ -28,6 +26,8 @@ use Rattle.law_refinement.proofs.FollowupsLemmas.Moves.{leading, one_quiet, rest
 use Rattle.law_refinement.proofs.FollowupsLemmas.Proposals.{propose_leads}
 use Rattle.law_refinement.proofs.HandoversLemmas.Heads.{met, met_sound, received_fair, received_taken}
 use Rattle.law_refinement.proofs.HandoversLemmas.TakenUp.{later, taken_up_shown, taking_up}
+use Rattle.rbc_spec.proofs.Lists.{itself}
+use Rattle.rbc_spec.proofs.Runs.{each_within}
 use Rattle.rbc_spec.specs.Acts.{◌>>◌, Act, become, booked, may_propose, propose, propose_if_so, Reply, rest}
 use Rattle.rbc_spec.specs.Acts.{set_mission, where_so, with_some}
 use Rattle.rbc_spec.specs.Centre.{Centre, Closed, is_out_for, Mission, Phase, Taken}

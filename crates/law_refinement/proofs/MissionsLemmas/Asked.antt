@@ -5,9 +5,7 @@ use Rattle.std.proofs.lemmas.Bool.{and_parts, not-false}
 use Rattle.std.proofs.Math.Bool.{and-true}
 use Rattle.std.specs.List.{find}
 use Rattle.std.specs.Option.{option_map_or}
-use Rattle.law_base.proofs.Lists.{none_passes, put_there, there_is}
 use Rattle.law_base.proofs.RulesLemmas.Places.{placed_on}
-use Rattle.law_base.proofs.Worlds.{alike_then, then_alike}
 use Rattle.law_invariants.proofs.FlowLemmas.Shown.{heard_then}
 use Rattle.law_invariants.specs.Flow.Flow.{Flow}
 use Rattle.law_invariants.specs.Flow.Leads.{LeadsHeard, replied}
@@ -20,6 +18,8 @@ use Rattle.law_refinement.proofs.MissionsLemmas.Heard.{heard_first, shows_then, 
 use Rattle.law_refinement.proofs.MissionsLemmas.Reports.{report_answers, unsupervised}
 use Rattle.law_refinement.specs.Missions.Parts.{at_border_then, border_of, extend, IsInParts, IsOwnStep, IsWhole}
 use Rattle.law_refinement.specs.Missions.Parts.{LeadsOnward, of_train, own_end, own_granted, own_report, own_request}
+use Rattle.rbc_spec.proofs.Lists.{none_passes, put_there, there_is}
+use Rattle.rbc_spec.proofs.Worlds.{alike_then, then_alike}
 use Rattle.rbc_spec.specs.Acts.{◌>>◌, Act, hear, rest}
 use Rattle.rbc_spec.specs.Centre.{Centre, is_closed, is_up, Mission, Phase, Proposal}
 use Rattle.rbc_spec.specs.Line.{end, is_centre, IsLine, Line}

@@ -4,10 +4,7 @@ use Rattle.std.proofs.Common.{false, if◌then◌else◌, inl, inr, int_le, le-l
 use Rattle.std.proofs.Common.{option_map, pos, refl, Some, subst, sym, true, ℕ}
 use Rattle.std.proofs.lemmas.Bool.{and_from, and_parts, both_ways, cases_lt, eqb-false}
 use Rattle.std.specs.Option.{option_map_or}
-use Rattle.law_base.proofs.Lists.{put_over, put_there}
 use Rattle.law_base.proofs.LocalLemmas.Worlds.{is_ordered}
-use Rattle.law_base.proofs.Runs.{longest_is, same_tests, within_after, within_from, within_true}
-use Rattle.law_base.specs.Runs.{IsLongest}
 use Rattle.law_invariants.proofs.HandoverLemmas.Moves.{goes_report_here}
 use Rattle.law_invariants.proofs.NoCopyLemmas.Messages.{fair_report_here, standing}
 use Rattle.law_invariants.proofs.NoCopyLemmas.Tally.{mission_of}
@@ -21,6 +18,8 @@ use Rattle.law_refinement.proofs.MissionsLemmas.Heard.{act_sound}
 use Rattle.law_refinement.proofs.MissionsLemmas.Leaves.{close_is, given_is, leaving_shown, none_given, run_leaves}
 use Rattle.law_refinement.proofs.MissionsLemmas.Leaves.{run_told, some_given, still_given}
 use Rattle.law_refinement.proofs.MissionsLemmas.Sets.{Sets, sets_close, sets_mission}
+use Rattle.rbc_spec.proofs.Lists.{put_over, put_there}
+use Rattle.rbc_spec.proofs.Runs.{longest_is, same_tests, within_after, within_from, within_true}
 use Rattle.rbc_spec.specs.Acts.{◌>>◌, close, leave, Reply, set_mission as set_here}
 use Rattle.rbc_spec.specs.Centre.{Centre, Mission}
 use Rattle.rbc_spec.specs.Line.{end, is_centre, is_home, IsLine, Line}
@@ -30,6 +29,7 @@ use Rattle.rbc_spec.specs.OwnSteps.{is_cleared_of, release_words, reported}
 use Rattle.rbc_spec.specs.Place.{is_cleared, Place, Position}
 use Rattle.rbc_spec.specs.ReadOff.{seen}
 use Rattle.rbc_spec.specs.Rules.{clear, cleared, report_here}
+use Rattle.rbc_spec.specs.SectionRuns.{IsLongest}
 use Rattle.rbc_spec.specs.SectionRuns.{joined, next_after, part_from, SectionRun, within}
 
 -- if a section is cleared, so is one that ends no farther

@@ -2,7 +2,6 @@
 use Rattle.std.proofs.Common.{[], ◌*◌, ◌∙◌, ◌≡◌, ap, Bool, false, if◌then◌else◌, nat_le, None, Option, option_map, refl}
 use Rattle.std.proofs.Common.{Some, subst, sym, true, ℕ}
 use Rattle.std.specs.Option.{option_map_or}
-use Rattle.law_base.proofs.Lists.{put_same, put_there}
 use Rattle.law_invariants.proofs.HandoverLemmas.Orderly.{goes_change, goes_rest}
 use Rattle.law_invariants.proofs.NoCopyLemmas.Tally.{fair_change, fair_rest}
 use Rattle.law_invariants.proofs.SoundLemmas.Again.{changed_sound}
@@ -18,6 +17,7 @@ use Rattle.law_refinement.proofs.MissionsLemmas.Leaves.{kept_shown}
 use Rattle.law_refinement.proofs.MissionsLemmas.Reports.{rest_shown, track_is}
 use Rattle.law_refinement.proofs.MissionsLemmas.Sets.{Sets, sets_change}
 use Rattle.law_refinement.specs.Missions.Parts.{Answers, cut_in_time, own_granted}
+use Rattle.rbc_spec.proofs.Lists.{put_same, put_there}
 use Rattle.rbc_spec.specs.Acts.{◌>>◌, Act, change_mission as change_here, Reply, rest}
 use Rattle.rbc_spec.specs.Centre.{Centre, Mission, Proposal}
 use Rattle.rbc_spec.specs.Line.{end, is_centre, IsLine, Line}

@@ -5,8 +5,6 @@ use Rattle.std.proofs.Common.{false, if◌then◌else◌, inl, inr, lt-ltb, ltb-
 use Rattle.std.proofs.Common.{refl, Some, subst, sym, true, ℕ}
 use Rattle.std.proofs.lemmas.Bool.{and_from, and_parts, cases_lt, eqb-false, ne_eqb}
 use Rattle.std.specs.Option.{option_map_or}
-use Rattle.law_base.proofs.Lists.{put_over, put_there}
-use Rattle.law_base.proofs.Runs.{same_tests, within_before, within_from, within_true}
 use Rattle.law_invariants.proofs.HandoverLemmas.Moves.{goes_cut}
 use Rattle.law_invariants.proofs.NoCopyLemmas.Messages.{fair_cut, standing}
 use Rattle.law_invariants.proofs.NoCopyLemmas.Tally.{mission_of}
@@ -21,6 +19,8 @@ use Rattle.law_refinement.proofs.MissionsLemmas.Leaves.{close_is, given_is, leav
 use Rattle.law_refinement.proofs.MissionsLemmas.Leaves.{run_told, some_given}
 use Rattle.law_refinement.proofs.MissionsLemmas.Sets.{Sets, sets_cancel, sets_close, sets_keeping, sets_mission}
 use Rattle.law_refinement.proofs.MissionsLemmas.Sets.{sets_rest, sets_then}
+use Rattle.rbc_spec.proofs.Lists.{put_over, put_there}
+use Rattle.rbc_spec.proofs.Runs.{same_tests, within_before, within_from, within_true}
 use Rattle.rbc_spec.specs.Acts.{◌>>◌, Act, cancel, close, leave, part_at, Reply, rest, set_mission as set_here}
 use Rattle.rbc_spec.specs.Centre.{Centre, Handing, Mission, Proposal}
 use Rattle.rbc_spec.specs.Line.{is_centre, is_home, IsLine, Line}

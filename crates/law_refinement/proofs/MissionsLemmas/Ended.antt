@@ -3,7 +3,6 @@
 use Rattle.std.proofs.Common.{[], ◌++◌, ◌∙◌, ◌≡◌, ap, Bool, false, if◌then◌else◌, None, Option, option_map, refl, Some}
 use Rattle.std.proofs.Common.{subst, sym, true, ℕ}
 use Rattle.std.proofs.lemmas.List.{append-nil}
-use Rattle.law_base.proofs.Lists.{put_there}
 use Rattle.law_invariants.proofs.HandoverLemmas.Orderly.{Goes, goes_change, goes_returned, goes_then}
 use Rattle.law_invariants.proofs.NoCopyLemmas.Messages.{fair_return_pool, standing}
 use Rattle.law_invariants.proofs.NoCopyLemmas.Tally.{fair_both, fair_change}
@@ -19,6 +18,7 @@ use Rattle.law_refinement.proofs.MissionsLemmas.Leaves.{kept_shown}
 use Rattle.law_refinement.proofs.MissionsLemmas.Sets.{Sets, sets_change, sets_returned, sets_then}
 use Rattle.law_refinement.proofs.MissionsLemmas.Stands.{none_reached, standing_words, stood}
 use Rattle.law_refinement.specs.Missions.Parts.{ends}
+use Rattle.rbc_spec.proofs.Lists.{put_there}
 use Rattle.rbc_spec.specs.Acts.{◌>>◌, Act, change_mission, return_pool, returned}
 use Rattle.rbc_spec.specs.Centre.{Centre, Mission}
 use Rattle.rbc_spec.specs.Line.{is_centre, IsLine, Line}

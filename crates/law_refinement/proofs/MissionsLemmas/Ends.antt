@@ -1,9 +1,7 @@
 use Rattle.std.proofs.Common.{[], ◌==◌, ◌∙◌, ◌≡◌, ap, Bool, None, Option, option_map, refl, Some, subst, sym, true, ℕ}
 use Rattle.std.proofs.lemmas.Option.{same_Some}
 use Rattle.std.specs.Option.{option_map_or}
-use Rattle.law_base.proofs.Lists.{put_same}
 use Rattle.law_base.proofs.RulesLemmas.SentAnswers.{report_leaves}
-use Rattle.law_base.proofs.Worlds.{alike_then, then_alike, then_resting}
 use Rattle.law_invariants.specs.Flow.Flow.{Flow}
 use Rattle.law_invariants.specs.Flow.Leads.{replied, said_by}
 use Rattle.law_invariants.specs.Flow.Shows.{Shows}
@@ -16,6 +14,8 @@ use Rattle.law_refinement.proofs.MissionsLemmas.Reports.{Comes, report_comes, tr
 use Rattle.law_refinement.proofs.MissionsLemmas.Sets.{Sets}
 use Rattle.law_refinement.proofs.MissionsLemmas.Stands.{stand_keeps, standing_words, stands_so, stood, StoodSo}
 use Rattle.law_refinement.specs.Missions.Parts.{Answers, ends, own_end}
+use Rattle.rbc_spec.proofs.Lists.{put_same}
+use Rattle.rbc_spec.proofs.Worlds.{alike_then, then_alike, then_resting}
 use Rattle.rbc_spec.specs.Acts.{◌>>◌, Act, Reply, rest, with_mission}
 use Rattle.rbc_spec.specs.Centre.{Centre, Mission}
 use Rattle.rbc_spec.specs.Line.{is_centre, IsLine, Line}

@@ -4,12 +4,9 @@ use Rattle.std.proofs.Common.{if◌then◌else◌, None, Option, option_map, ref
 use Rattle.std.proofs.lemmas.Bool.{and_parts, both_ways, cases_eq, or_cases}
 use Rattle.law_base.proofs.CountingLemmas.Resource.{carried_none}
 use Rattle.law_base.proofs.CountingLemmas.Sums.{one_if_true}
-use Rattle.law_base.proofs.Lists.{itself, put_other, put_there}
-use Rattle.law_base.proofs.Runs.{longest_is, within_joined}
 use Rattle.law_base.specs.Counting.Network.{acted}
 use Rattle.law_base.specs.Counting.Sums.{one_if}
 use Rattle.law_base.specs.Local.Local.{hand_has}
-use Rattle.law_base.specs.Runs.{IsLongest}
 use Rattle.law_invariants.specs.Flow.Counts.{hands, missions, pool_has}
 use Rattle.law_invariants.specs.Flow.Flow.{centre_count, Flow}
 use Rattle.law_invariants.specs.Flow.Keeping.{nothing_came}
@@ -22,6 +19,8 @@ use Rattle.law_refinement.proofs.AbstractionLemmas.Shows.{part_stays, shows_afte
 use Rattle.law_refinement.specs.Abstraction.Acts.{IsAct}
 use Rattle.law_refinement.specs.Abstraction.After.{MarkAfter, MissionAfter}
 use Rattle.law_refinement.specs.Abstraction.After.MissionAfter.{is_here, stays}
+use Rattle.rbc_spec.proofs.Lists.{itself, put_other, put_there}
+use Rattle.rbc_spec.proofs.Runs.{longest_is, within_joined}
 use Rattle.rbc_spec.specs.Centre as centre
 use Rattle.rbc_spec.specs.Centre.{Centre, is_free, is_open, is_used_for, Mission, Phase}
 use Rattle.rbc_spec.specs.Line.{end, is_centre, is_home, Line, section}
@@ -31,6 +30,7 @@ use Rattle.rbc_spec.specs.Maps.{has, put}
 use Rattle.rbc_spec.specs.Place.{has_room, Place}
 use Rattle.rbc_spec.specs.ReadOff.{seen}
 use Rattle.rbc_spec.specs.Rules.{extended_by, extension, may_follow}
+use Rattle.rbc_spec.specs.SectionRuns.{IsLongest}
 use Rattle.rbc_spec.specs.SectionRuns.{most_in_hand, next_after, SectionRun, within}
 use Rattle.rbc_spec.specs.Sections.{is_on}
 

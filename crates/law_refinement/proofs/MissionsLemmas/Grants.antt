@@ -7,13 +7,10 @@ use Rattle.std.proofs.lemmas.Bool.{and_from, cases_eq, cases_lt, or_cases}
 use Rattle.std.specs.Option.{option_map_or}
 use Rattle.law_base.proofs.CountingLemmas.Places.{held_le_placed, two_held_le_placed}
 use Rattle.law_base.proofs.CountingLemmas.Sums.{one_if_true}
-use Rattle.law_base.proofs.Lists.{any-range_none, itself}
 use Rattle.law_base.proofs.RulesLemmas.Places.{placed_on}
-use Rattle.law_base.proofs.Runs.{all_within, joined_is, within_from}
 use Rattle.law_base.specs.Counting.Network.{acted}
 use Rattle.law_base.specs.Counting.Resource.{placed}
 use Rattle.law_base.specs.Counting.Sums.{one_if}
-use Rattle.law_base.specs.Runs.{IsLongest}
 use Rattle.law_invariants.proofs.HandoverLemmas.Moves.{goes_extend}
 use Rattle.law_invariants.proofs.NoCopyLemmas.Borders.{fair_extend}
 use Rattle.law_invariants.proofs.NoCopyLemmas.Tally.{mission_of}
@@ -33,7 +30,9 @@ use Rattle.law_refinement.proofs.MissionsLemmas.Heard.{act_sound}
 use Rattle.law_refinement.proofs.MissionsLemmas.Reports.{track_is}
 use Rattle.law_refinement.specs.Abstraction.Acts.{IsAct}
 use Rattle.law_refinement.specs.Missions.Parts.{Answers, extend, own_request}
+use Rattle.rbc_spec.proofs.Lists.{any-range_none, itself}
 use Rattle.rbc_spec.proofs.Places.{section_on}
+use Rattle.rbc_spec.proofs.Runs.{all_within, joined_is, within_from}
 use Rattle.rbc_spec.specs.Acts.{◌>>◌, rest}
 use Rattle.rbc_spec.specs.Centre as centre
 use Rattle.rbc_spec.specs.Centre.{Centre, Entry, is_free, is_open, Mission}
@@ -45,6 +44,7 @@ use Rattle.rbc_spec.specs.Message.{Authority, Request, TrainMessage}
 use Rattle.rbc_spec.specs.OwnSteps.{Ends, Extends, full, may_be_given, not_free, off_track, too_far}
 use Rattle.rbc_spec.specs.Place.{farthest, group_start, has_room, Place, place_on, Position}
 use Rattle.rbc_spec.specs.Rules.{authority, extended_by, extension, may_follow}
+use Rattle.rbc_spec.specs.SectionRuns.{IsLongest}
 use Rattle.rbc_spec.specs.SectionRuns.{most_in_hand, next_after, SectionRun, within}
 use Rattle.rbc_spec.specs.Sections.{is_on}
 

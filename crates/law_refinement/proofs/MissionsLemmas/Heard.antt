@@ -2,7 +2,6 @@
 use Rattle.std.proofs.Common.{[], ⊎_elim, ◌∙◌, ◌≡◌, ◌≢◌, ap, arith, is_some, Option, refl, Some, subst, true, ℕ}
 use Rattle.std.proofs.lemmas.Bool.{cases_eq}
 use Rattle.law_base.proofs.CountingLemmas.Resource.{carried_none}
-use Rattle.law_base.proofs.Lists.{put_here, put_other, put_there}
 use Rattle.law_base.proofs.LocalLemmas.Worlds.{is_ordered}
 use Rattle.law_base.specs.Counting.Network.{acted}
 use Rattle.law_base.specs.Counting.Resource.{IsFair, Resource}
@@ -24,6 +23,7 @@ use Rattle.law_invariants.specs.Flow.Sound.{IsCentreSound, IsFlowSound}
 use Rattle.law_invariants.specs.Handover.Orderly.{IsOrderly, none_allowed}
 use Rattle.law_refinement.proofs.AbstractionLemmas.Shows.{by_itself, part_changes, part_stays, unseen_shown}
 use Rattle.law_refinement.specs.Missions.Parts.{Answers}
+use Rattle.rbc_spec.proofs.Lists.{put_here, put_other, put_there}
 use Rattle.rbc_spec.specs.Acts.{◌>>◌, Act, hear, Reply}
 use Rattle.rbc_spec.specs.Centre.{Centre, Phase}
 use Rattle.rbc_spec.specs.Frame.{Body}

@@ -6,8 +6,6 @@ use Rattle.std.proofs.lemmas.List.{append-nil}
 use Rattle.std.proofs.Math.Bool.{and-true}
 use Rattle.std.specs.List.{filter, list_any, range_with_len}
 use Rattle.law_base.proofs.CountingLemmas.Sums.{one_if_some, one_if_true}
-use Rattle.law_base.proofs.Lists.{any-range, any-range_none, on_line, put_other, put_there}
-use Rattle.law_base.proofs.Runs.{filter_run, within_true}
 use Rattle.law_base.specs.Counting.Network.{acted}
 use Rattle.law_base.specs.Counting.Sums.{one_if}
 use Rattle.law_base.specs.Local.Local.{hand_has}
@@ -26,6 +24,8 @@ use Rattle.law_refinement.proofs.MissionsLemmas.Sets.{Sets}
 use Rattle.law_refinement.specs.Abstraction.Acts.{IsAct, SendsNone}
 use Rattle.law_refinement.specs.Abstraction.After.{MarkAfter, MissionAfter}
 use Rattle.law_refinement.specs.Abstraction.After.MissionAfter.{ended, is_here, stays}
+use Rattle.rbc_spec.proofs.Lists.{any-range, any-range_none, on_line, put_other, put_there}
+use Rattle.rbc_spec.proofs.Runs.{filter_run, within_true}
 use Rattle.rbc_spec.specs.Acts.{◌>>◌, Act, leave, Reply}
 use Rattle.rbc_spec.specs.Centre as centre
 use Rattle.rbc_spec.specs.Centre.{Centre, is_taken_for, Mission, Phase}

@@ -9,7 +9,6 @@ use Rattle.std.specs.Prelude.{Contains, MatchBool}
 use Rattle.law_base.proofs.CountingLemmas.Places.{placed_parts}
 use Rattle.law_base.proofs.CountingLemmas.Resource.{carried_more, carried_none}
 use Rattle.law_base.proofs.CountingLemmas.Sums.{links_some, one_if_some, sum_some}
-use Rattle.law_base.proofs.Lists.{itself, put_same}
 use Rattle.law_base.specs.Counting.Network.{way}
 use Rattle.law_base.specs.Counting.Resource.{carried, placed, Resource}
 use Rattle.law_base.specs.Counting.Sums.{sum_below}
@@ -29,6 +28,7 @@ use Rattle.law_refinement.proofs.MissionsLemmas.Heard.{act_sound}
 use Rattle.law_refinement.proofs.MissionsLemmas.Leaves.{kept_shown}
 use Rattle.law_refinement.proofs.MissionsLemmas.Sets.{Sets, sets_rest}
 use Rattle.law_refinement.specs.Missions.Parts.{Answers, own_report}
+use Rattle.rbc_spec.proofs.Lists.{itself, put_same}
 use Rattle.rbc_spec.specs.Acts.{Reply, rest}
 use Rattle.rbc_spec.specs.Centre as centre
 use Rattle.rbc_spec.specs.Centre.{Centre, Expectation, Mission}

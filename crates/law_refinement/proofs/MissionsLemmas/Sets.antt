@@ -4,11 +4,11 @@ use Rattle.std.proofs.Common.{inl, inr, None, Option, option_map, refl, Some, su
 use Rattle.std.proofs.lemmas.Bool.{cases_eq}
 use Rattle.std.specs.Option.{option_map_or}
 use Rattle.law_base.proofs.CountingLemmas.Resource.{carried_more, carried_none}
-use Rattle.law_base.proofs.Lists.{put_here, put_other, put_same, put_there}
 use Rattle.law_base.specs.Counting.Resource.{carried, Resource}
 use Rattle.law_invariants.specs.Flow.Counts.{hands, missions}
 use Rattle.law_refinement.proofs.AbstractionLemmas.Hands.{sends_both, sends_home}
 use Rattle.law_refinement.specs.Abstraction.Acts.{SendsNone}
+use Rattle.rbc_spec.proofs.Lists.{put_here, put_other, put_same, put_there}
 use Rattle.rbc_spec.specs.Acts.{◌>>◌, Act, become, cancel, change_mission, close, Reply, rest, return_right, returned}
 use Rattle.rbc_spec.specs.Acts.{send, set_mission}
 use Rattle.rbc_spec.specs.Centre.{Centre, Handing, is_registrar_of, Mission}

@@ -4,10 +4,6 @@ use Rattle.std.proofs.Common.{eqb-true, false, if◌then◌else◌, le-leb, List
 use Rattle.std.proofs.Common.{Option, option_map, refl, Some, sym, true, ℕ}
 use Rattle.std.proofs.lemmas.Bool.{and_from, cases_lt, eqb-false, le-ltb, lt-leb, lt-ltb, ltb-false, or_cases, or_parts}
 use Rattle.std.specs.Option.{option_map_or}
-use Rattle.law_base.proofs.Lists.{any-range, any-range_none, filter-range_none, put_over, put_there}
-use Rattle.law_base.proofs.Runs.{longest_is, within_from, within_true}
-use Rattle.law_base.proofs.Worlds.{reached_few, rests_or_cuts}
-use Rattle.law_base.specs.Runs.{IsLongest}
 use Rattle.law_invariants.proofs.HandoverLemmas.Orderly.{goes_rest}
 use Rattle.law_invariants.proofs.NoCopyLemmas.Tally.{fair_rest}
 use Rattle.law_invariants.proofs.SoundLemmas.Sends.{rest_sound}
@@ -19,7 +15,10 @@ use Rattle.law_refinement.proofs.MissionsLemmas.Cuts.{cut_keeps, cuts_part, Part
 use Rattle.law_refinement.proofs.MissionsLemmas.Heard.{act_sound}
 use Rattle.law_refinement.proofs.MissionsLemmas.Leaves.{given_is, hand_on}
 use Rattle.law_refinement.proofs.MissionsLemmas.Reports.{rest_shown}
+use Rattle.rbc_spec.proofs.Lists.{any-range, any-range_none, filter-range_none, put_over, put_there}
 use Rattle.rbc_spec.proofs.Places.{starts_rise}
+use Rattle.rbc_spec.proofs.Runs.{longest_is, within_from, within_true}
+use Rattle.rbc_spec.proofs.Worlds.{reached_few, rests_or_cuts}
 use Rattle.rbc_spec.specs.Acts.{Reply, rest}
 use Rattle.rbc_spec.specs.Centre.{Centre, Mission}
 use Rattle.rbc_spec.specs.Line.{is_centre, is_home, IsLine, Line, start}
@@ -32,6 +31,7 @@ use Rattle.rbc_spec.specs.OwnSteps.{without_ask}
 use Rattle.rbc_spec.specs.Place.{Place, place_on, Position}
 use Rattle.rbc_spec.specs.ReadOff.{seen}
 use Rattle.rbc_spec.specs.Rules.{cut, cut_ahead, reached, stand_still}
+use Rattle.rbc_spec.specs.SectionRuns.{IsLongest}
 use Rattle.rbc_spec.specs.SectionRuns.{within}
 use Rattle.rbc_spec.specs.Sections.{section_count}
 

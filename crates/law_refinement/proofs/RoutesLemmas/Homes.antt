@@ -4,9 +4,7 @@ use Rattle.std.proofs.Common.{length, not, Option, refl, subst, sym, true, ℕ}
 use Rattle.std.proofs.lemmas.Bool.{and_from, and_parts, both_ways, false_from_ne_true, lt-ltb, not-true}
 use Rattle.law_base.proofs.CountingLemmas.Resource.{carried_none}
 use Rattle.law_base.proofs.CountingLemmas.Sums.{one_if_true}
-use Rattle.law_base.proofs.Lists.{any-range, any-range_none, itself, none_is, one_home, put_there}
 use Rattle.law_base.proofs.LocalLemmas.Entries.{given, others_given, taken_given}
-use Rattle.law_base.proofs.Runs.{each_within, within_from}
 use Rattle.law_base.specs.Counting.Network.{acted, TakesHead, took}
 use Rattle.law_base.specs.Counting.Sums.{one_if}
 use Rattle.law_invariants.proofs.FlowLemmas.Shown.{acted_twice, leads_rest, leads_then}
@@ -34,6 +32,8 @@ use Rattle.law_refinement.proofs.RoutesLemmas.Rights.{home_known, known_below}
 use Rattle.law_refinement.proofs.RoutesLemmas.Unkept.{part, saying, steps, unkeep_all, unkeep_own, words}
 use Rattle.law_refinement.specs.Abstraction.Acts.{IsAct}
 use Rattle.law_refinement.specs.Abstraction.After.MissionAfter.{stays}
+use Rattle.rbc_spec.proofs.Lists.{any-range, any-range_none, itself, none_is, one_home, put_there}
+use Rattle.rbc_spec.proofs.Runs.{each_within, within_from}
 use Rattle.rbc_spec.specs.Acts.{end_order, freed, Reply, rest, where_so}
 use Rattle.rbc_spec.specs.Centre as centre
 use Rattle.rbc_spec.specs.Centre.{Centre, is_expected, is_out_for, is_taken_for, is_used_for, Phase, uses_some}

@@ -6,7 +6,6 @@ use Rattle.std.proofs.lemmas.Bool.{and_from, cases_eq}
 use Rattle.std.specs.Option.{option_map_or}
 use Rattle.std.specs.Prelude.{MatchBool}
 use Rattle.law_base.proofs.CountingLemmas.Resource.{carried_more, carried_none}
-use Rattle.law_base.proofs.Lists.{put_here, put_other, put_over}
 use Rattle.law_base.specs.Counting.Network.{acted}
 use Rattle.law_base.specs.Counting.Resource.{carried, Resource}
 use Rattle.law_invariants.proofs.FlowLemmas.Shown.{acted_twice}
@@ -29,6 +28,7 @@ use Rattle.law_refinement.specs.Abstraction.Acts.{IsAct, SendsNone}
 use Rattle.law_refinement.specs.Abstraction.After.{MarkAfter}
 use Rattle.law_refinement.specs.Abstraction.After.MissionAfter.{stays}
 use Rattle.law_refinement.specs.Routes.Interlocking.{asked_for, LeadsAtOnce, LeadsFrom, LeadsUnset}
+use Rattle.rbc_spec.proofs.Lists.{put_here, put_other, put_over}
 use Rattle.rbc_spec.specs.Acts.{◌>>◌, Act, become, may_propose, propose, Reply, rest, where_so}
 use Rattle.rbc_spec.specs.Centre as centre
 use Rattle.rbc_spec.specs.Centre.{Centre, Entry, is_unused, Mission, Phase}

@@ -4,8 +4,6 @@ use Rattle.std.proofs.Common.{false, if◌then◌else◌, is_some, List, map, No
 use Rattle.std.proofs.Common.{ℕ}
 use Rattle.std.proofs.lemmas.Bool.{and_from, and_parts, cases_eq, false_from_ne_true}
 use Rattle.std.specs.List.{list_all, range_with_len}
-use Rattle.law_base.proofs.Lists.{itself, put_other}
-use Rattle.law_base.proofs.Runs.{longest_is, same_tests, within_from, within_none, within_true}
 use Rattle.law_base.specs.Counting.Network.{acted, TakesHead, took}
 use Rattle.law_invariants.proofs.SoundLemmas.Routes.{asked_route}
 use Rattle.law_invariants.specs.Flow.Counts.{hands, missions}
@@ -24,6 +22,8 @@ use Rattle.law_refinement.specs.Abstraction.Acts.{IsAct, SendsNone}
 use Rattle.law_refinement.specs.Abstraction.After.{MarkAfter}
 use Rattle.law_refinement.specs.Abstraction.After.MarkAfter.{is_kept}
 use Rattle.law_refinement.specs.Abstraction.After.MissionAfter.{stays}
+use Rattle.rbc_spec.proofs.Lists.{itself, put_other}
+use Rattle.rbc_spec.proofs.Runs.{longest_is, same_tests, within_from, within_none, within_true}
 use Rattle.rbc_spec.specs.Acts.{◌>>◌, booked, Reply, rest, send}
 use Rattle.rbc_spec.specs.Centre as centre
 use Rattle.rbc_spec.specs.Centre.{Centre, Entry, is_free, is_open, is_used_for, Phase}

@@ -6,8 +6,6 @@ use Rattle.std.specs.List.{filter, range_with_len}
 use Rattle.std.specs.Option.{option_map_or}
 use Rattle.law_base.proofs.CountingLemmas.Resource.{carried_none}
 use Rattle.law_base.proofs.CountingLemmas.Sums.{one_if_some, one_if_true}
-use Rattle.law_base.proofs.Lists.{itself}
-use Rattle.law_base.proofs.Worlds.{alike_then}
 use Rattle.law_base.specs.Counting.Network.{acted, TakesHead, took}
 use Rattle.law_invariants.proofs.SoundLemmas.Starts.{refused_sound}
 use Rattle.law_invariants.specs.Flow.Counts.{hands, missions, wait_has}
@@ -24,6 +22,8 @@ use Rattle.law_refinement.proofs.RoutesLemmas.Rights.{after_change, freed_mark, 
 use Rattle.law_refinement.proofs.RoutesLemmas.Rights.{freed_told, freed_wish, home_known, known_below, resting}
 use Rattle.law_refinement.specs.Abstraction.Acts.{IsAct}
 use Rattle.law_refinement.specs.Abstraction.After.MissionAfter.{stays}
+use Rattle.rbc_spec.proofs.Lists.{itself}
+use Rattle.rbc_spec.proofs.Worlds.{alike_then}
 use Rattle.rbc_spec.specs.Acts.{◌>>◌, become, freed, Reply, rest}
 use Rattle.rbc_spec.specs.Centre as centre
 use Rattle.rbc_spec.specs.Centre.{Centre, is_taken_for, Phase}

@@ -6,7 +6,6 @@ use Rattle.std.proofs.lemmas.Option.{slice_get_within}
 use Rattle.std.specs.List.{filter, range_with_len}
 use Rattle.std.specs.Option.{option_map_or}
 use Rattle.law_base.proofs.CountingLemmas.Resource.{carried_none}
-use Rattle.law_base.proofs.Runs.{filter_run}
 use Rattle.law_base.specs.Counting.Network.{TakesHead, took}
 use Rattle.law_base.specs.Counting.Resource.{Resource}
 use Rattle.law_invariants.proofs.FlowLemmas.Admitted as admitted
@@ -24,6 +23,7 @@ use Rattle.law_refinement.proofs.RoutesLemmas.Bodies.{of_train_leads, received_k
 use Rattle.law_refinement.proofs.RoutesLemmas.Bodies.{unseen_leads}
 use Rattle.law_refinement.specs.Abstraction.Acts.{hand_after, hand_before, IsAct, SendsNone}
 use Rattle.law_refinement.specs.Abstraction.After.{MarkAfter}
+use Rattle.rbc_spec.proofs.Runs.{filter_run}
 use Rattle.rbc_spec.specs.Acts.{◌>>◌, Act, become, rest, return_right, send}
 use Rattle.rbc_spec.specs.Centre as centre
 use Rattle.rbc_spec.specs.Centre.{Centre, is_registrar_of}

@@ -3,8 +3,6 @@ use Rattle.std.proofs.Common.{[], ⊎_elim, ◌&&◌, ◌==◌, ◌∙◌, ◌�
 use Rattle.std.proofs.Common.{option_map, refl, Some, subst, sym, true, ℕ}
 use Rattle.std.proofs.lemmas.Bool.{cases_eq}
 use Rattle.law_base.proofs.CountingLemmas.Resource.{carried_none}
-use Rattle.law_base.proofs.Lists.{put_here, put_other, put_there}
-use Rattle.law_base.proofs.Worlds.{rest_then}
 use Rattle.law_base.specs.Counting.Network.{TakesHead, took}
 use Rattle.law_base.specs.Local.Local.{hand_has}
 use Rattle.law_invariants.proofs.FlowLemmas.Shown.{leads_then}
@@ -24,6 +22,8 @@ use Rattle.law_refinement.proofs.RoutesLemmas.Bodies.{unseen_leads}
 use Rattle.law_refinement.proofs.RoutesLemmas.Rights.{after_change, resting, sending}
 use Rattle.law_refinement.specs.Abstraction.Acts.{SendsNone}
 use Rattle.law_refinement.specs.Abstraction.After.{IsUnseen}
+use Rattle.rbc_spec.proofs.Lists.{put_here, put_other, put_there}
+use Rattle.rbc_spec.proofs.Worlds.{rest_then}
 use Rattle.rbc_spec.specs.Acts.{◌>>◌, Act, change_mission, propose_if_so, rest, returned, send}
 use Rattle.rbc_spec.specs.Centre.{Centre, Mission}
 use Rattle.rbc_spec.specs.Frame.{Body, RouteInfo, RouteReturn, RouteWithdraw}

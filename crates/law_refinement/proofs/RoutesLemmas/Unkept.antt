@@ -3,8 +3,8 @@ use Rattle.std.proofs.Common.{[], ⊎_elim, ◌&&◌, ◌++◌, ◌+◌, ◌<◌
 use Rattle.std.proofs.Common.{eqb-true, false, if◌then◌else◌, List, map, not, refl, subst, suc, sym, true, zero, ℕ}
 use Rattle.std.proofs.lemmas.Bool.{and_from, and_parts, cases_eq, false_from_ne_true}
 use Rattle.std.specs.List.{filter, list_all, range_with_len}
-use Rattle.law_base.proofs.Lists.{itself}
-use Rattle.law_base.proofs.Runs.{filter_run, same_tests, within_from, within_true}
+use Rattle.rbc_spec.proofs.Lists.{itself}
+use Rattle.rbc_spec.proofs.Runs.{filter_run, same_tests, within_from, within_true}
 use Rattle.rbc_spec.specs.Line.{is_home, Line}
 use Rattle.rbc_spec.specs.LineCentre.{free, is_waiting, Kept, LineState, Open, Said, Shut, told}
 use Rattle.rbc_spec.specs.Outcome.{Told, Word}

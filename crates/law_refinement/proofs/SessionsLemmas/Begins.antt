@@ -3,7 +3,6 @@ use Rattle.std.proofs.Common.{[], ⊎_elim, ◌&&◌, ◌+◌, ◌==◌, ◌∙�
 use Rattle.std.proofs.Common.{None, Option, option_map, refl, Some, subst, sym, true, ℕ}
 use Rattle.std.proofs.lemmas.Bool.{and_parts, cases_eq}
 use Rattle.law_base.proofs.CountingLemmas.Sums.{one_if_true}
-use Rattle.law_base.proofs.Lists.{itself, one_home, put_other, put_there}
 use Rattle.law_base.specs.Counting.Network.{acted}
 use Rattle.law_base.specs.Counting.Sums.{one_if}
 use Rattle.law_base.specs.Local.Local.{hand_has}
@@ -20,6 +19,7 @@ use Rattle.law_refinement.proofs.SessionsLemmas.Changes.{act, mark_same, mission
 use Rattle.law_refinement.specs.Abstraction.After.{MarkAfter, MissionAfter}
 use Rattle.law_refinement.specs.Abstraction.After.MarkAfter.{is_kept}
 use Rattle.law_refinement.specs.Abstraction.After.MissionAfter.{is_here}
+use Rattle.rbc_spec.proofs.Lists.{itself, one_home, put_other, put_there}
 use Rattle.rbc_spec.specs.Acts.{begun}
 use Rattle.rbc_spec.specs.Centre as centre
 use Rattle.rbc_spec.specs.Centre.{Centre, is_free, is_open, is_used_for, Phase}

@@ -7,7 +7,6 @@ use Rattle.std.specs.Prelude.{Contains}
 use Rattle.law_base.proofs.CountingLemmas.Places.{placed_parts}
 use Rattle.law_base.proofs.CountingLemmas.Resource.{carried_none}
 use Rattle.law_base.proofs.CountingLemmas.Sums.{links_some, one_if_some, sum_some}
-use Rattle.law_base.proofs.Lists.{itself, put_other, put_there}
 use Rattle.law_base.specs.Counting.Network.{acted, way}
 use Rattle.law_base.specs.Counting.Resource.{carried, placed}
 use Rattle.law_base.specs.Counting.Sums.{one_if, sum_below}
@@ -26,6 +25,7 @@ use Rattle.law_refinement.specs.Abstraction.Acts.{IsAct, SendsNone}
 use Rattle.law_refinement.specs.Abstraction.After.{MarkAfter, MissionAfter, PartAfter}
 use Rattle.law_refinement.specs.Abstraction.After.MissionAfter.{is_here, stays}
 use Rattle.law_refinement.specs.Sessions.Heard.{LeadsAlone}
+use Rattle.rbc_spec.proofs.Lists.{itself, put_other, put_there}
 use Rattle.rbc_spec.specs.Acts.{Reply}
 use Rattle.rbc_spec.specs.Centre as centre
 use Rattle.rbc_spec.specs.Centre.{Centre, Phase}

@@ -1,12 +1,12 @@
 -- Sessions that are established, train data, and rejected requests to shorten.
 use Rattle.std.proofs.Common.{[], ◌+◌, ◌≡◌, ap, false, None, Option, refl, slice_get, Some, sym, true, ℕ}
-use Rattle.law_base.proofs.Lists.{none_passes, there_is}
 use Rattle.law_invariants.specs.Flow.Flow.{Flow}
 use Rattle.law_invariants.specs.Flow.Shows.{Shows}
 use Rattle.law_invariants.specs.Flow.Sound.{IsFlowSound}
 use Rattle.law_refinement.proofs.AbstractionLemmas.Shows.{part_changes, part_stays}
 use Rattle.law_refinement.proofs.SessionsLemmas.Changes.{heard_alone, one_said, shows_change, shows_talk, silent}
 use Rattle.law_refinement.specs.Sessions.Heard.{LeadsAlone, message}
+use Rattle.rbc_spec.proofs.Lists.{none_passes, there_is}
 use Rattle.rbc_spec.specs.Acts.{◌>>◌, Reply}
 use Rattle.rbc_spec.specs.Centre.{Centre, Phase, Up}
 use Rattle.rbc_spec.specs.Line.{is_centre, Line}

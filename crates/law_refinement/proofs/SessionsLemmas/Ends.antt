@@ -5,8 +5,6 @@ use Rattle.std.proofs.lemmas.Bool.{and_parts}
 use Rattle.std.proofs.lemmas.Option.{slice_get_within}
 use Rattle.std.specs.List.{filter, range_with_len}
 use Rattle.law_base.proofs.CountingLemmas.Sums.{one_if_some, one_if_true}
-use Rattle.law_base.proofs.Lists.{filter-none, itself, put_over, put_same}
-use Rattle.law_base.proofs.Runs.{filter_run}
 use Rattle.law_base.specs.Counting.Network.{acted}
 use Rattle.law_base.specs.Local.Local.{hand_has}
 use Rattle.law_invariants.specs.Flow.Counts.{wait_has}
@@ -20,6 +18,8 @@ use Rattle.law_refinement.proofs.SessionsLemmas.Changes.{act, hand_changes, hear
 use Rattle.law_refinement.proofs.SessionsLemmas.Changes.{mission_same, none_here, one_said, silent}
 use Rattle.law_refinement.specs.Abstraction.After.{MarkAfter, MissionAfter}
 use Rattle.law_refinement.specs.Sessions.Heard.{LeadsAlone, message}
+use Rattle.rbc_spec.proofs.Lists.{filter-none, itself, put_over, put_same}
+use Rattle.rbc_spec.proofs.Runs.{filter_run}
 use Rattle.rbc_spec.specs.Acts.{◌>>◌, Reply}
 use Rattle.rbc_spec.specs.Centre as centre
 use Rattle.rbc_spec.specs.Centre.{Centre, Closed, is_taken_for, Opened, Phase}

@@ -2,7 +2,6 @@
 use Rattle.std.proofs.Common.{[], ◌&&◌, ◌++◌, ◌+◌, ◌∙◌, ◌∷◌, ◌≡◌, ap, arith, Bool, false, if◌then◌else◌, inl, inr}
 use Rattle.std.proofs.Common.{is_some, List, None, Option, option_map, refl, Some, subst, sym, true, ℕ}
 use Rattle.law_base.proofs.CountingLemmas.Sums.{one_if_true}
-use Rattle.law_base.proofs.Runs.{each_within}
 use Rattle.law_base.specs.Counting.Network.{acted, to_one}
 use Rattle.law_invariants.specs.Flow.Counts.{hands, missions}
 use Rattle.law_invariants.specs.Flow.Flow.{Flow}
@@ -18,6 +17,7 @@ use Rattle.law_refinement.proofs.SessionsLemmas.Begins.{put_to_use, shows_begin,
 use Rattle.law_refinement.proofs.SessionsLemmas.Changes.{act, heard_alone, one_said, SendsNothing, shows_change}
 use Rattle.law_refinement.proofs.SessionsLemmas.Changes.{shows_talk, silent, supervises_is}
 use Rattle.law_refinement.specs.Sessions.Heard.{LeadsAlone, message}
+use Rattle.rbc_spec.proofs.Runs.{each_within}
 use Rattle.rbc_spec.specs.Acts.{◌>>◌, begun, Reply}
 use Rattle.rbc_spec.specs.Centre as centre
 use Rattle.rbc_spec.specs.Centre.{Centre, is_free, is_open, is_registrar_of, Phase}

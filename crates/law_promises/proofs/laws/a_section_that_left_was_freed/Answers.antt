@@ -1,7 +1,7 @@
 use Rattle.std.proofs.Common.{◌∙◌, ap}
-use Rattle.law_base.proofs.Lists.{itself}
 use Rattle.law_promises.proofs.laws.a_section_that_left_was_freed.Goals as goal
 use Rattle.law_promises.proofs.Promised.{freed_within}
+use Rattle.rbc_spec.proofs.Lists.{itself}
 use Rattle.rbc_spec.specs.LineCentre.{is_given_to}
 
 pub returns : goal.returns

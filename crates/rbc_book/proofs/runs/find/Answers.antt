@@ -1,8 +1,8 @@
 use Rattle.std.proofs.Common.{◌+◌, ◌/◌, ◌<◌, ◌≡◌, ◌≤◌, arith, subst, true}
-use Rattle.law_base.proofs.Runs.{within_from}
 use Rattle.rbc_book.proofs.Rows.{at_holds, found_none, lower, raise}
 use Rattle.rbc_book.proofs.runs.find.Goals as goal
 use Rattle.rbc_book.specs.Runs.{sections_of}
+use Rattle.rbc_spec.proofs.Runs.{within_from}
 use Rattle.rbc_spec.specs.SectionRuns.{within}
 
 pub loop-low-preserved-then-s-run : goal.loop-low-preserved-then-s-run

@@ -1,9 +1,9 @@
 use Rattle.std.proofs.Common.{◌+◌, ◌<◌, ◌∙◌, ◌≡◌, ◌≤◌, ap, arith, sym, ⊎_elim}
 use Rattle.std.proofs.lemmas.Bool.{cases_lt}
-use Rattle.law_base.proofs.Lists.{all_from}
 use Rattle.rbc_border.proofs.arriving.may_arrive.Goals as goal
 use Rattle.rbc_border.proofs.Hands.{one_fails}
 use Rattle.rbc_line.specs.SectionRuns.{run_of}
+use Rattle.rbc_spec.proofs.Lists.{all_from}
 use Rattle.rbc_spec.specs.Links.{may_arrive}
 
 pub returns-then-not-arrives : goal.returns-then-not-arrives

@@ -1,11 +1,11 @@
 use Rattle.std.proofs.Common.{◌+◌, ◌<◌, ◌∙◌, ◌≡◌, ◌≤◌, ap, arith, false, sym, true, ℕ}
 use Rattle.std.proofs.lemmas.Bool.{not-true}
-use Rattle.law_base.proofs.Runs.{some_count}
 use Rattle.rbc_border.proofs.HomeParts.{no_part, part_is, part_range, some}
 use Rattle.rbc_border.proofs.homes.part_at.Goals as goal
 use Rattle.rbc_border.proofs.homes.part_at.Goals.{After-stretch-count}
 use Rattle.rbc_border.specs.Homes.{is_of}
 use Rattle.rbc_line.specs.SectionRuns.{run_of}
+use Rattle.rbc_spec.proofs.Runs.{some_count}
 use Rattle.rbc_spec.specs.SectionRuns.{is_empty, shared}
 use Rattle.rbc_spec.specs.Sections.{home_run}
 

@@ -1,9 +1,9 @@
 use Rattle.std.proofs.Common.{◌∙◌, ap, arith, inl, inr, sym}
 use Rattle.std.proofs.lemmas.Bool.Decides.{eqb_tells}
-use Rattle.law_base.proofs.Runs.{within_true}
 use Rattle.rbc_centre.proofs.Homes.{none_goes}
 use Rattle.rbc_centre.proofs.returned.all_stay.Goals as goal
 use Rattle.rbc_line.specs.SectionRuns.{run_of}
+use Rattle.rbc_spec.proofs.Runs.{within_true}
 use Rattle.rbc_spec.specs.Line.{is_home}
 
 pub loop-s-preserved : goal.loop-s-preserved

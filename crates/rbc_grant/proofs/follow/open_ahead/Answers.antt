@@ -1,8 +1,8 @@
 use Rattle.std.proofs.Common.{◌+◌, arith}
-use Rattle.law_base.proofs.Runs.{longest_each}
 use Rattle.rbc_book.specs.Book.{entry_at}
 use Rattle.rbc_grant.proofs.follow.open_ahead.Goals as goal
 use Rattle.rbc_line.specs.SectionRuns.{run_of}
+use Rattle.rbc_spec.proofs.Runs.{longest_each}
 use Rattle.rbc_spec.specs.Centre.{is_open}
 use Rattle.rbc_spec.specs.SectionRuns.{next_after}
 

@@ -1,5 +1,5 @@
 use Rattle.rbc_spec.proofs.laws.one_state_stands.Goals as goal
-use Rattle.rbc_spec.proofs.ReadOff.{same_mission, same_section, same_sessions}
+use Rattle.rbc_spec.proofs.Safe.{same_mission, same_section, same_sessions}
 
 pub returns-clause-sessions : goal.returns-clause-sessions
 returns-clause-sessions c = same_sessions

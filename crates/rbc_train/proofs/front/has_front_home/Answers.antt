@@ -1,7 +1,7 @@
 use Rattle.std.proofs.Common.{◌&&◌, ◌<◌, ◌∙◌, ◌≡◌, ◌≤◌, ap, arith, Bool, length, sym, ℕ, ⊎_elim}
 use Rattle.std.proofs.lemmas.Bool.{cases_lt}
-use Rattle.law_base.proofs.Lists.{any-range, any-range_none}
 use Rattle.rbc_place.specs.Places.{place_of}
+use Rattle.rbc_spec.proofs.Lists.{any-range, any-range_none}
 use Rattle.rbc_spec.specs.Line.{is_home}
 use Rattle.rbc_spec.specs.Place.{has_front}
 use Rattle.rbc_train.proofs.front.has_front_home.Goals as goal

@@ -1,7 +1,7 @@
 use Rattle.std.proofs.Common.{◌&&◌, ◌+◌, ◌<◌, ◌∙◌, ◌≡◌, ◌≤◌, ap, arith, Bool, sym, ℕ, ⊎_elim}
 use Rattle.std.proofs.lemmas.Bool.{cases_lt}
-use Rattle.law_base.proofs.Lists.{find-range}
 use Rattle.rbc_book.specs.Book.{wish_at}
+use Rattle.rbc_spec.proofs.Lists.{find-range}
 use Rattle.rbc_spec.specs.Line.{is_home}
 use Rattle.rbc_train.proofs.Runs.{find-range_none}
 use Rattle.rbc_train.proofs.taking_up.first_wished.Goals as goal

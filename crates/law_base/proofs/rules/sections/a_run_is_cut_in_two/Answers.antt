@@ -1,5 +1,5 @@
 use Rattle.law_base.proofs.rules.sections.a_run_is_cut_in_two.Goals as goal
-use Rattle.law_base.proofs.Runs.{parts_count, within_part_before, within_part_from}
+use Rattle.rbc_spec.proofs.Runs.{parts_count, within_part_before, within_part_from}
 
 pub returns-clause-before : goal.returns-clause-before
 returns-clause-before c = within_part_before

@@ -1,5 +1,5 @@
 use Rattle.law_base.proofs.rules.sections.runs_are_joined.Goals as goal
-use Rattle.law_base.proofs.Runs.{joined_count, joined_empty, within_joined}
+use Rattle.rbc_spec.proofs.Runs.{joined_count, joined_empty, within_joined}
 
 pub returns-clause-both : goal.returns-clause-both
 returns-clause-both c = within_joined

@@ -1,5 +1,5 @@
 use Rattle.law_base.proofs.rules.sections.the_longest_run.Goals as goal
-use Rattle.law_base.proofs.Runs.{longest_is, longest_only}
+use Rattle.rbc_spec.proofs.Runs.{longest_is, longest_only}
 use Rattle.rbc_spec.specs.SectionRuns.{longest}
 
 pub returns-clause-is : goal.returns-clause-is

@@ -1,7 +1,7 @@
 use Rattle.std.proofs.Common.{◌+◌, ◌∙◌, ap, arith}
-use Rattle.law_base.proofs.Runs.{within_from}
 use Rattle.rbc_book.proofs.book.Book.take_run.Goals as goal
 use Rattle.rbc_book.proofs.Sheets.{after_taken, taken_more, taken_nothing}
+use Rattle.rbc_spec.proofs.Runs.{within_from}
 use Rattle.rbc_spec.specs.Centre.{is_open}
 
 pub loop-taken-init : goal.loop-taken-init

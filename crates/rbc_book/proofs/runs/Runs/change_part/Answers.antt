@@ -1,5 +1,4 @@
 use Rattle.std.proofs.Common.{◌<◌, ◌∙◌, ◌≡◌, ◌≤◌, ap, arith, length, None, refl, rules, subst, sym, true}
-use Rattle.law_base.proofs.Runs.{within_true}
 use Rattle.rbc_book.proofs.Rows.{at_from, at_within, sheet_says, there}
 use Rattle.rbc_book.proofs.runs.Runs.change_part.Goals as goal
 use Rattle.rbc_book.proofs.Sheets.{part_changed, written_tracks}
@@ -7,6 +6,7 @@ use Rattle.rbc_book.specs.Changes.{IsAfter, IsPartChanged}
 use Rattle.rbc_book.specs.Edits.{Has}
 use Rattle.rbc_book.specs.Runs.{run_page, sections_of, sheet_of}
 use Rattle.rbc_book.specs.Sheet.{page_in, spot_on}
+use Rattle.rbc_spec.proofs.Runs.{within_true}
 use Rattle.rbc_spec.specs.SectionRuns.{within}
 
 pub returns-in_err-place-clause-none : goal.returns-in_err-place-clause-none

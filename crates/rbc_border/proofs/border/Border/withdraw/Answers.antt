@@ -1,13 +1,13 @@
 use Rattle.std.proofs.Common.{◌-◌, ◌∙◌, ◌≡◌, ap, arith, length, None, Some, sym, true}
 use Rattle.std.proofs.lemmas.Bool.{cond-true}
 use Rattle.std.proofs.lemmas.List.{length-take-le}
-use Rattle.law_base.proofs.Runs.{within_true}
 use Rattle.rbc_border.proofs.border.Border.withdraw.Goals as goal
 use Rattle.rbc_border.proofs.border.Border.withdraw.Goals.{After-spend_back}
 use Rattle.rbc_border.proofs.Borders.{cut_border, not_withdrawn, parts_at, withdrawn}
 use Rattle.rbc_border.specs.Border.{BorderState, with_border}
 use Rattle.rbc_hand.specs.Hands.{Holding}
 use Rattle.rbc_line.specs.SectionRuns.{run_of}
+use Rattle.rbc_spec.proofs.Runs.{within_true}
 use Rattle.rbc_spec.specs.Acts.{returned}
 use Rattle.rbc_spec.specs.SectionRuns.{part_before, part_from, SectionRun, within}
 

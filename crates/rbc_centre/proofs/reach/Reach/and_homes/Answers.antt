@@ -1,10 +1,10 @@
 use Rattle.std.proofs.Common.{◌+◌, ◌<◌, ◌∙◌, ◌≡◌, arith, inl, inr, subst, true, ℕ}
 use Rattle.std.proofs.lemmas.Bool.Decides.{eqb_tells}
-use Rattle.law_base.proofs.Runs.{within_true}
 use Rattle.rbc_centre.proofs.Homes.{none_goes_to}
 use Rattle.rbc_centre.proofs.reach.Reach.and_homes.Goals as goal
 use Rattle.rbc_centre.proofs.Rows.{lesser_of}
 use Rattle.rbc_line.specs.SectionRuns.{run_of}
+use Rattle.rbc_spec.proofs.Runs.{within_true}
 use Rattle.rbc_spec.specs.Line.{is_home}
 use Rattle.rbc_train.proofs.rbc_border_lemmas.HomeParts.{home_on_line}
 

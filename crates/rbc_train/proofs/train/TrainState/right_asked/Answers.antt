@@ -1,7 +1,7 @@
 use Rattle.std.proofs.Common.{◌∙◌, ◌≡◌, ap, false, Some, sym, true, ℕ}
-use Rattle.law_base.proofs.Lists.{put_there}
 use Rattle.rbc_linkmsg.specs.declared.body.Body.TheVariants.{GiveRight, RefuseRight}
 use Rattle.rbc_right.specs.Rights.{is_here}
+use Rattle.rbc_spec.proofs.Lists.{put_there}
 use Rattle.rbc_spec.specs.Centre.{is_registrar_of}
 use Rattle.rbc_spec.specs.Line.{registrar}
 use Rattle.rbc_spec.specs.Maps.{put}

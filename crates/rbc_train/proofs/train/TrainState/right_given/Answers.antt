@@ -1,10 +1,10 @@
 use Rattle.std.proofs.Common.{[], ◌&&◌, ◌+◌, ◌∙◌, ◌≡◌, ap, false, is_none, is_some, refl, Some, subst, sym}
-use Rattle.law_base.proofs.Lists.{none_is}
 use Rattle.rbc_mission.specs.declared.held.HeldRight.TheVariants.{Held}
 use Rattle.rbc_mission.specs.Supervisions.{claims_on}
 use Rattle.rbc_place.specs.Places.{place_of}
 use Rattle.rbc_right.specs.declared.right.Right.{Right}
 use Rattle.rbc_right.specs.Rights.{right_of}
+use Rattle.rbc_spec.proofs.Lists.{none_is}
 use Rattle.rbc_spec.specs.Message.{TrainAccepted}
 use Rattle.rbc_train.proofs.Desk.{answer_to, heard_said}
 use Rattle.rbc_train.proofs.Requests.{some_mapped}

@@ -1,6 +1,6 @@
 use Rattle.std.proofs.Common.{◌&&◌, ◌∙◌, ◌≡◌, ap, false, is_none, refl, sym}
-use Rattle.law_base.proofs.Lists.{none_is}
 use Rattle.rbc_right.specs.Rights.{right_of}
+use Rattle.rbc_spec.proofs.Lists.{none_is}
 use Rattle.rbc_spec.specs.Centre.{is_registrar_of}
 use Rattle.rbc_spec.specs.Line.{registrar}
 use Rattle.rbc_train.proofs.RightFrames.{is_back, none_told, not_returned, returned}

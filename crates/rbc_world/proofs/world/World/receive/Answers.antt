@@ -2,7 +2,7 @@ use Rattle.std.proofs.Common.{◌<◌, ◌≤◌, length, refl, Result, rules, s
 use Rattle.rbc_spec.specs.Step.{Refusal}
 use Rattle.rbc_spec.specs.World.{Answer, World}
 use Rattle.rbc_world.proofs.Steps.{message_step, no_centre, fault_step}
-use Rattle.rbc_world.proofs.Wanted.{heard_wants, unread_wants}
+use Rattle.rbc_world.proofs.Wanted.{heard_wants}
 use Rattle.rbc_world.proofs.world.World.receive.Goals as goal
 use Rattle.rbc_world.specs.Answers.{Gives}
 use Rattle.rbc_world.specs.Views.{answer_of}

@@ -7,7 +7,6 @@ use Rattle.rbc_centre.specs.Views.{event_of as one_event}
 use Rattle.rbc_world.proofs.Centres.{each_kept}
 use Rattle.rbc_world.proofs.Mentions.{named_if, still_mentioned}
 use Rattle.rbc_world.proofs.Reached.{reached_by, reached_still}
-use Rattle.rbc_world.proofs.Shown.{seen_at}
 use Rattle.rbc_world.proofs.Steps.{told_err, told_ok, world_kept}
 use Rattle.rbc_world.proofs.Wanted.{step_wants}
 use Rattle.rbc_world.proofs.world.World.tell.Goals as goal

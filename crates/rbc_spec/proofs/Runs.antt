@@ -9,8 +9,8 @@ use Rattle.std.proofs.lemmas.Bool.Decides.{eqb_tells}
 use Rattle.std.proofs.lemmas.List.{append-nil}
 use Rattle.std.proofs.lemmas.List.Elements.{filter-append}
 use Rattle.std.specs.List.{filter, range_with_len}
-use Rattle.law_base.proofs.Lists.{all_from, each_of, filter-range_none, range-append}
-use Rattle.law_base.specs.Runs.{IsLongest}
+use Rattle.rbc_spec.proofs.Lists.{all_from, each_of, filter-range_none, range-append}
+use Rattle.rbc_spec.specs.SectionRuns.{IsLongest}
 use Rattle.rbc_spec.specs.SectionRuns.{all_of, is_empty, joined, longest, next_after, no_run, part_before, part_from}
 use Rattle.rbc_spec.specs.SectionRuns.{SectionRun, shared, within}
 

@@ -7,8 +7,8 @@ use Rattle.std.proofs.lemmas.List.{append-nil}
 use Rattle.std.proofs.lemmas.List.Elements.{All-cons, All-head, All-nil, All-tail}
 use Rattle.std.proofs.lemmas.Option.{same_Some}
 use Rattle.std.specs.Option.{option_map_or}
-use Rattle.law_base.proofs.Lists.{each_at}
-use Rattle.law_base.proofs.Runs.{longest_is}
+use Rattle.rbc_spec.proofs.Lists.{each_at}
+use Rattle.rbc_spec.proofs.Runs.{longest_is}
 use Rattle.rbc_spec.specs.Acts.{◌>>◌, Act, Reply, rest}
 use Rattle.rbc_spec.specs.Centre.{Centre, Mission}
 use Rattle.rbc_spec.specs.Frame.{Body, Frame}

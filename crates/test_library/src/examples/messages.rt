@@ -1,0 +1,31 @@
+//! The example of `rbc_msgs`: a message of a train is read, and an answer is written.
+
+use crate::codec::bytes::bytes_of;
+use crate::line::{ESTABLISHED, INITIATION, VERSION};
+use rbc_msgs::{NID_LRBG_UNKNOWN, TrackBody, TrackMsg, TrainBody, decode_train, encode_track};
+use std::alloc::Global;
+use std::test::*;
+
+// The bytes of the answer to a message about a session, under T_TRAIN 1.
+fn answer_to(alloc: Global, bytes: &[u8]) -> Result<Option<Vec<u8>>, Fail> {
+    let message = decode_train(alloc, bytes)?;
+    let answer = match message.body() {
+        TrainBody::InitiationOfSession => TrackBody::SystemVersion,
+        TrainBody::TerminationOfSession => TrackBody::TerminationAcknowledged,
+        _ => return Ok(None),
+    };
+    let reply = TrackMsg::new(1, NID_LRBG_UNKNOWN, answer);
+    let bytes = encode_track(alloc, &reply)?;
+    Ok(Some(bytes))
+}
+
+#[test]
+fn a_message_is_read_and_answered(rt: HostRuntime) -> Result<(), Fail> {
+    let initiation = bytes_of(rt.alloc(), INITIATION)?;
+    let version = bytes_of(rt.alloc(), VERSION)?;
+    let answer = answer_to(rt.alloc(), &initiation)?;
+    assert!(rt; answer.as_deref() == Some(version.as_slice()));
+    let established = bytes_of(rt.alloc(), ESTABLISHED)?;
+    assert!(rt; answer_to(rt.alloc(), &established)?.is_none());
+    Ok(())
+}
