@@ -9,8 +9,8 @@ use rbc_watch::{Danger, Exchange, Watch, WatchFault};
 use std::alloc::{AllocError, Global};
 use std::fmt;
 use std::io::Write;
-use text_script::status::Fault;
 use text_prints::{Reader, RowFault};
+use text_script::status::Fault;
 
 /// Reads a print, and reports the first event after which a train is in danger, or that there is none. If the name is a
 /// folder's, it reads the print of the line's journals. The reason why a line is refused is reported to `err`. Returns

@@ -1,6 +1,5 @@
-use Rattle.std.proofs.Common.{◌++◌, ◌∙◌, ap, refl}
+use Rattle.std.proofs.Common.{refl}
 use Rattle.text_prints.proofs.records.Records.add.Goals as goal
-use Rattle.text_prints.specs.Capture.{low_four}
 
 pub returns-clause-bytes : goal.returns-clause-bytes
 returns-clause-bytes c =
