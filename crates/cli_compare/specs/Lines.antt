@@ -31,12 +31,12 @@ abbrev pub is_next : List ℕ → List (List ℕ) → Bool
 is_next row [] = false
 is_next row (due ∷ dues) = bytes_eq due row
 
--- the due lines after a line that came
+-- the due lines after a line that has arrived
 abbrev pub left_after : List ℕ → List (List ℕ) → List (List ℕ)
 left_after row [] = []
 left_after row (due ∷ dues) = if bytes_eq due row then dues else due ∷ dues
 
--- the place where the first line of a text ends, if the text has a line
+-- the end of the first line of a text, if the text has a line
 abbrev pub Ends : List ℕ → Option ℕ → Type 0
 Ends text None = lines_of text ≡ []
 Ends text (Some end) = (end < length text) × (lines_of text ≡ take end text ∷ lines_of (drop (end + 1) text))

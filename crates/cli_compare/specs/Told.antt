@@ -1,4 +1,4 @@
--- The result that a comparison will give for a print, by the lines that still come.
+-- The result of a comparison for a print, by the lines that still arrive.
 use Rattle.std.specs.Prelude.{ℕ, ◌+◌, ◌&&◌, Bool, List, [], ◌∷◌, ◌++◌, length, Option, Some, None, is_none}
 use Rattle.std.specs.Option.{option_or}
 use Rattle.cli_compare.specs.declared.part.Part.{Part}
@@ -18,10 +18,10 @@ found_in c rows ending [] = found_at_end c.ending c.part c.next rows ending
 found_in c rows ending (block ∷ blocks) =
     option_or (found c.part c.next rows) (differs_in (c.next + length rows) (block ∷ blocks))
 
--- the final result, if these lines still come in the part, then these parts, and these lines end the print
+-- the final result, if these lines still arrive in the part, then these parts, and these lines end the print
 abbrev pub told : Comparison → List (List ℕ) → List (List ℕ) → List Block → Option ℕ
 told c rows ending blocks = option_or c.differs (found_in c rows ending blocks)
 
--- all lines of the part have come and no other, and the lines that end the print are not known
+-- exactly the lines of the part have arrived, and the lines that end the print are not known
 abbrev pub wants_ending : Comparison → Bool
 wants_ending c = is_none c.differs && (is_none c.ending && (is_none c.part.differs && is_over c.part.due))

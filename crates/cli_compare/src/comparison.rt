@@ -33,7 +33,7 @@ impl Comparison {
         }
     }
 
-    /// Begins the part of an event, in which the lines of this text are due.
+    /// Begins the part of an event. The lines of this text are due in it.
     pub fn begin(&mut self, text: Vec<u8>)
         ensures { (last rows ending : List (List ℕ)) (blocks : List Block)
             → told self.old [] last (blocks_from (lines_of text.items) rows ending blocks)
@@ -44,14 +44,14 @@ impl Comparison {
         self.ending = None;
     }
 
-    /// Whether all lines of the part have come, and the lines that end the print are not known yet.
+    /// Whether all lines of the part have arrived, and the lines that end the print are not known yet.
     pub fn wants_ending(&self) -> bool
         ensures { result ≡ wants_ending self.now }
     {
         self.differs.is_none() && self.ending.is_none() && self.part.is_over()
     }
 
-    /// Gives the lines that end the print if no more events come.
+    /// Gives the lines that end the print if no more events follow.
     pub fn end_with(&mut self, text: Vec<u8>)
         ensures ending { (rows other : List (List ℕ)) (blocks : List Block) → wants_ending self.old ≡ true
             → told self.old rows (lines_of text.items) blocks ≡ told self.new rows other blocks }
@@ -60,7 +60,7 @@ impl Comparison {
         self.ending = Some(Part::of(text));
     }
 
-    /// Takes the next line of the print. If all lines of the part have come, the lines that end the print must be
+    /// Takes the next line of the print. If all lines of the part have arrived, the lines that end the print must be
     /// known.
     pub fn row(&mut self, row: &str)
         ensures { (rows ending : List (List ℕ)) (blocks : List Block) → wants_ending self.old ≡ false
@@ -74,7 +74,7 @@ impl Comparison {
         self.next = self.next.saturating_add(1);
     }
 
-    /// The number of the first line that differs, if no more lines come.
+    /// The number of the first line that differs, if no more lines arrive.
     pub fn verdict(&self) -> Option<u64>
         ensures { (ending : List (List ℕ)) → wants_ending self.now ≡ false → result ≡ told self.now [] ending [] }
     {

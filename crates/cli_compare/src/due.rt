@@ -7,7 +7,7 @@ use std::marker::Model;
 #[derive(Drop)]
 pub struct Due {
     text: Vec<u8>,
-    /// The number of bytes of the text that have come.
+    /// The number of bytes of the text that have arrived.
     come: usize,
 }
 

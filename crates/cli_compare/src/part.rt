@@ -23,7 +23,7 @@ impl Part {
         }
     }
 
-    /// Whether all due lines have come, and no other line.
+    /// Whether all due lines have arrived, and no other line.
     pub fn is_over(&self) -> bool
         ensures { result ≡ is_none self.now.differs && is_over self.now.due }
     {
@@ -42,7 +42,7 @@ impl Part {
         }
     }
 
-    /// The number of the first line that differs, if no more lines come. `number` is the number that the next line
+    /// The number of the first line that differs, if no more lines arrive. `number` is the number that the next line
     /// would have.
     pub fn end(&self, number: u64) -> Option<u64>
         ensures { result ≡ found self.now number [] }

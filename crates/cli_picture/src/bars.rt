@@ -1,4 +1,4 @@
-//! Draws the sections that trains have, and the trains' numbers where their missions begin.
+//! Draws the sections of trains, and the trains' numbers at the start of their missions.
 
 use crate::run::{Run, nid_engine_of, track_of};
 use crate::scale::Scale;
@@ -27,7 +27,7 @@ pub fn draw_bars(
     Ok(())
 }
 
-/// The look of a section's use, its description, and its train. None if the section is unused.
+/// The look of a section's use, its description, and its train. `None` if the section is unused.
 fn use_of(mark: Mark) -> Option<(&'static str, &'static str, u32)> {
     match mark {
         Mark::Given { nid_engine } => Some(("", "", nid_engine)),
@@ -97,7 +97,7 @@ fn draw_events(svg: &mut String, run: &Run<'_>, stretch: &Stretch) -> Result<(),
     Ok(())
 }
 
-/// Draws the number of a train at the start of its authority, where its mission begins. The first drawn event has the
+/// Draws the number of a train at the start of its authority when its mission begins. The first drawn event has the
 /// number of each train with a mission.
 fn draw_names(
     svg: &mut String,

@@ -80,8 +80,8 @@ fn stretch_of(line: &Line, track: u8, home: u8) -> Option<(u32, u32)> {
     stretch
 }
 
-/// Draws the sections of each track, as far as there is room: lines where they start, their numbers, and metres. It
-/// draws the borders too.
+/// Draws the sections of each track, as far as there is room: a line at the start of each, its number, and the metres.
+/// It draws the borders too.
 pub fn draw_grid(svg: &mut String, scale: &Scale<'_>, axis: u64) -> Result<(), AllocError> {
     draw_units(svg, axis)?;
     for track in 0..scale.line.track_count() {
@@ -179,7 +179,7 @@ fn draw_lines(svg: &mut String, scale: &Scale<'_>, track: u8) -> Result<(), Allo
     writeln!(svg, "<path class=\"section\" d=\"M{x} {top}V{bottom}\"/>")
 }
 
-/// Draws a line where the home of a section differs from that of the section before it.
+/// Draws a line at the start of a section if its home differs from that of the section before it.
 fn draw_borders(svg: &mut String, scale: &Scale<'_>, track: u8) -> Result<(), AllocError> {
     let top = scale.top;
     let bottom = scale.bottom();

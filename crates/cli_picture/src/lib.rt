@@ -1,6 +1,6 @@
 //! The time-distance diagram of a run, as railways draw it: the line from left to right, the events downward. The
-//! events of a print are replayed on the line's centres. The diagram shows the state of the line after each event:
-//! sections in authorities and kept ones, fronts, the supervisor of each train, and the requests to it.
+//! events of a print are replayed on the line's centres. The diagram shows the state of the line after each event. It
+//! has the sections in authorities and the kept ones, fronts, the supervisor of each train, and the requests to it.
 //!
 //! Bodies are free. docs/FORMATS.md fixes the printed text and each exit status.
 #![tactic(auto)]
@@ -27,7 +27,7 @@ use text_replay::Cut;
 use text_script::status::Fault;
 
 /// Draws the events of a print that the cut names, as an SVG document. Only the lines that begin with `> ` are read.
-/// Errors: the cut names a train that is not of the line, or no event; a line has no form of a script; a step is
+/// Errors: the cut names a train that is not of the line, or names no event. A line has no form of a script. A step is
 /// refused.
 pub fn picture(
     alloc: Global,

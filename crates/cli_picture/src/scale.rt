@@ -88,7 +88,7 @@ impl<'a> Scale<'a> {
         self.top.saturating_add(place)
     }
 
-    /// The place where a mark ends: at an event, or after the last one at the lower edge.
+    /// The end of a mark: at an event, or after the last one at the lower edge.
     pub fn until(&self, event: usize) -> u64 {
         if event < self.event_count {
             self.y(event)

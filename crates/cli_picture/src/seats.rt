@@ -21,7 +21,7 @@ pub fn draw_seats(svg: &mut String, scale: &Scale<'_>, run: &Run<'_>) -> Result<
     Ok(())
 }
 
-/// The centre that supervises a mission. None while the mission is on the way to the next centre.
+/// The centre that supervises a mission. `None` while the mission is on the way to the next centre.
 fn centre_of(mission: &MissionView) -> Option<u8> {
     match mission.supervisor {
         Supervisor::At { centre } => Some(centre),
@@ -42,7 +42,7 @@ fn way_in(mission: Option<MissionView>) -> Option<Place> {
     }
 }
 
-/// Draws a ring with a centre's name where the centre begins to supervise the train. The first drawn event has a ring
+/// Draws a ring with a centre's name when the centre begins to supervise the train. The first drawn event has a ring
 /// for the centre that supervises the train then.
 fn draw_rings(
     svg: &mut String,

@@ -1,4 +1,4 @@
-//! How many messages a second the codec reads and writes, and how many frames between centres.
+//! The rate at which the codec reads and writes messages, and frames between centres.
 
 ghost use Rattle.std.specs.Prelude.{◌≡◌, ◌%◌, set};
 
@@ -70,8 +70,8 @@ static FRAMES: [(&str, &[u8]); 3] = [
     ),
 ];
 
-/// Reads and writes each of seven messages and three frames so often, and prints a line for each and each direction; of
-/// one turn, nothing.
+/// Reads and writes each of seven messages and three frames this many times. It prints a line for each of them and each
+/// direction. For one turn it prints nothing.
 pub fn measure_codec(rt: &HostRuntime, turns: u32) -> io::Result<()> {
     for (name, bytes) in &TRAIN {
         train(rt, name, bytes, turns)?;
@@ -145,8 +145,8 @@ fn frame(rt: &HostRuntime, name: &str, bytes: &[u8], turns: u32) -> io::Result<(
     print(rt, "encode", name, turns, &start)
 }
 
-// Each turn reads another T_TRAIN, or a frame's stamp: the byte that lies whole in it is the turn's lowest byte. A
-// message without it stays.
+// Each turn reads another T_TRAIN, or another stamp of a frame. The byte that lies entirely in this number gets the
+// turn's lowest byte. A message without such a byte stays the same.
 #[tactic(auto, using(std::proofs::lemmas::List::set_past))]
 fn set_time(bytes: &mut [u8], turn: u32)
     ensures { bytes.new ≡ set bytes.old 4 (turn % 256) }

@@ -1,5 +1,5 @@
-//! How many commits a second the logs of a line's centres take, from a train's bytes to the bytes of the answer. A
-//! commit is that of a share, as a node makes it under its lock.
+//! The rate of commits to the logs of a line's centres, from a train's bytes to the bytes of the answer. A commit is
+//! that of a share, as a node makes it under its lock.
 
 use crate::missions::{events_in, line_in, written};
 use anyhow::Context;
@@ -18,8 +18,8 @@ struct Place {
     share: Share,
 }
 
-/// Plays a script at the logs of a line's centres so often, each time at new ones. It prints how many commits a second
-/// the fastest turn took, and the bytes of its messages to trains.
+/// Commits the events of a script to the logs of a line's centres this many times, each time to new logs. It prints the
+/// commits a second of the fastest turn, and the bytes of its messages to trains.
 pub fn measure_commits(
     rt: &HostRuntime,
     line: &str,
@@ -51,7 +51,7 @@ fn measure_turns(
     Ok(())
 }
 
-// Commits the events to new logs: the bytes of their messages to trains, and how many nanoseconds it took.
+// Commits the events to new logs. The result is the bytes of their messages to trains, and the time in nanoseconds.
 fn turn(rt: &HostRuntime, line: &Line, events: &[WorldEvent]) -> anyhow::Result<(usize, u128)> {
     let mut places = places_of(rt.alloc(), line)?;
     timed(rt, &mut places, events)
@@ -77,8 +77,8 @@ fn places_of(alloc: Global, line: &Line) -> Result<Vec<Place>, AllocError> {
     Ok(places)
 }
 
-// Commits the events one after another: how many bytes of messages were written to trains. `None` if a commit was
-// refused or memory ran out. An event without a centre is passed over.
+// Commits the events in order. The result is the bytes of the messages to trains, or `None` if a commit was refused or
+// memory ran out. An event without a centre is passed over.
 fn play(alloc: Global, places: &mut [Place], events: &[WorldEvent]) -> Option<usize> {
     let mut bytes = 0usize;
     for event in events {

@@ -1,12 +1,12 @@
-//! How fast the codec and the centres are. `test_bench TURNS` prints messages a second of the codec. `test_bench
-//! answers LINE SCRIPT` prints what the centres of a line answer to a script of events; `test_bench time LINE SCRIPT
-//! TURNS` plays the script so often, and prints events a second and the bytes of one turn's messages to trains.
-//! `test_bench commits LINE SCRIPT TURNS` does the same with commits to the logs of the centres.
-//! `test_bench merge LINE ENTRIES` merges logs of so many entries, one for each centre of a line, and prints how many
-//! entries they have and the nanoseconds that each took. Without a word the codec reads and writes each message once,
-//! and nothing is printed.
+//! Measures the speed of the codec and of the centres. `test_bench TURNS` prints the messages a second of the codec.
+//! `test_bench answers LINE SCRIPT` prints the answers of a line's centres to a script of events. `test_bench time LINE
+//! SCRIPT TURNS` plays the script this many times, and prints the events a second and the bytes of one turn's messages
+//! to trains. `test_bench commits LINE SCRIPT TURNS` does the same with commits to the logs of the centres. `test_bench
+//! merge LINE ENTRIES` merges logs with this many entries, one log for each centre of a line. It prints the count of
+//! merged entries, and the nanoseconds for each. Without an argument the codec reads and writes each message once, and
+//! nothing is printed.
 //!
-//! What is expected comes from the standard or from the rules in words, never from the program's own output.
+//! Expected values come from the standard or from the written rules, never from the program's own output.
 #![tactic(auto)]
 
 mod codec;
@@ -22,7 +22,7 @@ use crate::missions::{measure_steps, print_answers};
 use anyhow::bail;
 use std::env;
 
-// What the words may be.
+// The forms of the arguments.
 const FORMS: &str =
     "TURNS, or answers LINE SCRIPT, or time|commits LINE SCRIPT TURNS, or merge LINE ENTRIES";
 
@@ -31,7 +31,7 @@ fn main(rt: HostRuntime) -> anyhow::Result<()> {
     measure(&rt, words.get(1..).unwrap_or_default())
 }
 
-// Does what the words ask for.
+// Runs the measurement that the arguments name.
 fn measure(rt: &HostRuntime, words: &[String]) -> anyhow::Result<()> {
     match words {
         [] => Ok(measure_codec(rt, 1)?),

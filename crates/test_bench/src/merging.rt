@@ -1,4 +1,4 @@
-//! How long it takes to merge the logs of a line's centres into one list.
+//! The time to merge the logs of a line's centres into one list.
 
 ghost use Rattle.std.specs.Prelude.{◌<◌, length};
 
@@ -10,8 +10,8 @@ use std::alloc::Global;
 use std::time::Instant;
 use text_script::Event;
 
-/// Gives each centre of a line a log of so many entries, with the same stamps, and merges the logs. It prints how many
-/// entries there are, and how many nanoseconds each took.
+/// Gives each centre of a line a log of this many entries, with the same stamps, and merges the logs. It prints the
+/// count of merged entries, and the nanoseconds for each.
 pub fn measure_merge(rt: &HostRuntime, line: &str, entries: u32) -> anyhow::Result<()> {
     let line = line_in(rt, line)?;
     let logs = logs_of(rt.alloc(), &line, entries)?;
@@ -28,7 +28,7 @@ fn print_merged(rt: &HostRuntime, logs: &[CentreLog]) -> anyhow::Result<()> {
     Ok(())
 }
 
-// Merges the logs: how many entries there are, and how many nanoseconds it took.
+// Merges the logs. The result is the count of entries, and the time in nanoseconds.
 fn merged(rt: &HostRuntime, logs: &[&CentreLog]) -> anyhow::Result<(u128, u128)> {
     let start = Instant::now(rt)?;
     let Ok(merged) = merge(rt.alloc(), logs) else {
@@ -38,7 +38,7 @@ fn merged(rt: &HostRuntime, logs: &[&CentreLog]) -> anyhow::Result<(u128, u128)>
     Ok((merged.len() as u128, nanos))
 }
 
-// A log of each centre, in which a section was released so often.
+// A log of each centre. Each of its entries is a set of section 0.
 fn logs_of(alloc: Global, line: &Line, entries: u32) -> anyhow::Result<Vec<CentreLog>> {
     let mut logs = Vec::with_capacity(alloc, line.centre_count() as usize)?;
     for c in 0..line.centre_count() {
@@ -47,7 +47,7 @@ fn logs_of(alloc: Global, line: &Line, entries: u32) -> anyhow::Result<Vec<Centr
     Ok(logs)
 }
 
-// A log of a centre, filled so.
+// A log of one centre. Each of its entries is a set of section 0.
 fn log_of(alloc: Global, line: &Line, centre: u8, entries: u32) -> anyhow::Result<CentreLog>
     requires { centre < length line.now.centres }
 {

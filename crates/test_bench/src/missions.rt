@@ -1,4 +1,4 @@
-//! How many events a second the centres of a line take, from bytes to bytes.
+//! The rate at which the centres of a line take events, from bytes to bytes.
 
 use crate::print::print_answer;
 use anyhow::{Context, bail};
@@ -11,7 +11,7 @@ use std::{fs, io};
 use text_script::script::{Entry, script_of};
 use text_script::{Answer, Outcome, World, WorldEvent};
 
-/// Prints what the centres of a line answer to each event of a script.
+/// Prints the answers of a line's centres to each event of a script.
 pub fn print_answers(rt: &HostRuntime, line: &str, script: &str) -> anyhow::Result<()> {
     let line = line_in(rt, line)?;
     let events = events_in(rt, &line, script)?;
@@ -51,8 +51,8 @@ fn print_step<W: Write>(
     }
 }
 
-/// Plays a script on a line so often, each time in a new world, and prints how many events a second the fastest turn
-/// took and the bytes of its messages to trains. Only the steps and the writing of messages are timed.
+/// Plays a script on a line this many times, each time in a new world. It prints the events a second of the fastest
+/// turn, and the bytes of its messages to trains. Only the steps and the writing of messages are timed.
 pub fn measure_steps(rt: &HostRuntime, line: &str, script: &str, turns: u32) -> anyhow::Result<()> {
     let line = line_in(rt, line)?;
     let events = events_in(rt, &line, script)?;
@@ -79,7 +79,7 @@ fn measure_turns(
     Ok(())
 }
 
-// Plays the events in a new world: the bytes of its messages to trains, and how many nanoseconds it took.
+// Plays the events in a new world. The result is the bytes of its messages to trains, and the time in nanoseconds.
 fn turn(rt: &HostRuntime, line: &Line, events: &[WorldEvent]) -> anyhow::Result<(usize, u128)> {
     let mut world = World::new(rt.alloc(), line)?;
     timed(rt, &mut world, events)
@@ -104,7 +104,7 @@ pub fn line_in(rt: &HostRuntime, file: &str) -> anyhow::Result<Line> {
     }
 }
 
-/// The events of a script, which shows no line.
+/// The events of a script that has no `show`.
 pub fn events_in(rt: &HostRuntime, line: &Line, file: &str) -> anyhow::Result<Vec<WorldEvent>> {
     let text = fs::read_to_string(rt, file)?;
     let Ok(entries) = script_of(rt.alloc(), line, text.as_str()) else {
@@ -120,8 +120,8 @@ pub fn events_in(rt: &HostRuntime, line: &Line, file: &str) -> anyhow::Result<Ve
     Ok(events)
 }
 
-// Takes the events one after another: how many bytes of messages were written to trains. None where a step was refused
-// or memory ran out.
+// Takes the events in order. The result is the bytes of the messages to trains, or `None` if a step was refused or
+// memory ran out.
 fn play(alloc: Global, world: &mut World, events: &[WorldEvent]) -> Option<usize> {
     let mut bytes = 0usize;
     let mut answer = Answer::nothing();
@@ -134,7 +134,7 @@ fn play(alloc: Global, world: &mut World, events: &[WorldEvent]) -> Option<usize
     Some(bytes)
 }
 
-/// Writes the messages of an outcome: how many bytes they are. `None` if memory ran out.
+/// Writes the messages of an outcome. The result is their count of bytes, or `None` if memory ran out.
 pub fn written(alloc: Global, outcome: &Outcome) -> Option<usize> {
     let mut bytes = 0usize;
     for saying in outcome.sayings.as_slice() {

@@ -1,4 +1,4 @@
-//! What a world answers, as lines of text.
+//! The answers of a world, as lines of text.
 
 use rbc_linkmsg::encode_frame;
 use rbc_msgs::encode_track;
@@ -7,8 +7,8 @@ use std::io;
 use std::io::Write;
 use text_script::{Answer, LinkAnswer, Outcome, Saying, SentFrame, Word};
 
-/// Prints an answer: the stamp of a step, each message with its engine, each frame with its receiver, each word, that a
-/// frame is old or early, and the reason of silence; or why no centre took a step.
+/// Prints an answer: the stamp of a step, its messages, frames and replies, and an end (`print_end`). Each message has
+/// its engine, and each frame its receiver. If no centre took a step, it prints the reason.
 pub fn print_answer<W: Write>(alloc: Global, out: &mut W, answer: &Answer) -> io::Result<()> {
     match answer {
         Answer::Outcome(outcome) => print_outcome(alloc, out, outcome),
@@ -56,7 +56,7 @@ fn print_word<W: Write>(out: &mut W, word: &Word) -> io::Result<()> {
     writeln!(out, "{section} {name}")
 }
 
-/// That a frame is old or early, and the reason of silence.
+/// Prints whether a frame is old or early, and the reason of silence.
 fn print_end<W: Write>(out: &mut W, outcome: &Outcome) -> io::Result<()> {
     match outcome.link {
         Some(LinkAnswer::Old) => writeln!(out, "old")?,

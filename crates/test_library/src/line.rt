@@ -1,4 +1,4 @@
-//! The line of the tests, and what its trains and centres say.
+//! The line of the tests, and the messages of its trains and centres.
 
 ghost use Rattle.std.specs.Prelude.{◌≤◌, length, IfOk};
 
@@ -40,7 +40,7 @@ pub const ENGINE: u32 = 1;
 /// This train opens its session: ten bytes.
 pub const INITIATION: &str = "9B028000000040000040";
 
-/// The first five of them.
+/// The first five of these bytes.
 pub const HALF_AN_INITIATION: &str = "9B02800000";
 
 /// It confirms the session.

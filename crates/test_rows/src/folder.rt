@@ -1,7 +1,7 @@
 use cli_commands::files::Files;
 use std::{fs, rt};
 
-/// The files of a row: its own, and after them those of the folder `lines`, which all rows share.
+/// The files of a case: those of its own folder, and the shared files of the folder `lines`.
 #[derive(Clone, Copy)]
 pub struct Folder<'a, R> {
     pub rt: &'a R,
@@ -9,14 +9,14 @@ pub struct Folder<'a, R> {
 }
 
 impl<R: rt::Files + AllocGlobal> Folder<'_, R> {
-    /// The bytes of a file of its own.
+    /// The bytes of a file of its own folder.
     pub fn bytes(&self, file: &str) -> Option<Vec<u8>> {
         let path = format!(in self.rt.alloc(); "rows/{}/{file}", self.name).ok()?;
         fs::read(self.rt, path.as_str()).ok()
     }
 
-    // The text of the file of this name, and after it that of the file `NAME-again`, as often as the file `NAME-times`
-    // says.
+    // The text of the file of this name, and after it the text of the file `NAME-again`. The file `NAME-times` has the
+    // number of times.
     fn with_more(&self, name: &str, mut text: String) -> Option<String> {
         let file = format!(in self.rt.alloc(); "{name}-again").ok()?;
         let Some(bytes) = self.bytes(file.as_str()) else {
@@ -30,7 +30,7 @@ impl<R: rt::Files + AllocGlobal> Folder<'_, R> {
         Some(text)
     }
 
-    /// The number in a file of its own.
+    /// The number in a file of its own folder.
     pub fn number(&self, file: &str) -> Option<u32> {
         let text = String::from_utf8(self.bytes(file)?).ok()?;
         text.trim().parse().ok()
@@ -53,7 +53,7 @@ impl<R: rt::Files + AllocGlobal> Files for Folder<'_, R> {
         }
     }
 
-    // A row with the file `writer` has journals that a program writes.
+    // The journals of a case with the file `writer` are written by a program.
     fn is_written(&self, _name: &str) -> bool {
         self.bytes("writer").is_some()
     }

@@ -1,8 +1,8 @@
-//! Plays the rows of the folder `rows`. Each row is a command of `rbcline` with its files, the expected print and the
-//! exit status. It prints each difference, and at last the number of rows that passed. Before the rows it plays a
+//! Plays the cases of the folder `rows`. Each of them is a command of `rbcline` with its files, the expected print and
+//! the exit status. It prints each difference, and then the number of cases that passed. Before the cases it plays a
 //! train's start over two nodes (`refusals`); with the argument `nodes` it plays only that.
 //!
-//! Expected values come from the standard or from the rules in words, never from the program's own output.
+//! Expected values come from the standard or from the written rules, never from the program's own output.
 #![tactic(auto)]
 
 mod folder;
@@ -38,7 +38,7 @@ fn has_argument(rt: &HostRuntime) -> bool {
     args.is_ok_and(|args| args.len() > 1)
 }
 
-/// Plays each row in the order of their names. Says whether all passed.
+/// Plays the cases in the order of their names. The result is whether all passed.
 fn play_all<R: rt::Files + AllocGlobal + Clone + Drop, W: Write>(
     rt: &R,
     out: &mut W,

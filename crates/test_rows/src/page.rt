@@ -2,7 +2,7 @@ use std::alloc::Global;
 use std::io;
 use std::io::{ErrorKind, Write};
 
-/// What a command has written: a writer that takes so many bytes, and then refuses.
+/// The print of a command: a writer that takes this many bytes, and then refuses.
 #[derive(Drop)]
 pub struct Page {
     pub bytes: Vec<u8>,

@@ -1,7 +1,7 @@
-//! A train's start over two nodes, whose allocations `bench/refuse --nodes` refuses in turn: a session over bytes in
-//! memory, a frame each way over a queue, a writer, and then the entries of the nodes, gathered and merged. A call that
-//! memory refuses is tried once more, so the print is the same whichever allocation is refused. But `gather` drops its
-//! arguments, and then the status is 7.
+//! A train's start over two nodes, whose allocations `bench/refuse --nodes` refuses in turn. It has a session over
+//! bytes in memory, a frame each way over a queue, and a writer. Then the entries of the nodes are gathered and merged.
+//! A call that memory refuses is tried once more, so the print is the same whichever allocation is refused. But
+//! `gather` drops its arguments, and then the status is 7.
 
 mod carrying;
 mod line;

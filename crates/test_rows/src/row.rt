@@ -7,7 +7,8 @@ use std::io::Write;
 use std::str::from_utf8;
 use std::{io, rt};
 
-/// Plays the row's command. Says whether it wrote and ended as the row tells, and prints each difference.
+/// Plays the command of a case, and prints each difference. The result is whether the print and the exit status are the
+/// expected ones.
 pub fn passes<R: rt::Files + AllocGlobal, W: Write>(
     alloc: Global,
     row: &Folder<'_, R>,
@@ -27,7 +28,7 @@ pub fn passes<R: rt::Files + AllocGlobal, W: Write>(
     Ok(same_page && same_errors && same_status)
 }
 
-/// Whether the exit status is the row's, or 0 where it has none.
+/// Whether the exit status is that of the case's file, or 0 without such a file.
 fn has_status<R: rt::Files + AllocGlobal, W: Write>(
     row: &Folder<'_, R>,
     got: u8,
@@ -41,7 +42,7 @@ fn has_status<R: rt::Files + AllocGlobal, W: Write>(
     Ok(is_same)
 }
 
-/// An empty page with room for as many bytes as the row's file says, or for all where there is none.
+/// An empty page. Its room is the number of bytes in the case's file, or unlimited without such a file.
 fn page_of<R: rt::Files + AllocGlobal>(alloc: Global, row: &Folder<'_, R>, file: &str) -> Page {
     match row.number(file) {
         Some(room) => Page::new(alloc, room as usize),
@@ -49,8 +50,8 @@ fn page_of<R: rt::Files + AllocGlobal>(alloc: Global, row: &Folder<'_, R>, file:
     }
 }
 
-/// Whether a stream is the row's file of its name, and empty where there is none; or any text but the empty one where
-/// the row has the second file.
+/// Whether a stream has the text of the case's file of the same name, or is empty without such a file. If the case has
+/// the second file, the stream may have any text but the empty one.
 fn is_as_told<R: rt::Files + AllocGlobal, W: Write>(
     alloc: Global,
     row: &Folder<'_, R>,

@@ -1,4 +1,4 @@
--- No number but a section's is ever given: of each change of the marks.
+-- Each change of the marks gives only sections of the line.
 use Rattle.std.proofs.Common.{◌&&◌, ◌+◌, ◌<◌, ◌==◌, ◌∙◌, ◌≡◌, ◌≤◌, arith, Bool, false, if◌then◌else◌, nat_le, nat_lt}
 use Rattle.std.proofs.Common.{None, not, Option, refl, Some, suc, sym, true, true≢false, zero, ℕ}
 use Rattle.std.proofs.lemmas.Bool.{and_parts}
@@ -22,7 +22,7 @@ pub record IsWithinLine (line : Line) (mark : ℕ → Mark) : Type 0 where
 
 -- ## Sections of the line
 
--- a section that passes a test is of the line
+-- a section that passes the test is a section of the line
 pub passing : (line : Line) (s : ℕ) (test : Section → Bool) → option_map_or test (section line s) false ≡ true
     → s < section_count line
 passing line s test so = at (section line s) refl so
@@ -37,7 +37,7 @@ home_within line c s so = passing line s (λ p. p.home == c) so
 pub on_within : (line : Line) (track s : ℕ) → is_on line track s ≡ true → s < section_count line
 on_within line track s so = passing line s (λ p. p.track == track) so
 
--- what passes a test among n numbers from a on is a run that ends before a + n
+-- the run of the numbers that pass a test, among n numbers from a on, ends at or before a + n
 run_end : (test : ℕ → Bool) (n a : ℕ) → next_after (run_of (filter test (range_with_len a n))) ≤ a + n
 run_end test zero a = omega arith
 run_end test (suc n) a = by_test (test a) refl (run_end test n (a + 1))
@@ -67,7 +67,7 @@ covered_within line place s so =
 
 -- ## Marks
 
--- a mark of one of two, and what each tells
+-- by cases: P follows from either of two marks, so it follows from the chosen one
 pub of_two : (t : ℕ) {P : Type 0} (b : Bool) (x y : Mark) → (b ≡ true → is_given_to t x ≡ true → P)
     → (is_given_to t y ≡ true → P)
     → is_given_to t (if b then x else y) ≡ true → P
@@ -78,7 +78,7 @@ pub shut_or_open : (t : ℕ) {P : Type 0} (b : Bool) → is_given_to t (if b the
 shut_or_open t true so = absurd (true≢false (sym so))
 shut_or_open t false so = absurd (true≢false (sym so))
 
--- sections that pass a test get another mark, which does not give them or only where they are of the line
+-- sections that pass a test get another mark, which gives none of them, or only sections of the line
 pub within_changed : (line : Line) (test : ℕ → Bool) (new old : ℕ → Mark)
     → ((t s : ℕ) → test s ≡ true → is_given_to t (new s) ≡ true → s < section_count line) → IsWithinLine line old
     → IsWithinLine line (λ s. if test s then new s else old s)
@@ -114,7 +114,7 @@ within_release line c t is_released v was =
     (mark_all (λ s. is_released s && not (is_home line c s)) (Kept t) v)
     (within_kept line (λ s. is_released s && not (is_home line c s)) t v was)
 
--- of one of two states
+-- if both of two states give only sections of the line, so does the chosen one
 pub within_one : (line : Line) (b : Bool) (x y : LineState) → IsWithinLine line x.mark → IsWithinLine line y.mark
     → IsWithinLine line (if b then x else y).mark
 within_one line true x y one two = one

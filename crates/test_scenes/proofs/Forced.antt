@@ -1,4 +1,4 @@
--- Moves that leave no choice are a run without choice.
+-- Moves that leave no choice form a forced run.
 use Rattle.std.proofs.Common.{[], ◌&&◌, ◌*◌, ◌+◌, ◌==◌, ◌∙◌, ◌∷◌, ◌≡◌, ap, eq-eqb, Err, false, is_none, List, None, not}
 use Rattle.std.proofs.Common.{Ok, Option, refl, Result, Some, subst, subst₂, sym, true, true≢false, ℕ}
 use Rattle.std.proofs.lemmas.Bool.{and_from, and_parts, cond-false, cond-true, eqb-true, le-leb, not_from_true}
@@ -38,7 +38,7 @@ use Rattle.test_scenes.specs.Turns.{start_new, Step, Turn, Unanswered, unset_tur
 
 -- ## Own steps
 
--- a start that may be accepted is
+-- a start at the registrar that meets the conditions is accepted
 accepts_by : (line : Line) (t c : ℕ) (v : LineState) (place : Place) (choice : Choice) (o : Option Place)
     → o ≡ Some place
     → may_start line v c place ≡ true → is_registrar_of line c t ≡ true → v.mission t ≡ None
@@ -105,7 +105,7 @@ own_forced line v (Delivery from to number) choice plain = tt
 
 -- ## Quiet steps
 
--- a train that is asked is not barred
+-- a train that is asked to shorten may be asked
 not_barred : (line : Line) (v : LineState) (t c s : ℕ) (said : Said) (new : LineState)
     (p : Proposes line v t c s said new) → is_barred line v t c s p.mission ≡ false
 not_barred line v t c s said new p = not_from_true _ (and_from _ _
@@ -143,7 +143,7 @@ follows line mid event (q ∷ qs) later new takes so = absurd (true≢false (sym
 
 -- ## Moves
 
--- with what is shown and this state the line centre meets each answer that shows it, without choice
+-- the line centre meets each answer that shows this, in this state, without choice
 abbrev MeetsForced : Line → LineState → Event → LineState → Shown → Type 0
 MeetsForced line v event new shown = (answer : Answer) → shown_by answer ≡ shown → GoesForced line v event answer new
 
@@ -151,7 +151,7 @@ record IsForcedPiece (line : Line) (v : LineState) (event : Event) (p : Played) 
   meets : MeetsForced line v event p.state p.shown
   bound : IsWithinLine line p.state.mark
 
--- what is so of what there is, is so of this
+-- a property of the value, if there is one, holds for this value
 valid_at : {X : Type 0} (P : X → Type 0) (o : Option X) (x : X) → Valid P o → o ≡ Some x → P x
 valid_at P o x so is = subst (Valid P) is so
 
@@ -229,7 +229,7 @@ runs_forced line (move ∷ moves) w v bound same forced =
     forced_with line v move moves (world_step line w move.event) (play line v move)
     (play_forced line v move.event move.choice move.quiets bound parts.0) parts.1 (runs_forced line moves) same
 
--- moves of a scene that leave no choice, on a one-centre line
+-- moves of a scene on a one-centre line that leave no choice are met by a forced run
 pub met_by_forced_run : (line : Line) (c : ℕ) (scene : List Scene) (moves : List Move) → IsOneCentreLine line c
     → events_of moves ≡ filter_map event_of scene
     → centres_show line (new_world line) moves ≡ line_shows line line_beginning moves

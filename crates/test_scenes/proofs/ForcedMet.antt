@@ -1,4 +1,4 @@
--- Scenes of a one-centre line are met without choice, computed.
+-- The one line centre meets the scenes of a one-centre line without choice, computed.
 use Rattle.std.proofs.Common.{◌==◌, ◌≡◌, refl, true, ℕ}
 use Rattle.std.proofs.lemmas.Bool.{eqb-true}
 use Rattle.std.proofs.lemmas.List.Sums.{AllPass-from_list_all}
@@ -26,7 +26,7 @@ use Rattle.test_scenes.specs.SceneMoves.{start_drops_the_proposal_moves}
 use Rattle.test_scenes.specs.Shortening.{shortening_in_one_centre, start_drops_the_proposal}
 use Rattle.test_scenes.specs.Turns.{quiet_turns}
 
--- each home and registrar is this centre
+-- this centre is every home and every registrar
 one_centre : (line : Line) (c : ℕ) → list_all (λ p. p.home == c) line.sections ≡ true
     → list_all (λ p. p.registrar == c) line.trains ≡ true → IsOneCentreLine line c
 one_centre line c homes registrars = record {

@@ -1,4 +1,4 @@
--- The one line centre meets what the centres answer in the scenes of Handover, computed.
+-- The one line centre meets the answers of the centres in the scenes of Handover, computed.
 use Rattle.std.proofs.Common.{refl}
 use Rattle.rbc_spec.specs.Acts.{◌>>◌}
 use Rattle.rbc_spec.specs.Centre.{beginning}

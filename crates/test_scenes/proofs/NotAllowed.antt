@@ -1,4 +1,4 @@
--- The moves and worlds of NotAllowed, computed; and that no piece and no state is so.
+-- The moves and worlds of NotAllowed, computed. No piece takes these moves, and no state represents these worlds.
 use Rattle.std.proofs.Common.{[], ◌∙◌, ◌∷◌, ◌≡◌, ◌≤◌, ap, arith, inl, inr, List, refl, slice_get, Some, sym, true≢false}
 use Rattle.std.proofs.lemmas.Option.{none-some}
 use Rattle.std.specs.List.{list_all}

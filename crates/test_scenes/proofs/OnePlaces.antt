@@ -1,4 +1,4 @@
--- That each thing stays in one place in scenes, computed.
+-- In the scenes each thing stays in one place, computed.
 use Rattle.std.proofs.Common.{[], ◌∷◌, ◌≡◌, false, refl, true}
 use Rattle.std.specs.List.{list_all}
 use Rattle.rbc_spec.specs.Acts.{◌>>◌}

@@ -1,4 +1,4 @@
--- What comes of an event in Moves is an own step of the one line centre.
+-- The result of an event in Moves is an own step of the one line centre.
 use Rattle.std.proofs.Common.{◌&&◌, ◌+◌, ◌-◌, ◌<◌, ◌==◌, ◌||◌, ◌∙◌, ◌≡◌, ◌≤◌, ap, arith, Bool, Err, false, inl, inr}
 use Rattle.std.proofs.Common.{nat_le, nat_lt, None, not, Ok, Option, refl, Some, sym, true, ℕ, ⊎_elim}
 use Rattle.std.proofs.lemmas.Bool.{and_parts, cases_Bool, cases_lt, eqb-true, leb-true, ltb-true, not-true, or_cases}
@@ -28,20 +28,20 @@ use Rattle.test_scenes.specs.Turns.{Choice, end_at, extend, Extending, hand_of, 
 use Rattle.test_scenes.specs.Turns.{message_step, own_step, own_turn, Rejecting, report_at, request_at, restart}
 use Rattle.test_scenes.specs.Turns.{set_turn, start_at, start_here, start_new, Step, Turn, unset_turn}
 
--- the relation holds of what a turn says and leaves, where only sections are given
+-- the relation holds for the messages, replies and new state of a turn, and only sections of the line are given
 abbrev pub Does : Line → (Said → LineState → Type 0) → Turn → Type 0
 Does line P turn = P turn.said turn.state × IsWithinLine line turn.state.mark
 
 -- ## Hands
 
--- a number of no section is in no hand
+-- a number that names no section is in no hand
 beyond : (line : Line) (v : LineState) (t s : ℕ) → IsWithinLine line v.mark → section_count line ≤ s
     → is_given_to t (v.mark s) ≡ false
 beyond line v t s bound past =
     ⊎_elim (λ (yes_given : is_given_to t (v.mark s) ≡ true). absurd (omega (arith, bound.given t s yes_given)))
     (λ (not_given : is_given_to t (v.mark s) ≡ false). not_given) (cases_Bool (is_given_to t (v.mark s)))
 
--- nor in a run that ends with the line
+-- nor is it in a run that ends with the line
 outside : (hand : SectionRun) (s : ℕ) → next_after hand ≤ s → within hand s ≡ false
 unfolding within
 outside hand s past = ⊎_elim
@@ -80,7 +80,7 @@ end_is line v c place hand so = ⊎_elim
     (or_cases _ _ far))
     (or_cases _ _ so)
 
--- the sections by which a hand is extended are of the line
+-- the sections by which a hand is extended are sections of the line
 added_within : (line : Line) (v : LineState) (t c : ℕ) (place : Place) (r : SectionRun)
     → all_of (λ s. may_be_given line v c t s && is_on line place.track s) r ≡ true → (s : ℕ) → within r s ≡ true
     → s < section_count line
@@ -112,7 +112,7 @@ extend_is line v t c place hand count bound = valid_allowed (Does line (Extends 
           (added_within line v t c place (record { first = next_after hand; count = count }) hands.1) bound,
     ))
 
--- the request has this place
+-- a request with this place
 abbrev pub Requested : Line → LineState → (t c : ℕ) → Position → Said → LineState → Type 0
 Requested line v t c position said new =
     (place : Place) × (place_on line (track_of v t) position ≡ Some place) × Extends line v t c place said new
@@ -235,7 +235,7 @@ unset_is line c s v bound = valid_if _ _ (λ r. IsWithinLine line r.state.mark) 
 
 -- ## Events
 
--- the step is an own step of the event
+-- the step is an own step at the event
 abbrev pub IsStep : Line → LineState → Event → Step → Type 0
 IsStep line v event step =
     OwnStep line v event step.turn.said step.turn.state step.why × IsWithinLine line step.turn.state.mark

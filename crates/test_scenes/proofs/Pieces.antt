@@ -1,4 +1,4 @@
--- A move of the one line centre that is allowed is a piece, and moves that show what the centres show are a run.
+-- A move that the rules of the one line centre allow is a piece. Moves that show the answers of the centres form a run.
 use Rattle.std.proofs.Common.{[], ◌||◌, ◌∷◌, ◌≡◌, ◌⊎◌, ap, Bool, Err, false, if◌then◌else◌, inl, inr, is_none, List}
 use Rattle.std.proofs.Common.{None, not, Ok, Option, refl, Result, Some, subst, sym, true, true≢false, ℕ, ⊎_elim}
 use Rattle.std.proofs.lemmas.Bool.{and_parts, not-true, or_cases}
@@ -28,7 +28,7 @@ use Rattle.test_scenes.specs.Scene.{Scene}
 use Rattle.test_scenes.specs.Turns.{allowed, Choice, Extending, Listening, own_step, Plainly, quiet_turns, Rejecting}
 use Rattle.test_scenes.specs.Turns.{Step, Turn, Unanswered}
 
--- ## What an answer shows tells it
+-- ## From the shown content to the answer
 
 abbrev spoken_of : Shown → Option Spoken
 spoken_of (Speaks spoken) = Some spoken
@@ -46,7 +46,7 @@ abbrev is_never_sent : Shown → Bool
 is_never_sent NeverSent = true
 is_never_sent other = false
 
--- what holds of the answers that show something
+-- P holds for each answer that shows this, if it holds for each outcome that shows this
 pub at_speaking : (P : Answer → Type 0) (spoken : Spoken)
     → ((outcome : Outcome) → spoken_in outcome ≡ spoken → P (Answered outcome))
     → (answer : Answer) → shown_by answer ≡ Speaks spoken → P answer
@@ -76,7 +76,7 @@ at_not_sent P so (Fault number) is = absurd (true≢false (sym (ap is_never_sent
 
 -- ## Moves
 
--- with what is shown and this state the line centre meets each answer that shows it
+-- the line centre meets each answer that shows this, in this state
 abbrev Meets : Line → LineState → Event → LineState → Shown → Type 0
 Meets line v event new shown = (answer : Answer) → shown_by answer ≡ shown → run.Goes line v event answer new
 
@@ -143,7 +143,7 @@ piece_with line v event own quiets later outcome own_step quiet_steps says so =
       says = ap (λ (x : Spoken). x.said) says;
     }
 
--- an own step and quiet steps are a piece
+-- an own step and quiet steps form a piece
 piece_is : (line : Line) (v : LineState) (event : Event) (choice : Choice) (quiets : List Quiet)
     → IsWithinLine line v.mark
     → Valid (IsPiece line v event) (option_map_or
@@ -174,7 +174,7 @@ play_is line v event (Extending count) quiets bound = piece_is line v event (Ext
 
 -- ## Side by side
 
--- what is shown first
+-- the content that is shown first
 abbrev pub shown_first : Shown → List Seen → Shown
 shown_first other (Shows shown line ∷ xs) = shown
 shown_first other xs = other
@@ -195,7 +195,7 @@ abbrev pub after_first : List Seen → List Seen
 after_first [] = []
 after_first (x ∷ xs) = xs
 
--- the answers to moves, the world that they leave, and the line centre's state after them
+-- the answers to moves, the last world, and the last state of the line centre
 abbrev pub answers_with : Result (Answer × World) Refusal → (World → List Answer) → List Answer
 answers_with (Ok (answer, after)) others = answer ∷ others after
 answers_with (Err why) others = []
@@ -220,7 +220,7 @@ unfoldable pub state_after : Line → LineState → List Move → LineState
 state_after line v [] = v
 state_after line v (move ∷ moves) = state_with v (play line v move) (λ new. state_after line new moves)
 
--- the answers of moves are met by a run
+-- a run meets the answers of the moves
 pub record Met (line : Line) (w : World) (v : LineState) (moves : List Move) (answers : List Answer) (after : World)
     (last : LineState) : Type 0 where
   pub goes : GoesWith line w v moves
@@ -228,7 +228,7 @@ pub record Met (line : Line) (w : World) (v : LineState) (moves : List Move) (an
   pub is_run : run.Run line v (events_of moves) answers last
   pub read : sheet line (read_off line w) ≡ sheet line v → sheet line (read_off line after) ≡ sheet line last
 
--- what follows of one event
+-- the same after one event
 step_with : (line : Line) (w : World) (v : LineState) (move : Move) (moves : List Move)
     (result : Result (Answer × World) Refusal) → world_step line w move.event ≡ result → (p : Option Played)
     → Valid (IsPiece line v move.event) p
@@ -265,12 +265,12 @@ met line (move ∷ moves) w v bound same =
     step_with line w v move moves (world_step line w move.event) refl (play line v move)
     (play_is line v move.event move.choice move.quiets bound) (met line moves) same
 
--- at the beginning no section is given
+-- no section is given in the initial state
 pub beginning_within : (line : Line) → IsWithinLine line line_beginning.mark
 unfolding line_beginning
 beginning_within line = record { given = λ t s given. absurd (true≢false (sym given)) }
 
--- moves of a scene that show what the centres show are met by a run
+-- a run meets the moves of a scene that show the answers of the centres
 pub met_by_run : (line : Line) (scene : List Scene) (moves : List Move) → events_of moves ≡ filter_map event_of scene
     → centres_show line (new_world line) moves ≡ line_shows line line_beginning moves
     → sheet line (read_off line (new_world line)) ≡ sheet line line_beginning → IsMetByRun line scene moves

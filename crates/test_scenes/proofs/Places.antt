@@ -1,4 +1,4 @@
--- What is seen of the scenes of Places, computed.
+-- The views of the scenes of Places, computed.
 use Rattle.std.proofs.Common.{◌≡◌, refl}
 use Rattle.rbc_spec.specs.Acts.{◌>>◌}
 use Rattle.rbc_spec.specs.Centre.{beginning}

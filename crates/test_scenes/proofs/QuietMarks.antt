@@ -1,4 +1,4 @@
--- The marks of QuietMarks, computed; and that no quiet step gives or frees a section otherwise.
+-- The marks of QuietMarks, computed. No other quiet step gives or frees a section.
 use Rattle.rbc_spec.specs.Line.{end, start as line_start}
 use Rattle.rbc_spec.specs.LineCentre.{Given, Kept, line_beginning, LineState, Mark, Open, Said}
 use Rattle.rbc_spec.specs.Quiet.{Admit, Dismiss, Keep, TakesQuiet, Unkeep}

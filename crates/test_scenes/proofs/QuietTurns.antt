@@ -1,4 +1,4 @@
--- What comes of quiet steps in Moves is what the one line centre may take.
+-- The one line centre may take the quiet steps of Moves.
 use Rattle.std.proofs.Common.{[], ◌&&◌, ◌*◌, ◌+◌, ◌==◌, ◌∙◌, ◌∷◌, ◌≡◌, ap, arith, eq-eqb, false, List, not, refl, Some}
 use Rattle.std.proofs.Common.{sym, true, true≢false, ℕ, ⊎_elim}
 use Rattle.std.proofs.lemmas.Bool.{and_parts, cases_Bool, eqb-true, leb-true, ltb-true, not-true}
@@ -20,7 +20,7 @@ use Rattle.test_scenes.proofs.OwnTurns.{Does, hand_is}
 use Rattle.test_scenes.proofs.Valid.{Valid, valid_allowed, valid_some, valid_then}
 use Rattle.test_scenes.specs.Turns.{hand_of, is_over_border, parted_at, quiet_turn, quiet_turns, Turn}
 
--- ## What tests tell
+-- ## Results of tests
 
 open_is : (m : Mark) → is_mark_open m ≡ true → m ≡ Open
 open_is Shut so = absurd (true≢false (sym so))
@@ -55,14 +55,14 @@ at_itself c by is = ap (is_at c) is ∙ eq-eqb c c refl
 abbrev pub IsQuiet : Line → LineState → Quiet → Turn → Type 0
 IsQuiet line v q = Does line (TakesQuiet line v q)
 
--- a mission that is supervised at c is supervised there
+-- if `supervises` is false for c, then c is not the supervisor of the mission
 not_there : (v : LineState) (t c : ℕ) → supervises v c t ≡ false → (m : LineMission) → v.mission t ≡ Some m
     → m.supervisor ≡ At c → ⊥
 not_there v t c not_so m of_train by = absurd (true≢false
     (sym (at_itself c m.supervisor by) ∙ sym
     (ap (λ o. option_map_or (λ n. is_at c n.supervisor) o false) of_train) ∙ not_so))
 
--- no section of c is given, where none of the line is
+-- if no section of the line with home c is given to the train, then no section with home c is
 none_at : (line : Line) (v : LineState) (t c : ℕ)
     → list_all (λ s. not (is_home line c s && is_given_to t (v.mark s))) (range_with_len 0 (section_count line)) ≡ true
     → (s : ℕ) → (is_home line c s && is_given_to t (v.mark s)) ≡ false
@@ -188,7 +188,7 @@ quiet_is line v (EndOrder t c) bound = valid_allowed (IsQuiet line v (EndOrder t
       bound,
     ))
 
--- ## One after another
+-- ## Quiet steps in order
 
 abbrev pub AreQuiet : Line → LineState → List Quiet → Turn → Type 0
 AreQuiet line v qs = Does line (TakesAll line v qs)

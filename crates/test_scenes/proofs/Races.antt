@@ -1,4 +1,4 @@
--- What is seen of the scenes of Races, computed.
+-- The views of the scenes of Races, computed.
 use Rattle.std.proofs.Common.{◌≡◌, refl}
 use Rattle.rbc_spec.specs.Acts.{◌>>◌}
 use Rattle.rbc_spec.specs.Centre.{beginning}

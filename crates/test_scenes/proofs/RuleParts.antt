@@ -1,4 +1,4 @@
--- The rules by all their parts are the five rules.
+-- All parts of the rules together are the five rules.
 use Rattle.std.proofs.Common.{◌&&◌, ◌≡◌, ap, Bool, not, refl, true, ℕ}
 use Rattle.std.proofs.lemmas.Bool.{and_parts}
 use Rattle.law_trains.specs.Trains as rules

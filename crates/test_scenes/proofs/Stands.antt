@@ -1,4 +1,4 @@
--- The state of the one line centre that stands for the world after a start of mission.
+-- The state of the one line centre that represents the world after a start of mission.
 use Rattle.std.proofs.Common.{◌<◌, ◌==◌, ◌∙◌, ◌≡◌, ◌≢◌, ◌≤◌, arith, eq-eqb, false, length, nat_le, nat_lt, ne_eqb, None}
 use Rattle.std.proofs.Common.{option_map, pos, refl, Some, subst, suc, sym, true, true≢false, zero, ℕ, ⊎_elim}
 use Rattle.std.proofs.lemmas.Bool.{and_parts, cases_Bool, cases_eq, eqb-true, leb-true, ltb-true}
@@ -22,7 +22,7 @@ use Rattle.test_scenes.specs.SceneMoves.{start_moves}
 use Rattle.test_scenes.specs.Starts.{start_at_the_registrar}
 use Rattle.test_scenes.specs.Turns.{quiet_turns}
 
--- the world, and the state
+-- the world and the state
 abbrev w : World
 w = world_after line (new_world line) start_moves
 
@@ -34,7 +34,7 @@ at_or : (P : ℕ → Type 0) (k n : ℕ) → P k → ((n == k) ≡ false → P n
 at_or P k n here other =
     ⊎_elim (λ (is : n ≡ k). subst P (sym is) here) (λ (apart : n ≢ k). other (ne_eqb n k apart)) (cases_eq n k)
 
--- ## What the centres have for all trains
+-- ## The records of all trains
 
 phase_is : (t c : ℕ) → v.phase t c ≡ (w.at c).phase t
 unfolding within longest line_start end extent beginning ◌>>◌ step new_world world_step line_beginning quiet_turns play
@@ -66,7 +66,7 @@ wait_is t c = at_or (λ d. v.wait t d ≡ (w.at d).wait t) 0 c
 
 -- ## Sections
 
--- each section of the line, with its home
+-- each section of the line with its home
 each_section : (P : ℕ → ℕ → Type 0) → P 0 0 → P 1 0 → P 2 0 → P 3 0 → P 4 1 → P 5 1 → P 6 1 → P 7 1 → (s c : ℕ)
     → is_home line c s ≡ true → P s c
 each_section P a b d e f g h i zero c home = subst (P 0) (eqb-true 0 c home) a
@@ -89,7 +89,7 @@ wish_is = each_section (λ s c. v.wish s ≡ (w.at c).wish s) refl refl refl ref
 
 -- ## The mission
 
--- train 1 in section 1
+-- train 1 has a mission in section 1
 its_mission : centre.Mission
 its_mission = record {
   place = record { track = 0; group = group_1; front = 16200; rear = Some (pos 13900) };
@@ -133,14 +133,14 @@ in_use s c t home = each_section (λ s c. holder line w s ≡ Some t → centre.
     (λ so. absurd (none-some t so)) (λ so. absurd (none-some t so)) (λ so. absurd (none-some t so))
     (λ so. absurd (none-some t so)) s c home
 
--- ## One seat, and the hand that is given
+-- ## One supervisor, and the given hand
 
 seats : (t : ℕ) → length (all_held line w t) ≤ 1
 unfolding its_mission within longest line_start end extent beginning ◌>>◌ step new_world world_step line_beginning
     quiet_turns play world_after state_after
 seats t = at_or (λ u. length (all_held line w u) ≤ 1) 1 t (omega arith) (λ apart. rw apart (omega arith))
 
--- section 1, and no other
+-- section 1 is in the hand, and no other
 one : SectionRun
 one = record { first = 1; count = 1 }
 
@@ -166,7 +166,7 @@ hands_are t h = at_or (λ u. held line w u ≡ Some h → IsHand v u h.hand) 1 t
     (same_Some (record { mission = seen 0 its_mission; hand = one }) h so) (record { each = given_one }))
     (λ apart. rw apart (λ so. absurd (none-some h so)))
 
--- ## The whole
+-- ## The whole state
 
 pub start_stands : StandsFor line w v
 start_stands = record {

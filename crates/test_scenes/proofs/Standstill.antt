@@ -1,4 +1,4 @@
--- Ends of missions at standstill, computed: the views of them, and the sections that may leave the hand.
+-- Ends of missions at standstill, computed: the views, and the sections that may leave the hand.
 use Rattle.std.proofs.Common.{◌*◌, ◌<◌, ◌∙◌, ◌≡◌, ◌≤◌, ◌⊎◌, ap, arith, false, inl, inr, None, Option, option_map, pos}
 use Rattle.std.proofs.Common.{refl, Some, subst, suc, sym, true, true≢false, zero, ℕ}
 use Rattle.std.proofs.lemmas.Option.{same_Some}
@@ -46,7 +46,7 @@ met_past_the_start = met_by_run line end_past_the_start end_past_the_start_moves
 
 -- ## Sections that may leave the hand
 
--- it has sections 1 to 6
+-- the hand has sections 1 to 6
 hand_is : (r : ℕ) → is_given line six_given 1 r ≡ within (record { first = 1; count = 6 }) r
 unfolding within longest line_start end extent beginning ◌>>◌ step new_world world_step world_run six_given
 hand_is r = refl
@@ -67,7 +67,7 @@ there_is (Some x) is = (x, refl)
 its_mission : (n : Mission) × ((six_given.at 0).mission 1 ≡ Some n)
 its_mission = there_is ((six_given.at 0).mission 1) has_mission
 
--- its end is not silent
+-- the end of its mission is answered
 heard_at_2_000 : silence line 0 (six_given.at 0) (end_message (in_section_2 0)) ≡ None
 unfolding within longest line_start end extent beginning ◌>>◌ step new_world world_step world_run six_given
 heard_at_2_000 = refl
@@ -81,7 +81,7 @@ its_track : (n : Mission) → (six_given.at 0).mission 1 ≡ Some n → n.place.
 its_track n mission =
     same_Some n.place.track 0 (sym (ap (option_map (λ m. m.place.track)) mission) ∙ on_track)
 
--- the place of the train that ends, with its front at this number of decimetres from the start of the track
+-- the place of the train, with its front at this number of decimetres from the start of the track
 abbrev there : ℕ → Place
 there front = record { track = 0; group = 82022; front = front; rear = Some (pos front) }
 
@@ -99,7 +99,8 @@ past_hand r given past =
     let below = some.1 in
     omega (arith, below, past)
 
--- only section 2 of the hand is not cleared and starts before the front, and then the front is past its start
+-- Of the sections that are not cleared, only section 2 can start before the front. In that case the front is in advance
+-- of its start.
 one_reached : (front : ℕ) → front ≤ 30000 → is_cleared line (there front) 1 ≡ true → (r : ℕ)
     → is_given line six_given 1 r ≡ true → is_cleared line (there front) r ≡ false → 10 * line_start line r < front
     → (r ≡ 2) × (20000 < front)
@@ -151,7 +152,7 @@ first_at_2_001 : is_cleared line (there 20010) 1 ≡ true
 unfolding line_start end
 first_at_2_001 = refl
 
--- the front is at the start of section 2: nothing ahead may leave the hand
+-- the front is at the start of section 2, so nothing ahead may leave the hand
 pub ahead : (s : ℕ) → 2 ≤ s → s ≤ 6 → MayFree line six_given 1 s (ends_at (in_section_2 0)) → ⊥
 unfolding line_start end
 ahead s from to may = elim (leaves (in_section_2 0) 20000 at_2_000 (omega arith) first_at_2_000 s may) [
@@ -186,7 +187,7 @@ cleared_section =
     cleared 0 (end_message (in_section_2 0)) (in_section_2 0) n.0 (there 20000) refl heard_at_2_000 n.1 (inr refl)
     (ap (λ (x : ℕ). place_on line x (in_section_2 0)) (its_track n.0 n.1) ∙ at_2_000) first_at_2_000
 
--- one metre in advance of that, section 3 may leave the hand
+-- with the front one metre in advance of that, section 3 may leave the hand
 pub ahead_of_the_front : MayFree line six_given 1 3 (ends_at (in_section_2 1))
 unfolding within line_start end
 ahead_of_the_front =

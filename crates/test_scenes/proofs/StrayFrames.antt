@@ -1,4 +1,4 @@
--- What the frames of StrayFrames do, computed.
+-- The effects of the frames of StrayFrames, computed.
 use Rattle.std.proofs.Common.{[], ◌∷◌, ◌≡◌, refl, Some}
 use Rattle.rbc_spec.specs.Acts.{◌>>◌}
 use Rattle.rbc_spec.specs.Centre.{beginning}

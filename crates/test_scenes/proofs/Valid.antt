@@ -1,11 +1,11 @@
--- What is so of whatever a computation gives, and tests with what they tell.
+-- A property of the result of a computation, if there is a result; and the conclusions from tests.
 use Rattle.std.proofs.Common.{◌≡◌, Bool, false, if◌then◌else◌, None, Option, refl, Some, sym, true}
 use Rattle.std.proofs.lemmas.Bool.{not-true}
 use Rattle.std.specs.Bool.{MatchBool}
 use Rattle.std.specs.Option.{option_map_or}
 use Rattle.test_scenes.specs.Turns.{allowed, is_same}
 
--- P is so of the value, if there is one
+-- P holds for the value, if there is one
 abbrev pub Valid : {X : Type 0} → (X → Type 0) → Option X → Type 0
 Valid P None = Unit {0}
 Valid P (Some x) = P x
@@ -15,13 +15,13 @@ pub valid_allowed : {X : Type 0} (P : X → Type 0) (is_allowed : Bool) (x : X) 
 valid_allowed P true x so = so refl
 valid_allowed P false x so = tt
 
--- P is so of what f gives of a value, if there is one
+-- P holds for the result of f, if there is a value
 pub valid_some : {X Y : Type 0} (P : Y → Type 0) (f : X → Option Y) (o : Option X)
     → ((x : X) → o ≡ Some x → Valid P (f x)) → Valid P (option_map_or f o None)
 valid_some P f None so = tt
 valid_some P f (Some x) so = so x refl
 
--- the same where Q is so of the value
+-- the same, if Q holds for the value
 pub valid_then : {X Y : Type 0} (Q : X → Type 0) (P : Y → Type 0) (f : X → Option Y) (o : Option X)
     → Valid Q o → ((x : X) → Q x → Valid P (f x)) → Valid P (option_map_or f o None)
 valid_then Q P f None is so = tt
@@ -36,7 +36,7 @@ pub valid_when : {X : Type 0} (P : X → Type 0) (b : Bool) (x : Option X) → (
 valid_when P true x so = so refl
 valid_when P false x so = tt
 
--- of a test's two ways
+-- the property holds in both branches of a test
 pub valid_if : {X : Type 0} (P Q R : X → Type 0) (b : Bool) (x y : Option X)
     → Valid (λ r. P r × R r) x → Valid (λ r. Q r × R r) y
     → Valid (λ r. MatchBool b (P r) (Q r) × R r) (if b then x else y)

@@ -11,7 +11,7 @@ use Rattle.test_scenes.specs.Scene.{at, Happens, in_section_1, moving, session, 
 use Rattle.test_scenes.specs.SceneMoves.{announced_moves, asks_before_3, extends, first_authority, followed}
 use Rattle.test_scenes.specs.SceneMoves.{over_the_border_moves, plain, reports_to_b, route_moves, to_the_border_moves}
 
--- section 2 is wished back, and the train is asked to shorten its authority before it
+-- section 2 is wished back, and the train is asked to shorten its authority to the start of section 2
 abbrev pub asks_before_2 : List Move
 asks_before_2 = followed (Happens (Unset 0 2)) (Propose 1 0 2 ∷ [])
 
@@ -82,7 +82,7 @@ request_while_asked_moves =
 abbrev pub full_hand_at_the_border_moves : List Move
 full_hand_at_the_border_moves = plain (sets 0 0 32) ++ first_authority (at 100 60 (Some 40)) 31
 
--- of ten sections that are kept six are given
+-- ten sections are kept, and six of them are given
 abbrev pub pool_out_of_reach_moves : List Move
 pool_out_of_reach_moves =
     plain (sets 0 0 10 ++ sets 1 10 10)

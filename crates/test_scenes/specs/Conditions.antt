@@ -1,4 +1,4 @@
--- What a single condition decides: each of those of a request to shorten, and others.
+-- Scenes in which a single condition decides: each condition of a request to shorten, and others.
 use Rattle.std.specs.Prelude.{[], ◌++◌, ◌∷◌, List, None, Some, true, ℕ}
 use Rattle.rbc_spec.specs.Frame.{Announce, RouteAsk, RouteInfo, RouteReturn, RouteWithdraw, TakingOver}
 use Rattle.rbc_spec.specs.Message.{Authority, EndOfMission, InitiationOfSession, Report, Request, SessionEstablished}
@@ -19,7 +19,7 @@ use Rattle.test_scenes.specs.Starts.{opened, silent}
 
 -- ## When a train is asked to shorten its authority
 
--- section 2 of a hand of two lies ahead of the train
+-- section 2 of a hand of two is ahead of the train
 abbrev pub two_sections : List Scene
 two_sections =
     sets 0 1 2 ++ session 1 0 1
@@ -28,11 +28,11 @@ two_sections =
 abbrev pub two_sections_show : List (List Item)
 two_sections_show = all_done 1 2 ++ opened 1 ++ (Says 1 2 unknown_group TrainAccepted ∷ []) ∷ nothing ∷ []
 
--- the section is wished back, and the train is not asked
+-- the section is wished back, and no request to shorten is sent
 abbrev pub asked : ℕ → List Item
 asked s = Tells (Asked s) ∷ []
 
--- it is asked once its session is up again
+-- no request before the session is established again; the next unset sends it
 abbrev pub unset_without_a_session : List Scene
 unset_without_a_session =
     two_sections
@@ -46,7 +46,7 @@ unset_without_a_session_shows =
     ∷ asked 2
     ∷ nothing ∷ (Says 1 5 group_1 (ShorteningRequest 1000) ∷ Tells (Asked 2) ∷ []) ∷ []
 
--- not when its mission is ended
+-- no request after the end of the mission
 abbrev pub unset_after_the_end : List Scene
 unset_after_the_end = two_sections ++ train 1 0 5 (EndOfMission (moving in_section_1)) ∷ Happens (Unset 0 2) ∷ Look ∷ []
 
@@ -55,7 +55,7 @@ unset_after_the_end_shows =
     two_sections_show ++ nothing ∷ asked 2
     ∷ shows (IsShut ∷ times 2 (Given 1) ++ times 5 IsShut) (2 ∷ []) ((0 ∷ []) ∷ [] ∷ []) ∷ []
 
--- not while it has been asked and has not answered
+-- no second request before the answer to the first
 abbrev pub unset_again : List Scene
 unset_again = two_sections ++ Happens (Unset 0 2) ∷ Happens (Unset 0 2) ∷ []
 
@@ -63,7 +63,7 @@ abbrev pub unset_again_shows : List (List Item)
 unset_again_shows =
     two_sections_show ++ (Says 1 3 group_1 (ShorteningRequest 1000) ∷ Tells (Asked 2) ∷ []) ∷ asked 2 ∷ []
 
--- not for the first section of its hand, though its front is reported before that
+-- no request for the first section of the hand, even if the reported front is in rear of it
 abbrev pub front_before_the_hand : List Scene
 front_before_the_hand =
     two_sections ++ train 1 0 5 (Report (at 100 300 None)) ∷ Happens (Unset 0 1) ∷ Happens (Unset 0 2) ∷ []
@@ -72,7 +72,7 @@ abbrev pub front_before_the_hand_shows : List (List Item)
 front_before_the_hand_shows =
     two_sections_show ++ nothing ∷ asked 1 ∷ (Says 1 3 82020 (ShorteningRequest 2000) ∷ Tells (Asked 2) ∷ []) ∷ []
 
--- not for a section where its front may be
+-- no request for a section if the front may be in it
 abbrev pub front_in_the_section : List Scene
 front_in_the_section =
     request_to_the_border ++ train 1 0 6 (Report (at 102 210 None)) ∷ Happens (Unset 0 2) ∷ Happens (Unset 0 3) ∷ []
@@ -82,7 +82,7 @@ front_in_the_section_shows =
     request_to_the_border_shows
     ++ nothing ∷ asked 2 ∷ (Says 1 5 82022 (ShorteningRequest 1000) ∷ Tells (Asked 3) ∷ []) ∷ []
 
--- nor for one that starts too far in advance of the group for message 9 to say
+-- no request for a section if its start is farther in advance of the group than message 9 can name
 abbrev pub section_out_of_reach : List Scene
 section_out_of_reach =
     sets 0 0 20
@@ -95,7 +95,7 @@ section_out_of_reach_shows =
     ++ start_and_request_shows 82022 32000 []
     ++ nothing ∷ asked 17 ∷ (Says 1 5 82020 (ShorteningRequest 32000) ∷ Tells (Asked 16) ∷ []) ∷ []
 
--- the question ends with the session, and is asked anew
+-- the request ends with the session, and an unset in the next session sends it again
 abbrev pub proposal_ends_with_the_session : List Scene
 proposal_ends_with_the_session =
     two_sections
@@ -109,7 +109,7 @@ proposal_ends_with_the_session_shows =
     ∷ nothing
     ∷ silent Unasked ∷ (Says 1 5 group_1 (ShorteningRequest 1000) ∷ Tells (Asked 2) ∷ []) ∷ []
 
--- or with the mission
+-- the request ends with the mission
 abbrev pub proposal_ends_with_the_mission : List Scene
 proposal_ends_with_the_mission =
     two_sections ++ Happens (Unset 0 2) ∷ train 1 0 5 (EndOfMission (moving in_section_1))
@@ -122,7 +122,7 @@ proposal_ends_with_the_mission_shows =
 
 -- ## Starts and requests
 
--- a train that is supervised here can't start outside its hand, on an open section either
+-- a train that is supervised here can not start outside its hand, not even on an open section
 abbrev pub start_outside_the_hand : List Scene
 start_outside_the_hand =
     two_sections ++ Happens (Set 0 3) ∷ train 1 0 5 (StartOfMission true (at 103 600 (Some 200))) ∷ Look ∷ []
@@ -133,14 +133,14 @@ start_outside_the_hand_shows =
     ++ done 3 ∷ (Says 1 3 unknown_group TrainRejected ∷ [])
     ∷ shows (IsShut ∷ times 2 (Given 1) ++ IsOpen ∷ times 4 IsShut) [] ((0 ∷ []) ∷ [] ∷ []) ∷ []
 
--- a handover is announced once, and a question asked once
+-- a second request over the border announces no second handover, and asks for no more sections
 abbrev pub request_again_over_the_border : List Scene
 request_again_over_the_border = over_the_border ++ train 1 0 7 (Request in_section_1) ∷ []
 
 abbrev pub request_again_over_the_border_shows : List (List Item)
 request_again_over_the_border_shows = over_the_border_shows ++ (Says 1 7 group_1 (Authority 6000) ∷ []) ∷ []
 
--- a question that stands is not asked again
+-- a pending question for sections is not repeated
 abbrev pub request_while_asked : List Scene
 request_while_asked = sets 0 1 3 ++ start_and_request in_section_1 ++ train 1 0 6 (Request in_section_1) ∷ []
 
@@ -148,14 +148,14 @@ abbrev pub request_while_asked_shows : List (List Item)
 request_while_asked_shows =
     all_done 1 3 ++ start_and_request_shows group_1 3000 asks_for_more ++ (Says 1 5 group_1 (Authority 3000) ∷ []) ∷ []
 
--- in advance of a hand of 32 no section is asked for
+-- no section is asked for in advance of a hand of 32 sections
 abbrev pub full_hand_at_the_border : List Scene
 full_hand_at_the_border = sets 0 0 32 ++ start_and_request (at 100 60 (Some 40))
 
 abbrev pub full_hand_at_the_border_shows : List (List Item)
 full_hand_at_the_border_shows = all_done 0 32 ++ start_and_request_shows 82020 3200 []
 
--- nor while the pool has one that is too far away yet
+-- no section is asked for if the pool has a section that is still out of reach
 abbrev pub pool_out_of_reach : List Scene
 pool_out_of_reach =
     sets 0 0 10
@@ -173,7 +173,7 @@ pool_out_of_reach_shows =
 
 -- ## With a pool
 
--- a yield sends the pool home before it
+-- a Yield follows the return of the pool
 abbrev pub yield_with_a_pool : List Scene
 yield_with_a_pool =
     over_the_border
@@ -193,7 +193,7 @@ yield_with_a_pool_shows =
     ∷ (Link Next ∷ []) ∷ (Link Next ∷ [])
     ∷ shows (IsShut ∷ times 6 (Given 1) ++ IsOpen ∷ []) [] ((1 ∷ []) ∷ [] ∷ []) ∷ [])
 
--- a cut sends the pool home with it
+-- a cut of the hand returns the pool too
 abbrev pub cut_with_a_pool : List Scene
 cut_with_a_pool =
     route_on_the_way
@@ -208,7 +208,7 @@ cut_with_a_pool_shows =
     ∷ (Link Next ∷ []) ∷ shows (IsShut ∷ times 2 (Given 1) ++ IsShut ∷ times 3 IsOpen ++ IsShut ∷ []) []
     ((0 ∷ []) ∷ [] ∷ []) ∷ []
 
--- a cut that leaves a section of B leaves the handover
+-- a cut that leaves a section of B in the hand does not end the handover
 abbrev pub cut_beyond_the_border : List Scene
 cut_beyond_the_border =
     announced

@@ -1,5 +1,5 @@
--- Scenes of trains that leave out one part of the rules: of giving back, and of the centre that they follow. Each has
--- the acts that the five rules forbid.
+-- Scenes of trains that leave out one part of the rules about giving back, and about the centre that a train follows.
+-- Each has the acts that the five rules forbid.
 use Rattle.std.specs.Prelude.{[], ◌∷◌, pos, true}
 use Rattle.rbc_spec.specs.Message.{EndOfMission, InitiationOfSession, Report, Request, SessionEstablished}
 use Rattle.rbc_spec.specs.Message.{ShorteningGranted, StartOfMission, TrainData}

@@ -1,4 +1,4 @@
--- Moves that leave the one line centre no choice, as where one centre has the whole line.
+-- Moves that leave the one line centre no choice. The moves of a one-centre line are such moves.
 use Rattle.std.specs.Prelude.{ℕ, ◌+◌, ◌*◌, ◌==◌, Bool, true, false, ◌&&◌, not, List, [], ◌∷◌, Option, is_none, nat_le}
 use Rattle.std.specs.Option.{option_map_or}
 use Rattle.rbc_spec.specs.Line.{Line, start}
@@ -10,18 +10,19 @@ use Rattle.rbc_spec.specs.World.{Event, Unset}
 use Rattle.test_scenes.specs.Turns.{Choice, Plainly, Extending, own_step}
 use Rattle.test_scenes.specs.Moves.{Move, Played, play}
 
--- the train can't be asked by centre c to shorten its authority before section s, whatever its hand
+-- centre c can not ask the train to shorten its authority before section s, whatever its hand
 abbrev pub is_barred : Line → LineState → (t c s : ℕ) → LineMission → Bool
 is_barred line v t c s m =
     not (((is_at c m.supervisor && is_up (v.phase t c)) && (not m.is_ended && is_none m.proposal))
     && (nat_le m.place.front (10 * start line s) && nat_le (start line s) (group_start line m.place + 32767)))
 
--- no train can be asked for a section of this mark
+-- no train can be asked to give up a section of this mark
 abbrev pub is_unasked : Line → LineState → (c s : ℕ) → Mark → Bool
 is_unasked line v c s (Given t) = option_map_or (is_barred line v t c s) (v.mission t) true
 is_unasked line v c s mark = true
 
--- after an unset message 9 for the section, or nothing where no train can be asked; after another event no quiet step
+-- The quiet steps are forced. After an unset the quiet step is message 9 for the section, or there is none if no train
+-- can be asked. After any other event no quiet step follows.
 abbrev pub is_forced : Line → LineState → Event → List Quiet → Bool
 is_forced line mid (Unset c s) [] = is_unasked line mid c s (mid.mark s)
 is_forced line mid (Unset c s) (Propose t d e ∷ []) = (d == c) && (e == s)
@@ -29,7 +30,7 @@ is_forced line mid (Unset c s) quiets = false
 is_forced line mid event [] = true
 is_forced line mid event quiets = false
 
--- a start is not rejected, and a report not listened to, by choice; and the event has a piece
+-- the event has a piece; no start is rejected by choice, and no report is listened to by choice
 abbrev pub is_plain : Choice → Bool
 is_plain Plainly = true
 is_plain (Extending count) = true

@@ -9,7 +9,7 @@ use Rattle.test_scenes.specs.Scene.{at, Given, group_1, Happens, in_section_1, I
 use Rattle.test_scenes.specs.Scene.{LookAtFrame, Says, Scene, Sends, session, shows, ShowsFrame, Tells, times, train}
 use Rattle.test_scenes.specs.Starts.{opened, silent}
 
--- the announcement and the question for more sections come to B, which has none to lend
+-- B receives the announcement and the question for more sections, and has no section to lend
 abbrev pub announced : List Scene
 announced = over_the_border ++ Happens (Delivery 0 1 2) ∷ Happens (Delivery 0 1 3) ∷ []
 
@@ -18,13 +18,14 @@ announced_shows =
     over_the_border_shows ++ (Link Next ∷ [])
     ∷ (Link Next ∷ Sends 0 2 (RouteInfo 1 (record { first = 7; count = 0 })) ∷ []) ∷ []
 
--- the supervision in one frame: the last place and the hand, sections 1 to 6
+-- the supervision in one frame: the last place, and the hand of sections 1 to 6
 abbrev pub the_yield : Body
 the_yield =
     Yield 1 1 6 true false (record { track = 0; group = group_1; front = pos 16200; rear = Some (pos 13900) })
     (record { first = 1; count = 6 })
 
--- the train reports in section 4 to B, from this T_TRAIN on, which takes over; A yields, and what it takes twice is old
+-- The train reports to B in section 4, with T_TRAIN from this number on, and B takes over. A yields. A frame that is
+-- delivered twice is old.
 abbrev pub handed_over : ℕ → List Scene
 handed_over t_train =
     announced
@@ -49,7 +50,7 @@ handover = handed_over 7 ++ Look ∷ []
 abbrev pub handover_shows : List (List Item)
 handover_shows = handed_over_shows ++ shows_six_given (1 ∷ []) ∷ []
 
--- the train clears A's sections: they go home
+-- the train clears A's sections, which are returned to A
 abbrev pub cleared_in_rear_of_the_border : List Scene
 cleared_in_rear_of_the_border = Look ∷ Happens (Delivery 1 0 4) ∷ Look ∷ []
 
@@ -60,7 +61,7 @@ cleared_in_rear_of_the_border_shows =
     ∷ (Link Next ∷ Says 1 7 unknown_group (EndSession 5 1) ∷ [])
     ∷ shows (IsShut ∷ times 3 IsOpen ++ times 3 (Given 1) ++ IsShut ∷ []) [] ((1 ∷ []) ∷ [] ∷ []) ∷ []
 
--- one frame brings A's sections home
+-- one frame returns A's sections
 abbrev pub returns_home : List Item
 returns_home = Sends 0 4 (RouteReturn 1 (record { first = 1; count = 3 })) ∷ []
 
@@ -70,7 +71,8 @@ return_after_handover = handed_over 7 ++ train 1 1 10 (Report (at 104 300 (Some 
 abbrev pub return_after_handover_shows : List (List Item)
 return_after_handover_shows = handed_over_shows ++ returns_home ∷ cleared_in_rear_of_the_border_shows
 
--- the train's messages to B begin with T_TRAIN 1: those that A has heard are stale at B
+-- The train's messages to B begin with T_TRAIN 1. After the Yield a message with a T_TRAIN that A has received before
+-- is stale at B.
 abbrev pub yield_carries_the_last_stamp_heard : List Scene
 yield_carries_the_last_stamp_heard =
     handed_over 1
@@ -90,7 +92,7 @@ cancelled_before_taking_over =
     ++ train 1 1 9 (Report (at 104 100 (Some 200))) ∷ train 1 0 10 (ShorteningGranted 7 in_section_1) ∷ Look
     ∷ Happens (Delivery 1 0 4) ∷ Look ∷ [])
 
--- so A supervises on
+-- A goes on supervising the train
 abbrev pub cancelled_before_taking_over_shows : List (List Item)
 cancelled_before_taking_over_shows =
     announced_shows

@@ -51,7 +51,7 @@ awaited_moves =
     ++ heard (train 1 1 10 (Report (at 104 150 (Some 200))))
     ++ plain (train 1 1 10 (Report (at 104 150 (Some 200))) ∷ [])
 
--- the route is kept for the train, comes home, and is given by the next supervisor
+-- the route is kept for the train, is returned, and is given by the next supervisor
 abbrev pub route_after_the_yield_moves : List Move
 route_after_the_yield_moves =
     over_the_border_moves
@@ -75,7 +75,7 @@ wish_at_the_yield_moves =
     ++ followed (Happens (Delivery 0 1 4)) (TakeUp 1 1 ∷ Propose 1 1 4 ∷ [])
     ++ plain (train 1 1 10 (ShorteningGranted 2 in_section_1) ∷ [])
 
--- the start at B is rejected while the mission stands at A, and while the right is on its way home
+-- the start at B is rejected while the mission is at A, and while the right is on the way back
 abbrev pub cleared_elsewhere_moves : List Move
 cleared_elsewhere_moves =
     right_comes_moves
@@ -112,7 +112,7 @@ from_the_first_moves =
     ++ plain (Happens (Delivery 1 0 1) ∷ [])
     ++ extends 1 (train 1 0 6 (Request in_section_1)) (Order 1 0 ∷ [])
 
--- B takes up, and the hand goes on to C's first section
+-- B takes the supervision up, and the hand is extended to C's first section
 abbrev pub from_the_second_moves : List Move
 from_the_second_moves =
     from_the_first_moves
@@ -125,20 +125,20 @@ from_the_second_moves =
     ++ plain (Happens (Delivery 2 1 1) ∷ [])
     ++ extends 1 (train 1 1 11 (Request in_section_2)) (Order 1 1 ∷ [])
 
--- C has heard of the train, and takes over
+-- C receives the announcement of the train, and takes over
 abbrev pub to_the_third_moves : List Move
 to_the_third_moves =
     from_the_second_moves
     ++ plain (Happens (Delivery 1 2 2) ∷ Happens (Delivery 1 2 3) ∷ session 1 2 12)
     ++ heard (train 1 2 14 (Report (at 103 50 (Some 200))))
 
--- B lays down
+-- B lays the supervision down
 abbrev pub yielded_on_moves : List Move
 yielded_on_moves =
     to_the_third_moves ++ plain (Happens (Delivery 2 1 2) ∷ [])
     ++ followed (Happens (Delivery 2 1 3)) (LayDown 1 1 ∷ [])
 
--- and C takes up
+-- C takes the supervision up
 abbrev pub yield_with_a_third_home_moves : List Move
 yield_with_a_third_home_moves = yielded_on_moves ++ followed (Happens (Delivery 1 2 4)) (TakeUp 1 2 ∷ [])
 

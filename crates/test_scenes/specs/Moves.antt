@@ -1,5 +1,5 @@
--- A move of the one line centre: an event, how the line centre takes it where the rules leave that open, and the quiet
--- steps that it takes then. What comes of it is computed; that it is a piece of the line centre is proved once.
+-- A move of the one line centre: an event, a choice if the rules leave one, and the quiet steps after it. The result of
+-- a move is computed. One proof shows that it is a piece of the line centre.
 use Rattle.std.specs.List.{list_all}
 use Rattle.std.specs.Option.{option_map_or}
 use Rattle.std.specs.Prelude.{[], ◌&&◌, ◌||◌, ◌∷◌, Bool, Err, false, if◌then◌else◌, is_none, List, nat_lt, None, not}
@@ -11,13 +11,13 @@ use Rattle.rbc_spec.specs.Quiet.{both, is_of_centre, Quiet}
 use Rattle.rbc_spec.specs.World.{Bytes, centre_of, Delivery, Event, Set, Unset}
 use Rattle.test_scenes.specs.Turns.{allowed, Choice, own_step, quiet_turns, Step, Turn, Unanswered}
 
--- an event, how it is taken, and the quiet steps after it
+-- an event, the choice, and the quiet steps after it
 pub record Move : Type 0 where
   pub event : Event
   pub choice : Choice
   pub quiets : List Quiet
 
--- what is said, or why nothing is
+-- the messages and replies, or the reason of silence
 pub record Spoken : Type 0 where
   pub said : Said
   pub silence : Option Reason
@@ -25,14 +25,14 @@ pub record Spoken : Type 0 where
 abbrev pub spoken_in : Outcome → Spoken
 spoken_in o = record { said = record { sayings = o.sayings; words = o.words }; silence = o.silence }
 
--- what an answer shows of a piece, but for its stamp and frames; or that there is none
+-- the content of an answer without its stamp and its frames, or the reason why nothing was answered
 pub data Shown : Type 0 where
   Speaks : (spoken : Spoken) → Shown
   Nowhere : Shown
   NeverSent : Shown
   BadBytes : (number : ℕ) → Shown
 
--- what comes of a move
+-- the result of a move
 pub record Played : Type 0 where
   pub shown : Shown
   pub state : LineState
@@ -41,12 +41,12 @@ abbrev pub played : Step → Turn → Played
 played own later =
     record { shown = Speaks (record { said = both own.turn.said later.said; silence = own.why }); state = later.state }
 
--- the section is below one that is told
+-- the section has a lower number than that of a reply `Told`
 abbrev pub is_below : ℕ → Word → Bool
 is_below s (Told e) = nat_lt s e
 is_below s word = true
 
--- each section that is told is below those that are told after it
+-- the replies `Told` are in the order of their sections
 abbrev pub tells_in_order : List Word → Bool
 tells_in_order [] = true
 tells_in_order (Told s ∷ words) = list_all (is_below s) words && tells_in_order words
@@ -56,13 +56,14 @@ abbrev pub are_none : List Quiet → Bool
 are_none [] = true
 are_none (q ∷ qs) = false
 
--- the quiet steps are of the event's centre, none follows a silent message, and what is told comes by section
+-- The quiet steps are of the event's centre, none follows a silent message, and the replies `Told` are in the order of
+-- sections.
 abbrev pub is_piece : Line → Event → Step → List Quiet → Turn → Bool
 is_piece line event own quiets later =
     list_all (is_of_centre line (centre_of event)) quiets
     && ((is_none own.why || are_none quiets) && tells_in_order (both own.turn.said later.said).words)
 
--- an event without a piece
+-- the answer to an event without a piece
 abbrev pub without_piece : Line → Event → Option Shown
 without_piece line (Bytes c (Ok m)) = allowed (not (is_centre line c)) Nowhere
 without_piece line (Bytes c (Err number)) = if is_centre line c then Some (BadBytes number) else Some Nowhere

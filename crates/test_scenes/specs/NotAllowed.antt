@@ -1,5 +1,5 @@
 -- Moves that the rules of the one line centre do not allow, each beside one that they allow; and a world that no state
--- stands for.
+-- represents.
 use Rattle.std.specs.Prelude.{ℕ, ◌==◌, List, [], ◌∷◌, ◌++◌, map, length, if◌then◌else◌, Option, Some, None}
 use Rattle.std.specs.List.{filter_map}
 use Rattle.rbc_spec.specs.Maps.{put}
@@ -18,51 +18,51 @@ use Rattle.test_scenes.specs.StrayFrames.{world_in}
 
 -- ## Moves
 
--- what is shown, or that the move is not allowed
+-- the content that is shown, or `None` if the move is not allowed
 abbrev pub shown_in : Seen → Option Shown
 shown_in (Shows shown sheet) = Some shown
 shown_in other = None
 
--- what is shown at each move, from the beginning on
+-- the content shown at each move from the initial state on
 abbrev pub shown_at : List Move → List (Option Shown)
 shown_at moves = map shown_in (line_shows line line_beginning moves)
 
--- words alone, or the reason of silence
+-- only replies to the interlocking, or the reason of silence
 abbrev pub tells : List Word → Option Shown
 tells words = Some (Speaks (record { said = record { sayings = []; words = words }; silence = None }))
 
 abbrev pub is_silent_for : Reason → Option Shown
 is_silent_for why = Some (Speaks (record { said = record { sayings = []; words = [] }; silence = Some why }))
 
--- section 4, of home B, is kept after an event at B
+-- section 4 of home B is kept after an event at B
 abbrev pub kept_at_home : List Move
 kept_at_home = plain (Happens (Set 1 4) ∷ []) ++ followed (Happens (Set 1 5)) (Keep 1 4 ∷ [])
 
 abbrev pub kept_at_home_shows : List (Option Shown)
 kept_at_home_shows = tells (Done 4 ∷ []) ∷ tells (Done 5 ∷ []) ∷ []
 
--- and not after one at A
+-- it is not kept after an event at A
 abbrev pub kept_elsewhere : List Move
 kept_elsewhere = plain (Happens (Set 1 4) ∷ []) ++ followed (Happens (Set 0 0)) (Keep 1 4 ∷ [])
 
 abbrev pub kept_elsewhere_shows : List (Option Shown)
 kept_elsewhere_shows = tells (Done 4 ∷ []) ∷ None ∷ []
 
--- a silent message is all of its piece
+-- a silent message is a whole piece
 abbrev pub silent_alone : List Move
 silent_alone = plain (Happens (Set 0 0) ∷ train 1 0 1 TerminationOfSession ∷ [])
 
 abbrev pub silent_alone_shows : List (Option Shown)
 silent_alone_shows = tells (Done 0 ∷ []) ∷ is_silent_for NoSession ∷ []
 
--- and no section is kept after it
+-- no section is kept after a silent message
 abbrev pub kept_after_silence : List Move
 kept_after_silence = plain (Happens (Set 0 0) ∷ []) ++ followed (train 1 0 1 TerminationOfSession) (Keep 1 0 ∷ [])
 
 abbrev pub kept_after_silence_shows : List (Option Shown)
 kept_after_silence_shows = tells (Done 0 ∷ []) ∷ None ∷ []
 
--- sections 4 and 5 are kept for train 1, and 4 is wished back
+-- sections 4 and 5 are kept for train 1, and section 4 is wished back
 abbrev pub two_kept : List Move
 two_kept =
     plain (Happens (Set 1 4) ∷ []) ++ followed (Happens (Set 1 5)) (Keep 1 4 ∷ Keep 1 5 ∷ [])
@@ -71,14 +71,14 @@ two_kept =
 abbrev pub two_kept_shows : List (Option Shown)
 two_kept_shows = tells (Done 4 ∷ []) ∷ tells (Done 5 ∷ []) ∷ tells (Asked 4 ∷ []) ∷ []
 
--- as 5 is wished back too, both are freed and told in their order
+-- section 5 is wished back too, and both are freed, with the replies `Told` in the order of sections
 abbrev pub told_in_order : List Move
 told_in_order = two_kept ++ followed (Happens (Unset 1 5)) (Unkeep 1 4 ∷ Unkeep 1 5 ∷ [])
 
 abbrev pub told_in_order_shows : List (Option Shown)
 told_in_order_shows = two_kept_shows ++ tells (Asked 5 ∷ Told 4 ∷ Told 5 ∷ []) ∷ []
 
--- and not in another
+-- replies in the other order are not allowed
 abbrev pub told_out_of_order : List Move
 told_out_of_order = two_kept ++ followed (Happens (Unset 1 5)) (Unkeep 1 5 ∷ Unkeep 1 4 ∷ [])
 
@@ -93,7 +93,7 @@ one_yield = world_in (new_world line) (world_run line (new_world line) (filter_m
     (announced ++ session 1 1 7
     ++ train 1 1 9 (Report (at 104 100 (Some 200))) ∷ Happens (Delivery 1 0 2) ∷ Happens (Delivery 1 0 3) ∷ [])))
 
--- the same Yield a second time, under the next number
+-- the same Yield is on the way a second time, under the next number
 abbrev pub two_yields : World
 two_yields = record one_yield {
   at = put one_yield.at 0 (record (one_yield.at 0) {
@@ -102,6 +102,6 @@ two_yields = record one_yield {
   });
 }
 
--- how many missions of train 1 there are, at centres and on the way
+-- the count of train 1's missions, at centres and on the way
 abbrev pub missions_in : World → ℕ
 missions_in w = length (all_held line w 1)

@@ -1,4 +1,4 @@
--- Scenes in which each thing stays in one place: what `HasOnePlace` says of a world is computed after each event.
+-- Scenes in which each thing stays in one place: `HasOnePlace` of a world is computed after each event.
 use Rattle.std.specs.List.{count_by, list_all, range_with_len}
 use Rattle.std.specs.Prelude.{[], ◌&&◌, ◌+◌, ◌==◌, ◌∷◌, Bool, Err, false, is_some, length, List, map, nat_le, Ok}
 use Rattle.std.specs.Prelude.{Result, true, ℕ}

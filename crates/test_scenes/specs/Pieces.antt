@@ -1,5 +1,5 @@
--- Centres and the one line centre side by side: event by event a piece of the one line centre meets what the centres
--- answer, and the state that it leaves is the one that is read off the centres.
+-- Centres and the one line centre side by side. At each event a piece of the one line centre meets the answer of the
+-- centres. The state after it is the one that is read off the centres.
 use Rattle.std.specs.List.{filter, filter_map, range_with_len}
 use Rattle.std.specs.Prelude.{[], ◌∷◌, ◌≡◌, Err, length, List, map, None, Ok, Option, Result, Some, ℕ}
 use Rattle.rbc_spec.specs.Centre.{Phase}
@@ -18,19 +18,19 @@ use Rattle.test_scenes.specs.Scene.{Happens, Scene}
 
 -- ## A state on its line
 
--- what a state has of a train at one centre
+-- a state's record of a train at one centre
 pub record Side : Type 0 where
   pub phase : Phase
   pub heard : Option ℕ
   pub said : ℕ
   pub wait : Option Place
 
--- and of the train
+-- a state's record of a train
 pub record OfTrain : Type 0 where
   pub mission : Option LineMission
   pub sides : List Side
 
--- the marks of the sections in order, those that are wished back, and what there is of each train
+-- the marks of the sections in order, the sections that are wished back, and the record of each train
 pub record Sheet : Type 0 where
   pub marks : List Mark
   pub wished : List ℕ
@@ -51,8 +51,8 @@ sheet line v = record {
 
 -- ## Side by side
 
--- the centres' world and the line centre's state go on from event to event: the centres answer, the one line centre
--- meets the answer by a piece, and the state that is read off the centres is then the line centre's
+-- The centres' world and the line centre's state go on side by side. The centres answer each event, and the line centre
+-- meets the answer by a piece. Its state is then the one that is read off the centres.
 abbrev pub GoesWith : Line → World → LineState → List Move → Type 0
 GoesWith line w v [] = Unit {0}
 GoesWith line w v (move ∷ moves) =
@@ -70,8 +70,8 @@ abbrev pub event_of : Scene → Option Event
 event_of (Happens event) = Some event
 event_of other = None
 
--- the moves are those of the scene's events, and from the beginning on the answers of the whole world are a run of the
--- one line centre by these moves, whose last state is the one read off
+-- The moves are of the scene's events. From the initial state on, a run of the one line centre by these moves meets the
+-- answers of the whole world. Its last state is the one that is read off.
 pub record IsMetByRun (line : Line) (scene : List Scene) (moves : List Move) : Type 0 where
   pub answers : List Answer
   pub after : World
@@ -92,17 +92,17 @@ pub record IsMetByForcedRun (line : Line) (c : ℕ) (scene : List Scene) : Type 
   pub is_run : ForcedRun line line_beginning (filter_map event_of scene) answers last
   pub read : sheet line (read_off line after) ≡ sheet line last
 
--- what the centres answer to a scene, and the world that they leave, are as the main theorem says
+-- the answers of the centres to a scene, and the world after it, are as the main theorem states
 pub record IsLineRunOf (line : Line) (scene : List Scene) : Type 0 where
   pub answers : List Answer
   pub after : World
   pub ran : world_run line (new_world line) (filter_map event_of scene) ≡ Ok (answers, after)
   pub is_line_run : IsLineRun line (filter_map event_of scene) answers after
 
--- ## What is computed of both
+-- ## The computed views of both
 
--- what is shown at an event, and the line after it; or that the step is refused; or that the rules of the line centre
--- do not allow the move
+-- The answer that is shown at an event, with the line after it. Or the step is refused, or the rules of the line centre
+-- do not allow the move.
 pub data Seen : Type 0 where
   Shows : (shown : Shown) (line : Sheet) → Seen
   Refused : Seen
@@ -118,7 +118,7 @@ abbrev pub seen_after : Line → Result (Answer × World) Refusal → (World →
 seen_after line (Ok (answer, after)) others = Shows (shown_by answer) (sheet line (read_off line after)) ∷ others after
 seen_after line (Err why) others = Refused ∷ []
 
--- what the centres show
+-- the views of the centres
 unfoldable pub centres_show : Line → World → List Move → List Seen
 centres_show line w [] = []
 centres_show line w (move ∷ moves) =
@@ -128,7 +128,7 @@ abbrev pub seen_of_line : Line → Option Played → (LineState → List Seen) �
 seen_of_line line (Some p) others = Shows p.shown (sheet line p.state) ∷ others p.state
 seen_of_line line None others = NotAllowed ∷ []
 
--- what the one line centre shows
+-- the views of the one line centre
 unfoldable pub line_shows : Line → LineState → List Move → List Seen
 line_shows line v [] = []
 line_shows line v (move ∷ moves) = seen_of_line line (play line v move) (λ new. line_shows line new moves)

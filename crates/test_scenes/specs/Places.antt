@@ -1,4 +1,4 @@
--- Where a position packet places a train, and what has no place.
+-- The place of a train by its position packet, and packets that give no place.
 use Rattle.std.specs.Prelude.{[], ◌++◌, ◌∷◌, false, List, map, None, Some, true, ℕ}
 use Rattle.rbc_spec.specs.Message.{Authority, DataAcknowledged, Report, Request, StartOfMission, TrainAccepted}
 use Rattle.rbc_spec.specs.Message.{TrainData, TrainRejected, unknown_group}
@@ -13,7 +13,7 @@ use Rattle.test_scenes.specs.Starts.{opened, silent, start, start_shows}
 
 -- ## No place
 
--- not nominal, not in level 2, a distance or a doubt that is not known, and a group that the line has not
+-- not nominal; not in level 2; with a distance or a doubt that is unknown; with a group that is not of the line
 abbrev pub without_place : List Position
 without_place =
     record in_section_1 { is_nominal = false } ∷ record in_section_1 { is_level_2 = false }
@@ -21,7 +21,7 @@ without_place =
     ∷ record in_section_1 { l_doubtover = 32767 } ∷ record in_section_1 { l_doubtunder = 32767 } ∷ at 108 600 (Some 200)
     ∷ []
 
--- a report of each, which is not heard, and one of a distance that is known
+-- a report with each of these is silent, and one with a known distance is answered
 abbrev pub reports_without_place : List Scene
 reports_without_place =
     start
@@ -31,7 +31,7 @@ reports_without_place =
 abbrev pub reports_without_place_shows : List (List Item)
 reports_without_place_shows = start_shows ++ times 6 (silent NoPlace) ++ nothing ∷ silent StaleStamp ∷ []
 
--- a request has to have a place, with the front not past the hand
+-- a request needs a place, and its front must not be past the hand
 abbrev pub requests_without_place : List Scene
 requests_without_place =
     start
@@ -44,7 +44,7 @@ requests_without_place_show =
     ++ (Says 1 3 unknown_group (DataAcknowledged 4) ∷ []) ∷ silent NoPlace ∷ silent NoPlace
     ∷ (Says 1 4 group_1 (Authority 1000) ∷ []) ∷ []
 
--- nor may the hand end too far in advance of its group for message 3 to say
+-- the end of the hand is farther in advance of the group than message 3 can name
 abbrev pub hand_out_of_reach : List Scene
 hand_out_of_reach =
     sets 0 0 20 ++ start_and_request (at 102 600 (Some 200)) ++ train 1 0 6 (Request (at 100 4600 (Some 200))) ∷ []
@@ -54,7 +54,7 @@ hand_out_of_reach_shows = all_done 0 20 ++ start_and_request_shows 82022 32000 [
 
 -- ## Starts that are not fit
 
--- not valid, without a rear, with the rear before the track, and with the front past it
+-- not valid; without a rear; with the rear before the track; with the front past the track
 abbrev pub starts_that_are_not_fit : List Scene
 starts_that_are_not_fit =
     sets 0 0 8
@@ -64,7 +64,7 @@ starts_that_are_not_fit =
     ∷ train 1 0 6 (StartOfMission true (at 107 981 (Some 200)))
     ∷ train 1 0 7 (StartOfMission true (at 107 980 (Some 200))) ∷ Look ∷ []
 
--- one with the front at the track's end is
+-- a start with the front at the end of the track is fit
 abbrev pub starts_that_are_not_fit_show : List (List Item)
 starts_that_are_not_fit_show =
     all_done 0 8
@@ -74,7 +74,7 @@ starts_that_are_not_fit_show =
     ∷ (Says 1 5 unknown_group TrainRejected ∷ []) ∷ (Says 1 6 unknown_group TrainAccepted ∷ [])
     ∷ shows (times 7 IsOpen ++ Given 1 ∷ []) [] ((0 ∷ []) ∷ [] ∷ []) ∷ []
 
--- a train over 33 sections, and one over 32
+-- a train over 33 sections, and one over 32 sections
 abbrev pub longest_train : List Scene
 longest_train =
     sets 0 0 40
@@ -91,11 +91,11 @@ longest_train_shows =
 
 -- ## Scales
 
--- in decimetres; the train's length is in metres all the same
+-- in decimetres, but the train's length is still in metres
 abbrev pub in_decimetres : ℕ → Position
 in_decimetres d_lrbg = record (at 102 d_lrbg (Some 200)) { scale = 1; l_doubtover = 100; l_doubtunder = 200 }
 
--- the rear is 10 cm before the end of section 1, and then at it
+-- the rear is 10 cm before the end of section 1, and then at the end
 abbrev pub other_scale : List Scene
 other_scale =
     request_to_the_border ++ train 1 0 6 (Report (in_decimetres 2099)) ∷ Look

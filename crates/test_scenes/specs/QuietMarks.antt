@@ -12,7 +12,8 @@ use Rattle.test_scenes.specs.Turns.{quiet_turn}
 abbrev pub in_section_5 : Place
 in_section_5 = record { track = 0; group = 82025; front = 56200; rear = Some (pos 53900) }
 
--- Section 4 is open, 5 and 6 are kept for train 1, and 7 is given to train 2. A start of train 1 waits at B, in 5.
+-- Section 4 is open, sections 5 and 6 are kept for train 1, and section 7 is given to train 2. A start of train 1 in
+-- section 5 waits at B.
 abbrev pub start_waits : LineState
 start_waits = record line_beginning {
   mark = put (put (put (put line_beginning.mark 4 Open) 5 (Kept 1)) 6 (Kept 1)) 7 (Given 2);

@@ -1,4 +1,4 @@
--- Frames that come late, and what is wished, asked for or ended while they are on the way.
+-- Late frames, and sections that are wished back, asked for or returned while frames are on the way.
 use Rattle.std.specs.Prelude.{[], ◌++◌, ◌∷◌, List, Some, true, ℕ}
 use Rattle.rbc_spec.specs.Frame.{Announce, Cancel, ReturnRight, RouteAsk, RouteInfo, RouteReturn, RouteWithdraw}
 use Rattle.rbc_spec.specs.Frame.{TakingOver}
@@ -17,13 +17,13 @@ use Rattle.test_scenes.specs.Shortening.{asks_to_shorten}
 use Rattle.test_scenes.specs.Starts.{opened, right_comes, right_comes_shows, shows_section_1, silent, start_elsewhere}
 use Rattle.test_scenes.specs.Starts.{start_elsewhere_shows}
 
--- the section before B's, those of B, and who supervises train 1
+-- the last section before those of B, the sections of B, and the supervisor of train 1
 abbrev pub shows_b : List Mark → List ℕ → List ℕ → List Item
 shows_b of_b wished supervisors = shows (IsShut ∷ times 3 (Given 1) ++ of_b) wished (supervisors ∷ [] ∷ [])
 
 -- ## The route
 
--- a section in the middle of the pool is wished back: it goes home with all that follow it, and the rest is given
+-- A section in the middle of the pool is wished back. It is returned with all that follow it, and the rest is given.
 abbrev pub withdrawn_from_the_pool : List Scene
 withdrawn_from_the_pool =
     route_on_the_way
@@ -42,7 +42,8 @@ withdrawn_from_the_pool_shows =
     ∷ Sends 1 3 (Announce 1 1 0) ∷ Sends 1 4 (RouteAsk 1 5 28) ∷ [])
     ∷ shows_b (Given 1 ∷ IsShut ∷ IsOpen ∷ IsShut ∷ []) [] (0 ∷ []) ∷ []
 
--- the first section of the pool is wished back: the whole pool goes home, and the next request asks for sections again
+-- The first section of the pool is wished back. The whole pool is returned, and the next request asks for sections
+-- again.
 abbrev pub first_of_the_pool_withdrawn : List Scene
 first_of_the_pool_withdrawn =
     route_on_the_way
@@ -60,7 +61,7 @@ first_of_the_pool_withdrawn_shows =
     ∷ (Says 1 5 group_1 (Authority 3000) ∷ Sends 1 3 (RouteAsk 1 4 29) ∷ [])
     ∷ shows_b (IsShut ∷ times 2 IsOpen ++ IsShut ∷ []) [] (0 ∷ []) ∷ []
 
--- the last section of the pool is wished back: it alone goes home, and the rest is given
+-- The last section of the pool is wished back. Only this section is returned, and the rest is given.
 abbrev pub last_of_the_pool_withdrawn : List Scene
 last_of_the_pool_withdrawn =
     route_on_the_way
@@ -79,7 +80,7 @@ last_of_the_pool_withdrawn_shows =
     ∷ Sends 1 3 (Announce 1 1 0) ∷ Sends 1 4 (RouteAsk 1 6 27) ∷ [])
     ∷ shows_b (times 2 (Given 1) ++ IsShut ∷ IsShut ∷ []) [] (0 ∷ []) ∷ []
 
--- the mission is ended before the route comes: it goes home
+-- the mission is ended before the route arrives, and the route is returned
 abbrev pub route_for_an_ended_mission : List Scene
 route_for_an_ended_mission =
     route_on_the_way ++ train 1 0 6 (EndOfMission (moving in_section_1)) ∷ Happens (Delivery 1 0 1)
@@ -91,7 +92,7 @@ route_for_an_ended_mission_shows =
     ++ nothing ∷ (Link Next ∷ Sends 1 2 (RouteReturn 1 (record { first = 4; count = 3 })) ∷ []) ∷ (Link Next ∷ [])
     ∷ shows_b (times 3 IsOpen ++ IsShut ∷ []) [] (0 ∷ []) ∷ []
 
--- the mission is ended with a pool: that goes home
+-- the mission is ended with a pool, which is returned
 abbrev pub end_of_mission_with_a_pool : List Scene
 end_of_mission_with_a_pool =
     route_on_the_way ++ Happens (Delivery 1 0 1) ∷ train 1 0 6 (EndOfMission (moving in_section_1)) ∷ Look ∷ []
@@ -104,7 +105,7 @@ end_of_mission_with_a_pool_shows =
 
 -- ## The handover
 
--- a train that is awaited is supervised elsewhere until it reports in a section of B; it is told to A once
+-- Another centre supervises an awaited train until the train reports in a section of B. B reports this to A once.
 abbrev pub awaited : List Scene
 awaited =
     announced
@@ -120,7 +121,7 @@ awaited_shows =
     ++ silent NotSupervised ∷ silent NotSupervised ∷ (Sends 0 3 (TakingOver 1 1) ∷ []) ∷ nothing ∷ silent StaleStamp
     ∷ [])
 
--- a route comes to a supervisor that has yielded: it goes home, and is given by the next supervisor
+-- A route arrives at a centre that has yielded. It is returned, and the next supervisor gives it.
 abbrev pub route_after_the_yield : List Scene
 route_after_the_yield =
     over_the_border
@@ -143,7 +144,8 @@ route_after_the_yield_shows =
     ∷ shows_b (times 3 (Given 1) ++ IsOpen ∷ []) [] (1 ∷ []) ∷ (Says 1 3 82024 (Authority 4000) ∷ [])
     ∷ shows_b (times 4 (Given 1)) [] (1 ∷ []) ∷ [])
 
--- a wish comes to a supervisor that has yielded: the next one asks the train, and the hand is cut to A's sections
+-- A wish arrives at a centre that has yielded. The next supervisor asks the train to shorten, and the hand is cut to
+-- A's sections.
 abbrev pub wish_at_the_yield : List Scene
 wish_at_the_yield =
     announced
@@ -166,7 +168,7 @@ wish_at_the_yield_shows =
 
 -- ## The end of a hand
 
--- train 2, with its right from B, clears its only section: the right goes back, and is there for a start at B
+-- Train 2 has its right from B, and clears its only section. The right is returned to B, and serves a start there.
 abbrev pub cleared_elsewhere : List Scene
 cleared_elsewhere =
     right_comes
@@ -186,7 +188,7 @@ cleared_elsewhere_shows =
     ∷ (Says 2 3 unknown_group TrainRejected ∷ []) ∷ (Link Next ∷ []) ∷ (Says 2 4 unknown_group TrainAccepted ∷ [])
     ∷ shows (IsShut ∷ IsOpen ∷ times 3 IsShut ++ Given 2 ∷ times 2 IsShut) [] ([] ∷ (1 ∷ []) ∷ []) ∷ [])
 
--- a hand with a pool is cleared: the pool goes home, and the mission is over
+-- a hand with a pool is cleared: the pool is returned, and the mission is over
 abbrev pub cleared_with_a_pool : List Scene
 cleared_with_a_pool =
     route_on_the_way ++ Happens (Delivery 1 0 1) ∷ train 1 0 6 (Report (at 104 210 (Some 200))) ∷ Look ∷ []
@@ -197,7 +199,7 @@ cleared_with_a_pool_shows =
     ++ (Link Next ∷ []) ∷ (Sends 1 2 (RouteReturn 1 (record { first = 4; count = 3 })) ∷ [])
     ∷ shows (IsShut ∷ times 3 IsOpen ++ times 3 (Kept 1) ++ IsShut ∷ []) [] ([] ∷ [] ∷ []) ∷ []
 
--- a hand over the border is cleared: its handover is cancelled, and a report at B comes to nothing
+-- A hand over the border is cleared. Its handover is cancelled, and a report at B has no effect.
 abbrev pub cleared_over_the_border : List Scene
 cleared_over_the_border =
     announced
@@ -214,7 +216,7 @@ cleared_over_the_border_shows =
     ∷ (Link Next ∷ []) ∷ (Link Next ∷ [])
     ∷ shows (IsShut ∷ times 6 IsOpen ++ IsShut ∷ []) [] ([] ∷ [] ∷ []) ∷ silent NotSupervised ∷ [])
 
--- what was to be kept is cleared before the train grants with an older place: the whole hand is cut
+-- The train clears the sections that it was to keep, and then grants with an older place. The whole hand is cut.
 abbrev pub whole_hand_is_cut : List Scene
 whole_hand_is_cut =
     request_to_the_border
@@ -230,7 +232,7 @@ whole_hand_is_cut_shows =
 
 -- ## A start that waits
 
--- a second start is silent; its section is wished back and given back as the session is opened again
+-- A second start is silent. Its section is wished back, and is given back when the session is opened again.
 abbrev pub session_opens_over_a_waiting_start : List Scene
 session_opens_over_a_waiting_start =
     start_elsewhere

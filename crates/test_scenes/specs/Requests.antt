@@ -1,4 +1,4 @@
--- Requests and reports: a hand is extended up to the border and over it, and cleared in rear of the train.
+-- Requests and reports: a hand is extended up to the border and over it, and is cleared in rear of the train.
 use Rattle.std.specs.Prelude.{[], ◌++◌, ◌+◌, ◌∷◌, List, None, Some, true, ℕ}
 use Rattle.rbc_spec.specs.Frame.{Announce, Cancel, RouteAsk, RouteInfo, RouteReturn, RouteWithdraw}
 use Rattle.rbc_spec.specs.Message.{Authority, DataAcknowledged, EndOfMission, Report, Request, StartOfMission}
@@ -20,7 +20,7 @@ start_and_request position =
     ++ train 1 0 3 (StartOfMission true position) ∷ train 1 0 4 (TrainData position) ∷ train 1 0 5 (Request position)
     ∷ []
 
--- which is given, to an end in metres from a group
+-- its authority, to an end in metres from a group
 abbrev pub start_and_request_shows : (group l_endsection : ℕ) → List Item → List (List Item)
 start_and_request_shows group l_endsection frames =
     opened 1
@@ -48,7 +48,7 @@ abbrev pub request_asks_over_the_border_shows : List (List Item)
 request_asks_over_the_border_shows =
     request_to_the_border_shows ++ shows (IsShut ∷ times 3 (Given 1) ++ times 4 IsShut) [] ((0 ∷ []) ∷ [] ∷ []) ∷ []
 
--- one round of questions: B's answer, and the next request, which gives nothing and asks again
+-- B answers the question, and the next request gives nothing and asks again
 abbrev pub round : (k t_train : ℕ) → List Scene
 round k t_train = Happens (Delivery 0 1 k) ∷ Happens (Delivery 1 0 k) ∷ train 1 0 t_train (Request in_section_1) ∷ []
 
@@ -65,7 +65,7 @@ asks_again_each_round_shows =
     all_done 1 3 ++ start_and_request_shows group_1 3000 asks_for_more ++ round_shows 1 5 ++ round_shows 2 6
     ++ round_shows 3 7
 
--- the hand ends with the track, whatever the next one has
+-- the hand ends with the track, whatever sections the next track has
 abbrev pub end_of_the_track : List Scene
 end_of_the_track = sets 0 1 1 ++ sets 1 2 2 ++ start_and_request in_section_1 ++ Look ∷ []
 
@@ -133,7 +133,7 @@ request_extends_over_the_border_shows = over_the_border_shows ++ shows_six_given
 
 -- ## The order of frames
 
--- a frame comes before the one that was sent before it, and one is delivered that was never sent
+-- a frame is delivered before an earlier one; and a delivery of a frame that was never sent
 abbrev pub early_frame : List Scene
 early_frame =
     over_the_border
@@ -172,7 +172,7 @@ end_within_reach_of_the_message_shows =
     ++ start_and_request_shows 82020 32000 []
     ++ shows (times 16 (Given 1) ++ times 4 IsOpen) [] ((0 ∷ []) ∷ [] ∷ []) ∷ []
 
--- an authority just as long as the message can say, and a section that ends 1 m past that
+-- an authority as long as the message can name, and a section that ends 1 m past that
 abbrev pub longest_authority : List Scene
 longest_authority = sets 0 0 17 ++ start_and_request (at 100 600 (Some 200)) ++ Look ∷ []
 
@@ -190,8 +190,8 @@ one_metre_too_far_shows =
 
 -- ## End of mission
 
--- the mission ends under way in section 2: what is in rear is cleared, what is in advance stays, and the handover
--- stands
+-- The mission ends under way in section 2. The sections in rear are cleared, and those in advance stay in the hand. The
+-- handover goes on.
 abbrev pub end_of_mission : List Scene
 end_of_mission = over_the_border ++ train 1 0 7 (EndOfMission (moving (at 102 210 (Some 200)))) ∷ Look ∷ []
 
@@ -200,13 +200,13 @@ end_of_mission_shows =
     over_the_border_shows ++ nothing
     ∷ shows (IsShut ∷ IsOpen ∷ times 5 (Given 1) ++ IsShut ∷ []) [] ((0 ∷ []) ∷ [] ∷ []) ∷ []
 
--- sections 1 and 3 of A are open, section 2 is left of the hand, and these are the marks of B's sections 4 to 6
+-- Sections 1 and 3 of A are open, and the hand has only section 2. Sections 4 to 6 of B have these marks.
 abbrev pub shows_section_2 : (marks : List Mark) (wished : List ℕ) → List Item
 shows_section_2 marks wished =
     shows (IsShut ∷ IsOpen ∷ Given 1 ∷ IsOpen ∷ marks ++ IsShut ∷ []) wished ((0 ∷ []) ∷ [] ∷ [])
 
--- it ends at standstill: what lies ahead leaves the hand too, what B lent goes home, and the handover is cancelled, so
--- the train is not expected at B any more
+-- The mission ends at standstill, and the sections ahead leave the hand too. B's sections are returned. The handover is
+-- cancelled, so B does not expect the train any more.
 abbrev pub end_at_standstill : List Scene
 end_at_standstill =
     over_the_border
@@ -223,7 +223,7 @@ end_at_standstill_shows =
     ∷ shows_section_2 (times 3 IsOpen) [] ∷ (Link Next ∷ [])
     ∷ (opened 1 ++ silent NotSupervised ∷ [])
 
--- section 5 was wished back: as it comes home, it is shut and told
+-- section 5 was wished back: when it is returned, it is shut, and the reply `Told` is sent
 abbrev pub end_at_standstill_with_a_wish : List Scene
 end_at_standstill_with_a_wish =
     over_the_border
@@ -240,7 +240,7 @@ end_at_standstill_with_a_wish_shows =
     ∷ (Link Next ∷ Tells (Told 5) ∷ [])
     ∷ shows_section_2 (IsOpen ∷ IsShut ∷ IsOpen ∷ []) [] ∷ []
 
--- it ends at standstill, with the front still before the hand, or in its last section: nothing lies ahead
+-- the mission ends at standstill with the front before the hand, or in its last section: no section is ahead
 abbrev pub end_before_the_hand : List Scene
 end_before_the_hand = over_the_border ++ train 1 0 7 (EndOfMission (at 100 600 (Some 200))) ∷ Look ∷ []
 

@@ -1,5 +1,5 @@
--- The five rules that trains keep (`Trains` of `law_trains`), in parts of which each may be left out. Played scenes of
--- trains, a radio and the centres of a line. The answer of the centres to each event is that of `world_step`.
+-- The five rules that trains keep (`Trains` of `law_trains`), in parts. Each part may be left out. The scenes play
+-- trains, a radio and the centres of a line. The centres answer each event by `world_step`.
 use Rattle.std.specs.List.{filter, find, list_all, range_with_len}
 use Rattle.std.specs.Option.{option_map_or}
 use Rattle.std.specs.Prelude.{[], ◌&&◌, ◌*◌, ◌++◌, ◌+◌, ◌==◌, ◌||◌, ◌∷◌, ◌≡◌, Bool, Err, false, if◌then◌else◌, int_le}
@@ -137,8 +137,8 @@ may_run kept front rear x =
 -- ## Acts
 
 -- An act of a scene. `Says`: train t sends a message to centre c, and the message is on the way. `Arrives`: the message
--- with this T_TRAIN from train t to centre c arrives. `Sends`: both, one after the other. `Hears`: train t receives the
--- message with this T_TRAIN of centre c. `Runs`: train t runs to these ends, in decimetres. `Frame`: the next frame
+-- with this T_TRAIN from train t to centre c arrives. `Sends`: both, in this order. `Hears`: train t receives the
+-- message with this T_TRAIN from centre c. `Runs`: train t runs to these ends, in decimetres. `Frame`: the next frame
 -- from centre a to centre b is delivered. `Commands`: an event of the interlocking.
 pub data Act : Type 0 where
   Says : (t c stamp : ℕ) (body : TrainBody) → Act
@@ -149,8 +149,8 @@ pub data Act : Type 0 where
   Frame : (a b : ℕ) → Act
   Commands : (event : Event) → Act
 
--- The state of a scene. `forbidden`: the acts that the kept parts forbid, which were left out. `is_safe`: after each
--- act, as far as positions and the view from outside show it.
+-- The state of a scene. `forbidden`: the acts that the kept parts forbid, which were left out. `is_safe`: the state was
+-- safe after each act, as far as positions and the view from outside show it.
 pub record Play : Type 0 where
   pub loop : Loop
   pub world : World
@@ -191,7 +191,7 @@ said_by kept c m k = record k {
   said = (c, m) ∷ k.said;
 }
 
--- an act that is forbidden, or else happens so
+-- the state after an act; if the act is forbidden, it is left out
 abbrev pub unless_forbidden : Bool → Act → Play → Play → Play
 unless_forbidden true act new p = new
 unless_forbidden false act new p = forbids act p
@@ -201,7 +201,7 @@ goes_out kept line act c m p =
     unless_forbidden (may_say kept line c m (p.loop.train m.nid_engine)) act
     (record p { loop = said_by kept c m p.loop }) p
 
--- a message that was never sent does not arrive
+-- a message arrives if it was sent
 abbrev pub comes_in : Line → ℕ → Option (ℕ × TrainMessage) → Play → Play
 comes_in line c (Some (d, m)) p = happens line (Bytes c (Ok m)) p
 comes_in line c None p = p
@@ -240,7 +240,7 @@ abbrev pub accepted_on : Line → Loop → ℕ → List ℕ
 accepted_on line k s =
     filter (λ t. is_accepted k t && stands_on line (k.train t) s) (map (λ p. p.nid_engine) line.trains)
 
--- no accepted train, or only one if the section is released
+-- no accepted train is on the section; or only one, and the section is released
 abbrev pub is_section_safe : Line → Loop → ℕ → Bool
 is_section_safe line k s =
     (length (accepted_on line k s) == 0) || ((length (accepted_on line k s) == 1) && k.seen.released s)
@@ -288,7 +288,7 @@ pub record LeftOut : Type 0 where
   pub forbidden : List Act
 
 -- Trains that keep all other parts do each act of the scene, and it ends wrong. The five rules forbid the named acts.
--- Without them trains that keep the rules are safe after each act.
+-- Without these acts trains that keep the rules are safe after each act.
 pub record IsNeeded (x : LeftOut) : Type 0 where
   pub allowed : (played (without x.part) x.scene).forbidden ≡ []
   pub wrong : x.is_wrong x.scene.line (played (without x.part) x.scene).loop ≡ true

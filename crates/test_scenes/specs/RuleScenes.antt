@@ -1,5 +1,5 @@
--- Scenes of trains that leave out one part of the rules: of one clock, of true reports, and of running with an
--- authority. Each has the acts that the five rules forbid.
+-- Scenes of trains that leave out one part of the rules about one clock, true reports, and runs with an authority. Each
+-- has the acts that the five rules forbid.
 use Rattle.std.specs.List.{range_with_len, zip}
 use Rattle.std.specs.Prelude.{[], ◌++◌, ◌+◌, ◌-◌, ◌==◌, ◌∷◌, false, if◌then◌else◌, length, List, map, None, pos, Some}
 use Rattle.std.specs.Prelude.{true, ℕ}

@@ -1,4 +1,4 @@
--- The line of the examples, the trains' messages on it, and what is seen of what happens there.
+-- The line of the examples, the trains' messages on it, and the views of a scene.
 use Rattle.std.specs.List.{filter, find, flat_map, list_any, range_with_len, zip}
 use Rattle.std.specs.Option.{option_map_or}
 use Rattle.std.specs.Prelude.{[], ◌++◌, ◌+◌, ◌==◌, ◌||◌, ◌∷◌, Bool, Err, false, if◌then◌else◌, is_some, length, List}
@@ -41,12 +41,12 @@ line_of centres tracks sections registrar_1 registrar_2 = record {
 abbrev pub main : List ℕ
 main = 109 ∷ 97 ∷ 105 ∷ 110 ∷ []
 
--- so many of one thing
+-- a list of n equal values
 abbrev pub times : {X : Type 0} → ℕ → X → List X
 times zero x = []
 times (suc n) x = x ∷ times n x
 
--- eight sections of 1 000 m, the first four at A and the others at B, with train 1 registered at A and train 2 at B
+-- eight sections of 1 000 m, four at A and then four at B, with train 1 registered at A and train 2 at B
 abbrev pub line : Line
 line = line_of 2 (main ∷ []) (sections_on 0 0 (times 4 (1000, 0) ++ times 4 (1000, 1))) 0 1
 
@@ -54,11 +54,11 @@ line = line_of 2 (main ∷ []) (sections_on 0 0 (times 4 (1000, 0) ++ times 4 (1
 abbrev pub line_of_one : (count metres : ℕ) → Line
 line_of_one count metres = line_of 2 (main ∷ []) (sections_on 0 0 (times count (metres, 0))) 0 0
 
--- sixteen sections of 2 000 m and one of so many more, all at A
+-- a line of sixteen sections of 2 000 m and one section of this length, all at A
 abbrev pub line_of_32_km : (metres : ℕ) → Line
 line_of_32_km metres = line_of 2 (main ∷ []) (sections_on 0 0 (times 16 (2000, 0) ++ (metres, 0) ∷ [])) 0 0
 
--- so many sections of A, and of B in advance of them
+-- a line of a sections at A, and b sections at B in advance of them
 abbrev pub line_of_a_and_b : (a b metres : ℕ) → Line
 line_of_a_and_b a b metres = line_of 2 (main ∷ []) (sections_on 0 0 (times a (metres, 0) ++ times b (metres, 1))) 0 1
 
@@ -101,8 +101,8 @@ in_section_1 = at 101 600 (Some 200)
 abbrev pub group_1 : ℕ
 group_1 = 82021
 
--- what happens, in its order: events, and looks between them at the line, at a frame that was sent, at a centre's
--- clock, and at the trains that were named
+-- The contents of a scene, in order: events, and looks between them. A look is at the line, at a frame that was sent,
+-- at a centre's clock, or at the trains that were named.
 pub data Scene : Type 0 where
   Happens : (event : Event) → Scene
   Look : Scene
@@ -110,11 +110,11 @@ pub data Scene : Type 0 where
   LookAtClock : (c : ℕ) → Scene
   LookAtTrains : Scene
 
--- sections are set at centre c, one after another
+-- sections are set at centre c, in order
 abbrev pub sets : (c first count : ℕ) → List Scene
 sets c first count = map (λ s. Happens (Set c s)) (range_with_len first count)
 
--- a message of train t with this T_TRAIN comes to centre c
+-- a message of train t with this T_TRAIN arrives at centre c
 abbrev pub train : (t c t_train : ℕ) → TrainBody → Scene
 train t c t_train body = Happens (Bytes c (Ok (record { t_train = t_train; nid_engine = t; body = body })))
 
@@ -122,10 +122,10 @@ train t c t_train body = Happens (Bytes c (Ok (record { t_train = t_train; nid_e
 abbrev pub session : (t c t_train : ℕ) → List Scene
 session t c t_train = train t c t_train InitiationOfSession ∷ train t c (t_train + 1) SessionEstablished ∷ []
 
--- ## What is seen
+-- ## The views
 
--- what a section is: kept for a train is one that is in use for it and in no hand. Astray is one in a hand that is not
--- in use at its home
+-- The mark of a section. `Kept`: it is in use for a train, and in no hand. `Astray`: it is in a hand, and not in use at
+-- its home.
 pub data Mark : Type 0 where
   IsShut : Mark
   IsOpen : Mark
@@ -133,14 +133,15 @@ pub data Mark : Type 0 where
   Given : (t : ℕ) → Mark
   Astray : Mark
 
--- the marks of the sections in order, those that are wished back, and where trains 1 and 2 are supervised
+-- the marks of the sections in order, the sections that are wished back, and the supervisors of trains 1 and 2
 pub record View : Type 0 where
   pub marks : List Mark
   pub wished : List ℕ
   pub supervisors : List (List ℕ)
 
--- what an answer says: what the link says to a frame, messages to trains, frames to a centre with their numbers, words
--- to the interlocking, and the reason of silence; or that nothing was done
+-- `Link`: the link's answer to a frame. `Says`: a message to a train. `Sends`: a frame to a centre. `Tells`: a reply to
+-- the interlocking. `Silence`: the reason why a message is silent. The next four: no step was taken. The last four:
+-- looks.
 pub data Item : Type 0 where
   Link : (answer : LinkAnswer) → Item
   Says : (t t_train nid_lrbg : ℕ) (body : TrackBody) → Item
@@ -159,7 +160,7 @@ pub data Item : Type 0 where
 abbrev pub all_centres : Line → List ℕ
 all_centres l = range_with_len 0 (length l.centres)
 
--- what there is of an option
+-- the value of an option as a list
 abbrev pub listed : {X Y : Type 0} → (X → Y) → Option X → List Y
 listed f x = option_map_or (λ y. f y ∷ []) x []
 
@@ -182,11 +183,11 @@ abbrev pub yielded : ℕ → Body → SectionRun
 yielded t (Yield number u heard has_data is_ended place hand) = if u == t then hand else no_run
 yielded t body = no_run
 
--- the section is in a hand that a Yield on the way from one centre to another has for the train
+-- the section is in the hand of a Yield for the train, on the way from one centre to another
 abbrev pub is_in_yield : World → ℕ → ℕ → ℕ → ℕ → Bool
 is_in_yield w s t a b = list_any (λ f. within (yielded t f.body) s) (way w a b)
 
--- the section is in a hand that a centre or a Yield on the way has for the train
+-- the section is in the train's hand, at a centre or in a Yield on the way
 abbrev pub is_in_hand : Line → World → ℕ → ℕ → Bool
 is_in_hand l w s t =
     list_any (λ c. option_map_or (λ m. within m.hand s) ((w.at c).mission t) false) (all_centres l)
@@ -220,12 +221,12 @@ view l w = record {
 
 -- ## Scenes
 
--- the world after an answer, or after none
+-- the items of an answer, and then the views of the world after it; a refused step is the last item
 abbrev pub played : Line → Result (Answer × World) Refusal → (World → List (List Item)) → List (List Item)
 played l (Ok (answer, w)) others = items l answer ∷ others w
 played l (Err why) others = (Refused why ∷ []) ∷ []
 
--- what is seen of scenes one after another, from a world on
+-- the views of scenes in order, from a world on
 unfoldable pub seen_from : Line → List Scene → World → List (List Item)
 seen_from l [] w = []
 seen_from l (Look ∷ scenes) w = (Shows (view l w) ∷ []) ∷ seen_from l scenes w
@@ -235,24 +236,24 @@ seen_from l (LookAtClock c ∷ scenes) w = (ShowsClock (w.at c).clock ∷ []) �
 seen_from l (LookAtTrains ∷ scenes) w = (ShowsTrains w.trains ∷ []) ∷ seen_from l scenes w
 seen_from l (Happens event ∷ scenes) w = played l (world_step l w event) (seen_from l scenes)
 
--- what is seen of them on a new line
+-- the views of scenes on a new line
 unfoldable pub seen : Line → List Scene → List (List Item)
 seen l scenes = seen_from l scenes (new_world l)
 
 -- ## Short forms
 
--- nothing is said
+-- no message, frame or reply
 abbrev pub nothing : List Item
 nothing = []
 
--- the interlocking is told that it is done
+-- the reply `Done` to the interlocking
 abbrev pub done : ℕ → List Item
 done s = Tells (Done s) ∷ []
 
--- the same of sections one after another
+-- the same for consecutive sections
 abbrev pub all_done : (first count : ℕ) → List (List Item)
 all_done first count = map done (range_with_len first count)
 
--- the line is seen so
+-- the view of the line
 abbrev pub shows : List Mark → List ℕ → List (List ℕ) → List Item
 shows marks wished supervisors = Shows (record { marks = marks; wished = wished; supervisors = supervisors }) ∷ []

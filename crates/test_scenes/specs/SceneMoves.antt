@@ -1,5 +1,5 @@
--- Scenes of starts, requests, shortenings and handovers as moves of the one line centre: each event, and the quiet
--- steps that the line centre takes after it.
+-- Scenes of starts, requests, shortenings and handovers as moves of the one line centre. Each move is an event and the
+-- quiet steps of the line centre after it.
 use Rattle.std.specs.List.{flat_map}
 use Rattle.std.specs.Prelude.{[], ◌++◌, ◌+◌, ◌∷◌, Err, List, None, Some, true, ℕ}
 use Rattle.rbc_spec.specs.Message.{EndOfMission, InitiationOfSession, Report, Request, SessionEstablished}
@@ -18,7 +18,7 @@ abbrev pub move : Choice → List Quiet → Scene → List Move
 move choice quiets (Happens event) = record { event = event; choice = choice; quiets = quiets } ∷ []
 move choice quiets other = []
 
--- events that the line centre meets by its own steps alone
+-- events that the line centre meets by its own steps only
 abbrev pub plain : List Scene → List Move
 plain scenes = flat_map (move Plainly []) scenes
 
@@ -26,11 +26,11 @@ plain scenes = flat_map (move Plainly []) scenes
 abbrev pub followed : Scene → List Quiet → List Move
 followed scene quiets = move Plainly quiets scene
 
--- a request by which the hand is extended by so many sections, and the quiet steps that follow it
+-- a request by which the hand is extended by this many sections, and the quiet steps after it
 abbrev pub extends : ℕ → Scene → List Quiet → List Move
 extends count scene quiets = move (Extending count) quiets scene
 
--- a report that is heard, of a train that is not supervised there
+-- a report of a train that is not supervised there, which the line centre listens to
 abbrev pub heard : Scene → List Move
 heard scene = move Listening [] scene
 
@@ -55,7 +55,7 @@ trains_are_named_moves =
 abbrev pub start_moves : List Move
 start_moves = plain start
 
--- train 2 is admitted once its right has come from B
+-- train 2 is admitted when its right has arrived from B
 abbrev pub right_comes_moves : List Move
 right_comes_moves = plain start_elsewhere ++ followed (Happens (Delivery 1 0 1)) (Admit 2 0 ∷ [])
 
@@ -79,7 +79,7 @@ right_is_refused_moves =
 
 -- ## Requests and reports
 
--- train 1 starts at a position, and its hand is extended by so many sections
+-- train 1 starts at a position, and its hand is extended by this many sections
 abbrev pub first_authority : Position → ℕ → List Move
 first_authority position count =
     plain (session 1 0 1 ++ train 1 0 3 (StartOfMission true position) ∷ train 1 0 4 (TrainData position) ∷ [])
@@ -89,7 +89,7 @@ first_authority position count =
 abbrev pub to_the_border_moves : List Move
 to_the_border_moves = plain (sets 0 1 3) ++ first_authority in_section_1 2 ++ plain (Happens (Delivery 0 1 1) ∷ [])
 
--- a question and its answer change nothing, and nor does the next request
+-- the question, its answer and the next request change nothing
 abbrev pub round_moves : (k t_train : ℕ) → List Move
 round_moves k t_train =
     plain (Happens (Delivery 0 1 k) ∷ Happens (Delivery 1 0 k) ∷ [])
@@ -108,13 +108,13 @@ report_clears_moves = to_the_border_moves ++ plain (train 1 0 6 (Report (at 102 
 abbrev pub no_integrity_moves : List Move
 no_integrity_moves = to_the_border_moves ++ plain (train 1 0 6 (Report (at 102 210 None)) ∷ [])
 
--- B lends three sections: they are kept for the train
+-- B lends three sections, which are kept for the train
 abbrev pub route_moves : List Move
 route_moves =
     plain (sets 0 1 3 ++ sets 1 4 3) ++ first_authority in_section_1 2
     ++ followed (Happens (Delivery 0 1 1)) (Keep 1 4 ∷ Keep 1 5 ∷ Keep 1 6 ∷ [])
 
--- the next request gives them to it, and it is ordered to B
+-- the next request gives the kept sections to the train, and it is ordered to B
 abbrev pub over_the_border_moves : List Move
 over_the_border_moves =
     route_moves ++ plain (Happens (Delivery 1 0 1) ∷ [])
@@ -143,7 +143,7 @@ one_metre_too_far_moves = plain (sets 0 0 17) ++ first_authority (at 100 600 (So
 abbrev pub end_of_mission_moves : List Move
 end_of_mission_moves = over_the_border_moves ++ plain (train 1 0 7 (EndOfMission (moving (at 102 210 (Some 200)))) ∷ [])
 
--- what B lent comes home
+-- the lent sections are returned to B
 abbrev pub lent_come_home : List Move
 lent_come_home = followed (Happens (Delivery 0 1 4)) (Unkeep 1 4 ∷ Unkeep 1 5 ∷ Unkeep 1 6 ∷ [])
 
@@ -193,7 +193,7 @@ shortening_in_one_centre_moves =
     plain (sets 0 1 7) ++ first_authority in_section_1 6 ++ asks_before_3
     ++ plain (train 1 0 6 (ShorteningGranted 5 in_section_1) ∷ [])
 
--- the hand is cut; the sections that B lent come home
+-- the hand is cut, and the lent sections are returned to B
 abbrev pub late_route_moves : List Move
 late_route_moves =
     route_moves
@@ -243,7 +243,7 @@ handed_over_moves t_train =
     ++ plain (Happens (Delivery 1 0 3) ∷ Happens (Delivery 1 0 3) ∷ [])
     ++ followed (Happens (Delivery 0 1 4)) (TakeUp 1 1 ∷ [])
 
--- the train has cleared A's sections: they come home, and A ends its session
+-- the train has cleared A's sections: they are returned, and A ends its session
 abbrev pub come_home : List Move
 come_home = followed (Happens (Delivery 1 0 4)) (Unkeep 1 1 ∷ Unkeep 1 2 ∷ Unkeep 1 3 ∷ EndOrder 1 0 ∷ [])
 

@@ -11,11 +11,11 @@ use Rattle.test_scenes.specs.Scene.{all_done, at, Given, group_1, Happens, in_se
 use Rattle.test_scenes.specs.Scene.{Link, Look, nothing, Says, Scene, Sends, session, sets, shows, Tells, times, train}
 use Rattle.test_scenes.specs.Starts.{opened, silent}
 
--- the request to keep what is before section 3
+-- the request to shorten the authority to the start of section 3
 abbrev pub asks_to_shorten : ℕ → List Item
 asks_to_shorten t_train = Says 1 t_train group_1 (ShorteningRequest 2000) ∷ Tells (Asked 3) ∷ []
 
--- what train 1 has while section 3 is wished back, with three sections kept at B
+-- the view of the line while section 3 is wished back, with three sections kept at B
 abbrev pub shows_wished : List Item
 shows_wished = shows (IsShut ∷ times 3 (Given 1) ++ times 3 (Kept 1) ++ IsShut ∷ []) (3 ∷ []) ((0 ∷ []) ∷ [] ∷ [])
 
@@ -76,7 +76,7 @@ shortening_in_one_centre_shows =
 
 -- ## While a route is on the way
 
--- the hand is cut, so the route that comes then goes home, where a section of it is wished back meanwhile
+-- The hand is cut, so the route that arrives after that is returned. A section of it is wished back meanwhile.
 abbrev pub shortening_and_a_late_route : List Scene
 shortening_and_a_late_route =
     route_on_the_way
@@ -84,7 +84,7 @@ shortening_and_a_late_route =
     ∷ Happens (Delivery 1 0 1) ∷ Happens (Unset 1 4) ∷ Look ∷ Happens (Delivery 0 1 2) ∷ Look ∷ Happens (Delivery 1 0 2)
     ∷ Look ∷ []
 
--- sections 1 and 2 are left to the train, with these marks of sections 4 to 6
+-- the train has sections 1 and 2, and sections 4 to 6 have these marks
 abbrev pub shortening_and_a_late_route_shows : List (List Item)
 shortening_and_a_late_route_shows =
     route_on_the_way_shows
@@ -106,7 +106,7 @@ answer_to_another_proposal =
 abbrev pub answer_to_another_proposal_shows : List (List Item)
 answer_to_another_proposal_shows = route_on_the_way_shows ++ asks_to_shorten 5 ∷ silent Unasked ∷ shows_wished ∷ []
 
--- the train has run past the proposed end, at 3 010 m
+-- the front has passed the proposed end, and is at 3 010 m
 abbrev pub granted_past_the_proposed_end : List Scene
 granted_past_the_proposed_end =
     route_on_the_way ++ Happens (Unset 0 3) ∷ train 1 0 6 (ShorteningGranted 5 (at 102 990 (Some 200))) ∷ Look ∷ []
@@ -124,7 +124,7 @@ abbrev pub another_answer_at_the_border_shows : List (List Item)
 another_answer_at_the_border_shows =
     request_to_the_border_shows ++ asks_to_shorten 5 ∷ silent Unasked ∷ shows_wished_at_the_border ∷ []
 
--- a proposal is dropped, asked for again, and rejected
+-- a request to shorten is dropped, sent again after another unset, and rejected
 abbrev pub asking_again_tries_again : List Scene
 asking_again_tries_again =
     request_to_the_border

@@ -1,5 +1,5 @@
 -- The end of a mission at standstill, with the front just at the start of a section. The sections in rear of the front
--- are cleared. So no section of the rest of the hand starts before the front, and the train has not reached that rest.
+-- are cleared. No section of the rest of the hand starts before the front, so the train has not reached that rest.
 use Rattle.std.specs.Prelude.{ℕ, List, [], ◌∷◌, ◌++◌, Some, Ok}
 use Rattle.std.specs.List.{filter_map}
 use Rattle.rbc_spec.specs.Frame.{Cancel, RouteReturn}

@@ -16,11 +16,11 @@ use Rattle.test_scenes.specs.Scene.{Sends, session, shows, ShowsFrame, ShowsTrai
 abbrev pub shows_a_new_line : List Item
 shows_a_new_line = shows (times 8 IsShut) [] ([] ∷ [] ∷ [])
 
--- section 1 has this mark, the others are shut; and who supervises trains 1 and 2
+-- section 1 has this mark, the others are shut; and the supervisors of trains 1 and 2
 abbrev pub shows_section_1 : Mark → List (List ℕ) → List Item
 shows_section_1 m supervisors = shows (IsShut ∷ m ∷ times 6 IsShut) [] supervisors
 
--- what a new session with train t shows
+-- the views of a new session with train t
 abbrev pub opened : ℕ → List (List Item)
 opened t = (Says t 1 unknown_group SystemVersion ∷ []) ∷ nothing ∷ []
 
@@ -60,14 +60,15 @@ session_opens = train 1 0 1 InitiationOfSession ∷ Look ∷ []
 abbrev pub session_opens_shows : List (List Item)
 session_opens_shows = (Says 1 1 unknown_group SystemVersion ∷ []) ∷ shows_a_new_line ∷ []
 
--- it comes a second time
+-- the first message of a train arrives a second time
 abbrev pub session_opens_again : List Scene
 session_opens_again = train 1 0 1 InitiationOfSession ∷ train 1 0 1 InitiationOfSession ∷ []
 
 abbrev pub session_opens_again_shows : List (List Item)
 session_opens_again_shows = (Says 1 1 unknown_group SystemVersion ∷ []) ∷ silent StaleStamp ∷ []
 
--- trains are listed as they are first named: one that the line has not isn't, and nowhere but at a centre
+-- Trains are listed in the order in which they are first named. A train that is not of the line is not listed. Faulty
+-- bytes name no train, and nor does a message to an unknown centre.
 abbrev pub trains_are_named : List Scene
 trains_are_named =
     train 3 0 1 InitiationOfSession ∷ LookAtTrains ∷ train 1 2 1 InitiationOfSession ∷ Happens (Bytes 0 (Err 3))
@@ -83,7 +84,7 @@ trains_are_named_show =
     ∷ (Says 2 1 unknown_group SystemVersion ∷ [])
     ∷ (ShowsTrains (2 ∷ 1 ∷ []) ∷ []) ∷ []
 
--- a session is opened over one that is up
+-- a session is opened over an established one
 abbrev pub session_opens_over_a_session : List Scene
 session_opens_over_a_session =
     session 1 0 1
@@ -115,7 +116,7 @@ messages_without_a_session_show =
     silent NoSession ∷ silent NoSession ∷ silent NoSession ∷ silent NoSession ∷ silent NoSession
     ∷ silent NoSession ∷ silent NoSession ∷ silent NoSession ∷ silent NoSession ∷ []
 
--- before the session is up
+-- each message before the session is established
 abbrev pub messages_before_the_session_is_up : List Scene
 messages_before_the_session_is_up =
     train 1 0 1 InitiationOfSession ∷ train 1 0 3 (TrainData in_section_1) ∷ train 1 0 3 (Request in_section_1)
@@ -131,7 +132,7 @@ messages_before_the_session_is_up_show =
     ∷ silent WrongPhase ∷ silent WrongPhase
     ∷ nothing ∷ silent WrongPhase ∷ (Says 1 2 unknown_group TerminationAcknowledged ∷ []) ∷ []
 
--- of a train that is not supervised
+-- messages of a train that is not supervised
 abbrev pub messages_without_a_mission : List Scene
 messages_without_a_mission =
     session 1 0 1
@@ -145,7 +146,7 @@ messages_without_a_mission_show =
     ++ silent NotSupervised ∷ silent NotSupervised ∷ silent NotSupervised
     ∷ silent NotSupervised ∷ silent NotSupervised ∷ silent NotSupervised ∷ []
 
--- where several reasons hold, the first is given
+-- if several reasons hold, the first is given
 abbrev pub first_reason : List Scene
 first_reason =
     train 3 0 1 TerminationOfSession ∷ train 1 0 5 InitiationOfSession ∷ train 1 0 5 SessionEstablished
@@ -194,7 +195,7 @@ request_without_train_data = start ++ train 1 0 4 (Request in_section_1) ∷ Loo
 abbrev pub request_without_train_data_shows : List (List Item)
 request_without_train_data_shows = start_shows ++ silent NoTrainData ∷ shows_train_1_in_section_1 ∷ []
 
--- the session ends, the hand stays
+-- the session ends, and the hand stays
 abbrev pub hand_outlives_the_session : List Scene
 hand_outlives_the_session =
     start ++ train 1 0 4 TerminationOfSession ∷ Look ∷ train 1 0 5 (Request in_section_1) ∷ Look ∷ []
@@ -205,7 +206,7 @@ hand_outlives_the_session_shows =
     ++ (Says 1 3 unknown_group TerminationAcknowledged ∷ []) ∷ shows_train_1_in_section_1 ∷ silent NoSession
     ∷ shows_train_1_in_section_1 ∷ []
 
--- the mission is ended, and starts again within its hand
+-- the mission is ended, and begins again within its hand
 abbrev pub start_after_the_end_of_mission : List Scene
 start_after_the_end_of_mission =
     start
@@ -217,7 +218,7 @@ start_after_the_end_of_mission_shows =
     start_shows ++ nothing ∷ silent MissionEnded ∷ (Says 1 3 unknown_group TrainAccepted ∷ [])
     ∷ shows_train_1_in_section_1 ∷ []
 
--- the first section of a hand is wished back and no more
+-- the first section of a hand is wished back, and then released again
 abbrev pub unset_of_the_first_section : List Scene
 unset_of_the_first_section = start ++ Happens (Unset 0 1) ∷ Look ∷ Happens (Set 0 1) ∷ Look ∷ []
 
@@ -242,7 +243,7 @@ start_elsewhere_shows =
     ++ (Sends 1 1 (AskRight 2) ∷ []) ∷ shows_section_1 (Kept 2) ([] ∷ [] ∷ [])
     ∷ (Link Next ∷ Sends 0 1 (GiveRight 2) ∷ []) ∷ [])
 
--- its right comes from B
+-- the train's right arrives from B
 abbrev pub right_comes : List Scene
 right_comes = start_elsewhere ++ LookAtFrame 0 1 1 ∷ LookAtFrame 1 0 1 ∷ Happens (Delivery 1 0 1) ∷ Look ∷ []
 
@@ -253,7 +254,7 @@ right_comes_shows =
     ∷ (ShowsFrame (Some (record { number = 1; stamp = 5; body = GiveRight 2 })) ∷ [])
     ∷ (Link Next ∷ Says 2 2 unknown_group TrainAccepted ∷ []) ∷ shows_section_1 (Given 2) ([] ∷ (0 ∷ []) ∷ []) ∷ []
 
--- the session ends before the right has come: the right goes back, and serves a start at B
+-- the session ends before the right arrives: the right is returned, and serves a start at B
 abbrev pub right_goes_back : List Scene
 right_goes_back =
     start_elsewhere
@@ -269,7 +270,7 @@ right_goes_back_shows =
     ++ (Says 2 2 unknown_group TrainAccepted ∷ [])
     ∷ shows (IsShut ∷ IsOpen ∷ times 3 IsShut ++ Given 2 ∷ times 2 IsShut) [] ([] ∷ (1 ∷ []) ∷ []) ∷ [])
 
--- the session ends before the right has come, and another start waits for the same right
+-- the session ends before the right arrives, and another start waits for the same right
 abbrev pub right_serves_a_later_start : List Scene
 right_serves_a_later_start =
     start_elsewhere

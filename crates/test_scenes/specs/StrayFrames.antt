@@ -1,4 +1,4 @@
--- Frames that no world sends: a centre takes them without effect.
+-- Frames that no world sends: a centre takes them, and they have no effect.
 use Rattle.std.specs.List.{filter, filter_map, range_with_len}
 use Rattle.std.specs.Prelude.{[], ◌++◌, ◌-ℤ◌, ◌∷◌, Bool, Err, false, List, map, None, Ok, Option, pos, Result, Some}
 use Rattle.std.specs.Prelude.{true, ℕ, ℤ}
@@ -20,9 +20,9 @@ use Rattle.test_scenes.specs.Pieces.{event_of}
 use Rattle.test_scenes.specs.Requests.{route_on_the_way}
 use Rattle.test_scenes.specs.Scene.{all_centres, at, group_1, Happens, line, Scene, session, train}
 
--- ## What a frame does
+-- ## The effect of a frame
 
--- what a centre has of a train
+-- a centre's record of a train
 pub record OfTrain : Type 0 where
   pub phase : Phase
   pub heard : Option ℕ
@@ -33,7 +33,7 @@ pub record OfTrain : Type 0 where
   pub route_ask : Option ℕ
   pub expects : List (Option Expectation)
 
--- what a centre has, what it says and what it sends to each centre
+-- a centre's state, with its messages, replies and frames to each centre
 pub record Effect : Type 0 where
   pub book : List Entry
   pub wished : List ℕ
@@ -66,11 +66,12 @@ effect_of l reply = record {
   words = reply.words;
 }
 
--- what bodies from centre d do at centre c, each for itself
+-- the effect of each of these bodies from centre d at centre c
 abbrev pub effects : Line → (c d : ℕ) → Centre → List Body → List Effect
 effects l c d k bodies = map (λ body. effect_of l (received l c d body k)) bodies
 
--- the link's answer to a frame, how many frames of its sender were taken then, and what the centre has, says and sends
+-- The link's answer to a frame, the count of frames taken from its sender, and the centre's state with its messages,
+-- replies and frames.
 pub record Delivered : Type 0 where
   pub link : Option LinkAnswer
   pub taken : ℕ
@@ -89,7 +90,7 @@ delivered_as l d (Ok (o, k)) = Some (record {
 })
 delivered_as l d (Err why) = None
 
--- what the frames of this number from centre d come to at centre c, each for itself
+-- the effect of each frame with this number from centre d at centre c
 abbrev pub deliveries : Line → (c d number : ℕ) → Centre → List Body → List (Option Delivered)
 deliveries l c d number k bodies =
     map (λ body. delivered_as l d (step l c (Deliver d (record { number = number; stamp = 1; body = body })) k)) bodies
@@ -115,7 +116,7 @@ announcing = centre_after announced 0
 abbrev pub expecting : Centre
 expecting = centre_after announced 1
 
--- B has said that it takes over
+-- B has replied that it takes over
 abbrev pub taking_over : Centre
 taking_over = centre_after
     (announced
@@ -123,9 +124,9 @@ taking_over = centre_after
     ++ train 1 1 9 (Report (at 104 100 (Some 200))) ∷ Happens (Delivery 1 0 2) ∷ Happens (Delivery 1 0 3) ∷ [])
     1
 
--- ## What they are, if nothing comes of a frame
+-- ## The states after a frame without effect
 
--- a train that a centre knows nothing of, whose right is here or not
+-- a train of which a centre knows only whether its right is here
 abbrev pub unknown_train : Bool → OfTrain
 unknown_train has_right = record {
   phase = Closed;
@@ -138,7 +139,7 @@ unknown_train has_right = record {
   expects = None ∷ None ∷ [];
 }
 
--- at A: its book of sections 1 to 3, train 1 with a mission and this question, and how many handovers were announced
+-- at A: its book of sections 1 to 3, train 1 with a mission and this question, and the count of announced handovers
 abbrev pub calm_at_a : Mission → (heard said : ℕ) → Option ℕ → ℕ → Effect
 calm_at_a m heard said route_ask count = record {
   book = Shut ∷ Taken 1 ∷ Taken 1 ∷ Taken 1 ∷ Shut ∷ Shut ∷ Shut ∷ Shut ∷ [];
@@ -194,8 +195,8 @@ mission_at_a hand pool handing = record {
 
 -- ## Frames
 
--- of an engine, section or track that the line has not; without a question that stands, or with another first section;
--- of rights that are here, or whose registrar is elsewhere; of no handover
+-- Frames about an engine, section or track that is not of the line. Frames that answer no pending question, or name
+-- another first section. Frames about a right that is here, or has another registrar. Frames about no handover.
 abbrev pub strays_to_a : List Body
 strays_to_a =
     AskRight 2 ∷ AskRight 3 ∷ GiveRight 1 ∷ GiveRight 3 ∷ RefuseRight 1 ∷ ReturnRight 1 ∷ ReturnRight 2
@@ -208,19 +209,19 @@ strays_to_a =
     ∷ RouteReturn 2 (record { first = 1; count = 3 })
     ∷ Announce 1 1 1 ∷ Announce 1 3 0 ∷ Cancel 1 1 ∷ TakingOver 1 1 ∷ the_yield ∷ []
 
--- sections of A from B, which is not their home
+-- a section of B, lent by another centre than its home
 abbrev pub strays_from_c : List Body
 strays_from_c = RouteInfo 1 (record { first = 4; count = 1 }) ∷ []
 
--- under another number, or of another train
+-- the reply that the train is taken over, with another number of the handover, or for another train
 abbrev pub strays_to_the_announcing : List Body
 strays_to_the_announcing = TakingOver 2 1 ∷ TakingOver 1 2 ∷ TakingOver 1 3 ∷ []
 
--- a second announcement, another number, and a yield that B has not asked for
+-- a second announcement, another number, and a Yield before B has replied that it takes over
 abbrev pub strays_to_the_expecting : List Body
 strays_to_the_expecting = Announce 2 1 0 ∷ Cancel 2 1 ∷ Cancel 1 2 ∷ the_yield ∷ []
 
--- a yield of this number and train, with this place's track, group and front, and hand
+-- a Yield of this number, train and hand, with this track, group and front in its place
 abbrev pub yield_of : (number t track group : ℕ) → ℤ → SectionRun → Body
 yield_of number t track group front hand =
     Yield number t 6 true false (record { track = track; group = group; front = front; rear = Some (pos 13900) }) hand
@@ -228,8 +229,9 @@ yield_of number t track group front hand =
 abbrev pub one_to_six : SectionRun
 one_to_six = record { first = 1; count = 6 }
 
--- under another number, of another train, with a track that is not the hand's, a group that is not of the line, a front
--- before the group, an own section that is not out, and sections that the line has not
+-- Yields with another number, or of another train. With a track that is not the hand's, with a group that is not of the
+-- line, or with a front before the group. With an own section that is not out, or with sections that are not of the
+-- line.
 abbrev pub strays_to_the_taking : List Body
 strays_to_the_taking =
     yield_of 2 1 0 group_1 (pos 16200) one_to_six ∷ yield_of 1 2 0 group_1 (pos 16200) one_to_six
@@ -239,13 +241,13 @@ strays_to_the_taking =
     ∷ yield_of 1 1 0 group_1 (pos 16200) (record { first = 1; count = 7 })
     ∷ yield_of 1 1 0 group_1 (pos 16200) (record { first = 5; count = 5 }) ∷ []
 
--- a front before the track: one decimetre, and as far as its four bytes go
+-- fronts before the track: by one decimetre, and by the most that four bytes can spell
 abbrev pub fronts_before_the_track : List Body
 fronts_before_the_track =
     yield_of 1 1 0 group_1 (pos 0 -ℤ pos 1) one_to_six ∷ yield_of 1 1 0 group_1 (pos 0 -ℤ pos 2147483648) one_to_six
     ∷ []
 
--- a front at the start of its group is taken
+-- a front at the start of its group is accepted
 abbrev pub least_front : Body
 least_front = yield_of 1 1 0 group_1 (pos 10000) one_to_six
 
@@ -263,9 +265,9 @@ mission_at front =
       };
     }
 
--- ## What they come to
+-- ## The effects
 
--- train 1 has asked for sections in advance of its hand of three
+-- train 1 has asked for sections in advance of its hand of three sections
 abbrev pub calm_asking : Effect
 calm_asking = calm_at_a (mission_at_a (record { first = 1; count = 3 }) no_run None) 5 4 (Some 4) 0
 
@@ -281,6 +283,6 @@ calm_expecting = calm_at_b Closed None 0 (record { number = 1; is_taking = false
 abbrev pub calm_taking : Effect
 calm_taking = calm_at_b Up (Some 9) 1 (record { number = 1; is_taking = true })
 
--- a frame without effect is the next of its link all the same
+-- a frame without effect is still the next of its link
 abbrev pub taken_without_effect : ℕ → Effect → Option Delivered
 taken_without_effect number effect = Some (record { link = Some Next; taken = number; effect = effect })

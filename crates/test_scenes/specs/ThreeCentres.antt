@@ -1,4 +1,4 @@
--- A train goes over three centres, the second of which has one short section.
+-- A train runs over three centres. The second centre has one short section.
 use Rattle.std.specs.Prelude.{[], ◌++◌, ◌∷◌, false, List, pos, Some, true, ℕ}
 use Rattle.rbc_spec.specs.Frame.{Announce, AskRight, Cancel, GiveRight, RouteAsk, RouteInfo, RouteReturn, RouteWithdraw}
 use Rattle.rbc_spec.specs.Frame.{TakingOver, Yield, YieldedPlace}
@@ -14,7 +14,7 @@ use Rattle.test_scenes.specs.Starts.{opened}
 
 -- ## From A to B
 
--- the route over B's section comes, and is given to the train
+-- the route over B's section arrives, and is given to the train
 abbrev pub from_the_first : List Scene
 from_the_first =
     Happens (Set 0 1) ∷ Happens (Set 1 2) ∷ Happens (Set 2 3)
@@ -42,11 +42,11 @@ border_of_the_first_shows =
 abbrev pub in_section_2 : Position
 in_section_2 = at 102 100 (Some 250)
 
--- the last place that A heard of
+-- the last place that A received
 abbrev pub last_at_a : YieldedPlace
 last_at_a = record { track = 0; group = group_1; front = pos 16200; rear = Some (pos 13900) }
 
--- B takes over, and the route over C's first section comes, and is given to the train
+-- B takes over, and the route over C's first section arrives, and is given to the train
 abbrev pub from_the_second : List Scene
 from_the_second =
     from_the_first
@@ -82,7 +82,7 @@ second_takes_over_shows = from_the_second_shows ++ shows_three_given [] ∷ []
 
 -- ## From B to C
 
--- C has heard of the train, and takes over
+-- C receives the announcement of the train and its report, and takes over
 abbrev pub to_the_third : List Scene
 to_the_third =
     from_the_second
@@ -95,11 +95,11 @@ to_the_third_shows =
     ++ (Link Next ∷ []) ∷ (Link Next ∷ Sends 1 2 (RouteInfo 1 (record { first = 4; count = 0 })) ∷ [])
     ∷ (opened 1 ++ (Sends 1 3 (TakingOver 1 1) ∷ []) ∷ [])
 
--- the last place that B heard of
+-- the last place that B received
 abbrev pub last_at_b : YieldedPlace
 last_at_b = record { track = 0; group = 82022; front = pos 21200; rear = Some (pos 18400) }
 
--- B yields the whole hand, of which the first section is of A
+-- B yields the whole hand, in which the first section is of A
 abbrev pub yielded_on : List Scene
 yielded_on = to_the_third ++ Happens (Delivery 2 1 2) ∷ Happens (Delivery 2 1 3) ∷ []
 
@@ -126,8 +126,8 @@ yield_with_a_third_home_shows =
 abbrev pub in_section_3 : Position
 in_section_3 = at 103 300 (Some 200)
 
--- C sends both cleared sections home, each to its centre, which ends its session as it has nothing of the train any
--- more
+-- C returns both cleared sections, each to its home. Each home then has nothing more of the train, and ends its
+-- session.
 abbrev pub each_home_gets_its_section_back : List Scene
 each_home_gets_its_section_back =
     yielded_on
@@ -146,7 +146,8 @@ each_home_gets_its_section_back_shows =
     ∷ (Link Next ∷ Says 1 5 unknown_group (EndSession 5 2) ∷ [])
     ∷ shows (IsShut ∷ IsOpen ∷ IsOpen ∷ Given 1 ∷ IsShut ∷ []) [] ((2 ∷ []) ∷ [] ∷ []) ∷ []
 
--- a wish of A for its section goes to each other centre, and is met as C sends the section home
+-- The interlocking of A wishes a section back, and A sends the wish to each other centre. The wish is met when C
+-- returns the section.
 abbrev pub wish_at_a_third_centre : List Scene
 wish_at_a_third_centre =
     yielded_on
@@ -166,7 +167,7 @@ wish_at_a_third_centre_shows =
     ∷ (Link Next ∷ Says 1 7 unknown_group (EndSession 5 1) ∷ Tells (Told 1) ∷ [])
     ∷ shows (IsShut ∷ IsShut ∷ Kept 1 ∷ Given 1 ∷ IsShut ∷ []) [] ((2 ∷ []) ∷ [] ∷ []) ∷ []
 
--- a mission that ended at B is yielded as that; both other sections are cleared, so B ends its session with the yield
+-- A mission that ended at B is yielded as ended. Both other sections are cleared, so B ends its session with the Yield.
 abbrev pub ended_mission_is_yielded : List Scene
 ended_mission_is_yielded =
     to_the_third
@@ -186,8 +187,8 @@ ended_mission_is_yielded_shows =
     ∷ (Link Next ∷ []) ∷ (Silence StaleStamp ∷ []) ∷ (Silence MissionEnded ∷ [])
     ∷ shows (IsShut ∷ Kept 1 ∷ IsOpen ∷ Given 1 ∷ IsShut ∷ []) [] ((2 ∷ []) ∷ [] ∷ []) ∷ []
 
--- a mission that ends at B at standstill, in B's section, gives C's section back, so its handover is cancelled; A's
--- section is in rear of the train and stays. C has said that it takes over, and does not get the mission
+-- A mission ends at B at standstill, in B's section. C's section is returned, so the handover is cancelled. A's section
+-- is in rear of the train and stays in the hand. C has replied that it takes over, and does not get the mission.
 abbrev pub stands_still_before_the_third : List Scene
 stands_still_before_the_third =
     to_the_third
@@ -204,7 +205,7 @@ stands_still_before_the_third_shows =
 
 -- ## With the registrar at B
 
--- A and C are linked, though no track of the line has a border of theirs and neither is the registrar
+-- A and C are linked, though they have no border on a track of the line, and neither is the registrar
 abbrev pub any_two_are_linked : List Scene
 any_two_are_linked =
     Happens (Set 0 1) ∷ Happens (Set 1 2)

@@ -1,5 +1,6 @@
--- The one line centre, played by hand: what is said at an event or by quiet steps, and the state then, where the rules
--- allow it. It is computed; that it is so by the relations of the one line centre is proved once.
+-- The one line centre, played by hand. A turn is the messages and replies of an event or of quiet steps, with the new
+-- state, if the rules allow it. Turns are computed. One proof shows that they meet the relations of the one line
+-- centre.
 use Rattle.std.specs.List.{find, list_all, range_with_len}
 use Rattle.std.specs.Option.{option_map_or}
 use Rattle.std.specs.Prelude.{[], ◌&&◌, ◌*◌, ◌++◌, ◌+◌, ◌-◌, ◌==◌, ◌||◌, ◌∷◌, Bool, false, if◌then◌else◌, is_none, List}
@@ -28,7 +29,7 @@ use Rattle.rbc_spec.specs.SectionRuns.{all_of, next_after, SectionRun, within}
 use Rattle.rbc_spec.specs.Sections.{is_on, nid_rbc, run_where, section_count}
 use Rattle.rbc_spec.specs.World.{Bytes, Delivery, Event, Set, Unset}
 
--- how an event is taken where the rules leave it open
+-- the choice at an event, if the rules leave one
 pub data Choice : Type 0 where
   Plainly : Choice
   Rejecting : Choice  -- a start at the registrar is rejected: the right is elsewhere
@@ -36,7 +37,7 @@ pub data Choice : Type 0 where
   Extending : (count : ℕ) → Choice  -- the hand is extended by so many sections
   Unanswered : Choice  -- the event has no piece: it is at no centre of the line, or the frame was never sent
 
--- what is said, and the state then
+-- the messages and replies, and the new state
 pub record Turn : Type 0 where
   pub said : Said
   pub state : LineState
@@ -49,12 +50,12 @@ telling words changed = record { said = record { sayings = []; words = words }; 
 abbrev pub quietly : LineState → Turn
 quietly = telling []
 
--- one message, and the state is this but for its count
+-- one message, and the new state but for the count of messages
 abbrev pub answering : (t c group : ℕ) → TrackBody → List Word → LineState → LineState → Turn
 answering t c group body words v changed =
     record { said = record { sayings = saying_of t c group body v ∷ []; words = words }; state = says t c changed }
 
--- the turn, where it is allowed
+-- the turn, if it is allowed
 abbrev pub allowed : {X : Type 0} → Bool → X → Option X
 allowed is_allowed x = if is_allowed then Some x else None
 
@@ -68,7 +69,7 @@ abbrev pub is_same : Bool → Bool → Bool
 is_same true b = b
 is_same false b = not b
 
--- they are this run
+-- these sections are the hand
 abbrev pub is_hand : Line → LineState → ℕ → SectionRun → Bool
 is_hand line v t hand =
     list_all (λ s. is_same (is_given_to t (v.mark s)) (within hand s)) (range_with_len 0 (section_count line))
@@ -144,7 +145,7 @@ end_at line t c true (Some place) v =
     telling (release_words line c (is_cleared_of line v t place) v ++ stopping_words line t c place there)
     (ended t (stopped line t c place there))
 
--- a session with these sections' waiting start ends
+-- a session ends, with the replies for the sections of its waiting start
 abbrev pub session_turn : Line → (t c : ℕ) → TrackBody → LineState → LineState → Turn
 session_turn line t c body v changed =
     answering t c unknown_group body (told line (is_waiting_at line v t c) v) v changed
@@ -154,7 +155,7 @@ shortening line t c place v =
     telling (shortening_words line t c place (last_kept_of v t) v)
     (shortened line t c place (last_kept_of v t) (without_ask t v))
 
--- the place of the report, where it is on the mission's track
+-- the place of the report, if it is on the mission's track
 abbrev pub placed : Line → ℕ → TrainBody → LineState → Option Place
 placed line t (Request position) v = place_on line (track_of v t) position
 placed line t (Report position) v = place_on line (track_of v t) position
@@ -204,7 +205,7 @@ pub record Step : Type 0 where
   pub turn : Turn
   pub why : Option Reason
 
--- an own step that is not silent
+-- an own step that is answered
 abbrev pub spoken : Option Turn → Option Step
 spoken turn = option_map_or (λ t. Some (record { turn = t; why = None })) turn None
 
@@ -242,7 +243,7 @@ taken_up v t c m stamp = quietly
           (Some (option_map_or (max stamp) (v.heard t c) stamp));
     })
 
--- the stamp with which nobody supervises
+-- the stamp of a supervision while it is handed over
 abbrev pub parted_at : Supervisor → Option ℕ
 parted_at (At c) = None
 parted_at (Parted stamp) = Some stamp
@@ -307,7 +308,7 @@ quiet_turn line v (Order t c) =
 quiet_turn line v (EndOrder t c) =
     allowed (may_end line v t c) (answering t c unknown_group (EndSession line.nid_c (nid_rbc line c)) [] v v)
 
--- one after another
+-- one turn, and then another
 abbrev pub and_then : Turn → Turn → Turn
 and_then a b = record { said = both a.said b.said; state = b.state }
 

@@ -1,4 +1,4 @@
-//! Scenes of frames that come late, and of what is wished, asked for or ended while they are on the way.
+//! Scenes of late frames, and of sections that are wished back, asked for or returned while frames are on the way.
 
 ghost use Rattle.std.specs.Prelude.{◌≡◌};
 ghost use Rattle.test_scenes.specs.Scene.{line, seen};
@@ -22,7 +22,7 @@ ghost use Rattle.test_scenes.specs.LateMoves.{route_after_the_yield_moves, route
 ghost use Rattle.test_scenes.specs.LateMoves.{whole_hand_is_cut_moves, wish_at_the_yield_moves};
 ghost use Rattle.test_scenes.specs.LateMoves.{withdrawn_from_the_pool_moves};
 
-/// What comes of frames that are late, with a wish, an end or a yield meanwhile.
+/// The effects of late frames, with a wish, an end or a Yield meanwhile.
 pub fn late_frames()
     ensures withdrawn_from_the_pool { seen line withdrawn_from_the_pool ≡ withdrawn_from_the_pool_shows }
     ensures first_of_the_pool_withdrawn { seen line first_of_the_pool_withdrawn ≡ first_of_the_pool_withdrawn_shows }
@@ -40,7 +40,7 @@ pub fn late_frames()
         ≡ session_opens_over_a_waiting_start_shows }
 {}
 
-/// The scenes of late frames, met.
+/// The one line centre meets the scenes of late frames.
 pub fn races_met()
     ensures withdrawn_from_the_pool { IsMetByRun line withdrawn_from_the_pool withdrawn_from_the_pool_moves }
     ensures first_of_the_pool_withdrawn { IsMetByRun line first_of_the_pool_withdrawn

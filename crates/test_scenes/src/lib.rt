@@ -1,10 +1,10 @@
-//! The definitions of the line and its centres, tried: scenes on small lines, and what is seen of each, as the rules
-//! say in words. That the definitions give just this is computed by the check. A scene is a list of events, with looks
-//! at the line between them; the scenes are in `specs/`. Of each scene it is also shown that a run of the one line
-//! centre meets it (`IsMetByRun`): the line centre has a piece for each event, and its state then is the one that is
-//! read off the centres. The functions here do nothing.
+//! The definitions of the line and its centres, tried on scenes of small lines. The check computes the views of each
+//! scene, and they have to be those that the written rules ask for. A scene is a list of events, with looks at the line
+//! between them; the scenes are in `specs/`. Each scene is also met by a run of the one line centre (`IsMetByRun`). The
+//! line centre has a piece for each event, and its state then is the one that is read off the centres. The functions
+//! here do nothing.
 //!
-//! What is expected comes from the standard or from the rules in words, never from the program's own output.
+//! Expected values come from the standard or from the written rules, never from the program's own output.
 #![tactic(auto)]
 
 mod at_standstill;
@@ -144,7 +144,7 @@ pub use train_rules::{
     all_parts_are_the_five_rules, each_part_of_the_rules_is_needed, trains_run_over_three_centres,
 };
 
-/// What the interlocking is told, how sessions are opened and ended, and how missions start at the registrar and
+/// The replies to the interlocking, how sessions are opened and ended, and how missions start at the registrar and
 /// elsewhere.
 pub fn sessions_and_starts()
     ensures nothing_happens { seen line nothing_happens ≡ nothing_happens_shows }
@@ -196,7 +196,7 @@ pub fn requests_and_reports()
     ensures end_at_the_end_of_the_hand { seen line end_at_the_end_of_the_hand ≡ end_at_the_end_of_the_hand_shows }
 {}
 
-/// How a section of a hand is wished back, and what the train answers.
+/// How a section of a hand is wished back, and the train's answer.
 pub fn authorities_shortened()
     ensures unset_in_a_hand { seen line unset_in_a_hand ≡ unset_in_a_hand_shows }
     ensures start_drops_the_proposal { seen (line_of_one 8 1000) start_drops_the_proposal
@@ -235,8 +235,8 @@ pub fn over_three_centres()
         ≡ stands_still_before_the_third_shows }
 {}
 
-/// When a step is refused, what is answered to a frame of a centre without a link, that no section past the 512th is
-/// asked for, and that a run gives the answers of its steps.
+/// Refused steps, the answer to a frame of a centre without a link, and the answers of a run. No section in advance of
+/// the 512th is asked for.
 pub fn refused_steps()
     ensures last_stamp { stamps line last_stamp_is_taken (beginning line 0) ≡ last_stamp_is_taken_shows }
     ensures past_the_last { stamps line stamp_past_the_last (beginning line 0) ≡ stamp_past_the_last_shows }
@@ -249,8 +249,8 @@ pub fn refused_steps()
     ensures four_numbers_left { stamps line (Set 0 ∷ []) (having_sent 65532) ≡ Ok (1, None) ∷ [] }
 {}
 
-/// The scenes of sessions and starts, met. Of a start it is shown whole that the state of the line centre stands for
-/// the centres.
+/// The one line centre meets the scenes of sessions and starts. For one start the whole state of the line centre is
+/// shown to represent the centres.
 pub fn starts_met()
     ensures nothing_happens { IsMetByRun line nothing_happens (plain nothing_happens) }
     ensures set_and_unset { IsMetByRun line set_and_unset (plain set_and_unset) }
@@ -280,7 +280,7 @@ pub fn starts_met()
     ensures whole { IsLineRunOf line start_at_the_registrar }
 {}
 
-/// The scenes of requests and reports, met.
+/// The one line centre meets the scenes of requests and reports.
 pub fn requests_met()
     ensures request_asks_over_the_border { IsMetByRun line request_asks_over_the_border to_the_border_moves }
     ensures asks_again_each_round { IsMetByRun line asks_again_each_round asks_again_each_round_moves }
@@ -302,7 +302,7 @@ pub fn requests_met()
     ensures end_at_the_end_of_the_hand { IsMetByRun line end_at_the_end_of_the_hand end_at_the_end_of_the_hand_moves }
 {}
 
-/// The scenes of requests to shorten, met.
+/// The one line centre meets the scenes of requests to shorten.
 pub fn shortenings_met()
     ensures unset_in_a_hand { IsMetByRun line unset_in_a_hand unset_in_a_hand_moves }
     ensures start_drops_the_proposal { IsMetByRun
@@ -318,7 +318,7 @@ pub fn shortenings_met()
     ensures asking_again_tries_again { IsMetByRun line asking_again_tries_again asking_again_tries_again_moves }
 {}
 
-/// The scenes of handovers, met.
+/// The one line centre meets the scenes of handovers.
 pub fn handovers_met()
     ensures handover { IsMetByRun line handover (handed_over_moves 7) }
     ensures return_after_handover { IsMetByRun line return_after_handover return_moves }
@@ -327,7 +327,7 @@ pub fn handovers_met()
     ensures cancelled_before_taking_over { IsMetByRun line cancelled_before_taking_over cancelled_moves }
 {}
 
-/// The scenes of three centres, met.
+/// The one line centre meets the scenes of three centres.
 pub fn three_centres_met()
     ensures border_of_the_first { IsMetByRun (line_of_three 0) border_of_the_first from_the_first_moves }
     ensures second_takes_over { IsMetByRun (line_of_three 0) second_takes_over from_the_second_moves }
@@ -343,7 +343,7 @@ pub fn three_centres_met()
         (line_of_three 0) stands_still_before_the_third stands_still_before_the_third_moves }
 {}
 
-/// What a single condition decides.
+/// Scenes in which a single condition decides.
 pub fn single_conditions()
     ensures unset_without_a_session { seen line unset_without_a_session ≡ unset_without_a_session_shows }
     ensures unset_after_the_end { seen line unset_after_the_end ≡ unset_after_the_end_shows }
@@ -367,7 +367,7 @@ pub fn single_conditions()
         ≡ proposal_ends_with_the_mission_shows }
 {}
 
-/// The scenes of single conditions, met.
+/// The one line centre meets the scenes of single conditions.
 pub fn conditions_met()
     ensures unset_without_a_session { IsMetByRun line unset_without_a_session unset_without_a_session_moves }
     ensures unset_after_the_end { IsMetByRun line unset_after_the_end (plain unset_after_the_end) }
@@ -391,7 +391,7 @@ pub fn conditions_met()
         proposal_ends_with_the_mission_moves }
 {}
 
-/// Where one centre has the whole line the run leaves the line centre no choice.
+/// If one centre has the whole line, the run leaves the line centre no choice.
 pub fn one_centre_met()
     ensures start_drops_the_proposal { IsMetByForcedRun (line_of_one 8 1000) 0 start_drops_the_proposal }
     ensures shortening_in_one_centre { IsMetByForcedRun (line_of_one 8 1000) 0 shortening_in_one_centre }
@@ -399,7 +399,7 @@ pub fn one_centre_met()
     ensures section_out_of_reach { IsMetByForcedRun (line_of_one 20 2000) 0 section_out_of_reach }
 {}
 
-/// Frames that no world sends come to nothing, but for the clock and the count of frames taken.
+/// Frames that no world sends have no effect but on the clock and the count of frames taken.
 pub fn stray_frames()
     ensures to_a { effects line 0 1 asking strays_to_a ≡ times 24 calm_asking }
     ensures from_c { effects line 0 2 asking strays_from_c ≡ times 1 calm_asking }
@@ -412,7 +412,7 @@ pub fn stray_frames()
     ensures yields_taken { missions_taken ≡ Some (mission_at 16200) ∷ Some (mission_at 10000) ∷ [] }
 {}
 
-/// Where a position packet places a train, and what comes of one that has no place or is not fit for a start.
+/// The place of a train by its position packet. The effect of a packet that gives no place, or is not fit for a start.
 pub fn placed()
     ensures reports_without_place { seen line reports_without_place ≡ reports_without_place_shows }
     ensures requests_without_place { seen line requests_without_place ≡ requests_without_place_show }
@@ -423,7 +423,7 @@ pub fn placed()
     ensures own_stamp_after_a_yield { seen line own_stamp_after_a_yield ≡ own_stamp_after_a_yield_shows }
 {}
 
-/// The scenes of places, met.
+/// The one line centre meets the scenes of places.
 pub fn places_met()
     ensures reports_without_place { IsMetByRun line reports_without_place (plain reports_without_place) }
     ensures requests_without_place { IsMetByRun line requests_without_place requests_without_place_moves }

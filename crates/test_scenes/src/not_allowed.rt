@@ -1,4 +1,4 @@
-//! What the one line centre does not do, and a world that no state of it stands for.
+//! Moves that the one line centre does not allow, and a world that no state of it represents.
 
 ghost use Rattle.std.specs.Prelude.{◌≡◌, [], ◌∷◌, Some};
 ghost use Rattle.rbc_spec.specs.LineCentre.{LineState};
@@ -14,8 +14,8 @@ ghost use Rattle.test_scenes.specs.NotAllowed.{kept_after_silence, kept_after_si
 ghost use Rattle.test_scenes.specs.NotAllowed.{told_in_order_shows, told_out_of_order, told_out_of_order_shows};
 ghost use Rattle.test_scenes.specs.NotAllowed.{one_yield, two_yields, missions_in};
 
-/// No quiet step of another centre is in an event's piece, none follows a silent message, and no section is told before
-/// a lower one.
+/// No quiet step of another centre is in an event's piece, and none follows a silent message. No `Told` for a section
+/// precedes that for a lower one.
 pub fn moves_not_allowed()
     ensures at_home { shown_at kept_at_home ≡ kept_at_home_shows }
     ensures elsewhere { shown_at kept_elsewhere ≡ kept_elsewhere_shows }
@@ -23,7 +23,7 @@ pub fn moves_not_allowed()
     ensures after_silence { shown_at kept_after_silence ≡ kept_after_silence_shows }
     ensures in_order { shown_at told_in_order ≡ told_in_order_shows }
     ensures out_of_order { shown_at told_out_of_order ≡ told_out_of_order_shows }
-    // No piece at all is so, whatever the state.
+    // No piece has such steps, whatever the state.
     ensures none_elsewhere { (v new : LineState) (outcome : Outcome) (piece : Piece line v (Set 0 0) outcome new)
         → piece.quiets ≡ Keep 1 4 ∷ [] → ⊥ }
     ensures none_after_silence { (v new : LineState) (event : Event) (outcome : Outcome) (why : Reason)
@@ -33,7 +33,7 @@ pub fn moves_not_allowed()
         → outcome.words ≡ Told 5 ∷ Told 4 ∷ [] → ⊥ }
 {}
 
-/// Two Yields of one train are on the way, and no state stands for that.
+/// Two Yields of one train are on the way, and no state represents that.
 pub fn two_yields_on_the_way()
     ensures one { missions_in one_yield ≡ 1 }
     ensures two { missions_in two_yields ≡ 2 }

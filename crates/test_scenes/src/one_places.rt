@@ -30,7 +30,7 @@ ghost use Rattle.test_scenes.specs.ThreeCentres.{ended_mission_is_yielded, stand
 ghost use Rattle.test_scenes.specs.NotAllowed.{one_yield, two_yields};
 ghost use Rattle.test_scenes.specs.OnePlaces.{has_one_place, keeps_one_place};
 
-/// After each event of these scenes each thing is in one place. Where a Yield is on the way twice it is not.
+/// After each event of these scenes each thing is in one place. If a Yield is on the way twice, it is not.
 pub fn each_thing_stays_in_one_place()
     ensures starts { list_all (keeps_one_place line)
         (right_comes ∷ right_goes_back ∷ right_serves_a_later_start ∷ ask_delivered_twice ∷ right_is_refused

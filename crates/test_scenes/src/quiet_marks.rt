@@ -19,7 +19,7 @@ pub fn only_an_admission_gives()
     ensures waited_for { marks_after (Unkeep 1 5) ≡ None }
     ensures given { marks_after (Unkeep 2 7) ≡ None }
     ensures given_to_another { marks_after (Keep 1 7) ≡ None }
-    // No quiet step at all is so.
+    // `Keep` does not give section 4, and `Unkeep` does not free section 7, whatever is sent.
     ensures never_given { (said : Said) (new : LineState) → TakesQuiet line start_waits (Keep 1 4) said new
         → new.mark 4 ≡ Given 1 → ⊥ }
     ensures never_freed { (said : Said) (new : LineState) → TakesQuiet line start_waits (Unkeep 2 7) said new → ⊥ }

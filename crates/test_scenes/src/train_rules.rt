@@ -33,8 +33,8 @@ pub fn each_part_of_the_rules_is_needed()
     ensures with_authority { IsNeeded without_an_authority }
 {}
 
-/// The rules by all parts are the five rules. Two accepted trains on one section are not safe by the law, and no
-/// accepted train on a section that is not released is.
+/// The rules by all parts are the five rules. By the law two accepted trains on one section are not safe. Nor is an
+/// accepted train on a section that is not released.
 pub fn all_parts_are_the_five_rules()
     ensures says { (line : Line) (c : ℕ) (m : TrainMessage) (x : Train)
         → may_say five_rules line c m x ≡ rules.may_say line c m x }

@@ -1,53 +1,53 @@
-//! A client of the centres: a train, or the interlocking.
+//! A client of the centres: a train or the interlocking.
 
 use std::alloc::Global;
 use std::io::{Error, ErrorKind, Read, Write};
 use std::net::{Net, SocketAddr, TcpStream};
 use std::time::Duration;
 
-/// What a play missed.
+/// The thing that a play expected and did not get.
 #[derive(Clone, Copy, Debug)]
 pub enum Missed {
-    /// An endpoint that is open.
+    /// An open endpoint.
     Endpoint,
-    /// A connection whose reads wait no longer than `PATIENCE_S`.
+    /// A connection whose reads time out after `PATIENCE_S`.
     Waiting,
-    /// A connection that takes what is said.
+    /// A connection that accepts bytes.
     Taking,
-    /// A read.
+    /// A successful read.
     Read,
-    /// An answer, before the connection ended.
+    /// An answer before the connection ended.
     Ended,
-    /// An answer, in the seconds of `PATIENCE_S`.
+    /// An answer within `PATIENCE_S` seconds.
     NoAnswer,
-    /// This answer: another came.
+    /// This answer: another one was received.
     OtherAnswer,
     /// The end of a connection.
     StillOpen,
-    /// An entry, in a journal.
+    /// An entry in a journal.
     Entry,
-    /// A print or a journal, when the centres ended.
+    /// A print or a journal, after the centres ended.
     Print,
-    /// The status by which they end.
+    /// The exit status of the centres.
     Status,
-    /// A run, in the print.
+    /// A run in the print.
     Audit,
     /// Hexadecimal digits.
     Digits,
-    /// The time.
+    /// The time of the clock.
     Clock,
     /// Memory.
     Memory,
 }
 
-/// What comes of a step of a play, or what was missed.
+/// The result of a step of a play.
 pub type Done<T> = Result<T, Missed>;
 
-/// The seconds that a play waits for an answer. A busy host may give a centre no processor for seconds, so that turns
-/// are not counted.
+/// The seconds that a play waits for an answer. A busy host may give a centre no processor for seconds, so turns are
+/// not counted.
 pub const PATIENCE_S: u64 = 60;
 
-/// A connection to an endpoint, whose reads wait for `PATIENCE_S` at most.
+/// A connection to an endpoint. Its reads wait for at most `PATIENCE_S` seconds.
 pub fn connect<R: Net<Stream = TcpStream>>(rt: &R, endpoint: SocketAddr) -> Done<TcpStream> {
     let stream = TcpStream::connect(rt, endpoint)
         .ok()
@@ -60,14 +60,14 @@ pub fn connect<R: Net<Stream = TcpStream>>(rt: &R, endpoint: SocketAddr) -> Done
     Ok(stream)
 }
 
-/// Says these bytes.
+/// Sends these bytes.
 pub fn say(stream: &TcpStream, bytes: &[u8]) -> Done<()> {
     let mut out = stream;
     out.write_all(bytes).ok().ok_or(Missed::Taking)?;
     Ok(())
 }
 
-/// The next bytes, so many.
+/// The next `count` bytes.
 pub fn heard(alloc: Global, stream: &TcpStream, count: usize) -> Done<Vec<u8>> {
     let mut bytes = vec![in alloc; 0u8; count].ok().ok_or(Missed::Memory)?;
     let mut input = stream;
@@ -77,7 +77,7 @@ pub fn heard(alloc: Global, stream: &TcpStream, count: usize) -> Done<Vec<u8>> {
     }
 }
 
-/// What a read missed that failed.
+/// The fault of a failed read.
 pub fn missed_by(error: &Error) -> Missed {
     match error.kind() {
         ErrorKind::UnexpectedEof => Missed::Ended,
@@ -86,7 +86,7 @@ pub fn missed_by(error: &Error) -> Missed {
     }
 }
 
-/// Says this, and is answered so.
+/// Sends the text, and expects this answer.
 pub fn answers(alloc: Global, stream: &TcpStream, said: &str, wanted: &str) -> Done<()> {
     say(stream, said.as_bytes())?;
     if heard(alloc, stream, wanted.len())?.as_slice() != wanted.as_bytes() {
@@ -95,7 +95,7 @@ pub fn answers(alloc: Global, stream: &TcpStream, said: &str, wanted: &str) -> D
     Ok(())
 }
 
-/// Whether the other side ends the connection, with nothing more to say.
+/// Whether the peer ends the connection without another byte.
 pub fn is_ended(stream: &TcpStream) -> bool {
     let mut piece = [0u8; 1];
     let mut input = stream;

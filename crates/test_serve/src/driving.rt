@@ -1,4 +1,4 @@
-//! A train by hand, over bytes in memory.
+//! A train that is driven by hand, over bytes in memory.
 
 use crate::line::{HALF_AN_INITIATION, VERSION, bytes_of};
 use cli_drive::{DriveFault, drive, see_off, steps_of};
@@ -7,7 +7,7 @@ use std::io;
 use std::io::{ErrorKind, Read, Write};
 use std::test::*;
 
-/// A centre that answers these bytes, whatever it is told, and then ends the connection, or fails.
+/// A centre that sends these bytes, whatever it receives. Then it ends the connection, or fails.
 #[derive(Drop)]
 struct Centre<'a> {
     answers: &'a [u8],
@@ -38,7 +38,7 @@ impl Write for Centre<'_> {
     }
 }
 
-/// What a train does at a centre that answers so, and how it ends.
+/// The lines of a train at a centre that sends these answers, and the expected result.
 struct Row<'a> {
     name: &'a str,
     lines: &'a str,
@@ -47,12 +47,12 @@ struct Row<'a> {
     end: Result<(), DriveFault>,
     printed: &'a str,
     heard: &'a str,
-    /// None where the train is not seen off.
+    /// `None` if the connection is not read to its end.
     seen_off: Option<Result<(), DriveFault>>,
 }
 
 static ROWS: [Row<'_>; 5] = [
-    // It waits for a message between its own, and prints it.
+    // It waits for a message between its own, and prints that message.
     Row {
         name: "a_train_sends_its_lines_and_prints_what_is_answered",
         lines: "9b02800000\nwait 1\n9B02",
@@ -126,7 +126,7 @@ fn ends_so(alloc: Global, wanted: &Row<'_>) -> Result<bool, Fail> {
     driven_so(alloc, wanted, centre, &sent)
 }
 
-// Whether the train ends so at this centre, which then has heard these bytes.
+// Whether the train ends as expected at this centre, and the centre has received these bytes.
 fn driven_so(
     alloc: Global,
     wanted: &Row<'_>,

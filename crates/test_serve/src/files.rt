@@ -1,5 +1,5 @@
-//! Journals as files: the lock on them, what is written between the lock and the reading, and what is done to a file
-//! while it is written.
+//! Journals as files: the lock on a file, writes between the lock and the reading, and changes of a file while it is
+//! written.
 
 use serve_journal::{JournalFile, OpenFault, SystemFile, make_journal, open_journal, read_whole};
 use std::fs::OpenOptions;
@@ -14,12 +14,12 @@ const EARLY: &str = "journal 1 B ba35c55526b8ee737edcb0f3cc29d5304c156d9964d7e8c
 3a1cc061 1 > set B 1
 ";
 
-// Its next two entries.
+// The next two entries of the journal.
 const LATE: &str = "44a52c2b 7 > deliver A B 1
 5000362a 8 > train B 9B028000000040000040
 ";
 
-// The name of a file of this test alone, which is not there.
+// The name of a file that only this test uses. No file of this name exists.
 fn name_of(rt: &HostRuntime, test: &str) -> Result<String, Fail> {
     let folder = env::temp_dir(rt)?;
     let id = process::id(rt.process());
@@ -30,7 +30,7 @@ fn name_of(rt: &HostRuntime, test: &str) -> Result<String, Fail> {
     Ok(name)
 }
 
-// What another program writes at the end of the file.
+// Appends a text to the file, as another program might.
 fn write_after(rt: &HostRuntime, name: &str, text: &str) -> Result<(), Fail> {
     let mut file = OpenOptions::new().append(true).open(rt, name)?;
     file.write_all(text.as_bytes())?;

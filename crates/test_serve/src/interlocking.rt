@@ -1,11 +1,11 @@
-//! The control endpoint: what its lines are answered, and how it ends.
+//! The control endpoint: the answers to its lines, and how it ends.
 
 use crate::line::INITIATION_OF_ONE;
 use crate::play::Act;
 use crate::plays::{OPENED_FIRST, Play, Seen, ServeMode};
 
 pub static PLAYS: [Play<'_>; 2] = [
-    // Lines of the control endpoint, and what each is answered; and how it ends.
+    // Lines of the control endpoint with their answers, and the end of it.
     Play {
         name: "each_line_is_answered_as_a_run_prints_it",
         mode: ServeMode::Usual,
@@ -37,7 +37,7 @@ pub static PLAYS: [Play<'_>; 2] = [
             "> set A 1\nA 1 Done\n> set A 2\nA 2 NotHome\n> unset A 1\nA 1 Done\nsection 0 A shut\nsection 1 A shut\nsection 2 B shut\n",
         )],
     },
-    // Connection 1 says bytes with a fault, and ends; a train on connection 0 is answered after that.
+    // Connection 1 sends bytes with a fault, and is ended. After that a train on connection 0 is answered.
     Play {
         name: "bytes_with_a_fault_end_their_connection_alone",
         mode: ServeMode::Usual,

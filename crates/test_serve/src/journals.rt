@@ -1,5 +1,5 @@
-//! Centres that keep journals: what is answered is written before, a full disk, and centres that go on from journals.
-//! Checksums are those that `sha256sum` gives of what follows them.
+//! Centres that keep journals: an event is written before its answer is sent, a full disk, and centres that go on from
+//! journals. The checksums are those of `sha256sum` over the rest of each line.
 
 use crate::line::{INITIATION_OF_ONE, VERSION};
 use crate::play::Act;
@@ -9,32 +9,33 @@ const SET_1: &str = "c4ee5feb 1 > set A 1\n";
 
 const OPENED: &str = "c4ee5feb 1 > set A 1\nb89d5030 2 > train A 9B028000000040000040\n";
 
-// Both journals are empty, and may become as long as a paper has cells.
+// Both journals are empty, and may grow to the size of a paper.
 const EMPTY: Journals<'_> = Journals {
     rooms: (256, 256),
     before: &[],
 };
 
-// Train 1, which is registered at A, starts its mission in section 2 of B.
+// A start of train 1, registered at A, in section 2 of B. First the interlocking releases the section.
 const SET: Before<'_> = (1, Taken::Set);
 
 const INITIATED: Before<'_> = (2, Taken::Said(INITIATION_OF_ONE));
 
 const ESTABLISHED: Before<'_> = (3, Taken::Said("9F028000000080000040"));
 
-// By this event B asks A for the right.
+// With this event B asks A for the right.
 const STARTED: Before<'_> = (
     4,
     Taken::Said("9D0680000000C00000500040A0280CC096140050014406400418"),
 );
 
-// A gives B the right to supervise the train.
+// A gives B the supervision right of the train.
 const ASKED: Before<'_> = (5, Taken::Delivered(1, 0));
 
 const GIVEN: Before<'_> = (6, Taken::Delivered(0, 1));
 
 pub static PLAYS: [Play<'_>; 6] = [
-    // The interlocking releases a section, and train 1 opens its session. After each answer its event is written.
+    // The interlocking releases a section, and train 1 opens its session. After each answer its event is in the
+    // journal.
     Play {
         name: "what_is_answered_is_written_before",
         mode: ServeMode::Usual,
@@ -58,8 +59,8 @@ pub static PLAYS: [Play<'_>; 6] = [
             Seen::OfB(""),
         ],
     },
-    // A line waits for its answer until there is room: the first five bytes of its entry are written, and no more can
-    // be. Meanwhile no other event of centre A is taken, and no train.
+    // A line waits for its answer until there is room. The first five bytes of its entry are written, and the file has
+    // no room for more. Meanwhile centre A takes no other event, and no train.
     Play {
         name: "nothing_is_answered_while_the_disk_is_full",
         mode: ServeMode::Usual,
@@ -106,7 +107,7 @@ pub static PLAYS: [Play<'_>; 6] = [
         status: 6,
         seen: &[Seen::Begins("> set A 1\nA 1 Done\n"), Seen::OfA("c4ee5")],
     },
-    // The frames go over their links once more, and come to nobody twice.
+    // The frames go over their links once more, and no centre takes one twice.
     Play {
         name: "centres_go_on_where_they_were",
         mode: ServeMode::Usual,
@@ -136,7 +137,7 @@ pub static PLAYS: [Play<'_>; 6] = [
             Seen::Audits(7, 7),
         ],
     },
-    // Without the event by which the first frame is sent.
+    // The event that sends the first frame is missing.
     Play {
         name: "journals_of_another_run_are_refused, without a start",
         mode: ServeMode::Usual,
@@ -148,7 +149,7 @@ pub static PLAYS: [Play<'_>; 6] = [
         status: 6,
         seen: &[Seen::Prints("")],
     },
-    // Without its delivery.
+    // The delivery of the first frame is missing.
     Play {
         name: "journals_of_another_run_are_refused, without a delivery",
         mode: ServeMode::Usual,

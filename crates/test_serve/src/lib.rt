@@ -1,7 +1,7 @@
 //! Tests of the running centres: trains and the interlocking as threads of one process, over loopback; and the files of
 //! their journals.
 //!
-//! What is expected comes from the standard or from the rules in words, never from the program's own output.
+//! Expected values come from the standard or from the written rules, never from the program's own output.
 #![tactic(auto)]
 
 pub mod client;

@@ -69,7 +69,7 @@ pub const MISSION_OF_ONE: &str =
 // After that it asks for its authority, message 132. The answer has 18 bytes.
 pub const REQUEST_OF_ONE: &str = "8406800000014000004200081405019012C2800A002880C80083";
 
-/// The bytes that these digits spell.
+/// The bytes of these hexadecimal digits.
 pub fn bytes_of(alloc: Global, digits: &str) -> Done<Vec<u8>> {
     hex::decode(alloc, digits).ok().ok_or(Missed::Digits)
 }

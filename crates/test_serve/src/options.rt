@@ -1,5 +1,5 @@
-//! The options of `serve`: how fast trains may be, words to the interlocking, how much is used up, and over which
-//! connection a train is served.
+//! The options of `serve`. They bound the messages of a train, report shut sections and the use of logs and links, and
+//! bind a train to a connection.
 
 use crate::line::{INITIATION_OF_ONE, MISSION_OF_ONE, REQUEST_OF_ONE, VERSION};
 use crate::play::Act;
@@ -21,8 +21,9 @@ const THIRD_VERSION: &str = "2002C0000000DFFFFFE800";
 const REPORT: &str = "880680000001C0000040010280A0328190500140051019001060";
 
 pub static PLAYS: [Play<'_>; 3] = [
-    // A message of train 1 before its first initiation ends its connection. Connection 1 opens the session; a message
-    // over connection 2 ends that one, and an initiation over connection 3 is taken. No other message is in the log.
+    // A message of train 1 before its first initiation ends its connection. Connection 1 opens the session. A message
+    // over connection 2 ends connection 2, and an initiation over connection 3 is accepted. No other message is in the
+    // log.
     Play {
         name: "a_train_is_served_over_the_connection_that_opened_its_session",
         mode: ServeMode::Bound,
@@ -55,8 +56,8 @@ pub static PLAYS: [Play<'_>; 3] = [
             Seen::Counts("> train A 9F028000000080000040\n", 1),
         ],
     },
-    // Train 1 opens its session six times, all at once, and hears as many answers. Two pass at once, and one each
-    // 50 milliseconds after them. The clock's milliseconds may be cut off at both ends.
+    // Train 1 opens its session six times, all at once, and gets six answers. Two pass at once, and each of the others
+    // 50 milliseconds after the one before. The clock's milliseconds may be cut off at both ends.
     Play {
         name: "a_train_that_is_too_fast_is_held_back_and_loses_nothing",
         mode: ServeMode::Slow,
@@ -73,8 +74,8 @@ pub static PLAYS: [Play<'_>; 3] = [
         status: 0,
         seen: &[Seen::Counts("> train A ", 6)],
     },
-    // The interlocking wishes section 0 back, while the train covers it; the train leaves it. Connection 1 of the
-    // interlocking only listens.
+    // The interlocking wishes section 0 back while the train covers it, and then the train leaves it. Connection 1 of
+    // the interlocking only listens.
     Play {
         name: "the_interlocking_is_told_of_a_section_that_is_shut",
         mode: ServeMode::Reporting,

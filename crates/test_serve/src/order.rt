@@ -1,4 +1,4 @@
-//! The order in which a train hears what its centre says, where two threads commit for one train.
+//! The order of a centre's messages to a train, if two threads commit for this train.
 
 use crate::client::{Done, Missed, PATIENCE_S, connect, missed_by, say};
 use crate::line::{INITIATION_OF_ONE, VERSION, bytes_of};
@@ -14,16 +14,16 @@ use std::thread;
 use std::thread::Threads;
 use std::time::{Clock, Duration};
 
-// How many starts of mission each connection sends: so few that the answers to all may wait for their train at once.
+// The starts of mission on each connection. They are few enough that all answers to the train may wait at once.
 const STARTS: u16 = 120;
 
-// How many bytes message 40 has.
+// The bytes of message 40.
 const REJECTED: usize = 10;
 
-// How many reads take all that a play's connection brings.
+// Enough reads for everything that a play's connection sends.
 const MOST_READS: u32 = 1_000_000;
 
-/// What the two connections tell each other.
+/// The flags that the two connections share.
 #[derive(Drop)]
 struct Told {
     is_open: AtomicBool,
@@ -39,8 +39,8 @@ pub static PLAYS: [Play<'_>; 1] = [Play {
     seen: &[OPENED_FIRST],
 }];
 
-/// Opens a train's session, and starts its missions over two connections at once, by two threads. All answers come over
-/// the first connection, in order.
+/// Opens a train's session, and starts its missions over two connections at once, by two threads. All answers are sent
+/// over the first connection, in order.
 pub fn start_over_two<R: Threads + Sync + Net<Stream = TcpStream, Listener = TcpListener> + Clock>(
     rt: &R,
     alloc: Global,
@@ -72,8 +72,8 @@ fn opened<R: Net<Stream = TcpStream, Listener = TcpListener> + Clock>(
     Ok(stream)
 }
 
-// Opens the train's session, and starts missions that are rejected, while another connection does. What comes after
-// the version is in order.
+// Opens the train's session, and starts missions that are rejected, while another connection does the same. The
+// messages after the version are in order.
 fn open_and_start<R: Net<Stream = TcpStream, Listener = TcpListener> + Clock>(
     rt: &R,
     alloc: Global,
@@ -102,7 +102,7 @@ fn start<R: Net<Stream = TcpStream, Listener = TcpListener> + Clock>(
     Ok(())
 }
 
-// Says a start of mission again and again, with T_TRAIN 4, 8, 12 and so on, and for the low bits 80 with 2 more.
+// Sends starts of mission with T_TRAIN 4, 8, 12 and so on, or with 2 more than that if the low bits are 80.
 fn say_starts(alloc: Global, stream: &TcpStream, low_bits: &str) -> Done<()> {
     for fourth in 1..=STARTS {
         say(stream, &start_of(alloc, fourth, low_bits)?)?;
@@ -118,7 +118,7 @@ fn start_of(alloc: Global, fourth: u16, low_bits: &str) -> Done<Vec<u8>> {
     bytes_of(alloc, &digits)
 }
 
-// Waits for a flag, for `PATIENCE_S` at most.
+// Waits for a flag, at most `PATIENCE_S` seconds.
 fn wait_for<R: Clock>(rt: &R, flag: &AtomicBool) -> Done<()> {
     for _ in 0..PATIENCE_S.saturating_mul(1000) {
         if flag.load(Ordering::SeqCst) {
@@ -129,7 +129,7 @@ fn wait_for<R: Clock>(rt: &R, flag: &AtomicBool) -> Done<()> {
     Err(Missed::NoAnswer)
 }
 
-/// All that comes until the other side ends the connection.
+/// All bytes until the peer ends the connection.
 pub fn heard_to_the_end(alloc: Global, stream: &TcpStream) -> Done<Vec<u8>> {
     let mut heard = Vec::new(alloc);
     let mut piece = [0u8; 256];
@@ -147,7 +147,7 @@ pub fn heard_to_the_end(alloc: Global, stream: &TcpStream) -> Done<Vec<u8>> {
     Err(Missed::StillOpen)
 }
 
-// That these are messages with T_TRAIN 2, 3, 4 and so on, some at least.
+// Checks that these are messages with T_TRAIN 2, 3, 4 and so on, and at least 49 of them.
 fn are_counted_from_two(bytes: &[u8]) -> Done<()> {
     let mut next = 2;
     for message in bytes.chunks(REJECTED) {

@@ -14,9 +14,9 @@ use std::time::Clock;
 /// A step of one connection, or a comparison beside the connections.
 #[derive(Clone, Copy)]
 pub enum Act<'a> {
-    /// It comes to centre A.
+    /// It connects to centre A.
     Train,
-    /// It comes to the control endpoint.
+    /// It connects to the control endpoint.
     Control,
     /// It sends this text, and gets this answer.
     Asks(&'a str, &'a str),
@@ -30,7 +30,7 @@ pub enum Act<'a> {
     Hears(&'a str),
     /// It receives this many bytes.
     Takes(usize),
-    /// The other side ends it.
+    /// The peer ends it.
     Ends,
     /// Two connections start train 1's missions at once.
     StartsOverTwo,
@@ -38,9 +38,9 @@ pub enum Act<'a> {
     Lasts(u64),
     /// The journal of centre A is this text.
     Written(&'a str),
-    /// It becomes this text, and the centre notices that it is full.
+    /// The journal becomes this text, and the centre notices that it is full.
     Fills(&'a str),
-    /// It may have this many bytes from now on.
+    /// The journal has room for this many bytes from now on.
     HasRoom(usize),
 }
 

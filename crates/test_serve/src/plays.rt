@@ -1,4 +1,4 @@
-//! Plays at running centres: the steps of peers, and what is compared when the centres have ended.
+//! Plays at running centres: the steps of peers, and the comparisons after the centres have ended.
 
 use crate::client::{Done, Missed};
 use crate::line::two_centres;
@@ -16,7 +16,7 @@ use std::test::*;
 use std::thread::Threads;
 use std::time::Clock;
 
-/// The steps of peers at the endpoints of running centres, and what is compared at the end.
+/// The steps of peers at the endpoints of running centres, and the comparisons at the end.
 pub struct Play<'a> {
     pub name: &'a str,
     pub mode: ServeMode,
@@ -28,12 +28,12 @@ pub struct Play<'a> {
     pub seen: &'a [Seen<'a>],
 }
 
-/// The options of a serve.
+/// The options of a running line.
 #[derive(Clone, Copy)]
 pub enum ServeMode {
     /// The defaults.
     Usual,
-    /// Each train may send two messages at once, and twenty a second after them.
+    /// Each train may send two messages at once, and then twenty a second.
     Slow,
     /// Sections that are shut are reported to the interlocking, and `show` prints the use of each log and link.
     Reporting,
@@ -46,40 +46,40 @@ pub enum ServeMode {
 pub struct Journals<'a> {
     /// The most bytes of each.
     pub rooms: (usize, usize),
-    /// The events that the centres took before.
+    /// The events that the centres took earlier.
     pub before: &'a [Before<'a>],
 }
 
-/// The stamp of an event that the centres took before, and the event.
+/// The stamp of an event that the centres took earlier, and the event.
 pub type Before<'a> = (u32, Taken<'a>);
 
-/// An event that the centres took before.
+/// An event that the centres took earlier.
 #[derive(Clone, Copy)]
 pub enum Taken<'a> {
     /// The interlocking releases section 2 at centre B.
     Set,
-    /// The bytes come from a train to centre B that these digits spell.
+    /// A train sends the bytes of these digits to centre B.
     Said(&'a str),
     /// The first frame from one centre to another is delivered.
     Delivered(u8, u8),
 }
 
-/// A comparison when the centres have ended.
+/// A comparison after the centres have ended.
 #[derive(Clone, Copy)]
 pub enum Seen<'a> {
     /// The print is this text.
     Prints(&'a str),
-    /// It begins with this text.
+    /// The print begins with this text.
     Begins(&'a str),
-    /// It has this text.
+    /// The print has this text.
     Has(&'a str),
-    /// It has this text this many times.
+    /// The print has this text this many times.
     Counts(&'a str, usize),
-    /// An audit finds it equal, with as many events at least and at most.
+    /// An audit finds the print equal, with at least and at most this many events.
     Audits(u64, u64),
-    /// The journal of centre A is this.
+    /// The journal of centre A is this text.
     OfA(&'a str),
-    /// The journal of centre B is this.
+    /// The journal of centre B is this text.
     OfB(&'a str),
 }
 
@@ -102,7 +102,7 @@ fn each_play_with_journals_ends_as_it_should(rt: HostRuntime) -> Result<(), Fail
     end_as_they_should(&rt, rt.alloc(), &journals::PLAYS)
 }
 
-// The first play that ends otherwise is reported, by its name and its fault.
+// Reports the first play that does not end as expected, by its name and its fault.
 fn end_as_they_should<
     R: Threads + Wait + Sync + Net<Stream = TcpStream, Listener = TcpListener> + Clock,
 >(rt: &R, alloc: Global, plays: &'static [Play<'static>]) -> Result<(), Fail> {

@@ -1,4 +1,4 @@
-//! The centres of a line, served while a play goes on.
+//! The centres of a line, served during a play.
 
 use crate::client::{Done, Missed, connect, say};
 use crate::line::{CONTROL, bytes_of};
@@ -26,8 +26,7 @@ pub struct Addresses {
     pub control: SocketAddr,
 }
 
-/// Serves the line while the play goes on, then says `stop`. It gives the status by which the centres end, and what
-/// was printed.
+/// Serves the line during the play, and then sends `stop`. The result is the exit status of the centres, and the print.
 pub fn served<R: Threads + Wait + Sync + Net<Stream = TcpStream, Listener = TcpListener> + Clock>(
     rt: &R,
     scene: Scene<'_>,
@@ -73,14 +72,14 @@ fn played<R: Threads + Sync + Net<Stream = TcpStream, Listener = TcpListener> + 
     played
 }
 
-// Says `stop`. If the centres have ended already, the endpoint is closed, or closes before it takes the line.
+// Sends `stop`. If the centres have ended already, the endpoint is closed, or closes before it takes the line.
 fn stop<R: Net<Stream = TcpStream>>(rt: &R, addresses: Addresses) {
     if let Ok(control) = connect(rt, addresses.control) {
         let _ = say(&control, b"stop\n");
     }
 }
 
-// How the centres end.
+// The exit status of the centres.
 fn ended<R: Threads + Wait + Sync + Clock>(
     rt: &R,
     scene: Scene<'_>,
@@ -127,7 +126,7 @@ fn options_of(mode: ServeMode) -> ServeOptions {
     }
 }
 
-// Journals of the two centres, which are written on these papers.
+// Journals of the two centres, written on these papers.
 fn record_of<'a>(alloc: Global, play: &Play<'_>, papers: Papers<'a>) -> Done<Record<Sheet<'a>>> {
     match play.journals {
         Some(journals) => Ok(Record {
@@ -182,7 +181,7 @@ fn event_of(alloc: Global, taken: Taken<'_>) -> Done<WorldEvent> {
     }
 }
 
-/// What an audit of the print finds.
+/// The result of an audit of the print.
 pub fn audited(alloc: Global, line: &Line, printed: &str) -> Done<Verdict> {
     let mut audit = Audit::new(alloc, line).ok().ok_or(Missed::Memory)?;
     for row in printed.lines() {

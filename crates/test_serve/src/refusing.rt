@@ -1,4 +1,4 @@
-//! What the interlocking is answered where a centre takes no event any more.
+//! The answers to the interlocking when a centre can take no more events.
 
 use crate::client::{Done, Missed, answers, connect};
 use crate::line::two_centres;
@@ -22,7 +22,7 @@ use std::time::Clock;
 // The last stamp that a step may have.
 const LAST_STAMP: u32 = 1_073_741_823;
 
-// The clock of centre A is at its end: 3 is the number of that fault. Centre B goes on.
+// The clock of centre A is at its end, and 3 is the number of that fault. Centre B goes on.
 static LINES: [(&str, &str); 4] = [
     ("set A 0\n", "refused 3\n"),
     ("unset A 0\n", "refused 3\n"),
@@ -33,7 +33,7 @@ static LINES: [(&str, &str); 4] = [
     ),
 ];
 
-// The centres. To A came a frame of so late a step that its own has the last stamp.
+// The nodes of the centres. A has taken a frame with so late a stamp that its own step has the last stamp.
 fn nodes_at_the_end<R: Wait>(rt: &R, alloc: Global, line: &Line) -> Done<Vec<Node>> {
     let nodes = nodes_of(alloc, line).ok().ok_or(Missed::Memory)?;
     let first = nodes.first().ok_or(Missed::Endpoint)?;
@@ -46,7 +46,7 @@ fn nodes_at_the_end<R: Wait>(rt: &R, alloc: Global, line: &Line) -> Done<Vec<Nod
     }
 }
 
-// The lines are said over one connection, each after the answer to the one before.
+// Sends the lines over one connection, each after the answer to the previous one.
 fn ask_all<R: Net<Stream = TcpStream>>(rt: &R, alloc: Global, endpoint: SocketAddr) -> Done<()> {
     let stream = connect(rt, endpoint)?;
     for (said, wanted) in &LINES {
@@ -55,7 +55,7 @@ fn ask_all<R: Net<Stream = TcpStream>>(rt: &R, alloc: Global, endpoint: SocketAd
     Ok(())
 }
 
-// The same, while the control endpoint is open, which is the last.
+// The same, while the control endpoint is open. It is the last of the endpoints.
 fn ask_at_the_door<R: Threads + Wait + Sync + Net<Stream = TcpStream> + Clock>(
     rt: &R,
     server: &Server<'_>,

@@ -8,7 +8,7 @@ use std::sync::atomic::{AtomicU8, AtomicUsize, Ordering};
 use std::time::{Clock, Duration};
 use std::{io, thread};
 
-/// Cells for a file of 256 bytes at most.
+/// Cells for a file of at most 256 bytes.
 pub fn cells(alloc: Global) -> Result<Vec<AtomicU8>, AllocError> {
     let mut cells = Vec::new(alloc);
     for _ in 0..256 {
@@ -17,21 +17,21 @@ pub fn cells(alloc: Global) -> Result<Vec<AtomicU8>, AllocError> {
     Ok(cells)
 }
 
-/// A file of which the bytes can be looked at while it is written. A cell after its end has 0.
+/// A file whose bytes can be read while it is written. A cell after its end is 0.
 #[derive(Clone, Copy)]
 pub struct Paper<'a> {
     cells: &'a [AtomicU8],
-    /// How many bytes it may have now.
+    /// The bytes for which it has room now.
     room: &'a AtomicUsize,
 }
 
 impl<'a> Paper<'a> {
-    /// A file in these cells, of so many bytes at most.
+    /// A file in these cells, with room for this many bytes.
     pub fn new(cells: &'a [AtomicU8], room: &'a AtomicUsize) -> Paper<'a> {
         Paper { cells, room }
     }
 
-    /// Whether these are its bytes.
+    /// Whether it has exactly these bytes.
     pub fn has(&self, text: &[u8]) -> bool {
         for (i, cell) in self.cells.iter().enumerate() {
             let wanted = text.get(i).copied().unwrap_or(0);
@@ -42,7 +42,7 @@ impl<'a> Paper<'a> {
         true
     }
 
-    /// Waits until these are its bytes, and then a while, for the centre to know that it has no more room.
+    /// Waits until it has these bytes, and then a while, so that the centre notices the full file.
     pub fn fills<R: Clock>(&self, rt: &R, text: &[u8]) -> Done<()> {
         for _ in 0..PATIENCE_S.saturating_mul(1000) {
             if self.has(text) {
@@ -54,7 +54,7 @@ impl<'a> Paper<'a> {
         Err(Missed::Entry)
     }
 
-    /// It may have so many bytes from now on.
+    /// Gives it room for this many bytes.
     pub fn allow(&self, room: usize) {
         self.room.store(room, Ordering::SeqCst);
     }
@@ -65,7 +65,7 @@ impl<'a> Paper<'a> {
     }
 }
 
-/// Such a file that is written, and the place where it is written next.
+/// Such a file, opened for writing, with the position of the next write.
 #[derive(Drop)]
 pub struct Sheet<'a> {
     paper: Paper<'a>,

@@ -1,4 +1,4 @@
-//! Where the answers of one centre go: to the train that each is for, over the connection that serves it.
+//! The delivery of a centre's answers: each goes to its train, over the connection that serves this train.
 
 use crate::client::{Done, Missed, heard, say};
 use crate::line::{INITIATION_OF_ONE, MISSION_OF_ONE, REQUEST_OF_ONE, VERSION, bytes_of};
@@ -10,11 +10,11 @@ use std::net::TcpStream;
 use std::thread;
 use std::time::{Clock, Duration};
 
-// How often the train asks for its authority at most.
+// The most requests of the train for its authority.
 const REQUESTS: u32 = 1_000;
 
 pub static PLAYS: [Play<'_>; 3] = [
-    // Train 1 opens its session, and starts its mission. Sections 0 and 1 are released, and these too.
+    // Train 1 opens its session, and starts its mission. Sections 0, 1 and 2 are released.
     Play {
         name: "a_train_hears_both_messages_of_one_step",
         mode: ServeMode::Usual,
@@ -35,8 +35,8 @@ pub static PLAYS: [Play<'_>; 3] = [
         status: 0,
         seen: &[Seen::Begins("> set A 0\nA 0 Done\n")],
     },
-    // Section 1 is wished back: the train is asked that its authority ends 1 000 m past the start of section 0, message
-    // 9 with T_TRAIN 5.
+    // Section 1 is wished back. Message 9 with T_TRAIN 5 asks the train to end its authority 1 000 m after the start of
+    // section 0.
     Play {
         name: "a_train_hears_what_the_interlocking_wishes",
         mode: ServeMode::Usual,
@@ -66,8 +66,8 @@ pub static PLAYS: [Play<'_>; 3] = [
         status: 0,
         seen: &[Seen::Begins("> set A 0\nA 0 Done\n")],
     },
-    // The train opens its session with T_TRAIN 2; with T_TRAIN 1 and then bytes with a fault a second connection ends
-    // unanswered. What is said to the train comes over the first one.
+    // The train opens its session with T_TRAIN 2. A second connection sends T_TRAIN 1 and then bytes with a fault, and
+    // ends unanswered. Messages to the train are sent over the first connection.
     Play {
         name: "a_session_that_is_not_heard_moves_no_train",
         mode: ServeMode::Usual,
@@ -93,7 +93,7 @@ pub static PLAYS: [Play<'_>; 3] = [
     },
 ];
 
-/// Asks for the authority until it reaches over the border: after message 3 of that step comes message 24, with the
+/// Asks for the authority until it reaches over the border. Message 3 of that step is followed by message 24 with the
 /// next T_TRAIN.
 pub fn ask_until_both_come<R: Clock>(rt: &R, alloc: Global, train: &TcpStream) -> Done<()> {
     let mut before = None;
@@ -122,7 +122,7 @@ fn request(alloc: Global, t_train: u32) -> Done<Vec<u8>> {
     bytes_of(alloc, &digits)
 }
 
-// The next message that comes.
+// The next message of the centre.
 fn message(alloc: Global, train: &TcpStream) -> Done<TrackMsg> {
     let mut bytes = heard(alloc, train, 3)?;
     let length = length_in(&bytes)?;

@@ -1,20 +1,20 @@
-//! Endpoints at which all slots are taken: who makes room for a new connection.
+//! Endpoints whose slots are all taken: the connection that makes room for a new one.
 
 use crate::line::{INITIATION_OF_ONE, VERSION};
 use crate::play::Act;
 use crate::plays::{OPENED_FIRST, Play, Seen, ServeMode};
 
-// How many connections the control endpoint serves at once.
+// The most connections that the control endpoint serves at once.
 const CONTROLS: usize = 4;
 
-// How many connections a centre serves at once: one for each of the two trains, and eight.
+// The most connections that a centre serves at once: one for each of the two trains, and eight.
 const TRAINS: usize = 10;
 
-// Section 2 is of another centre.
+// Section 2 has another home.
 const NOT_HOME: Act<'_> = Act::Asks("set A 2\n", "> set A 2\nA 2 NotHome\n");
 
 pub static PLAYS: [Play<'_>; 3] = [
-    // All four connections speak, and the first of them again; where a fifth comes, the second has to leave.
+    // All four connections send, and the first of them sends again. For a fifth one the second is ended.
     Play {
         name: "the_control_connection_that_is_silent_longest_makes_room",
         mode: ServeMode::Usual,
@@ -40,8 +40,8 @@ pub static PLAYS: [Play<'_>; 3] = [
         status: 0,
         seen: &[Seen::Begins("> set A 1\nA 1 Done\n")],
     },
-    // A train opens its session; with silent connections at all other slots, it opens it over another one, and the
-    // first ends.
+    // A train opens its session. All other slots have silent connections. The train opens its session over another
+    // connection, and the first one ends.
     Play {
         name: "a_connection_that_serves_no_train_makes_room",
         mode: ServeMode::Usual,
@@ -71,8 +71,8 @@ pub static PLAYS: [Play<'_>; 3] = [
         status: 0,
         seen: &[OPENED_FIRST],
     },
-    // More connections than there are slots come one after another, twenty to the centre and twelve to the control
-    // endpoint. Each to the centre opens train 1's session, is answered, and ends with a fault.
+    // More connections than slots arrive in order: twenty at the centre, and twelve at the control endpoint. Each at
+    // the centre opens train 1's session, is answered, and ends with a fault.
     Play {
         name: "a_seat_is_free_after_each_connection",
         mode: ServeMode::Usual,

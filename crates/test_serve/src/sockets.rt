@@ -1,4 +1,4 @@
-//! The Unix socket of the interlocking: the file that it is, which files are removed for it, and a run over it.
+//! The Unix socket of the interlocking: its file, the files that are removed for it, and a run over it.
 
 use crate::client::{Done, Missed};
 use crate::line::two_centres;
@@ -18,10 +18,10 @@ use std::thread::Threads;
 use std::time::{Clock, Duration};
 use std::{env, fs, process, thread};
 
-// The permissions in a mode.
+// The permission bits of a mode.
 const PERMISSIONS: u32 = 0o777;
 
-// The path of a socket of this test alone, which is not there.
+// The path of a socket that only this test uses. No file of this path exists.
 fn path_of(rt: &HostRuntime, test: &str) -> Result<String, Fail> {
     let folder = env::temp_dir(rt)?;
     let id = process::id(rt.process());

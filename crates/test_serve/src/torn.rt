@@ -1,4 +1,4 @@
-//! A journal's file of which a write failed.
+//! A journal file after a failed write.
 
 use crate::sheet::{Paper, cells};
 use serve_journal::JournalFile;

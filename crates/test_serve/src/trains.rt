@@ -1,4 +1,4 @@
-//! Trains that are served side by side, with a right that comes from another centre meanwhile.
+//! Trains that are served side by side, while a right arrives from another centre.
 
 use crate::line::{ACCEPTED, INITIATION_OF_ONE, VERSION};
 use crate::play::Act;
@@ -6,8 +6,8 @@ use crate::plays::{Play, Seen, ServeMode};
 
 pub static PLAYS: [Play<'_>; 1] = [
     // The interlocking releases section 1, and is answered. Then train 2 opens its session and starts a mission in
-    // section 1, with the right that comes from centre B. Meanwhile train 1 opens its session. Train 2 stays until
-    // train 1 was answered.
+    // section 1, with the right from centre B. Meanwhile train 1 opens its session. Train 2 stays connected until train
+    // 1 is answered.
     Play {
         name: "two_trains_are_served_and_the_print_is_audited",
         mode: ServeMode::Usual,

@@ -7,7 +7,7 @@ use rbc_world::{Body, Centre, Event, Frame, LinkAnswer, Outcome};
 use std::alloc::Global;
 use std::test::*;
 
-/// Section 1 is set, and a train that centre B registers starts there, at A.
+/// Section 1 is set, and a train that centre B registers starts in it, at A.
 pub fn start(alloc: Global) -> Result<Vec<Event>, Fail> {
     let mut events = vec![in alloc; Event::Set(1)]?;
     for text in &START {
@@ -42,7 +42,7 @@ fn take_all(centre: &mut Centre, events: &[Event]) -> Result<(), Fail> {
     Ok(())
 }
 
-// A takes the start: the frames to B under the numbers 0, 1 and 2.
+// A takes the start. The result is the frames to B under the numbers 0, 1 and 2.
 fn asked(alloc: Global) -> Result<[Option<Frame>; 3], Fail> {
     let events = start(alloc)?;
     let mut a = centre_of(alloc, A)?;
@@ -50,10 +50,10 @@ fn asked(alloc: Global) -> Result<[Option<Frame>; 3], Fail> {
     Ok([a.frame(B, 0), a.frame(B, 1), a.frame(B, 2)])
 }
 
-/// The stamp, what the link answers, and the frame back under number 1.
+/// The stamp, the link's answer, and the frame back under number 1.
 type Answered = (u32, Option<LinkAnswer>, Option<Frame>);
 
-// B takes the frame, if it may.
+// B takes the frame, and answers it.
 fn answered(alloc: Global, frame: Frame) -> Result<Answered, Fail> {
     let mut b = centre_of(alloc, B)?;
     answered_by(&mut b, &Event::Deliver { from: A, frame })

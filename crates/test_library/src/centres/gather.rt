@@ -1,4 +1,4 @@
-//! What the nodes of two centres took, gathered, and merged into one run.
+//! The logs of two centres' nodes, gathered and merged into one run.
 
 use crate::centres::centre::start;
 use crate::centres::held::Held;
@@ -43,7 +43,7 @@ fn entries_of(alloc: Global, family: &Family) -> Result<Vec<Entry>, Fail> {
     )
 }
 
-// Whether the world answers the events as the entries have it.
+// Whether the entries are the world's answers to the events.
 fn is_run(alloc: Global, events: &[WorldEvent], entries: &[Entry]) -> Result<bool, Fail> {
     let outputs = run(alloc, events)?;
     let answers = outputs.answers.as_slice();
@@ -68,7 +68,7 @@ fn is_answer(answer: &Answer, entry: &Entry) -> bool {
     }
 }
 
-// A takes a set that is held back, and B takes one meanwhile: whether each is taken.
+// A takes a set that is held back, and B takes one meanwhile. The result is whether each set is taken.
 fn set_side_by_side<R: Threads + Wait + Sync>(
     rt: &R,
     gate: &Held,
@@ -90,7 +90,7 @@ fn set_side_by_side<R: Threads + Wait + Sync>(
     )
 }
 
-// What the nodes took side by side, merged; whether the gate gave up; and whether the sets were taken.
+// The merged entries of nodes that commit side by side, whether the gate gave up, and whether the sets were taken.
 fn side_by_side<R: Threads + Wait + Sync>(
     rt: &R,
     alloc: Global,
@@ -127,8 +127,8 @@ fn what_two_centres_take_side_by_side_is_one_run(rt: HostRuntime) -> Result<(), 
     Ok(())
 }
 
-// A start at A of a train that B registers, as the world takes it, with the frames that then ask for the right and give
-// it.
+// A start at A of a train that B registers, as the world takes it. The frames that ask for the right and give it
+// follow.
 fn start_in_the_world(alloc: Global) -> Result<Vec<WorldEvent>, Fail> {
     let set = WorldEvent::Set {
         centre: A,
@@ -177,7 +177,7 @@ fn first_alone(frame: Frame) -> Shown {
     [None, Some(frame), None]
 }
 
-// The frames that the node shows to a centre.
+// The frames of the node to a centre.
 fn frames_to<R: Wait>(rt: &R, node: &Node, to: u8) -> Shown {
     [
         node.frame(rt, to, 0),
@@ -186,7 +186,7 @@ fn frames_to<R: Wait>(rt: &R, node: &Node, to: u8) -> Shown {
     ]
 }
 
-// The node takes the frame, where there is one.
+// The node takes the frame, which has to exist.
 fn take_frame<R: Wait>(
     rt: &R,
     node: (&Node, &mut Share),
@@ -198,8 +198,8 @@ fn take_frame<R: Wait>(
     commit(rt, node, share, Event::Deliver { from, frame })
 }
 
-// The nodes take a start at A of a train that B registers, and the frames in which the right is asked for and given:
-// the frames from A to B before and after the start, those from A to itself, and those from B to A.
+// The nodes take a start at A of a train that B registers, and the frames that ask for the right and give it. The
+// result is the frames from A to B before and after the start, from A to itself, and from B to A.
 fn begun<R: Wait>(
     rt: &R,
     alloc: Global,
@@ -218,7 +218,7 @@ fn begun<R: Wait>(
     Ok([before, asks, own, gives])
 }
 
-// The same, with what the nodes took, merged.
+// The same, with the merged entries of the nodes.
 fn begun_and_merged<R: Wait>(rt: &R, alloc: Global) -> Result<([Shown; 4], Vec<Entry>), Fail> {
     let (a, b) = both(alloc)?;
     let mut of_a = a.share();
@@ -245,7 +245,7 @@ fn a_node_shows_the_frame_that_it_sent(rt: HostRuntime) -> Result<(), Fail> {
     Ok(())
 }
 
-// What keeps the logs of these nodes from being a family.
+// The reason why the logs of these nodes do not form a family.
 fn fault_of(alloc: Global, nodes: Vec<Node>, shares: Vec<Share>) -> Result<GatherFault, Fail> {
     Ok(
         gather(alloc, nodes, shares)

@@ -5,8 +5,8 @@ use rbc_node::Gate;
 use std::sync::atomic::{AtomicBool, AtomicU32, Ordering};
 use std::thread;
 
-/// Holds the commit of A back under its lock until the commit of B is answered, and once more after its lock until
-/// another commit of A is answered: each time at most so many turns. Counts the commits that are over.
+/// Holds the commit of A back under its lock until the commit of B is answered. Holds it back again after the lock
+/// until another commit of A is answered. Each wait gives up after `TURNS` turns. Counts the commits that are over.
 #[derive(Drop)]
 pub struct Held {
     pub is_begun: AtomicBool,

@@ -36,7 +36,7 @@ pub fn stamps_of(alloc: Global, entries: &[Entry]) -> Result<Vec<(u8, u32)>, Fai
     Ok(stamps)
 }
 
-// A takes two sets, and B one: what they took, merged.
+// A takes two sets, and B one. The result is the merged entries.
 fn taken_and_merged(
     alloc: Global,
     a: &mut CentreLog,

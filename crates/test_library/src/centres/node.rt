@@ -10,8 +10,8 @@ use std::test::*;
 use std::thread;
 use std::thread::Threads;
 
-// A takes two sets with its share, and refuses one with B's: the stamps; how many receipts A's share has, and the place
-// and the stamp of the last; and why the third is refused.
+// A takes two sets with its own share, and refuses one with B's share. The result is the two stamps, the last receipt
+// (`last_of`), and the fault of the refused set.
 fn taken_and_refused<R: Wait>(
     rt: &R,
     alloc: Global,
@@ -39,7 +39,7 @@ fn a_share_of_another_centre_is_stray(rt: HostRuntime) -> Result<(), Fail> {
     Ok(())
 }
 
-// The node takes the set, with this stamp.
+// The node takes the set. The result is its stamp.
 fn stamp_of<R: Wait>(rt: &R, node: &Node, share: &mut Share, section: u16) -> Result<u32, Fail> {
     let outcome = node
         .commit(rt, &Open, share, Event::Set(section))
@@ -48,7 +48,7 @@ fn stamp_of<R: Wait>(rt: &R, node: &Node, share: &mut Share, section: u16) -> Re
     Ok(outcome.stamp)
 }
 
-// The node refuses the set, for this reason.
+// The node refuses the set. The result is the fault.
 fn refused<R: Wait>(
     rt: &R,
     node: &Node,
@@ -62,14 +62,14 @@ fn refused<R: Wait>(
     )
 }
 
-// How many receipts there are, and the place and the stamp of the last.
+// The count of receipts, and the place and the stamp of the last one.
 fn last_of(share: &Share) -> Result<(usize, usize, u32), Fail> {
     let last = share.receipts().last().ok_or("there are receipts")?;
     Ok((share.receipts().len(), last.place, last.outcome.stamp))
 }
 
-// A share with a receipt of A comes to A as it begins again: before that has taken anything, and after another set.
-// Why it is refused each time, and how many receipts it has then.
+// A share with a receipt of A is used at a new node of A: before the node has taken anything, and after another set.
+// The result is the two faults, and the count of the share's receipts.
 fn refused_where_a_begins_again<R: Wait>(
     rt: &R,
     alloc: Global,
@@ -104,7 +104,7 @@ fn a_share_is_stray_where_its_last_receipt_is_not(rt: HostRuntime) -> Result<(),
 /// The stamp of a set that is done, and its section.
 type Done = Option<(u32, u16)>;
 
-// What a set came to, where it is done.
+// The result of a set, if it is done.
 fn done(answer: Result<Outcome, ShareFault>) -> Done {
     let outcome = answer.ok()?;
     match outcome.words().as_slice() {
@@ -113,7 +113,7 @@ fn done(answer: Result<Outcome, ShareFault>) -> Done {
     }
 }
 
-// A takes a set that is held back. Meanwhile B takes one, and then A takes another: what comes of each.
+// A takes a set that is held back. Meanwhile B takes one, and then A takes another. The result is that of each set.
 fn set_side_by_side<R: Threads + Wait + Sync>(
     rt: &R,
     gate: &Held,
@@ -136,7 +136,7 @@ fn set_side_by_side<R: Threads + Wait + Sync>(
     )
 }
 
-/// Whether the gate gave up, and how many commits are over.
+/// Whether the gate gave up, and the count of commits that are over.
 type Gated = (bool, u32);
 
 fn gated(gate: &Held) -> Gated {
@@ -146,7 +146,7 @@ fn gated(gate: &Held) -> Gated {
     )
 }
 
-/// What comes of the sets, what the gate saw, and how many receipts the shares have.
+/// The results of the sets, those of the gate, and the counts of the shares' receipts.
 type SideBySide = ((Done, (Done, Done)), Gated, (usize, usize));
 
 fn side_by_side<R: Threads + Wait + Sync>(rt: &R, alloc: Global) -> Result<SideBySide, Fail> {

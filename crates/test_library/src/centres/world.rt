@@ -12,7 +12,7 @@ fn initiation(alloc: Global, centre: u8) -> Result<WorldEvent, Fail> {
     Ok(WorldEvent::Train { centre, bytes })
 }
 
-/// What the world of the line answers the events, and what they leave.
+/// The answers of the line's world to the events, and the world after them.
 pub fn run(alloc: Global, events: &[WorldEvent]) -> Result<Outputs, Fail> {
     let line = two_centres(alloc)?;
     Ok(
@@ -22,7 +22,7 @@ pub fn run(alloc: Global, events: &[WorldEvent]) -> Result<Outputs, Fail> {
     )
 }
 
-// A message, a frame that was not sent, and a message at a centre that the line has not.
+// A message, a frame that was not sent, and a message at a centre that is not of the line.
 fn events(alloc: Global) -> Result<Vec<WorldEvent>, Fail> {
     let first = initiation(alloc, 0)?;
     let elsewhere = initiation(alloc, 7)?;
@@ -45,7 +45,7 @@ fn events_are_run_in_order(rt: HostRuntime) -> Result<(), Fail> {
     Ok(())
 }
 
-// Made to be run with each allocation failing in turn (`rt try --test --fail-alloc N`): a step that memory refused
+// Made to be run with each allocation failing in turn (`rt try --test --fail-alloc N`). A step that memory refused has
 // changed nothing, and is taken again.
 #[test]
 fn a_right_is_asked_for_and_given_between_centres(rt: HostRuntime) -> Result<(), Fail> {
@@ -57,15 +57,15 @@ fn a_right_is_asked_for_and_given_between_centres(rt: HostRuntime) -> Result<(),
     Ok(())
 }
 
-/// What the link says to a frame, and the one frame back.
+/// The link's answer to a frame, and the one frame back.
 type Answered = (Option<LinkAnswer>, Option<Frame>);
 
-/// What the link says to a frame that comes again, and whether no frame is sent then.
+/// The link's answer to a frame that is delivered again, and whether no frame is sent then.
 type Again = (Option<LinkAnswer>, bool);
 
 // A train starts at centre 0. The frame that asks for its right is delivered, then the one that gives it, and then the
-// first again: the frame that asks, what centre 1 answers, how much centre 0 says to the train, and what comes of the
-// frame that comes again.
+// first one again. The result: the first frame, the answer of centre 1, the count of messages to the train, and the
+// answer to the repeated frame.
 fn played(alloc: Global) -> Result<(Option<Frame>, Answered, usize, Again), Fail> {
     let mut world = world_of_two(alloc)?;
     played_in(alloc, &mut world)
@@ -87,7 +87,8 @@ fn played_in(
     Ok((asked, given, said, again))
 }
 
-// Section 1 is set and the train starts at centre 0: the one frame to centre 1 in which that asks for the right.
+// Section 1 is set, and the train starts at centre 0. The result is the one frame to centre 1, which asks for the
+// right.
 fn asked_at(alloc: Global, world: &mut World) -> Result<Option<Frame>, Fail> {
     let set = WorldEvent::Set {
         centre: 0,
@@ -101,7 +102,7 @@ fn asked_at(alloc: Global, world: &mut World) -> Result<Option<Frame>, Fail> {
     Ok(asked)
 }
 
-// The train says this at centre 0: the one frame to centre 1 after it.
+// The train sends this at centre 0. The result is the one frame to centre 1 after it.
 fn asked_after(alloc: Global, world: &mut World, text: &str) -> Result<Option<Frame>, Fail> {
     let bytes = bytes_of(alloc, text)?;
     let outcome = taken(world, WorldEvent::Train { centre: 0, bytes })?;
@@ -114,7 +115,7 @@ fn answered(world: &mut World) -> Result<Answered, Fail> {
     Ok((outcome.link, only_frame(&outcome, 0)))
 }
 
-// The first frame from centre 1 to centre 0 is delivered: how much that says to the train.
+// The first frame from centre 1 to centre 0 is delivered. The result is the count of messages to the train.
 fn said(world: &mut World) -> Result<usize, Fail> {
     let outcome = taken(world, delivery(1, 0))?;
     Ok(outcome.sayings.len())
@@ -126,7 +127,7 @@ fn again(world: &mut World) -> Result<Again, Fail> {
     Ok((outcome.link, outcome.frames.is_empty()))
 }
 
-// The frame of an outcome to a centre, where there is one alone.
+// The frame of an outcome to a centre, if there is exactly one.
 fn only_frame(outcome: &Outcome, to: u8) -> Option<Frame> {
     match outcome.frames.to(to).as_slice() {
         [frame] => Some(*frame),
@@ -143,7 +144,7 @@ fn delivery(from: u8, to: u8) -> WorldEvent {
     }
 }
 
-// Takes an event, and once more where memory ran out.
+// Takes an event, and tries once more if memory ran out.
 fn taken(world: &mut World, event: WorldEvent) -> Result<Outcome, Fail> {
     let answer = match world.step(&event) {
         Err(StepFault::Memory) => world.step(&event),

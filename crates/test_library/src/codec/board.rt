@@ -1,5 +1,5 @@
-//! A board carries a frame from one caller to another, and takes one under each number; so does a queue, which has room
-//! for 64.
+//! A board carries a frame from one caller to another, and takes one frame under each number. So does a queue, which
+//! has room for 64 frames.
 ghost use Rattle.std.specs.Prelude.{◌≤◌};
 
 use rbc_board::{Carrier, CellBoard, QueueCarrier};
@@ -11,8 +11,8 @@ fn asked() -> Frame {
     Frame::new(1, 4, Body::AskRight { engine: 2 })
 }
 
-// A frame is put twice under number 1: what another caller gets there before and between, and then under number 2; and
-// what each put says.
+// A frame is put twice under number 1. The result is the frames that another caller gets: before the puts, between
+// them, and under number 2. With it are the results of both puts.
 fn put_twice(board: &CellBoard) -> Result<([Option<Frame>; 3], [Result<(), Frame>; 2]), Fail> {
     let mut sender = board.seen()?;
     let mut receiver = board.seen()?;
@@ -54,7 +54,7 @@ fn numbered(number: u32) -> Frame
     Frame::new(number, number, Body::AskRight { engine: 2 })
 }
 
-// Puts so many frames from the first on. Whether all are taken.
+// Puts `count` frames from the first on. The result is whether all are taken.
 fn puts_all<C: Carrier>(carrier: &C, seen: &mut C::Seen, count: u32) -> bool
     requires link { C.is_of carrier.now seen.old }
     requires count { count ≤ 65536 }
@@ -68,8 +68,8 @@ fn puts_all<C: Carrier>(carrier: &C, seen: &mut C::Seen, count: u32) -> bool
     true
 }
 
-// A full queue is asked for one frame more than it has room for, before the receiver takes the first and after that:
-// what the puts say.
+// One frame too many is put into a full queue: before the receiver takes the first frame, and after that. The result is
+// that of both puts, and of two gets of the first frame.
 fn put_past_the_room<C: Carrier>(
     carrier: &C,
     sender: &mut C::Seen,
@@ -97,7 +97,8 @@ fn a_queue_hands_back_what_it_has_no_room_for_and_gives_what_is_known_again(
     Ok(())
 }
 
-// The receiver puts a frame; the sender puts one under number 2, and one under number 1 twice: what each put says.
+// The receiver puts a frame. The sender puts one under number 2, and then one under number 1 twice. The result is that
+// of each put.
 fn put_by_each<C: Carrier>(
     carrier: &C,
     sender: &mut C::Seen,
@@ -115,7 +116,7 @@ fn put_by_each<C: Carrier>(
     [by_the_receiver, under_two, under_one, again]
 }
 
-// What the sender gets under the numbers 2 and 1, and the receiver.
+// The frames that the sender gets under the numbers 2 and 1, and those that the receiver gets.
 fn got_by_each<C: Carrier>(
     carrier: &C,
     sender: &mut C::Seen,

@@ -1,16 +1,16 @@
-//! Numbers and bytes that look like chance.
+//! Pseudo-random numbers and bytes.
 
 ghost use Rattle.std.specs.Prelude.{◌≡◌, length, IfOk};
 
 use std::alloc::{AllocError, Global};
 
-/// The next of a row of numbers that look like chance.
+/// The next pseudo-random number after this one.
 pub fn next_of(seed: u32) -> u32 {
     seed.wrapping_mul(1_664_525).wrapping_add(1_013_904_223)
 }
 
-/// So many bytes of chance: the number and the stamp are small, and the kind is one of sixteen, so that many of them
-/// spell a frame.
+/// `count` pseudo-random bytes. The number and the stamp are small, and the kind is one of sixteen, so that many of
+/// them spell a frame.
 pub fn bytes_by_chance(alloc: Global, seed: u32, count: usize) -> Result<Vec<u8>, AllocError>
     ensures { IfOk result (λ bytes. length bytes.items ≡ count) }
 {
@@ -25,20 +25,20 @@ pub fn bytes_by_chance(alloc: Global, seed: u32, count: usize) -> Result<Vec<u8>
     Ok(bytes)
 }
 
-/// A row of numbers that look like chance.
+/// A sequence of pseudo-random numbers.
 #[derive(Clone, Copy, Debug)]
 pub struct Chance {
     pub seed: u32,
 }
 
 impl Chance {
-    /// The next number below this one, or 0 where this is 0.
+    /// The next number below `count`, or 0 if `count` is 0.
     pub fn below(&mut self, count: u16) -> u16 {
         self.seed = next_of(self.seed);
         ((self.seed >> 16) % u32::from(count.max(1))) as u16
     }
 
-    /// Comes true once in so many turns.
+    /// Is true once in `turns` turns.
     pub fn once_in(&mut self, turns: u16) -> bool {
         self.below(turns) == 0
     }

@@ -1,11 +1,11 @@
-//! The two frames whose bytes the profile gives, written and read, and bytes of chance.
+//! The two frames whose bytes the profile gives, written and read; and pseudo-random bytes.
 
 use crate::codec::chance::{bytes_by_chance, next_of};
 use rbc_linkmsg::{Body, Frame, FrameFault, decode_frame, encode_frame};
 use std::alloc::Global;
 use std::test::*;
 
-// The bytes of a frame, and what they are read as.
+// The bytes of a frame, and the result of reading them.
 fn spelled(alloc: Global, frame: &Frame) -> Result<(Vec<u8>, Result<Frame, FrameFault>), Fail> {
     let bytes = encode_frame(alloc, frame)?;
     let read = decode_frame(&bytes);

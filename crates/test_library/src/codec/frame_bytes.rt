@@ -1,4 +1,5 @@
-//! Frames between centres as bytes: one of each body, those at the limits of each field, and bytes that are no frame.
+//! Frames between centres as bytes: one of each body, those at the limits of each field, and bytes that do not spell a
+//! frame.
 
 use crate::codec::bytes::bytes_of;
 use rbc_linkmsg::{FrameFault, decode_frame, encode_frame};
@@ -34,7 +35,7 @@ static FRAMES: [&str; 26] = [
     "00000001000000010C0000000100000001000000000004000000000000000100000000000001",
 ];
 
-// Bytes that are no frame, and their fault.
+// Bytes that do not spell a frame, and their fault.
 static FAULTS: [(&str, FrameFault); 47] = [
     ("", FrameFault::Short),
     ("0000000100000004", FrameFault::Short),

@@ -1,5 +1,5 @@
-//! Bytes of chance in place of a message, as somebody sends them who means ill: each is a message, or has a fault of
-//! the format.
+//! Pseudo-random bytes in place of a message, as an attacker may send them. Each is a message, or has a fault of the
+//! format.
 
 use crate::codec::bytes::bytes_of;
 use crate::codec::chance::Chance;
@@ -7,20 +7,20 @@ use rbc_msgs::{MsgFault, Stream, StreamFault, decode_track, decode_train};
 use std::alloc::Global;
 use std::test::*;
 
-// How many are read of each kind.
+// The number of byte strings that are read of each kind.
 const TRIES: u32 = 100_000;
 
 const SEED: u32 = 20_261_126;
 
-// The greatest count of bytes that is tried: a message has 1 023 at most.
+// The length of the longest one. A message has at most 1 023 bytes.
 const MOST: u16 = 1_100;
 
-// The numbers that a train's message may have, and a centre's.
+// The numbers that a train's message may have, and those that a centre's message may have.
 const OF_TRAINS: [u8; 10] = [129, 132, 136, 137, 138, 150, 155, 156, 157, 159];
 
 const OF_CENTRES: [u8; 8] = [3, 8, 9, 24, 32, 39, 40, 41];
 
-// A train's messages with packets that are kept and packets that are passed over, and a centre's.
+// A train's messages, with packets that are kept and packets that are passed over; and a centre's message.
 const TRAIN_DATA: &str = "81070000000100000040010280A03282585001400510190010616015";
 
 const INITIATION: &str = "9B028000000040000040";
@@ -29,10 +29,10 @@ const REQUEST: &str = "8406800000014000004200081405019412C2800A002880C80083";
 
 const AUTHORITY: &str = "03048000000100280CA1E810901FF805DC00";
 
-/// How often bytes had each fault, by its number, and how often they were a message, at 0.
+/// The count of bytes with each fault, by its number, and the count of messages, at 0.
 type Counts = [u32; 9];
 
-/// Bytes from which pieces of any length are taken by chance.
+/// Bytes, and the pseudo-random pieces of any length that are taken from them.
 #[derive(Drop)]
 struct Hostile {
     pool: Vec<u8>,
@@ -47,7 +47,7 @@ impl Hostile {
         })
     }
 
-    // None to 1 100 bytes.
+    // A piece of 0 to 1 100 bytes.
     fn piece(&mut self, alloc: Global) -> Result<Vec<u8>, Fail> {
         let start = usize::from(self.chance.below(u16::MAX));
         let count = usize::from(self.chance.below(MOST + 1));
@@ -56,7 +56,7 @@ impl Hostile {
         Ok(Vec::from_slice(alloc, piece)?)
     }
 
-    // The same, with one of these numbers and its own length in front.
+    // The same, with one of these numbers and its own length at its start.
     fn headed(&mut self, alloc: Global, numbers: &[u8]) -> Result<Vec<u8>, Fail> {
         let mut bytes = self.piece(alloc)?;
         let number = self.chance.below(numbers.len().min(255) as u16);
@@ -69,7 +69,7 @@ impl Hostile {
         Ok(bytes)
     }
 
-    // A message in which up to three bytes and the last are others, and from which the end may be cut.
+    // A message with up to three bytes changed and the last one too, and perhaps without its end.
     fn bent(&mut self, alloc: Global, message: &[u8]) -> Result<Vec<u8>, Fail> {
         let mut bytes = Vec::from_slice(alloc, message)?;
         for _ in 0..self.chance.below(4) {
@@ -90,7 +90,7 @@ impl Hostile {
     }
 }
 
-// 70 000 bytes of chance.
+// 70 000 pseudo-random bytes.
 fn bytes_of_any_kind(alloc: Global) -> Result<Vec<u8>, Fail> {
     let mut chance = Chance { seed: SEED };
     let mut bytes = Vec::with_capacity(alloc, 70_000)?;
@@ -101,7 +101,7 @@ fn bytes_of_any_kind(alloc: Global) -> Result<Vec<u8>, Fail> {
     Ok(bytes)
 }
 
-// Counts what bytes are.
+// Counts the result of reading.
 fn count<T>(counts: &mut Counts, read: &Result<T, MsgFault>) {
     let number = match read {
         Ok(_) => 0,
@@ -112,7 +112,7 @@ fn count<T>(counts: &mut Counts, read: &Result<T, MsgFault>) {
     }
 }
 
-// What pieces of each kind are to a centre, which reads what trains send.
+// The results of pieces of each kind at a centre, which reads messages of trains.
 fn read_as_of_trains(alloc: Global) -> Result<Counts, Fail> {
     let mut hostile = Hostile::new(alloc)?;
     let mut counts = [0; 9];
@@ -129,7 +129,7 @@ fn read_as_of_trains(alloc: Global) -> Result<Counts, Fail> {
     Ok(counts)
 }
 
-// What a good message of a train is with some bytes changed.
+// The result of a valid message of a train with some bytes changed.
 fn read_bent(
     alloc: Global,
     hostile: &mut Hostile,
@@ -142,7 +142,7 @@ fn read_bent(
     Ok(())
 }
 
-// Memory is at hand, so that want of it is never told; all else comes.
+// Memory suffices, so the fault of missing memory never occurs. Each other result occurs.
 fn is_expected(number: usize, count: u32) -> bool {
     if number == 8 { count == 0 } else { count > 100 }
 }
@@ -156,7 +156,7 @@ fn bytes_by_chance_are_a_trains_message_or_have_a_fault(rt: HostRuntime) -> Resu
     Ok(())
 }
 
-// What pieces of each kind are to a train, which reads what centres send.
+// The results of pieces of each kind at a train, which reads messages of centres.
 fn read_as_of_centres(alloc: Global) -> Result<Counts, Fail> {
     let mut hostile = Hostile::new(alloc)?;
     let message = bytes_of(alloc, AUTHORITY)?;
@@ -180,7 +180,8 @@ fn bytes_by_chance_are_a_centres_message_or_have_a_fault(rt: HostRuntime) -> Res
     Ok(())
 }
 
-// Feeds a stream with a piece of each kind, whole messages in front: how many messages it gave, and its fault.
+// Feeds a stream with a whole message, and then with a piece of each kind. The result is the count of messages, and the
+// fault.
 fn fed(
     alloc: Global,
     hostile: &mut Hostile,

@@ -1,13 +1,13 @@
-//! A train's messages on a stream, in whatever pieces its bytes come, and written again. No command reads a stream or
-//! writes what a train says.
+//! A train's messages on a stream, whose bytes arrive in any pieces; and the same messages written again. No command
+//! reads a stream or writes a train's message.
 
 use crate::codec::bytes::bytes_of;
 use rbc_msgs::{MsgFault, Stream, StreamFault, TrainMsg, encode_train};
 use std::alloc::Global;
 use std::test::*;
 
-// A stream in pieces, parted by commas (`-` has no bytes), and what each call gives, parted by semicolons: the bytes of
-// the messages that it appends, and its fault.
+// A stream in pieces, with commas between them (`-` has no bytes). Then the results of the calls, with semicolons
+// between them: the bytes of the messages that a call appends, and its fault.
 static STREAMS: [(&str, &str); 11] = [
     (
         "9B,02,80,00,00,00,40,00,00,40",
@@ -75,7 +75,7 @@ fn each_message_is_read_copied_and_written(rt: HostRuntime) -> Result<(), Fail> 
     Ok(())
 }
 
-// What each call gives for a stream in pieces, as text.
+// The result of each call for a stream in pieces, as text.
 fn answers_to(alloc: Global, pieces: &str) -> Result<Vec<u8>, Fail> {
     let mut stream = Stream::new(alloc);
     let mut said = Vec::new(alloc);
@@ -88,7 +88,7 @@ fn answers_to(alloc: Global, pieces: &str) -> Result<Vec<u8>, Fail> {
     Ok(said)
 }
 
-// What a call gives, as text.
+// The result of a call, as text.
 fn answer_to(alloc: Global, stream: &mut Stream, piece: &[u8]) -> Result<Vec<u8>, Fail> {
     let mut messages = Vec::new(alloc);
     let result = stream.feed(piece, &mut messages);
@@ -121,7 +121,7 @@ fn written(alloc: Global, message: &TrainMsg) -> Result<String, Fail> {
     Ok(hex::encode_upper(alloc, &bytes)?)
 }
 
-// Adds a text, after a mark where something was said before.
+// Adds a text. If there is a text already, a mark is added first.
 fn add(said: &mut Vec<u8>, mark: &[u8], text: &[u8]) -> Result<(), Fail> {
     if !said.is_empty() {
         said.extend_from_slice(mark)?;
@@ -144,7 +144,7 @@ fn a_megabyte_comes_in_one_piece(rt: HostRuntime) -> Result<(), Fail> {
     Ok(())
 }
 
-// So many whole messages, and after them the begin of one.
+// 40 330 whole messages, and after them the beginning of one.
 fn megabyte(alloc: Global, message: &[u8], begin: &[u8]) -> Result<Vec<u8>, Fail> {
     let mut bytes = Vec::new(alloc);
     for _ in 0..40_330 {
@@ -154,14 +154,14 @@ fn megabyte(alloc: Global, message: &[u8], begin: &[u8]) -> Result<Vec<u8>, Fail
     Ok(bytes)
 }
 
-// Message 129 takes memory for its packet 11.
+// Message 129 needs memory for its packet 11.
 static TRAIN_DATA: [u8; 28] = [
     0x81, 0x07, 0x00, 0x00, 0x00, 0x01, 0x00, 0x00, 0x00, 0x40, 0x01, 0x02, 0x80, 0xA0, 0x32, 0x82,
     0x58, 0x50, 0x01, 0x40, 0x05, 0x10, 0x19, 0x00, 0x10, 0x61, 0x60, 0x15,
 ];
 
-// Feeds the message, and then again in two pieces: whether memory was there, and whether each call told the want of it,
-// the first as such.
+// Feeds the message, and then again in two pieces. The result is whether memory sufficed, and whether each call
+// reported the missing memory. The first of them has to report it as such.
 fn fed(alloc: Global, messages: &mut Vec<TrainMsg>) -> (bool, bool) {
     let mut stream = Stream::new(alloc);
     let mut memory = true;

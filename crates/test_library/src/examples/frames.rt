@@ -5,7 +5,7 @@ use rbc_linkmsg::{Body, Frame, FrameFault, decode_frame, encode_frame};
 use std::alloc::Global;
 use std::test::*;
 
-// The frame that the bytes of another one spell.
+// The frame that is read from the bytes of another one.
 fn read_again(alloc: Global) -> Result<Result<Frame, FrameFault>, Fail> {
     let frame = Frame::new(1, 4, Body::AskRight { engine: 2 });
     let bytes = encode_frame(alloc, &frame)?;

@@ -1,4 +1,4 @@
-//! Several journals in one order, stamps that fall, and where the whole lines of a text end.
+//! Several journals in one order, stamps that fall, and the end of the whole lines of a text.
 
 use crate::journal::line::{B, two_centres};
 use rbc_world::WorldEvent;

@@ -1,4 +1,4 @@
-//! What is read.
+//! The reading of a journal.
 
 use crate::journal::line::{B, ENTRIES, FILE, FIRST, two_centres};
 use rbc_world::WorldEvent;
@@ -6,7 +6,7 @@ use std::alloc::Global;
 use std::test::*;
 use text_journal::{Entry, JournalFault, read_journal};
 
-// What is read of a journal of B with this first line and these others.
+// The result of reading a journal of B with this first line and these others.
 fn read(
     alloc: Global,
     first: &str,
@@ -17,7 +17,7 @@ fn read(
     Ok(read_journal(alloc, &line, B, FILE, text.as_str()))
 }
 
-// How many entries are read, or the number of the damaged line, or 0 for a foreign journal.
+// The count of entries that are read, or the number of the damaged line, or 0 for a foreign journal.
 fn found(alloc: Global, first: &str, others: &str) -> Result<Result<usize, usize>, Fail> {
     match read(alloc, first, others)? {
         Ok(entries) => Ok(Ok(entries.len())),

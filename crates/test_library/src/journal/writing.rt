@@ -1,4 +1,4 @@
-//! What is written.
+//! The writing of a journal.
 
 use crate::journal::line::{B, ENTRIES, FILE, FIRST, two_centres};
 use rbc_world::WorldEvent;

@@ -6,7 +6,7 @@ use text_page::{
     Usage,
 };
 
-/// Where its sections lie: two of 100 m in the home of A, two in that of B.
+/// The layout of its sections: two of 100 m with home A, and two with home B.
 pub fn layout(alloc: Global) -> Result<Layout, AllocError> {
     Ok(Layout {
         nid_c: 7,
@@ -38,8 +38,8 @@ fn places(alloc: Global) -> Result<Vec<Place>, AllocError> {
     Ok(places)
 }
 
-/// What its centres have of it after five events: train 19 stands in section 0, section 2 is kept for it, and section
-/// 3 is not released.
+/// The state of the line after five events. Train 19 is in section 0, section 2 is kept for it, and section 3 is not
+/// released.
 pub fn now(alloc: Global) -> Result<LineNow, AllocError> {
     let mut now = LineNow {
         events: 5,

@@ -1,11 +1,11 @@
-//! What each request is answered: the status of it.
+//! The status of the answer to each request.
 
 use crate::page::shown::answered;
 use serve_page::{Asked, MOST_REQUEST, Refusal, asked_of, refusal};
 use std::alloc::Global;
 use std::test::*;
 
-// The status of the answer to these bytes, 0 where more are waited for.
+// The status of the answer to these bytes, or 0 if more bytes are awaited.
 fn status(alloc: Global, bytes: &[u8]) -> Result<u16, Fail> {
     let text = answered(alloc, asked_of(bytes))?;
     if text.is_empty() {
@@ -167,7 +167,7 @@ fn a_request_may_come_in_pieces(rt: HostRuntime) -> Result<(), Fail> {
     Ok(())
 }
 
-// A request with so many fields more, of so many bytes each, and no end.
+// A request with `count` more fields of `bytes` bytes each, and without an end.
 fn long(alloc: Global, count: usize, bytes: usize) -> Result<Vec<u8>, Fail> {
     let mut text = Vec::from_slice(alloc, b"GET / HTTP/1.1\r\nHost: localhost\r\n")?;
     for _ in 0..count {

@@ -1,4 +1,4 @@
-//! What the page of a print has.
+//! The contents of the page of a print.
 
 use crate::page::line::{layout, now};
 use crate::page::shown::lacking;
@@ -6,8 +6,8 @@ use std::alloc::{AllocError, Global};
 use std::test::*;
 use text_page::{Changes, Layout, LineNow, Part, Phase, RunSheet, SectionNow, Usage};
 
-// The page of the last two of seven events, after which the line is as `now` has it. Section 2 is kept from event 6
-// on, train 19 has a mission from event 6 on, and a session with A between events 5 and 7.
+// The page of the last two of seven events, after which the line is in the state `now`. Section 2 is kept from event 6
+// on. Train 19 has a mission from event 6 on, and a session with A between events 5 and 7.
 fn page(alloc: Global) -> Result<String, AllocError> {
     let layout = layout(alloc)?;
     page_on(alloc, &layout)

@@ -1,4 +1,4 @@
-//! What an answer shows.
+//! The contents of an answer.
 
 use crate::page::line::{layout, now};
 use serve_page::{Asked, Refusal, answer, refusal};
@@ -6,7 +6,7 @@ use std::alloc::{AllocError, Global};
 use std::test::*;
 use text_page::Layout;
 
-// The version in which the line is shown.
+// The version of the shown line.
 const VERSION: u64 = 512;
 
 /// The head and the body of the answer.
@@ -30,7 +30,7 @@ pub fn lacking(text: &str, wanted: &[&'static str]) -> Option<&'static str> {
     None
 }
 
-// How many bytes follow the empty line, and how many the head says that do.
+// The count of bytes after the empty line, and the length that the head gives for them.
 fn lengths(text: &str) -> Result<(usize, usize), Fail> {
     let (head, body) = text.split_once("\r\n\r\n").ok_or("there is an empty line")?;
     let (_, rest) = head

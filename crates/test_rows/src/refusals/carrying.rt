@@ -6,7 +6,7 @@ use rbc_linkmsg::Frame;
 use std::alloc::Global;
 use std::sync::Wait;
 
-/// The first frame of a link, as it comes over a new queue.
+/// The first frame of a link, as it arrives over a new queue.
 pub fn over_a_queue<R: Wait>(rt: &R, alloc: Global, frame: Frame) -> Result<Frame, Stopped> {
     if let Ok((queue, writer, reader)) = QueueCarrier::new(rt, alloc) {
         return carried(&queue, writer, reader, frame);
@@ -17,7 +17,7 @@ pub fn over_a_queue<R: Wait>(rt: &R, alloc: Global, frame: Frame) -> Result<Fram
     }
 }
 
-// Puts the frame, and gets it, each once more where it was refused.
+// Puts the frame and gets it, each once more if it was refused.
 fn carried<C: Carrier>(
     carrier: &C,
     mut writer: C::Seen,

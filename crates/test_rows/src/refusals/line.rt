@@ -1,4 +1,4 @@
-//! The line, and what its train says.
+//! The line, and its train's messages.
 
 ghost use Rattle.std.specs.Prelude.{◌≤◌, length, IfOk};
 
@@ -35,7 +35,7 @@ pub static START: [u8; 46] = [
     0xA0, 0x28, 0x0C, 0xA0, 0x96, 0x14, 0x00, 0x50, 0x01, 0x44, 0x06, 0x40, 0x04, 0x18,
 ];
 
-/// Where each of its messages begins, and where the last ends.
+/// The index at which each of its messages begins, and the end of the last one.
 pub static BEGINS: [usize; 4] = [0, 10, 20, 46];
 
 /// Sections 0 and 1 of centre A, and then section 2 of centre B, which registers the train.

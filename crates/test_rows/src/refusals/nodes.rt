@@ -1,4 +1,5 @@
-//! What is committed at a node. What memory refuses leaves node and share as they were, and is committed the next time.
+//! The commits at a node. If memory is refused, node and share stay as they were, and the next attempt commits the
+//! event.
 
 use crate::refusals::line::{BEGINS, START};
 use crate::refusals::playing::Stopped;
@@ -10,14 +11,14 @@ use serve_workers::{NoSink, SessionEnd, run_session};
 use std::alloc::Global;
 use std::sync::Wait;
 
-/// A node, and what one thread committed there.
+/// A node, and the commits of one thread there.
 #[derive(Drop)]
 pub struct Slot {
     pub node: Node,
     pub share: Share,
 }
 
-// How many entries the log has, how many receipts the share, and how many frames the centre has for another.
+// The counts of the log's entries, of the share's receipts, and of the frames from this centre to another.
 fn counts<R: Wait>(rt: &R, seat: &Slot, to: u8) -> (usize, usize, u32) {
     let look = seat.node.look(rt);
     let log = look.log();
@@ -28,7 +29,7 @@ fn counts<R: Wait>(rt: &R, seat: &Slot, to: u8) -> (usize, usize, u32) {
     )
 }
 
-// Commits the first event, or the second where memory ran out and nothing has changed.
+// Commits the first event. If memory ran out and nothing has changed, commits the second.
 fn commit<R: Wait>(
     rt: &R,
     seat: &mut Slot,
@@ -54,7 +55,7 @@ pub fn set<R: Wait>(rt: &R, seat: &mut Slot, to: u8, section: u16) -> Result<(),
     commit(rt, seat, to, Event::Set(section), Event::Set(section))
 }
 
-/// The node takes a frame of another centre, and then once more, as an old one.
+/// The node takes a frame of another centre. Then it takes the frame once more, as an old one.
 pub fn take<R: Wait>(rt: &R, seat: &mut Slot, from: u8, frame: Frame) -> Result<(), Stopped> {
     commit(
         rt,
@@ -65,7 +66,7 @@ pub fn take<R: Wait>(rt: &R, seat: &mut Slot, from: u8, frame: Frame) -> Result<
     )
 }
 
-/// The frame of this number that the centre has for another.
+/// The frame of this number from this centre to another.
 pub fn frame<R: Wait>(rt: &R, seat: &Slot, to: u8, number: u32) -> Result<Frame, Stopped> {
     match seat.node.frame(rt, to, number) {
         Some(frame) => Ok(frame),
@@ -73,7 +74,8 @@ pub fn frame<R: Wait>(rt: &R, seat: &Slot, to: u8, number: u32) -> Result<Frame,
     }
 }
 
-/// A session over the bytes of the train's start. Where it ends for want of memory, another takes what is left.
+/// A session over the bytes of the train's start. If it ends because memory was refused, another session takes the
+/// rest.
 pub fn start<R: Wait>(rt: &R, alloc: Global, seat: &mut Slot) -> Result<(), Stopped> {
     let before = seat.share.receipts().len();
     for _ in 0..2 {

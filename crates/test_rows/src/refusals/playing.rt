@@ -1,4 +1,4 @@
-//! The scene, and what is left of it.
+//! The scene and its result.
 
 ghost use Rattle.std.specs.Prelude.{◌<◌};
 
@@ -11,7 +11,7 @@ use rbc_node::{Family, GatherFault, Node, Share, gather};
 use std::alloc::{AllocError, Global};
 use std::sync::Wait;
 
-/// What is left: the bytes that the train was told, and the merged entries of both nodes.
+/// The result: the bytes of the messages to the train, and the merged entries of both nodes.
 #[derive(Drop)]
 pub struct Played {
     pub told: Vec<u8>,
@@ -23,11 +23,11 @@ pub struct Played {
 pub enum Stopped {
     /// `gather` was refused memory, and has dropped the nodes and the shares.
     AtGather,
-    /// Something was refused twice, or was not as it should be.
+    /// Something was refused twice, or did not have its expected value.
     Otherwise,
 }
 
-/// A train that B registers starts at A. A asks B for the right, B gives it, and each frame comes once more.
+/// A train that B registers starts at A. A asks B for the right, B gives it, and each frame is delivered once more.
 pub fn play<R: Wait>(rt: &R, alloc: Global) -> Result<Played, Stopped> {
     let mut a = seat(alloc, A)?;
     let mut b = seat(alloc, B)?;
@@ -50,7 +50,7 @@ fn start_over_the_border<R: Wait>(
     carry_twice(rt, alloc, (b, B), (a, A))
 }
 
-// The first frame from one centre to the other comes, and comes once more.
+// The first frame from one centre to the other is delivered, and then delivered once more.
 fn carry_twice<R: Wait>(
     rt: &R,
     alloc: Global,

@@ -1,4 +1,4 @@
-//! What the train is told, written.
+//! The bytes of the messages to the train.
 
 use crate::refusals::playing::Stopped;
 use crossbeam_channel::{Sender, bounded};
@@ -8,7 +8,7 @@ use serve_workers::writing::{Reply, run_writer};
 use std::alloc::{AllocError, Global};
 use std::sync::Wait;
 
-/// The bytes that a writer writes of all that the train was told.
+/// The bytes that a writer writes for all messages to the train.
 pub fn told<R: Wait>(rt: &R, alloc: Global, share: &Share) -> Result<Vec<u8>, Stopped> {
     if let Ok(bytes) = written(rt, alloc, share) {
         return Ok(bytes);
@@ -19,7 +19,7 @@ pub fn told<R: Wait>(rt: &R, alloc: Global, share: &Share) -> Result<Vec<u8>, St
     }
 }
 
-// The same, or what was refused for want of memory.
+// The same, or the error if memory was refused.
 fn written<R: Wait>(rt: &R, alloc: Global, share: &Share) -> Result<Vec<u8>, AllocError> {
     let (sender, replies) = bounded(alloc, 8)?;
     for receipt in share.receipts() {
