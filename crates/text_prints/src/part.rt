@@ -1,7 +1,7 @@
 use rbc_watch::{Saying, Word};
 
 /// The meaning of a line after an event.
-#[derive(Clone, Copy, Debug, PartialEq, Eq)]
+#[derive(Clone, Copy)]
 pub(crate) enum Part {
     /// A message to a train.
     Said(Saying),
