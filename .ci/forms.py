@@ -25,7 +25,7 @@ FORM = re.compile(rf"(?s)Form \{{\s*name: {TEXT},\s*about: {TEXT},\s*words: &\[(
 # The parts of the man page that no table has.
 STATUSES = (
     ("0", "The command is done."),
-    ("1", "audit: the print, or a journal, differs. decode: some of the bytes are refused."),
+    ("1", "audit: the print, or a journal, differs. watch: a train is in danger. decode: some of the bytes are refused."),
     ("2", "The arguments are refused, or the help is printed."),
     ("3", "A file cannot be read, or a script or a journal has a fault."),
     ("4", "The line file has a fault."),

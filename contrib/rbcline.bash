@@ -1,7 +1,7 @@
 # Completion of rbcline in bash: source this file. Made by `.ci/names --write` from crates/cli_commands/src/forms.rt
 _rbcline() {
     local word="${COMP_WORDS[COMP_CWORD]}" options="--help"
-    local commands="check explain run script test storm demo serve drive trains print audit words decode encode picture pcap help --help --version"
+    local commands="check explain run script test storm demo serve drive trains print audit watch words decode encode picture pcap help --help --version"
     if [ "$COMP_CWORD" = 1 ]; then
         mapfile -t COMPREPLY < <(compgen -W "$commands" -- "$word")
         return

@@ -15,16 +15,18 @@ use crate::printed::print_journals;
 use crate::run::{check, run};
 use crate::scenarios::{script_in_words, test};
 use crate::storm::run_storm;
+use crate::watch::watch_printed;
 use crate::words::{Request, requested};
 use std::alloc::Global;
 use std::convert::AsStr;
 use std::io::Write;
 use text_script::status::{Fault, ended};
 
-/// Runs the command of the arguments after the program's name, and returns the exit status. It is 0 for success, and 1
-/// if an audit found a difference, `decode` a fault, or `demo` or `trains` an unsafe place. It is 2 for refused
-/// arguments (help too), and 3 for an unreadable file, a script fault or journals. It is 4 for a line fault, 5 for a
-/// refused step, and 7 for a message fault. It is 6 for a refused write, or for a command that needs sockets.
+/// Runs the command of the arguments after the program's name, and returns the exit status. It is 0 for success. It
+/// is 1 if an audit found a difference, `watch` a danger, or `decode` a fault. `demo` and `trains` give 1 for an unsafe
+/// place. It is 2 for refused arguments (help too), and 3 for an unreadable file, a script fault or journals. It is 4
+/// for a line fault, 5 for a refused step, and 7 for a message fault. It is 6 for a refused write, or for a command
+/// that needs sockets.
 pub fn command<S: AsStr, F: Files, O: Write, E: Write>(
     alloc: Global,
     words: &[S],
@@ -56,16 +58,29 @@ fn obey<'a, S: AsStr, F: Files, O: Write, E: Write>(
             run_storm(alloc, file, script, seed, files, out)
         }
         Request::Demo { file, settings } => run_demo(alloc, file, settings, files, out),
-        // This crate has files, but no sockets: the program itself runs these.
-        Request::Serve { .. }
-        | Request::Drive { .. }
-        | Request::Trains { .. }
-        | Request::LivePage { .. } => { Err(Fault::Socket) }
+        request => obey_on_print(alloc, words, request, files, out, err),
+    }
+}
+
+// Runs a command on bytes, fields or a print.
+fn obey_on_print<'a, S: AsStr, F: Files, O: Write, E: Write>(
+    alloc: Global,
+    words: &'a [S],
+    request: Request<'a>,
+    files: &F,
+    out: &mut O,
+    err: &mut E,
+) -> Result<(), Fault<'a>> {
+    match request {
         Request::Print { file, listing } => {
             tell_part(print_journals(alloc, file, listing, files, out)?, err)
         }
         Request::Audit { file, printed } => {
             tell_part(audit_printed(alloc, file, printed, files, out)?, err)
+        }
+        Request::Watch { file, printed } => {
+            let has_event = watch_printed(alloc, file, printed, files, out, err)?;
+            note_lack(has_event, "no event", printed, err)
         }
         Request::Decode(decoding) => decode(alloc, words, decoding, files, out),
         Request::Encode { fields, is_frame } => encode(alloc, fields, is_frame, files, out, err),
@@ -87,6 +102,8 @@ fn obey<'a, S: AsStr, F: Files, O: Write, E: Write>(
             let has_message = capture_printed(alloc, capturing, files, out)?;
             note_lack(has_message, "no message", capturing.printed, err)
         }
+        // This crate has files, but no sockets: the program itself runs these.
+        _ => Err(Fault::Socket),
     }
 }
 

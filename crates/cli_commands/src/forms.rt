@@ -24,7 +24,7 @@ const SCRIPT: (&str, &str) = (
     "The script, one event a line; `-` is standard input",
 );
 
-static FORMS: [Form; 17] = [
+static FORMS: [Form; 18] = [
     Form {
         name: "check",
         about: "Read a line file, and say how many centres, tracks, sections and trains it has",
@@ -114,6 +114,11 @@ static FORMS: [Form; 17] = [
         words: &[FILE, PRINTED],
     },
     Form {
+        name: "watch",
+        about: "Find the first event of a print after which a train is in danger",
+        words: &[FILE, PRINTED],
+    },
+    Form {
         name: "words",
         about: "Put a print of `run` into words, or show one message field by field",
         words: &[FILE, PRINTED],
@@ -157,8 +162,8 @@ pub(crate) const VERSION: &str = "0.6.0";
 
 // The exit statuses, and a first command to try.
 const ENDS: &str =
-    "Exit status: 0 done, 1 a print or a scenario differs or bytes are refused, 2 these words, 3 a file or script, \
-4 the line file, 5 a refused step, 6 a socket or the output, 7 bytes that are not a message\n\n\
+    "Exit status: 0 done, 1 a print or a scenario differs, a train is in danger, or bytes are refused, 2 these words, \
+3 a file or script, 4 the line file, 5 a refused step, 6 a socket or the output, 7 bytes that are not a message\n\n\
 To begin: rbcline run crates/rbc_cli/data/line.toml crates/rbc_cli/data/script";
 
 // The program without its commands.

@@ -34,4 +34,5 @@ pub mod running;
 mod scenarios;
 mod script_faults;
 mod storm;
+mod watch;
 pub mod words;

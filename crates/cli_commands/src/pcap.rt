@@ -3,9 +3,9 @@
 use crate::files::Files;
 use crate::line_file::line_file_in;
 use crate::printed::printed_in;
-use cli_capture::capture_of;
 use std::alloc::Global;
 use std::io::Write;
+use text_prints::capture_of;
 use text_script::status::Fault;
 
 /// The arguments of `pcap`.

@@ -59,6 +59,11 @@ pub enum Request<'a> {
         file: &'a str,
         printed: &'a str,
     },
+    /// Find the first event of a print after which the promise to the world outside is broken.
+    Watch {
+        file: &'a str,
+        printed: &'a str,
+    },
     /// Run the centres of the line: the first listens at this port, the others at the ports after it.
     Serve {
         file: &'a str,
@@ -252,6 +257,7 @@ fn named_of_print<'a>(command: &str, file: &'a str, words: &ArgMatches<'a>) -> O
     let printed = words.get_str("PRINTED")?;
     match command {
         "audit" => Some(Request::Audit { file, printed }),
+        "watch" => Some(Request::Watch { file, printed }),
         "picture" => Some(Request::Picture {
             file,
             printed,

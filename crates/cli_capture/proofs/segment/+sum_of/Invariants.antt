@@ -1,5 +1,0 @@
-use Rattle.std.proofs.Common.{length}
-use Rattle.cli_capture.proofs.segment.+sum_of.Given as goal
-
-abbrev pub decreases-sum_of : goal.decreases-sum_of
-decreases-sum_of l = length l.bytes.now
