@@ -54,9 +54,9 @@ impl Train {
 
     // Its front end runs to this place. It does not run if its rear end would run back.
     fn run_to(&mut self, front: u32)
-        requires { front ≤ 20000000 }
-        requires { self.old.ends.front < front }
-        requires { rules.may_reach front (train_at self.old) ≡ true }
+        requires range { front ≤ 20000000 }
+        requires ahead { self.old.ends.front < front }
+        requires may { rules.may_reach front (train_at self.old) ≡ true }
         ensures { HasRun self.old self.new }
     {
         let rear = front as i32 - LENGTH as i32;
