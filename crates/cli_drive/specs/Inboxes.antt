@@ -12,6 +12,7 @@ first_length bytes = None
 -- whole, or L_MESSAGE is too small for its own head.
 abbrev pub IsCut : List ℕ → Came → List ℕ → Type 0
 IsCut bytes (Message message) left =
-    option_map (λ n. (take n bytes, drop n bytes)) (first_length bytes) ≡ Some (message.items, left)
+    option_map {U = List ℕ × List ℕ} (λ n. (take n bytes, drop n bytes)) (first_length bytes)
+    ≡ Some (message.items, left)
 IsCut bytes Nothing left = (left ≡ bytes) × ((n : ℕ) → first_length bytes ≡ Some n → length bytes < n)
 IsCut bytes Garbage left = (left ≡ bytes) × ((n : ℕ) → first_length bytes ≡ Some n → n < 3)
