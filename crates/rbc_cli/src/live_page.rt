@@ -135,6 +135,7 @@ fn stop<R: Net<Stream = TcpStream> + Clock>(rt: &R, control: u16) {
 }
 
 /// A print that nobody reads.
+#[derive(Drop)]
 struct Unread;
 
 impl Write for Unread {
