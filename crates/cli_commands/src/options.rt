@@ -4,12 +4,15 @@ use crate::numbers::bounded;
 use clap::{Arg, ArgAction, ArgGroup};
 use std::alloc::{AllocError, Global};
 
-/// The name of the two options for the folder of the journals. At most one of them is given.
+/// The name of the three options for the folder of the journals. At most one of them is given.
 const JOURNALS: &str = "journals";
 
 /// The options for the folder of the journals.
 pub fn journals<'a>(alloc: Global) -> Result<ArgGroup<'a>, AllocError> {
-    ArgGroup::new(alloc, JOURNALS).arg("journal")?.arg("resume")
+    ArgGroup::new(alloc, JOURNALS)
+        .arg("journal")?
+        .arg("resume")?
+        .arg("keep")
 }
 
 // The options of `picture`: the part of the run that is drawn.
@@ -38,7 +41,7 @@ pub fn part<'a>(
 }
 
 // The options of `serve` with a value.
-static DOORS: [(&str, &str, &str); 6] = [
+static DOORS: [(&str, &str, &str); 7] = [
     (
         "page",
         "PORT",
@@ -68,6 +71,11 @@ static DOORS: [(&str, &str, &str); 6] = [
         "resume",
         "FOLDER",
         "Continue from the journals in this folder",
+    ),
+    (
+        "keep",
+        "FOLDER",
+        "Continue from the journals in this folder if each centre has one, and begin them otherwise",
     ),
 ];
 
@@ -192,7 +200,7 @@ static DECODE: [(&str, &str); 2] = [
 
 static ENCODE: [(&str, &str); 1] = [("frame", "The fields are those of a frame between centres")];
 
-static SERVE: [(&str, &str); 5] = [
+static SERVE: [(&str, &str); 6] = [
     ("quiet", "Write no notes on standard error"),
     (
         "tell",
@@ -209,6 +217,10 @@ static SERVE: [(&str, &str); 5] = [
     (
         "no-sync",
         "Do not wait until the disk has each write of a journal",
+    ),
+    (
+        "no-print",
+        "Print no events at the end: the journals have them",
     ),
 ];
 
@@ -236,7 +248,7 @@ pub fn flag<'a>(
         .long(name)
         .action(ArgAction::SetTrue)
         .help(help);
-    if name == "no-sync" {
+    if name == "no-sync" || name == "no-print" {
         return flag.requires_arg(JOURNALS);
     }
     Ok(flag)

@@ -127,7 +127,7 @@ pub struct Listing<'a> {
 }
 
 /// The options of `serve` besides the line and the port.
-#[derive(Clone, Copy, Debug)]
+#[derive(Clone, Copy)]
 pub struct ServeWords<'a> {
     /// No notes are written.
     pub is_quiet: bool,
@@ -145,6 +145,8 @@ pub struct ServeWords<'a> {
     pub per_second: Option<u32>,
     /// The number of messages that it may send at once, if it is given.
     pub burst: Option<u32>,
+    /// No event is printed at the end.
+    pub is_unprinted: bool,
     /// The journals that the centres write, if they write any.
     pub journal: Option<JournalWords<'a>>,
 }
@@ -166,13 +168,24 @@ pub struct TrainsWords {
     pub is_shut: bool,
 }
 
+/// Whether centres begin new journals, or continue from those in the folder.
+#[derive(Clone, Copy, PartialEq, Eq)]
+pub enum JournalStart {
+    /// They begin: no journal in the folder has an event.
+    Begin,
+    /// They continue: each centre has its journal.
+    Resume,
+    /// They continue if each centre has its journal, and begin otherwise.
+    Keep,
+}
+
 /// The options of `serve` for journals.
-#[derive(Clone, Copy, Debug)]
+#[derive(Clone, Copy)]
 pub struct JournalWords<'a> {
     /// The folder in which each centre has its journal.
     pub folder: &'a str,
-    /// The centres continue from the journals in the folder. Otherwise they begin new journals.
-    pub is_resumed: bool,
+    /// Whether the centres begin new journals.
+    pub start: JournalStart,
     /// Each write is awaited until the disk has it.
     pub is_synced: bool,
 }
@@ -321,16 +334,23 @@ fn serve_words<'a>(words: &ArgMatches<'a>) -> ServeWords<'a> {
         shows_life: words.get_flag("life"),
         per_second: words.get_one("rate"),
         burst: words.get_one("burst"),
+        is_unprinted: words.get_flag("no-print"),
         journal: journal_words(words),
     }
 }
 
-// The options of journals. Only one of the two folders is given, and only with it `--no-sync`.
+// The options of journals. Only one of the three folders is given, and only with it `--no-sync` and `--no-print`.
 fn journal_words<'a>(words: &ArgMatches<'a>) -> Option<JournalWords<'a>> {
-    let resumed = words.get_str("resume");
+    let (start, folder) = if let Some(folder) = words.get_str("keep") {
+        (JournalStart::Keep, folder)
+    } else if let Some(folder) = words.get_str("resume") {
+        (JournalStart::Resume, folder)
+    } else {
+        (JournalStart::Begin, words.get_str("journal")?)
+    };
     Some(JournalWords {
-        folder: resumed.or(words.get_str("journal"))?,
-        is_resumed: resumed.is_some(),
+        folder,
+        start,
         is_synced: !words.get_flag("no-sync"),
     })
 }

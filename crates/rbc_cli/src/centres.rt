@@ -161,6 +161,7 @@ fn manner_of(words: &ServeWords<'_>) -> ServeOptions {
         is_telling: words.is_telling,
         shows_life: words.shows_life,
         is_bound: words.is_bound,
+        prints_events: !words.is_unprinted,
         ..ServeOptions::default()
     };
     if let Some(per_second) = words.per_second {

@@ -22,7 +22,7 @@ use text_script::status::{Fault, ended, report};
 /// How long a second of the trains takes, in milliseconds.
 const SECOND_MS: u64 = 250;
 
-/// How often `stop` is sent, if the centres accept no connection.
+/// How often `stop now` is sent, if the centres accept no connection.
 const STOPS: u32 = 100;
 
 /// The arguments of centres with a page at this port.
@@ -36,6 +36,7 @@ const fn served_at(page: u16) -> ServeWords<'static> {
         shows_life: false,
         per_second: None,
         burst: None,
+        is_unprinted: true,
         journal: None,
     }
 }
@@ -89,7 +90,7 @@ fn run_all<
 ) -> Result<(), Fault<'static>> {
     thread::scope(thread::scope_env(), rt, |scope| {
         if scope
-            .spawn(move || serve_unread(rt, given, endpoints))
+            .spawn(move || serve_unprinted(rt, given, endpoints))
             .is_err()
         {
             return Err(AllocError.into());
@@ -101,14 +102,17 @@ fn run_all<
     })
 }
 
-// Serves until `stop`. Nobody reads the print of the run.
-fn serve_unread<R: Threads + Wait + Sync + Clock + AllocGlobal>(
+// Serves until `stop`, without a print of the run.
+fn serve_unprinted<R: Threads + Wait + Sync + Clock + AllocGlobal>(
     rt: &R,
     given: &LineFile,
     endpoints: Endpoints,
 ) {
     let record: Record<SystemFile> = Record::none(rt.alloc());
-    let options = ServeOptions::default();
+    let options = ServeOptions {
+        prints_events: false,
+        ..ServeOptions::default()
+    };
     let _ = serve(
         rt,
         rt.alloc(),
@@ -117,33 +121,19 @@ fn serve_unread<R: Threads + Wait + Sync + Clock + AllocGlobal>(
         record,
         options,
         &NoNotes,
-        &mut Unread,
+        &mut io::sink(),
     );
 }
 
-// Sends `stop` to the centres at the port of their interlocking.
+// Sends `stop now` to the centres at the port of their interlocking: the trains have ended their sessions.
 fn stop<R: Net<Stream = TcpStream> + Clock>(rt: &R, control: u16) {
     let address = SocketAddr::new(IpAddr::V4(Ipv4Addr::LOCALHOST), control);
     for _ in 0..STOPS {
         if let Ok(mut stream) = TcpStream::connect(rt, address)
-            && stream.write_all(b"stop\n").is_ok()
+            && stream.write_all(b"stop now\n").is_ok()
         {
             return;
         }
         thread::sleep(rt, Duration::from_millis(SECOND_MS));
-    }
-}
-
-/// A print that nobody reads.
-#[derive(Drop)]
-struct Unread;
-
-impl Write for Unread {
-    fn write(&mut self, bytes: &[u8]) -> io::Result<usize> {
-        Ok(bytes.len())
-    }
-
-    fn flush(&mut self) -> io::Result<()> {
-        Ok(())
     }
 }

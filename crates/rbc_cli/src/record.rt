@@ -2,7 +2,7 @@
 
 use cli_commands::journal::{Journal, journal_name, journal_of};
 use cli_commands::line_file::LineFile;
-use cli_commands::words::JournalWords;
+use cli_commands::words::{JournalStart, JournalWords};
 use serve_journal::{JournalFile, OpenFault, SystemFile, make_journal, open_journal, read_whole};
 use serve_line::{Notes, Record, ServeFault};
 use std::alloc::AllocError;
@@ -34,19 +34,23 @@ pub struct Locked<'a> {
 }
 
 /// Opens and locks the existing journals, and then reads them. To resume, all of them must exist. To begin, none of
-/// them may have an event. Nothing is changed. A note names the journal that is refused.
+/// them may have an event. To keep them, they are resumed if all exist, and begun otherwise. Nothing is changed. A note
+/// names the journal that is refused.
 pub fn lock_journals<'a, R: Files<File = File> + Clock + AllocGlobal, N: Notes>(
     rt: &R,
     given: &LineFile,
-    words: JournalWords<'a>,
+    mut words: JournalWords<'a>,
     notes: &N,
 ) -> Result<Locked<'a>, ServeFault> {
     let mut places = Vec::new(rt.alloc());
     for centre in 0..given.line.centre_count() {
         let name = journal_name(rt.alloc(), &given.line, words.folder, centre)?;
-        places.push(place_of(rt, name, words.is_resumed, notes)?)?;
+        places.push(place_of(rt, name, words.start, notes)?)?;
     }
-    let entries = entries_of(rt, given, words.is_resumed, &mut places, notes)?;
+    if words.start == JournalStart::Keep && places.iter().all(|place| place.file.is_some()) {
+        words.start = JournalStart::Resume;
+    }
+    let entries = entries_of(rt, given, words.start, &mut places, notes)?;
     Ok(Locked {
         words,
         places,
@@ -68,7 +72,7 @@ impl Locked<'_> {
             mut places,
             entries,
         } = self;
-        if !words.is_resumed {
+        if words.start != JournalStart::Resume {
             make_folder(rt, &words, notes)?;
         }
         let mut files = Vec::new(rt.alloc());
@@ -92,12 +96,12 @@ impl Locked<'_> {
 fn place_of<R: Files<File = File> + Clock, N: Notes>(
     rt: &R,
     name: String,
-    is_resumed: bool,
+    start: JournalStart,
     notes: &N,
 ) -> Result<Place, ServeFault> {
     let file = match open_journal(rt, name.as_str()) {
         Ok(file) => Some(file),
-        Err(OpenFault::Missing) if is_resumed => {
+        Err(OpenFault::Missing) if start == JournalStart::Resume => {
             return Err(ServeFault::Run(Fault::NoJournal(name)));
         }
         Err(OpenFault::Missing) => None,
@@ -113,11 +117,11 @@ fn place_of<R: Files<File = File> + Clock, N: Notes>(
     })
 }
 
-// The events of the journals, in the order in which they happened. A journal to begin has none.
+// The events of the journals, in the order in which they happened. If they are not resumed, a journal has none.
 fn entries_of<R: AllocGlobal, N: Notes>(
     rt: &R,
     given: &LineFile,
-    is_resumed: bool,
+    start: JournalStart,
     places: &mut [Place],
     notes: &N,
 ) -> Result<Vec<Entry>, ServeFault> {
@@ -128,19 +132,34 @@ fn entries_of<R: AllocGlobal, N: Notes>(
         };
         let bytes = bytes_of(rt, place, notes)?;
         let Journal { entries, length } = journal_of(rt.alloc(), given, centre, &bytes)?;
-        if is_resumed {
+        if start == JournalStart::Resume {
             note_torn(place, bytes.len().saturating_sub(length), notes);
             place.length = length;
         } else if !entries.is_empty() {
-            let name = &place.name;
-            notes.note(format_args!(
-                "{name} has events: go on from it by --resume, or name another folder"
-            ));
+            note_old(places, centre as usize, start, notes);
             return Err(ServeFault::Journal);
         }
         journals.push(entries)?;
     }
     Ok(in_order(rt.alloc(), journals)?)
+}
+
+// Notes that the journal of this number can't be begun, since it has events.
+fn note_old<N: Notes>(places: &[Place], number: usize, start: JournalStart, notes: &N) {
+    let Some(Place { name, .. }) = places.get(number) else {
+        return;
+    };
+    match places.iter().find(|place| place.file.is_none()) {
+        Some(missing) if start == JournalStart::Keep => {
+            let missing = &missing.name;
+            notes.note(format_args!(
+                "{name} has events, and {missing} does not exist: copy it back, or name another folder"
+            ));
+        }
+        _ => notes.note(format_args!(
+            "{name} has events: go on from it by --resume, or name another folder"
+        )),
+    }
 }
 
 // The bytes of a journal; none if it does not exist.

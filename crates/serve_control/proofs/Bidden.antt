@@ -17,6 +17,7 @@ some_asked (e ∷ entries) = ap (λ others. Some (asked_of e) ∷ others) (some_
 
 abbrev is_stop : Option Command → Bool
 is_stop (Some command.Stop) = true
+is_stop (Some command.StopNow) = true
 is_stop found = false
 
 no_stop_once : (asked : Asked) → is_stop (bidden_once asked) ≡ false
@@ -42,6 +43,8 @@ pub bids : (line : Line) (text : List ℕ) (entries : List Entry) (found : Optio
 bids line text entries None is asked = tt
 bids line text entries (Some command.Stop) is asked =
     absurd (let wrong : true ≡ false = ap is_stop is ∙ no_stop (map asked_of entries) in cc)
+bids line text entries (Some command.StopNow) is asked =
+    absurd (let wrong : true ≡ false = ap is_stop is ∙ no_stop (map asked_of entries) in cc)
 bids line text entries (Some command.Nothing) is asked = (map asked_of entries, ask_for line text entries asked, sym is)
 bids line text entries (Some (command.Set centre section)) is asked =
     (map asked_of entries, ask_for line text entries asked, sym is)
@@ -50,8 +53,8 @@ bids line text entries (Some (command.Unset centre section)) is asked =
 bids line text entries (Some command.Show) is asked = (map asked_of entries, ask_for line text entries asked, sym is)
 
 pub bids_nothing : (line : Line) (text : List ℕ) (entries : List Entry) (found : Option Command) →
-    text ≢ codes "stop" → found ≡ bidden (map asked_of entries) → AreAsked line (rows text) entries →
-    IfErr (ok_or found fault.Form) (IsNoCommand line text)
-bids_nothing line text entries None other is asked =
-    (other, inr (map asked_of entries, ask_for line text entries asked, sym is))
-bids_nothing line text entries (Some c) other is asked = tt
+    text ≢ codes "stop" → text ≢ codes "stop now" → found ≡ bidden (map asked_of entries)
+    → AreAsked line (rows text) entries → IfErr (ok_or found fault.Form) (IsNoCommand line text)
+bids_nothing line text entries None other later is asked =
+    (other, later, inr (map asked_of entries, ask_for line text entries asked, sym is))
+bids_nothing line text entries (Some c) other later is asked = tt

@@ -27,16 +27,17 @@ bidden (one ∷ next ∷ others) = None
 abbrev pub AskFor : Line → List ℕ → List Asked → Type 0
 AskFor line text asked = map Some asked ≡ map (row_asks line) (filter is_kept (rows text))
 
--- the text is `stop`, or asks for this in the form of a script
+-- the text is `stop` or `stop now`, or asks for this in the form of a script
 abbrev pub Bids : Line → List ℕ → Command → Type 0
 Bids line text command.Stop = text ≡ codes "stop"
+Bids line text command.StopNow = text ≡ codes "stop now"
 Bids line text other = (asked : List Asked) × AskFor line text asked × (bidden asked ≡ Some other)
 
--- memory ran out; or the text is not `stop`, and is not a script, or asks for something that the interlocking may not
--- ask for
+-- memory ran out; or the text is not `stop` or `stop now`, and is not a script, or asks for something that the
+-- interlocking may not ask for
 abbrev pub IsNoCommand : Line → List ℕ → CommandFault → Type 0
 IsNoCommand line text fault.Memory = Unit {0}
 IsNoCommand line text fault.Form =
-    (text ≢ codes "stop")
+    (text ≢ codes "stop") × (text ≢ codes "stop now")
     × (((n : ℕ) × IsFirstFault line (rows text) (refused.Form n))
     ⊎ ((asked : List Asked) × AskFor line text asked × (bidden asked ≡ None)))

@@ -20,6 +20,8 @@ pub enum Command {
     Show,
     /// No further connection is accepted, and the centres end with the last session.
     Stop,
+    /// No further connection is accepted, and all sessions end at once.
+    StopNow,
 }
 
 /// The reason why a line at the control endpoint is refused.
@@ -30,13 +32,16 @@ pub enum CommandFault {
     Form,
 }
 
-/// The command of a line. The line has the form of a script's line `set`, `unset` or `show`, or is `stop`.
+/// The command of a line. The line has the form of a script's line `set`, `unset` or `show`, or is `stop` or `stop now`.
 pub fn command_of(alloc: Global, line: &Line, row: &str) -> Result<Command, CommandFault>
     ensures ok { IfOk result (Bids line.now row.now) }
     ensures err { IfErr result (IsNoCommand line.now row.now) }
 {
     if row == "stop" {
         return Ok(Command::Stop);
+    }
+    if row == "stop now" {
+        return Ok(Command::StopNow);
     }
     match script_of(alloc, line, row) {
         Ok(entries) => command_in(&entries).ok_or(CommandFault::Form),

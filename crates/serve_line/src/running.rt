@@ -25,8 +25,8 @@ use std::time::Clock;
 const NOTES: usize = 1_024;
 
 /// Runs the centres of the line until the interlocking sends `stop` and all sessions have ended. Then it gathers and
-/// merges their logs. It prints all events with their effects, and the line, as a run does. One thread writes the
-/// notes, and one thread for each journal writes the events of its centre.
+/// merges their logs. It prints all events with their effects, and the line, as a run does, unless the options forbid
+/// it. One thread writes the notes, and one thread for each journal writes the events of its centre.
 pub fn serve<
     R: Threads + Wait + Sync + Clock,
     N: Notes + Sync,
@@ -109,7 +109,9 @@ fn serve_noted<
     let shares = shares_of(resumed, endpoints, links)?;
     notes.note("all sessions have ended");
     let family = gather(alloc, nodes, shares)?;
-    print_noted(alloc, line, &family, notes, out)?;
+    if options.prints_events {
+        print_noted(alloc, line, &family, notes, out)?;
+    }
     if is_whole {
         Ok(())
     } else {

@@ -4,7 +4,7 @@ use crate::line::INITIATION_OF_ONE;
 use crate::play::Act;
 use crate::plays::{OPENED_FIRST, Play, Seen, ServeMode};
 
-pub static PLAYS: [Play<'_>; 2] = [
+pub static PLAYS: [Play<'_>; 3] = [
     // Lines of the control endpoint with their answers, and the end of it.
     Play {
         name: "each_line_is_answered_as_a_run_prints_it",
@@ -36,6 +36,26 @@ pub static PLAYS: [Play<'_>; 2] = [
         seen: &[Seen::Prints(
             "> set A 1\nA 1 Done\n> set A 2\nA 2 NotHome\n> unset A 1\nA 1 Done\nsection 0 A shut\nsection 1 A shut\nsection 2 B shut\n",
         )],
+    },
+    // A train holds its connection, and `stop now` ends it.
+    Play {
+        name: "stop_now_ends_the_connection_of_a_train",
+        mode: ServeMode::Usual,
+        journals: None,
+        rounds: &[(
+            1,
+            &[
+                (0, Act::Train),
+                (0, Act::Sends(INITIATION_OF_ONE)),
+                (0, Act::Takes(12)),
+                (1, Act::Control),
+                (1, Act::Asks("stop now\n", "")),
+                (1, Act::Ends),
+                (0, Act::Ends),
+            ],
+        )],
+        status: 0,
+        seen: &[OPENED_FIRST],
     },
     // Connection 1 sends bytes with a fault, and is ended. After that a train on connection 0 is answered.
     Play {

@@ -19,6 +19,8 @@ enum Next {
     End,
     /// The centres are to stop.
     Stop,
+    /// The centres are to stop, and trains have no time to end their connections.
+    StopNow,
 }
 
 /// Serves a connection of the interlocking to its end.
@@ -37,9 +39,16 @@ pub(crate) fn serve_control<R: Wait + Clock, N: Notes>(
     let rest = Duration::from_millis(CONTROL_REST_MS);
     stream.set_waits(rest, rest);
     let mut shares = slot.shares.lock(rt);
-    if answer_rows(rt, server, notes, slot, shares.as_mut_slice(), stream) == Next::Stop {
-        notes.note(format_args!("control: connection {number} says stop"));
-        server.stop();
+    match answer_rows(rt, server, notes, slot, shares.as_mut_slice(), stream) {
+        Next::Stop => {
+            notes.note(format_args!("control: connection {number} says stop"));
+            server.stop();
+        }
+        Next::StopNow => {
+            notes.note(format_args!("control: connection {number} says stop now"));
+            server.stop_now();
+        }
+        Next::Listen | Next::End => {}
     }
     notes.often(Kind::End, format_args!("control: connection {number} ends"));
 }
@@ -108,6 +117,7 @@ fn answer_row<R: Wait + Clock, N: Notes>(
     };
     let command = match command_of(server.alloc, server.line, row) {
         Ok(Command::Stop) => return Next::Stop,
+        Ok(Command::StopNow) => return Next::StopNow,
         Ok(command) => command,
         Err(CommandFault::Form) => {
             notes.often(Kind::Line, "control: a line is refused, script fault");

@@ -210,11 +210,15 @@ fn dispensable<'a, R: Wait>(
     oldest
 }
 
-// After `stop`, trains have about 30 seconds to end their connections. Then the remaining connections are ended.
+// After `stop`, trains have about 30 seconds to end their connections, and after `stop now` no time. Then the remaining
+// connections are ended.
 fn end_trains<R: Wait, N: Notes>(rt: &R, server: &Server<'_>, notes: &N, endpoint: &Endpoint) {
     for _ in 0..GRACE_RESTS {
         if endpoint.is_empty() {
             return;
+        }
+        if server.state.is_hasty() {
+            break;
         }
         rest(rt, endpoint);
     }

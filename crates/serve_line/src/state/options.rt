@@ -12,11 +12,13 @@ pub struct ServeOptions {
     pub shows_life: bool,
     /// Whether a train's messages are taken only over the connection that serves the train.
     pub is_bound: bool,
+    /// Whether all events are printed at the end.
+    pub prints_events: bool,
 }
 
 impl Default for ServeOptions {
     /// The defaults: 50 messages per second, 100 at once, no notifications and no usage. A train's messages are taken
-    /// over any connection.
+    /// over any connection, and all events are printed at the end.
     fn default() -> ServeOptions {
         ServeOptions {
             rate: Rate {
@@ -26,6 +28,7 @@ impl Default for ServeOptions {
             is_telling: false,
             shows_life: false,
             is_bound: false,
+            prints_events: true,
         }
     }
 }

@@ -41,6 +41,8 @@ pub struct DirectedLink {
 pub struct State {
     /// No further connection is accepted.
     pub is_stopped: AtomicBool,
+    /// Trains have no time to end their connections after the stop.
+    is_hasty: AtomicBool,
     /// The number of centres' endpoints that are open or still have connections.
     endpoints: AtomicU64,
     /// Counts new connections and received lines; orders slots by last activity.
@@ -62,6 +64,7 @@ impl State {
     pub fn new(centres: u8) -> State {
         State {
             is_stopped: AtomicBool::new(false),
+            is_hasty: AtomicBool::new(false),
             endpoints: AtomicU64::new(u64::from(centres)),
             heard: AtomicU64::new(0),
             is_over: AtomicBool::new(false),
@@ -75,6 +78,11 @@ impl State {
     /// Whether no further connection is accepted.
     pub fn is_stopped(&self) -> bool {
         self.is_stopped.load(Ordering::SeqCst)
+    }
+
+    /// Whether trains have no time to end their connections after the stop.
+    pub fn is_hasty(&self) -> bool {
+        self.is_hasty.load(Ordering::SeqCst)
     }
 
     /// Counts a new connection or a received line, and returns the count before it. Slots use it as the time of their
@@ -249,6 +257,12 @@ impl Server<'_> {
         for journal in self.journals {
             journal.ring();
         }
+    }
+
+    /// Stops the server, and all connections of trains end at once.
+    pub fn stop_now(&self) {
+        self.state.is_hasty.store(true, Ordering::SeqCst);
+        self.stop();
     }
 
     /// Stops the server after a failure. The centres print nothing.

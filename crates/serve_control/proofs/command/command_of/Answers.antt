@@ -18,5 +18,6 @@ returns-in-Ok-clause-err c =
     subst
     (λ r. IfErr r (IsNoCommand c.args.line.now c.args.row.now))
     (sym c.ok_or.ensures.value)
-    (bids_nothing c.args.line.now c.args.row.now _ c.command_in.result (search rules) c.command_in.ensures
+    (bids_nothing c.args.line.now c.args.row.now _ c.command_in.result (search rules) (search rules)
+    c.command_in.ensures
     (subst (AreAsked c.args.line.now (rows c.args.row.now)) (sym c.deref.ensures.value) c.in-Ok.ensures.asked))
