@@ -7,7 +7,7 @@ _rbcline() {
         return
     fi
     case "${COMP_WORDS[COMP_CWORD - 1]}" in
-    --journal | --resume)
+    --journal | --resume | --keep)
         compopt -o filenames
         mapfile -t COMPREPLY < <(compgen -d -- "$word")
         return
@@ -17,7 +17,7 @@ _rbcline() {
     if [[ "$word" == --* ]]; then
         case "${COMP_WORDS[1]}" in
         demo) options+=" --script --trains --loss --seed --events --page" ;;
-        serve) options+=" --quiet --tell --life --bind --no-sync --page --control --rate --burst --journal --resume" ;;
+        serve) options+=" --quiet --tell --life --bind --no-sync --no-print --page --control --rate --burst --journal --resume --keep" ;;
         drive) options+=" --timeout" ;;
         trains) options+=" --no-release --trains --loss --late --seed --seconds" ;;
         words) options+=" --message --numbers" ;;

@@ -33,8 +33,8 @@ Bids line text command.Stop = text ≡ codes "stop"
 Bids line text command.StopNow = text ≡ codes "stop now"
 Bids line text other = (asked : List Asked) × AskFor line text asked × (bidden asked ≡ Some other)
 
--- memory ran out; or the text is not `stop` or `stop now`, and is not a script, or asks for something that the
--- interlocking may not ask for
+-- Memory ran out; or the text is not `stop` or `stop now`, and is not a script of a command that the interlocking may
+-- give.
 abbrev pub IsNoCommand : Line → List ℕ → CommandFault → Type 0
 IsNoCommand line text fault.Memory = Unit {0}
 IsNoCommand line text fault.Form =

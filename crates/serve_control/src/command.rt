@@ -32,7 +32,8 @@ pub enum CommandFault {
     Form,
 }
 
-/// The command of a line. The line has the form of a script's line `set`, `unset` or `show`, or is `stop` or `stop now`.
+/// The command of a line. The line has the form of a script's line `set`, `unset` or `show`, or is `stop` or
+/// `stop now`.
 pub fn command_of(alloc: Global, line: &Line, row: &str) -> Result<Command, CommandFault>
     ensures ok { IfOk result (Bids line.now row.now) }
     ensures err { IfErr result (IsNoCommand line.now row.now) }

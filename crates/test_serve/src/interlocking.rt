@@ -1,6 +1,6 @@
 //! The control endpoint: the answers to its lines, and how it ends.
 
-use crate::line::INITIATION_OF_ONE;
+use crate::line::{INITIATION_OF_ONE, VERSION};
 use crate::play::Act;
 use crate::plays::{OPENED_FIRST, Play, Seen, ServeMode};
 
@@ -47,7 +47,7 @@ pub static PLAYS: [Play<'_>; 3] = [
             &[
                 (0, Act::Train),
                 (0, Act::Sends(INITIATION_OF_ONE)),
-                (0, Act::Takes(12)),
+                (0, Act::Hears(VERSION)),
                 (1, Act::Control),
                 (1, Act::Asks("stop now\n", "")),
                 (1, Act::Ends),

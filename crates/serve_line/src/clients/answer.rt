@@ -37,7 +37,9 @@ pub(crate) fn answer<R: Wait>(
     command: Command,
 ) -> Result<Opened<Vec<u8>>, Fault<'static>> {
     match command {
-        Command::Nothing | Command::Stop | Command::StopNow => Ok(Opened::nothing(served.server.alloc)),
+        Command::Nothing | Command::Stop | Command::StopNow => Ok(Opened::nothing(
+            served.server.alloc,
+        )),
         Command::Show => show_written(rt, served.server, served.slot),
         Command::Set { centre, section } => {
             let event = WorldEvent::Set { centre, section };
