@@ -1,5 +1,5 @@
 // Clients of running centres, and a bare echo server beside them.
-// Words: line; echo PORT PORTS; release PORT; load centres|echo PORT SECONDS WINDOW TIME; soak PORT SECONDS; few PORT
+// Words: line; releases; echo PORT PORTS; release PORT; load centres|echo PORT SECONDS WINDOW TIME; soak PORT SECONDS; few PORT
 // SECONDS; browse PORT SECONDS; stop PORT; missing PRINTED HEARD; crash PORT TIME.
 
 #[path = "../peer/bits.rs"]
@@ -32,6 +32,7 @@ fn main() -> Result<(), Box<dyn Error>> {
     let words: Vec<&str> = words.iter().map(String::as_str).collect();
     match words[..] {
         ["line"] => print!("{}", line::line_file()),
+        ["releases"] => println!("{}", line::releases().join("\n")),
         ["echo", first, ports] => echo::serve(first.parse()?, ports.parse()?)?,
         ["release", first] => load::release(first.parse()?)?,
         ["stop", first] => load::stop(first.parse()?)?,
