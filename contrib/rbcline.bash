@@ -17,7 +17,7 @@ _rbcline() {
     if [[ "$word" == --* ]]; then
         case "${COMP_WORDS[1]}" in
         demo) options+=" --script --trains --loss --seed --events --page" ;;
-        serve) options+=" --quiet --tell --life --bind --no-sync --no-print --page --control --rate --burst --journal --resume --keep" ;;
+        serve) options+=" --quiet --journald --tell --life --bind --no-sync --no-print --page --control --rate --burst --journal --resume --keep" ;;
         drive) options+=" --timeout" ;;
         trains) options+=" --no-release --trains --loss --late --seed --seconds" ;;
         words) options+=" --message --numbers" ;;

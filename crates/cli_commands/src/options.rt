@@ -200,8 +200,12 @@ static DECODE: [(&str, &str); 2] = [
 
 static ENCODE: [(&str, &str); 1] = [("frame", "The fields are those of a frame between centres")];
 
-static SERVE: [(&str, &str); 6] = [
+static SERVE: [(&str, &str); 7] = [
     ("quiet", "Write no notes on standard error"),
+    (
+        "journald",
+        "Begin each note with its level, as systemd's journal reads it, in place of the time",
+    ),
     (
         "tell",
         "Notify the interlocking when a section that it asked back is shut",

@@ -131,6 +131,8 @@ pub struct Listing<'a> {
 pub struct ServeWords<'a> {
     /// No notes are written.
     pub is_quiet: bool,
+    /// Notes begin with their level, in the form of systemd's journal.
+    pub is_for_journald: bool,
     /// The port at which browsers see the line, if there is one.
     pub page: Option<u16>,
     /// The path of the Unix socket of the interlocking, if it has one in place of a port.
@@ -327,6 +329,7 @@ fn named_serve<'a>(words: &ArgMatches<'a>) -> Option<Request<'a>> {
 fn serve_words<'a>(words: &ArgMatches<'a>) -> ServeWords<'a> {
     ServeWords {
         is_quiet: words.get_flag("quiet"),
+        is_for_journald: words.get_flag("journald"),
         page: words.get_one("page"),
         control: words.get_str("control"),
         is_bound: words.get_flag("bind"),

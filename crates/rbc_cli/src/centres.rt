@@ -5,8 +5,8 @@ use cli_commands::disk::Disk;
 use cli_commands::line_file::{LineFile, line_file_in};
 use cli_commands::words::ServeWords;
 use serve_line::{
-    Endpoints, NoNotes, Notes, Record, ServeFault, ServeOptions, SocketFault, StderrNotes,
-    free_path, serve,
+    Endpoints, Level, NoNotes, NoteForm, Notes, Record, ServeFault, ServeOptions, SocketFault,
+    StderrNotes, free_path, serve,
 };
 use std::fs::File;
 use std::io::{Eprint, Write};
@@ -37,7 +37,7 @@ pub fn run_centres<
     let done = if words.is_quiet {
         run_noted(rt, &given, port, words, &NoNotes, out)
     } else {
-        run_noted(rt, &given, port, words, &StderrNotes(rt), out)
+        run_noted(rt, &given, port, words, &notes_of(rt, words), out)
     };
     match done {
         Ok(()) => 0,
@@ -80,7 +80,10 @@ fn run_noted<
     if let Some(path) = words.control {
         // Another program may have its own file there by now.
         if let Err(SocketFault::Io(error)) = free_path(rt, path) {
-            notes.note(format_args!("control: {path} can't be removed: {error}"));
+            notes.note(
+                Level::Warning,
+                format_args!("control: {path} can't be removed: {error}"),
+            );
         }
     }
     done
@@ -107,7 +110,7 @@ fn run_opened<
     notes: &N,
     out: &mut O,
 ) -> Result<(), ServeFault> {
-    let reasons = StderrNotes(rt);
+    let reasons = notes_of(rt, words);
     let journals = match words.journal {
         Some(journal) => Some(lock_journals(rt, given, journal, &reasons)?),
         None => None,
@@ -155,6 +158,22 @@ pub fn opened<
     }
 }
 
+// Notes on standard error, in the form of the arguments.
+fn notes_of<'a, R>(rt: &'a R, words: &ServeWords<'_>) -> StderrNotes<'a, R> {
+    StderrNotes {
+        rt,
+        form: form_of(words),
+    }
+}
+
+fn form_of(words: &ServeWords<'_>) -> NoteForm {
+    if words.is_for_journald {
+        NoteForm::Journald
+    } else {
+        NoteForm::Timed
+    }
+}
+
 // The options of the arguments.
 fn manner_of(words: &ServeWords<'_>) -> ServeOptions {
     let mut options = ServeOptions {
@@ -162,6 +181,7 @@ fn manner_of(words: &ServeWords<'_>) -> ServeOptions {
         shows_life: words.shows_life,
         is_bound: words.is_bound,
         prints_events: !words.is_unprinted,
+        note_form: form_of(words),
         ..ServeOptions::default()
     };
     if let Some(per_second) = words.per_second {

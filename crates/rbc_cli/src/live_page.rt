@@ -7,7 +7,7 @@ use cli_commands::disk::Disk;
 use cli_commands::line_file::LineFile;
 use cli_commands::words::{ServeWords, TrainsWords};
 use serve_journal::SystemFile;
-use serve_line::{Endpoints, NoNotes, Record, ServeOptions, StderrNotes, serve};
+use serve_line::{Endpoints, NoNotes, NoteForm, Record, ServeOptions, StderrNotes, serve};
 use std::alloc::AllocError;
 use std::fs::File;
 use std::io::{Eprint, Write};
@@ -37,6 +37,7 @@ const fn served_at(page: u16) -> ServeWords<'static> {
         per_second: None,
         burst: None,
         is_unprinted: true,
+        is_for_journald: false,
         journal: None,
     }
 }
@@ -60,7 +61,11 @@ pub fn run_live_page<
         Err(fault) => return report(&fault, out, err),
     };
     let port = page.saturating_add(1);
-    let endpoints = match opened(rt, &given, port, &served_at(page), &StderrNotes(rt)) {
+    let notes = StderrNotes {
+        rt,
+        form: NoteForm::Timed,
+    };
+    let endpoints = match opened(rt, &given, port, &served_at(page), &notes) {
         Ok(endpoints) => endpoints,
         Err(fault) => return refused(&fault, out, err),
     };

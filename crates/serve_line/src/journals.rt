@@ -1,6 +1,6 @@
 use crate::journaling::{JournalWriter, ResumeFault, keep_journal, resume};
 use crate::state::Server;
-use crate::status::Notes;
+use crate::status::{Level, Notes};
 use rbc_line::Line;
 use rbc_node::{Node, Share};
 use serve_control::ServeFault;
@@ -45,7 +45,10 @@ pub(crate) fn resume_noted<R: Wait, N: Notes>(
                 let count = share.receipts().len();
                 if count > 0 {
                     let name = name_of(line, share.centre());
-                    notes.note(format_args!("{name}: goes on after {count} events"));
+                    notes.note(
+                        Level::Info,
+                        format_args!("{name}: goes on after {count} events"),
+                    );
                 }
             }
             Ok(shares)
@@ -53,7 +56,10 @@ pub(crate) fn resume_noted<R: Wait, N: Notes>(
         Err(ResumeFault::Memory) => Err(AllocError.into()),
         Err(ResumeFault::Unfit(centre, row)) => {
             let name = name_of(line, centre);
-            notes.note(format_args!("{name}: line {row} of the journal does not fit"));
+            notes.note(
+                Level::Error,
+                format_args!("{name}: line {row} of the journal does not fit"),
+            );
             Err(ServeFault::Journal)
         }
     }

@@ -18,7 +18,7 @@ pub mod status;
 mod tally;
 
 pub use crate::state::{Endpoints, ServeOptions, SocketFault, free_path};
-pub use crate::status::{Kind, NoNotes, Notes, StderrNotes};
+pub use crate::status::{Kind, Level, NoNotes, NoteForm, Notes, StderrNotes};
 pub use journals::Record;
 pub use running::serve;
 pub use serve_control::ServeFault;

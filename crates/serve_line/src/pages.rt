@@ -1,7 +1,7 @@
 use crate::browsers::{PageEndpoint, Seen};
 use crate::clients::is_idle;
 use crate::state::{Endpoint, Peer, Server};
-use crate::status::Notes;
+use crate::status::{Level, Notes};
 use serve_page::{Asked, LineNow, Refusal, answer, asked_of, refusal};
 use std::alloc::Global;
 use std::io::{ErrorKind, Read, Write};
@@ -30,7 +30,10 @@ pub(crate) fn run_pages<R: Threads + Wait + Sync + Clock, N: Notes + Sync>(
     notes: &N,
     endpoint: &PageEndpoint,
 ) {
-    notes.note(format_args!("page: http://{}/", endpoint.address));
+    notes.note(
+        Level::Info,
+        format_args!("page: http://{}/", endpoint.address),
+    );
     thread::scope(thread::scope_env(), rt, |scope| {
         for _ in rt.forever() {
             if server.state.is_empty() {

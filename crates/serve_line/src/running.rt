@@ -7,7 +7,7 @@ use crate::state::{
     DirectedLink, Endpoint, Endpoints, ServeOptions, Server, Slot, State, connections_of,
     endpoints_of, journals_of, links_of, nodes_of, sinks_of, wakers_of,
 };
-use crate::status::{Backlog, MentionOrder, Notes, QueuedNotes, write_notes};
+use crate::status::{Backlog, Level, MentionOrder, Notes, QueuedNotes, write_notes};
 use crate::tally::Tally;
 use crossbeam_channel::bounded;
 use rbc_line::Line;
@@ -57,6 +57,7 @@ pub fn serve<
             alloc,
             queue,
             backlog,
+            form: options.note_form,
         };
         serve_noted(rt, alloc, line, endpoints, record, options, &queued, out)
     })
@@ -107,7 +108,7 @@ fn serve_noted<
         notes,
     )?;
     let shares = shares_of(resumed, endpoints, links)?;
-    notes.note("all sessions have ended");
+    notes.note(Level::Info, "all sessions have ended");
     let family = gather(alloc, nodes, shares)?;
     if options.prints_events {
         print_noted(alloc, line, &family, notes, out)?;
@@ -135,9 +136,12 @@ fn print_noted<N: Notes, O: Write>(
             all = all.saturating_add(log.entries().len() as u64);
         }
         let printed = tally.events();
-        notes.note(format_args!(
-            "the print ends early: {printed} of {all} events are in it, the last perhaps in part"
-        ));
+        notes.note(
+            Level::Error,
+            format_args!(
+                "the print ends early: {printed} of {all} events are in it, the last perhaps in part"
+            ),
+        );
     }
     done
 }
@@ -199,7 +203,7 @@ fn run_beside<R: Threads + Wait + Sync + Clock, N: Notes + Sync, F: DurableFile 
                 .spawn(move || run_pages(rt, server, notes, page))
                 .is_err()
             {
-                notes.note("page: no thread could be made");
+                notes.note(Level::Warning, "page: no thread could be made");
             }
         }
         let mut left = files;
@@ -247,7 +251,10 @@ fn run_endpoints<R: Threads + Wait + Sync + Clock, N: Notes + Sync>(
     thread::scope(thread::scope_env(), rt, |scope| {
         for endpoint in server.endpoints {
             let name = server.name(endpoint.peer);
-            notes.note(format_args!("{name}: listens on {}", endpoint.address));
+            notes.note(
+                Level::Info,
+                format_args!("{name}: listens on {}", endpoint.address),
+            );
             if scope
                 .spawn(move || run_endpoint(rt, server, notes, endpoint))
                 .is_err()

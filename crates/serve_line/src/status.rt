@@ -9,8 +9,8 @@ mod mention_order;
 mod notes;
 mod snapshot;
 
-pub use kinds::Kind;
+pub use kinds::{Kind, Level};
 pub use life::{Life, write_life};
 pub use mention_order::MentionOrder;
-pub use notes::{Backlog, NoNotes, Notes, QueuedNotes, StderrNotes, write_notes};
+pub use notes::{Backlog, NoNotes, NoteForm, Notes, QueuedNotes, StderrNotes, write_notes};
 pub use snapshot::show;

@@ -3,7 +3,7 @@ use crate::clients::limits::{CONTROL_REST_MS, RESERVE_RESTS};
 use crate::clients::rows::{Came, RowReader};
 use crate::clients::sending::{Sent, send};
 use crate::state::{PeerStream, Server, Slot};
-use crate::status::{Kind, Notes};
+use crate::status::{Kind, Level, Notes};
 use rbc_node::Share;
 use serve_control::{Command, CommandFault, command_of};
 use std::sync::Wait;
@@ -41,11 +41,17 @@ pub(crate) fn serve_control<R: Wait + Clock, N: Notes>(
     let mut shares = slot.shares.lock(rt);
     match answer_rows(rt, server, notes, slot, shares.as_mut_slice(), stream) {
         Next::Stop => {
-            notes.note(format_args!("control: connection {number} says stop"));
+            notes.note(
+                Level::Info,
+                format_args!("control: connection {number} says stop"),
+            );
             server.stop();
         }
         Next::StopNow => {
-            notes.note(format_args!("control: connection {number} says stop now"));
+            notes.note(
+                Level::Info,
+                format_args!("control: connection {number} says stop now"),
+            );
             server.stop_now();
         }
         Next::Listen | Next::End => {}

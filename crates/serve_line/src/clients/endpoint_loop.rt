@@ -3,7 +3,7 @@ use crate::clients::entrance::{Entrance, accept, rest, rest_after};
 use crate::clients::limits::{GRACE_RESTS, LEAVING_RESTS, NEXT_RESTS};
 use crate::clients::sessions::serve_train;
 use crate::state::{Endpoint, Peer, PeerStream, Server, Slot, Watch};
-use crate::status::{Kind, Life, Notes};
+use crate::status::{Kind, Level, Life, Notes};
 use std::sync::Wait;
 use std::sync::atomic::Ordering;
 use std::thread;
@@ -223,7 +223,10 @@ fn end_trains<R: Wait, N: Notes>(rt: &R, server: &Server<'_>, notes: &N, endpoin
         rest(rt, endpoint);
     }
     let name = server.name(endpoint.peer);
-    notes.note(format_args!("{name}: the connections that are left are ended"));
+    notes.note(
+        Level::Info,
+        format_args!("{name}: the connections that are left are ended"),
+    );
     for slot in &endpoint.slots {
         slot.shut(rt);
     }

@@ -1,6 +1,6 @@
 use crate::journaling::batch::next_entries;
 use crate::journaling::journal::Journal;
-use crate::status::Notes;
+use crate::status::{Level, Notes};
 use rbc_line::Line;
 use rbc_node::Node;
 use serve_journal::{DurableFile, JournalFile};
@@ -82,8 +82,10 @@ impl<N: Notes> JournalWriter<'_, N> {
     fn note_written(&self, was_stuck: bool) {
         if was_stuck {
             let name = self.name;
-            self.notes
-                .note(format_args!("{name}: the journal is written again"));
+            self.notes.note(
+                Level::Info,
+                format_args!("{name}: the journal is written again"),
+            );
         }
     }
 
@@ -92,9 +94,12 @@ impl<N: Notes> JournalWriter<'_, N> {
         self.journal.stick(rt);
         if !was_stuck {
             let name = self.name;
-            self.notes.note(format_args!(
-                "{name}: the journal can't be written, and nothing more is answered until it can: {error}"
-            ));
+            self.notes.note(
+                Level::Error,
+                format_args!(
+                    "{name}: the journal can't be written, and nothing more is answered until it can: {error}"
+                ),
+            );
         }
     }
 }

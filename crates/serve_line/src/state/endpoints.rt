@@ -1,6 +1,6 @@
 use crate::state::control_socket::listen_at_path;
 use crate::state::streams::bound_accept;
-use crate::status::Notes;
+use crate::status::{Level, Notes};
 use rbc_line::Line;
 use serve_control::ServeFault;
 use std::alloc::Global;
@@ -95,7 +95,10 @@ impl Endpoints {
                 ..self
             }),
             Err(fault) => {
-                notes.note(format_args!("control: {path} can't be listened on: {fault}"));
+                notes.note(
+                    Level::Error,
+                    format_args!("control: {path} can't be listened on: {fault}"),
+                );
                 Err(ServeFault::Socket)
             }
         }
@@ -148,7 +151,10 @@ fn listen_noted<R: Net<Stream = TcpStream, Listener = TcpListener>, N: Notes>(
     notes: &N,
 ) -> Result<Listening, ServeFault> {
     listen_at(rt, port).map_err(|error| {
-        notes.note(format_args!("{name}: port {port} can't be listened on: {error}"));
+        notes.note(
+            Level::Error,
+            format_args!("{name}: port {port} can't be listened on: {error}"),
+        );
         ServeFault::Socket
     })
 }

@@ -1,8 +1,9 @@
 use crate::state::limits::{BURST, PER_SECOND};
+use crate::status::NoteForm;
 use serve_workers::reading::Rate;
 
 /// The options of running centres, apart from their ports.
-#[derive(Clone, Copy, Debug)]
+#[derive(Clone, Copy)]
 pub struct ServeOptions {
     /// The rate at which a centre takes messages of each train, and of all other engines together.
     pub rate: Rate,
@@ -14,6 +15,8 @@ pub struct ServeOptions {
     pub is_bound: bool,
     /// Whether all events are printed at the end.
     pub prints_events: bool,
+    /// The form of the notes.
+    pub note_form: NoteForm,
 }
 
 impl Default for ServeOptions {
@@ -29,6 +32,7 @@ impl Default for ServeOptions {
             shows_life: false,
             is_bound: false,
             prints_events: true,
+            note_form: NoteForm::Timed,
         }
     }
 }

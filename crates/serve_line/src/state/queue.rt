@@ -1,4 +1,4 @@
-use crate::status::Notes;
+use crate::status::{Level, Notes};
 use std::sync::atomic::{AtomicBool, AtomicU64, Ordering};
 use std::time::{Clock, Duration, Instant};
 
@@ -77,7 +77,10 @@ impl Watch {
         let since = *self.since.get_or_insert(now);
         let is_long = now.duration_since(since) >= Duration::from_secs(LONG_S);
         if is_long && !queue.is_long.swap(true, Ordering::SeqCst) {
-            notes.note(format_args!("{name}: an event has waited for the journal for {LONG_S} s"));
+            notes.note(
+                Level::Warning,
+                format_args!("{name}: an event has waited for the journal for {LONG_S} s"),
+            );
         }
     }
 }

@@ -1,6 +1,28 @@
 /// The most notes of a kind that are written in one second. Of further notes only the number is written.
 const EACH_SECOND: u32 = 10;
 
+/// How serious a note is.
+#[derive(Clone, Copy)]
+pub enum Level {
+    /// A start is refused, or a centre answers nothing.
+    Error,
+    /// A peer is refused, or a centre will answer nothing if nobody acts.
+    Warning,
+    /// All else.
+    Info,
+}
+
+impl Level {
+    /// The level at the beginning of a line, in the form of systemd's journal.
+    pub(crate) fn prefix(self) -> &'static str {
+        match self {
+            Level::Error => "<3>",
+            Level::Warning => "<4>",
+            Level::Info => "<6>",
+        }
+    }
+}
+
 /// A kind of note that may occur many times in a short time.
 #[derive(Clone, Copy, Debug, PartialEq, Eq)]
 pub enum Kind {
@@ -32,6 +54,14 @@ pub(crate) const KINDS: [Kind; 7] = [
 ];
 
 impl Kind {
+    /// How serious a note of this kind is.
+    pub(crate) fn level(self) -> Level {
+        match self {
+            Kind::Begin | Kind::End | Kind::Session => Level::Info,
+            Kind::Line | Kind::Refusal | Kind::Thread | Kind::Device => Level::Warning,
+        }
+    }
+
     /// The text after the number of omitted notes.
     pub(crate) fn words(self) -> &'static str {
         match self {

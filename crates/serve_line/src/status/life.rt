@@ -1,3 +1,4 @@
+use crate::status::kinds::Level;
 use crate::status::notes::Notes;
 use rbc_line::Line;
 use rbc_log::{CentreLog, MOST_ENTRIES};
@@ -100,7 +101,10 @@ impl Gauge {
         let mark = mark_reached(used, most);
         if mark > self.noted {
             self.noted = mark;
-            notes.note(format_args!("{name}: {used} of {most} of its {thing} are used"));
+            notes.note(
+                Level::Warning,
+                format_args!("{name}: {used} of {most} of its {thing} are used"),
+            );
         }
     }
 }

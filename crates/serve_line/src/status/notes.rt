@@ -1,4 +1,4 @@
-use crate::status::kinds::{Counts, KINDS, Kind};
+use crate::status::kinds::{Counts, KINDS, Kind, Level};
 use crossbeam_channel::{Receiver, RecvTimeoutError, Sender, TrySendError};
 use jiff::Timestamp;
 use std::alloc::Global;
@@ -18,24 +18,51 @@ const REST_S: u64 = 1;
 /// Receives notes of the running centres.
 pub trait Notes {
     /// Takes one note: a line without the line feed that ends it.
-    fn note<D: Display + Drop>(&self, text: D);
+    fn note<D: Display + Drop>(&self, level: Level, text: D);
 
     /// Takes one note of a kind that may occur many times.
     fn often<D: Display + Drop>(&self, kind: Kind, text: D);
 }
 
+/// The form of notes on standard error.
+#[derive(Clone, Copy, PartialEq, Eq)]
+pub enum NoteForm {
+    /// The time in UTC, and the text.
+    Timed,
+    /// The level in the form of systemd's journal (`<4>`), and the text. That journal has its own time.
+    Journald,
+}
+
 /// Writes each note as a line on standard error. A note that can't be written is lost.
 #[derive(Clone, Copy)]
-pub struct StderrNotes<'a, R>(pub &'a R);
+pub struct StderrNotes<'a, R> {
+    /// The handle by which it writes.
+    pub rt: &'a R,
+    /// The form of each line.
+    pub form: NoteForm,
+}
 
 impl<R: Eprint> Notes for StderrNotes<'_, R> {
-    fn note<D: Display + Drop>(&self, text: D) {
-        let _ = self.0.eprintln(text);
+    fn note<D: Display + Drop>(&self, level: Level, text: D) {
+        let _ = match self.form {
+            NoteForm::Timed => self.rt.eprintln(text),
+            NoteForm::Journald => {
+                let prefix = level.prefix();
+                self.rt.eprintln(format_args!("{prefix}{text}"))
+            }
+        };
     }
 
-    fn often<D: Display + Drop>(&self, _kind: Kind, text: D) {
-        self.note(text);
+    fn often<D: Display + Drop>(&self, kind: Kind, text: D) {
+        self.note(kind.level(), text);
     }
+}
+
+/// A note that waits to be written.
+#[derive(Drop)]
+pub struct Note {
+    level: Level,
+    text: Vec<u8>,
 }
 
 /// The state shared by the threads that send notes and the thread that writes them.
@@ -57,7 +84,7 @@ impl Backlog {
 }
 
 /// Sends each note to a thread that writes it, so that nobody waits for the reader of the notes. A note is lost if too
-/// many wait. Each begins with the time, in UTC.
+/// many wait.
 #[derive(Drop)]
 pub struct QueuedNotes<'a, R> {
     /// The handle by which it may wait.
@@ -65,14 +92,16 @@ pub struct QueuedNotes<'a, R> {
     /// The allocator for notes.
     pub alloc: Global,
     /// The queue of notes to be written.
-    pub queue: Sender<Vec<u8>>,
+    pub queue: Sender<Note>,
     /// The state shared with the writing thread.
     pub backlog: &'a Backlog,
+    /// The form of the notes.
+    pub form: NoteForm,
 }
 
 impl<R: Wait> QueuedNotes<'_, R> {
     // Offers a note to the writing thread, and returns whether it was taken.
-    fn offer(&self, note: Vec<u8>) -> bool {
+    fn offer(&self, note: Note) -> bool {
         let mut left = note;
         for _ in 0..OFFERS {
             match self.queue.try_send(self.rt, left) {
@@ -87,9 +116,13 @@ impl<R: Wait> QueuedNotes<'_, R> {
 }
 
 impl<R: Wait + Clock> Notes for QueuedNotes<'_, R> {
-    fn note<D: Display + Drop>(&self, text: D) {
-        let mut note = Vec::new(self.alloc);
-        if write_timed(self.rt, &mut note, text).is_none() || !self.offer(note) {
+    fn note<D: Display + Drop>(&self, level: Level, text: D) {
+        let mut line = Vec::new(self.alloc);
+        let written = match self.form {
+            NoteForm::Timed => write_timed(self.rt, &mut line, text),
+            NoteForm::Journald => write!(line, "{text}").ok(),
+        };
+        if written.is_none() || !self.offer(Note { level, text: line }) {
             self.backlog.lost.fetch_add(1, Ordering::SeqCst);
         }
     }
@@ -99,10 +132,10 @@ impl<R: Wait + Clock> Notes for QueuedNotes<'_, R> {
         let taken = self.backlog.counts.lock(self.rt).take(kind, second);
         if taken.left_out > 0 {
             let (count, words) = (taken.left_out, kind.words());
-            self.note(format_args!("{count} more {words}"));
+            self.note(kind.level(), format_args!("{count} more {words}"));
         }
         if taken.is_written {
-            self.note(text);
+            self.note(kind.level(), text);
         }
     }
 }
@@ -134,15 +167,15 @@ fn second_of<T: Clock>(clock: &T) -> u64 {
 pub fn write_notes<R: Wait + Clock, N: Notes>(
     rt: &R,
     notes: &N,
-    queue: &Receiver<Vec<u8>>,
+    queue: &Receiver<Note>,
     backlog: &Backlog,
 ) {
     for _ in rt.forever() {
         match queue.recv_timeout(rt, Duration::from_secs(REST_S)) {
             Ok(note) => {
                 tell_lost(notes, backlog);
-                if let Ok(text) = std::str::from_utf8(note.as_slice()) {
-                    notes.note(text);
+                if let Ok(text) = std::str::from_utf8(note.text.as_slice()) {
+                    notes.note(note.level, text);
                 }
             }
             Err(RecvTimeoutError::Timeout) => {
@@ -159,7 +192,7 @@ pub fn write_notes<R: Wait + Clock, N: Notes>(
 fn tell_lost<N: Notes>(notes: &N, backlog: &Backlog) {
     let count = backlog.lost.swap(0, Ordering::SeqCst);
     if count > 0 {
-        notes.note(format_args!("{count} notes were lost"));
+        notes.note(Level::Warning, format_args!("{count} notes were lost"));
     }
 }
 
@@ -169,7 +202,7 @@ fn tell_left_out<R: Wait, N: Notes>(rt: &R, notes: &N, backlog: &Backlog, second
         let count = backlog.counts.lock(rt).left_out(kind, second);
         if count > 0 {
             let words = kind.words();
-            notes.note(format_args!("{count} more {words}"));
+            notes.note(kind.level(), format_args!("{count} more {words}"));
         }
     }
 }
@@ -179,7 +212,7 @@ fn tell_left_out<R: Wait, N: Notes>(rt: &R, notes: &N, backlog: &Backlog, second
 pub struct NoNotes;
 
 impl Notes for NoNotes {
-    fn note<D: Display + Drop>(&self, _text: D) {}
+    fn note<D: Display + Drop>(&self, _level: Level, _text: D) {}
 
     fn often<D: Display + Drop>(&self, _kind: Kind, _text: D) {}
 }
