@@ -41,11 +41,16 @@ pub fn part<'a>(
 }
 
 // The options of `serve` with a value.
-static DOORS: [(&str, &str, &str); 7] = [
+static DOORS: [(&str, &str, &str); 8] = [
     (
         "page",
         "PORT",
         "Show the line to browsers on this host, at http://127.0.0.1:PORT/",
+    ),
+    (
+        "address",
+        "ADDRESS",
+        "Let trains connect at this address of the host, also from other hosts [default: 127.0.0.1]",
     ),
     (
         "control",

@@ -7,6 +7,7 @@ use clap::{ArgMatches, Error};
 use cli_demo::Settings;
 use std::alloc::{AllocError, Global};
 use std::convert::AsStr;
+use std::net::IpAddr;
 use text_replay::Cut;
 use text_script::status::Fault;
 
@@ -135,6 +136,8 @@ pub struct ServeWords<'a> {
     pub is_for_journald: bool,
     /// The port at which browsers see the line, if there is one.
     pub page: Option<u16>,
+    /// The address at which trains connect, if it is not 127.0.0.1.
+    pub address: Option<IpAddr>,
     /// The path of the Unix socket of the interlocking, if it has one in place of a port.
     pub control: Option<&'a str>,
     /// A train's messages are taken only over the connection that serves the train.
@@ -203,7 +206,7 @@ pub fn requested<'a, S: AsStr>(alloc: Global, words: &'a [S]) -> Result<Request<
     named(&matches).ok_or(Fault::Words)
 }
 
-// The arguments, by the table of the commands. A number with a plus sign is refused.
+// The arguments, by the table of the commands. A number with a plus sign is refused, and a wrong address.
 fn matched<'a, S: AsStr>(alloc: Global, words: &'a [S]) -> Result<ArgMatches<'a>, Error> {
     let matches = rbcline(alloc)?.try_get_matches_from(words)?;
     if let Some((name, word)) = signed_number(&matches) {
@@ -212,7 +215,23 @@ fn matched<'a, S: AsStr>(alloc: Global, words: &'a [S]) -> Result<ArgMatches<'a>
         )?;
         return Err(rbcline(alloc)?.error(ErrorKind::ValueValidation, reason.as_str())?);
     }
+    if let Some(word) = wrong_address(&matches) {
+        let reason = format!(in alloc;
+            "invalid value '{word}' for '--address <ADDRESS>': it is not an address of IPv4 or IPv6, as 192.0.2.1"
+        )?;
+        return Err(rbcline(alloc)?.error(ErrorKind::ValueValidation, reason.as_str())?);
+    }
     Ok(matches)
+}
+
+// The value of `--address`, if it is not an address.
+fn wrong_address<'a>(matches: &ArgMatches<'a>) -> Option<&'a str> {
+    let (_, words) = matches.subcommand()?;
+    let word = words.get_str("address")?;
+    match word.parse::<IpAddr>() {
+        Ok(_) => None,
+        Err(_) => Some(word),
+    }
 }
 
 // The request of matched arguments. It is there: each required argument has a value, and each number is in its range.
@@ -322,15 +341,21 @@ fn named_serve<'a>(words: &ArgMatches<'a>) -> Option<Request<'a>> {
     Some(Request::Serve {
         file: words.get_str("FILE")?,
         port: words.get_one("PORT")?,
-        words: serve_words(words),
+        words: serve_words(words)?,
     })
 }
 
-fn serve_words<'a>(words: &ArgMatches<'a>) -> ServeWords<'a> {
-    ServeWords {
+// The options of `serve`; `None` if the address is not one of IPv4 or IPv6.
+fn serve_words<'a>(words: &ArgMatches<'a>) -> Option<ServeWords<'a>> {
+    let address = match words.get_str("address") {
+        Some(text) => Some(text.parse().ok()?),
+        None => None,
+    };
+    Some(ServeWords {
         is_quiet: words.get_flag("quiet"),
         is_for_journald: words.get_flag("journald"),
         page: words.get_one("page"),
+        address,
         control: words.get_str("control"),
         is_bound: words.get_flag("bind"),
         is_telling: words.get_flag("tell"),
@@ -339,7 +364,7 @@ fn serve_words<'a>(words: &ArgMatches<'a>) -> ServeWords<'a> {
         burst: words.get_one("burst"),
         is_unprinted: words.get_flag("no-print"),
         journal: journal_words(words),
-    }
+    })
 }
 
 // The options of journals. Only one of the three folders is given, and only with it `--no-sync` and `--no-print`.

@@ -10,7 +10,7 @@ use serve_line::{
 };
 use std::fs::File;
 use std::io::{Eprint, Write};
-use std::net::{Net, TcpListener, TcpStream};
+use std::net::{IpAddr, Ipv4Addr, Net, SocketAddr, TcpListener, TcpStream};
 use std::rt::Files;
 use std::sync::Wait;
 use std::thread::Threads;
@@ -144,13 +144,12 @@ pub fn opened<
     notes: &N,
 ) -> Result<Endpoints, ServeFault> {
     let (alloc, line) = (rt.alloc(), &given.line);
+    let ip = words.address.unwrap_or(IpAddr::V4(Ipv4Addr::LOCALHOST));
+    let first = SocketAddr::new(ip, port);
+    let endpoints = Endpoints::open_centres(rt, alloc, line, first, notes)?;
     let endpoints = match words.control {
-        Some(path) => {
-            Endpoints::open_centres(rt, alloc, line, port, notes)?.and_socket(
-                rt, alloc, path, notes,
-            )?
-        }
-        None => Endpoints::open(rt, alloc, line, port, notes)?,
+        Some(path) => endpoints.and_socket(rt, alloc, path, notes)?,
+        None => endpoints.and_control(rt, line, port, notes)?,
     };
     match words.page {
         Some(page) => endpoints.and_page(rt, page, notes),

@@ -30,6 +30,7 @@ const fn served_at(page: u16) -> ServeWords<'static> {
     ServeWords {
         is_quiet: true,
         page: Some(page),
+        address: None,
         control: None,
         is_bound: false,
         is_telling: false,

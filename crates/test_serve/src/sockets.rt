@@ -8,7 +8,7 @@ use serve_line::state::listen_at_path;
 use serve_line::{Endpoints, NoNotes, Record, ServeOptions, SocketFault, free_path, serve};
 use std::alloc::Global;
 use std::io::{Read, Write};
-use std::net::{Net, TcpListener, TcpStream};
+use std::net::{IpAddr, Ipv4Addr, Net, SocketAddr, TcpListener, TcpStream};
 use std::os::unix::fs::MetadataExt;
 use std::os::unix::net::UnixStream;
 use std::rt::{Env, Files};
@@ -17,6 +17,11 @@ use std::test::*;
 use std::thread::Threads;
 use std::time::{Clock, Duration};
 use std::{env, fs, process, thread};
+
+// Any port of this host.
+fn any_port() -> SocketAddr {
+    SocketAddr::new(IpAddr::V4(Ipv4Addr::LOCALHOST), 0)
+}
 
 // The permission bits of a mode.
 const PERMISSIONS: u32 = 0o777;
@@ -103,7 +108,7 @@ fn release(stream: &mut UnixStream) -> Done<()> {
 fn printed_over_a_socket<
     R: Threads + Wait + Sync + Net<Stream = TcpStream, Listener = TcpListener> + Clock + Files,
 >(rt: &R, alloc: Global, line: &Line, path: &str) -> Done<Vec<u8>> {
-    let endpoints = Endpoints::open_centres(rt, alloc, line, 0, &NoNotes)
+    let endpoints = Endpoints::open_centres(rt, alloc, line, any_port(), &NoNotes)
         .ok()
         .ok_or(Missed::Endpoint)?;
     let endpoints = endpoints

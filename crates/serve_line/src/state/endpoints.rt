@@ -13,13 +13,16 @@ use std::rt::Files;
 use text_script::print::name_of;
 
 /// The listening ports of the centres, the port or the Unix socket of the interlocking, and the page's port, if there
-/// is one. All are ports of this host only.
+/// is one. Those of the interlocking and of the page are of this host only.
 #[derive(Drop)]
 pub struct Endpoints {
     ports: Vec<Listening>,
     socket: Option<ListeningAt>,
     page: Option<Listening>,
 }
+
+/// The address of this host that only this host can connect to.
+const LOCALHOST: IpAddr = IpAddr::V4(Ipv4Addr::LOCALHOST);
 
 /// A listening port.
 #[derive(Drop)]
@@ -49,32 +52,45 @@ impl Endpoints {
         first: u16,
         notes: &N,
     ) -> Result<Endpoints, ServeFault> {
-        let mut endpoints = Endpoints::open_centres(rt, alloc, line, first, notes)?;
-        let port = port_of(first, line.centre_count());
-        endpoints
-            .ports
-            .push(listen_noted(rt, "control", port, notes)?)?;
-        Ok(endpoints)
+        let host = SocketAddr::new(LOCALHOST, first);
+        let endpoints = Endpoints::open_centres(rt, alloc, line, host, notes)?;
+        endpoints.and_control(rt, line, first, notes)
     }
 
-    /// The same without a control endpoint.
+    /// Listens at the address of `first`, without a control endpoint: centre i at its port + i. If its port is 0, the
+    /// system picks each port.
     pub fn open_centres<R: Net<Stream = TcpStream, Listener = TcpListener>, N: Notes>(
         rt: &R,
         alloc: Global,
         line: &Line,
-        first: u16,
+        first: SocketAddr,
         notes: &N,
     ) -> Result<Endpoints, ServeFault> {
         let mut ports = Vec::new(alloc);
         for centre in 0..line.centre_count() {
             let name = name_of(line, centre);
-            ports.push(listen_noted(rt, name, port_of(first, centre), notes)?)?;
+            let port = port_of(first.port(), centre);
+            ports.push(listen_noted(rt, name, (first.ip(), port), notes)?)?;
         }
         Ok(Endpoints {
             ports,
             socket: None,
             page: None,
         })
+    }
+
+    /// Listens on 127.0.0.1 for the interlocking, at the port after the centres of which the first is at `first`.
+    pub fn and_control<R: Net<Stream = TcpStream, Listener = TcpListener>, N: Notes>(
+        mut self,
+        rt: &R,
+        line: &Line,
+        first: u16,
+        notes: &N,
+    ) -> Result<Endpoints, ServeFault> {
+        let port = port_of(first, line.centre_count());
+        self.ports
+            .push(listen_noted(rt, "control", (LOCALHOST, port), notes)?)?;
+        Ok(self)
     }
 
     /// Listens at this path for the interlocking. The path is to be freed at the end. If that fails, a note reports it.
@@ -111,7 +127,7 @@ impl Endpoints {
         port: u16,
         notes: &N,
     ) -> Result<Endpoints, ServeFault> {
-        let page = listen_noted(rt, "page", u32::from(port), notes)?;
+        let page = listen_noted(rt, "page", (LOCALHOST, u32::from(port)), notes)?;
         Ok(Endpoints {
             page: Some(page),
             ..self
@@ -143,14 +159,14 @@ fn port_of(first: u16, number: u8) -> u32 {
     }
 }
 
-// Listens at a port. If that fails, a note of this name reports it.
+// Listens at a port of an address. If that fails, a note of this name reports it.
 fn listen_noted<R: Net<Stream = TcpStream, Listener = TcpListener>, N: Notes>(
     rt: &R,
     name: &str,
-    port: u32,
+    (ip, port): (IpAddr, u32),
     notes: &N,
 ) -> Result<Listening, ServeFault> {
-    listen_at(rt, port).map_err(|error| {
+    listen_at(rt, ip, port).map_err(|error| {
         notes.note(
             Level::Error,
             format_args!("{name}: port {port} can't be listened on: {error}"),
@@ -161,13 +177,13 @@ fn listen_noted<R: Net<Stream = TcpStream, Listener = TcpListener>, N: Notes>(
 
 fn listen_at<R: Net<Stream = TcpStream, Listener = TcpListener>>(
     rt: &R,
+    ip: IpAddr,
     port: u32,
 ) -> io::Result<Listening> {
     let Ok(port) = u16::try_from(port) else {
         return Err(io::Error::from(ErrorKind::InvalidInput));
     };
-    let address = SocketAddr::new(IpAddr::V4(Ipv4Addr::LOCALHOST), port);
-    let listener = TcpListener::bind(rt, address)?;
+    let listener = TcpListener::bind(rt, SocketAddr::new(ip, port))?;
     let address = listener.local_addr()?;
     bound_accept(OwnedFd::from(listener.try_clone()?))?;
     Ok(Listening { listener, address })
