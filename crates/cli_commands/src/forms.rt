@@ -158,7 +158,7 @@ pub fn rbcline<'a>(alloc: Global) -> Result<Command<'a>, AllocError> {
 }
 
 /// The version of the program.
-pub(crate) const VERSION: &str = "0.6.0";
+pub(crate) const VERSION: &str = "0.7.0";
 
 // The exit statuses, and a first command to try.
 const ENDS: &str =
