@@ -1,6 +1,4 @@
-//! Tests of what serves a connection, over bytes in memory: its session, its shared writer, and the lane of a train's
-//! answers.
+//! Tests of the parts that serve a connection, over bytes in memory: its session and its shared writer.
 
-mod lane;
 mod replies;
 mod sessions;
