@@ -24,6 +24,9 @@ const THIRD_INITIATION: &str = "9B0280000000C0000040";
 // Message 32 with T_TRAIN 2, and after it message 32 with T_TRAIN 3.
 const LATER_VERSIONS: &str = "2002C00000009FFFFFE8002002C0000000DFFFFFE800";
 
+// The connections that submit the three answers.
+static SUBMITTED_BY: [usize; 3] = [0, 1, 0];
+
 /// A connection: the source of its writer, and the train's end.
 #[derive(Drop)]
 struct Ends {
@@ -97,7 +100,7 @@ fn brought<R: Wait>(
     Ok(bytes)
 }
 
-// The bytes of both connections, if the answers are submitted by connection 0, by 1, and by 0 again.
+// The bytes of both connections after the answers were submitted.
 fn brought_by_two<R: Net<Stream = TcpStream, Listener = TcpListener> + Wait>(
     rt: &R,
     alloc: Global,
@@ -106,10 +109,10 @@ fn brought_by_two<R: Net<Stream = TcpStream, Listener = TcpListener> + Wait>(
 ) -> Result<(Vec<u8>, Vec<u8>), Fail> {
     let first = entered(rt, alloc, connections, 0)?;
     let second = entered(rt, alloc, connections, 1)?;
-    for (outcome, number) in outcomes.iter().zip([0usize, 1, 0]) {
+    for (outcome, number) in outcomes.iter().zip(&SUBMITTED_BY) {
         ConnectionSink {
             connections,
-            number,
+            number: *number,
         }
         .answered(rt, outcome);
     }
