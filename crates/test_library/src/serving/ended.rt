@@ -109,7 +109,7 @@ fn brought_by_two<R: Net<Stream = TcpStream, Listener = TcpListener> + Wait>(
 ) -> Result<(Vec<u8>, Vec<u8>), Fail> {
     let first = entered(rt, alloc, connections, 0)?;
     let second = entered(rt, alloc, connections, 1)?;
-    for (outcome, number) in outcomes.iter().zip(&SUBMITTED_BY) {
+    for (outcome, number) in outcomes.iter().zip(SUBMITTED_BY.iter()) {
         ConnectionSink {
             connections,
             number: *number,
