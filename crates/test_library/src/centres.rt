@@ -1,8 +1,5 @@
-//! Tests of threads at a node, logs gathered and merged, frames between two centres, a whole list of events.
+//! Tests of threads at a node, and of nodes whose logs are gathered and merged.
 
-mod centre;
 mod gather;
 mod held;
-mod logs;
 mod node;
-mod world;

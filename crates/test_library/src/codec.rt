@@ -1,10 +1,8 @@
-//! Tests of bytes: streams in pieces, random bytes, frames between two centres, and a board that keeps them.
+//! Tests of bytes: streams in pieces, random bytes, frames between two centres, and a queue that carries them.
 #[cfg(test)]
 mod board;
 pub mod bytes;
 pub mod chance;
-#[cfg(test)]
-mod frame;
 #[cfg(test)]
 mod frame_bytes;
 #[cfg(test)]

@@ -34,14 +34,8 @@ pub const A: u8 = 0;
 /// The number of centre B.
 pub const B: u8 = 1;
 
-/// The NID_ENGINE of the train that A registers.
-pub const ENGINE: u32 = 1;
-
 /// This train opens its session: ten bytes.
 pub const INITIATION: &str = "9B028000000040000040";
-
-/// The first five of these bytes.
-pub const HALF_AN_INITIATION: &str = "9B02800000";
 
 /// It confirms the session.
 pub const ESTABLISHED: &str = "9F028000000080000040";

@@ -1,6 +1,5 @@
-//! Tests of what serves a connection, over bytes in memory: its session, its shared writer, and the lane of a train's
-//! answers.
+//! Tests of the parts that serve a connection: its session and its shared writer, over bytes in memory, and its end.
 
-mod lane;
+mod ended;
 mod replies;
 mod sessions;

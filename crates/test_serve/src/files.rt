@@ -37,37 +37,63 @@ fn write_after(rt: &HostRuntime, name: &str, text: &str) -> Result<(), Fail> {
     Ok(())
 }
 
+// Opens the journal. Another program writes after it is locked. Then it is read, and a line is added. The result is the
+// bytes that were read.
+fn read_and_added(rt: &HostRuntime, name: &str) -> Result<Vec<u8>, Fail> {
+    let file = open_journal(rt, name)?;
+    write_after(rt, name, LATE)?;
+    let bytes = read_whole(rt, &file)?;
+    let mut journal = JournalFile::open(SystemFile::new(file, true), bytes.len() as u64)?;
+    journal.add(b"next\n")?;
+    Ok(bytes)
+}
+
+// The lines between the early ones and the added one.
+fn late_in(text: &str) -> Option<&str> {
+    text.strip_prefix(EARLY)?.strip_suffix("next\n")
+}
+
 #[test]
 fn a_line_that_comes_after_the_lock_is_kept(rt: HostRuntime) -> Result<(), Fail> {
     let name = name_of(&rt, "late")?;
-    let whole = format!(in rt.alloc(); "{EARLY}{LATE}")?;
     fs::write(&rt, name.as_str(), EARLY)?;
-    let file = open_journal(&rt, name.as_str())?;
-    write_after(&rt, name.as_str(), LATE)?;
-    let bytes = read_whole(&rt, &file)?;
-    assert!(rt; bytes.as_slice() == whole.as_bytes());
-    let mut journal = JournalFile::open(SystemFile::new(file, true), bytes.len() as u64)?;
-    journal.add(b"next\n")?;
+    let bytes = read_and_added(&rt, name.as_str())?;
     let text = fs::read_to_string(&rt, name.as_str())?;
     fs::remove_file(&rt, name.as_str())?;
-    assert!(rt; text.as_str().strip_suffix("next\n") == Some(whole.as_str()));
+    let read = bytes.as_slice().strip_prefix(EARLY.as_bytes());
+    assert!(rt; (read, late_in(text.as_str())) == (Some(LATE.as_bytes()), Some(LATE)));
     Ok(())
+}
+
+// Whether no journal of this name can be opened, since there is none.
+fn is_missing(rt: &HostRuntime, name: &str) -> bool {
+    let opened = open_journal(rt, name);
+    matches!(opened, Err(OpenFault::Missing))
+}
+
+// Makes a journal, and opens it once more. The result is its mode, and whether it is busy.
+fn made_and_opened(rt: &HostRuntime, name: &str) -> Result<(u32, bool), Fail> {
+    let first = make_journal(rt, name)?;
+    let mode = first.metadata()?.permissions().mode() % 512;
+    let second = open_journal(rt, name);
+    Ok((mode, matches!(second, Err(OpenFault::Busy))))
+}
+
+// Opens the journal, and makes it once more. The result is whether the first is done and the second is not.
+fn opened_and_made(rt: &HostRuntime, name: &str) -> (bool, bool) {
+    let opened = open_journal(rt, name);
+    let made = make_journal(rt, name);
+    (opened.is_ok(), matches!(made, Err(OpenFault::Io(_))))
 }
 
 #[test]
 fn a_journal_has_one_writer(rt: HostRuntime) -> Result<(), Fail> {
     let name = name_of(&rt, "one")?;
-    let missing = open_journal(&rt, name.as_str());
-    assert!(rt; matches!(missing, Err(OpenFault::Missing)));
-    let first = make_journal(&rt, name.as_str())?;
-    let mode = first.metadata()?.permissions().mode() % 512;
-    let second = open_journal(&rt, name.as_str());
-    assert!(rt; (mode, matches!(second, Err(OpenFault::Busy))) == (0o600, true));
-    drop(first);
-    let third = open_journal(&rt, name.as_str());
-    let again = make_journal(&rt, name.as_str());
-    assert!(rt; (third.is_ok(), matches!(again, Err(OpenFault::Io(_)))) == (true, true));
+    let is_missing = is_missing(&rt, name.as_str());
+    let during = made_and_opened(&rt, name.as_str())?;
+    let after = opened_and_made(&rt, name.as_str());
     fs::remove_file(&rt, name.as_str())?;
+    assert!(rt; (is_missing, during, after) == (true, (0o600, true), (true, true)));
     Ok(())
 }
 
@@ -80,28 +106,41 @@ fn a_journal_is_a_plain_file(rt: HostRuntime) -> Result<(), Fail> {
     Ok(())
 }
 
+// A new journal with one line.
+fn begun(rt: &HostRuntime, name: &str) -> Result<JournalFile<SystemFile>, Fail> {
+    let file = make_journal(rt, name)?;
+    let mut journal = JournalFile::open(SystemFile::new(file, true), 0)?;
+    journal.add(b"abc\n")?;
+    Ok(journal)
+}
+
+// Whether the journal takes each of two lines more.
+fn takes_two(journal: &mut JournalFile<SystemFile>) -> (bool, bool) {
+    (journal.add(b"d\n").is_ok(), journal.add(b"e\n").is_ok())
+}
+
 #[test]
 fn a_file_that_is_removed_takes_nothing_more(rt: HostRuntime) -> Result<(), Fail> {
     let name = name_of(&rt, "removed")?;
-    let file = make_journal(&rt, name.as_str())?;
-    let mut journal = JournalFile::open(SystemFile::new(file, true), 0)?;
-    let before = journal.add(b"a\n").is_ok();
+    let mut journal = begun(&rt, name.as_str())?;
     fs::remove_file(&rt, name.as_str())?;
-    let after = (journal.add(b"b\n").is_ok(), journal.add(b"c\n").is_ok());
-    assert!(rt; (before, after) == (true, (false, false)));
+    assert!(rt; takes_two(&mut journal) == (false, false));
     Ok(())
+}
+
+// A new journal is cut short by another program. The result is whether it takes each of two lines then.
+fn cut_and_added(rt: &HostRuntime, name: &str) -> Result<(bool, bool), Fail> {
+    let mut journal = begun(rt, name)?;
+    fs::write(rt, name, "")?;
+    Ok(takes_two(&mut journal))
 }
 
 #[test]
 fn a_file_that_is_cut_takes_nothing_more(rt: HostRuntime) -> Result<(), Fail> {
     let name = name_of(&rt, "cut")?;
-    let file = make_journal(&rt, name.as_str())?;
-    let mut journal = JournalFile::open(SystemFile::new(file, true), 0)?;
-    let before = journal.add(b"abc\n").is_ok();
-    fs::write(&rt, name.as_str(), "")?;
-    let after = (journal.add(b"d\n").is_ok(), journal.add(b"e\n").is_ok());
+    let takes = cut_and_added(&rt, name.as_str())?;
     let text = fs::read_to_string(&rt, name.as_str())?;
     fs::remove_file(&rt, name.as_str())?;
-    assert!(rt; (before, after, text.as_str()) == (true, (false, false), "d\n"));
+    assert!(rt; (takes, text.as_str()) == ((false, false), "d\n"));
     Ok(())
 }

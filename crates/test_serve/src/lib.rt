@@ -38,6 +38,4 @@ mod slots;
 #[cfg(test)]
 mod sockets;
 #[cfg(test)]
-mod torn;
-#[cfg(test)]
 mod trains;

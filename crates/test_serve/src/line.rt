@@ -4,9 +4,7 @@ ghost use Rattle.std.specs.Prelude.{◌≤◌, length, IfOk};
 
 use crate::client::{Done, Missed};
 use rbc_line::Line;
-use rbc_node::Node;
 use std::alloc::Global;
-use std::test::*;
 
 const TWO_CENTRES: &str = "nid_c = 5
 [[centre]]
@@ -30,8 +28,7 @@ engine = 2
 registrar = \"B\"
 ";
 
-pub const A: usize = 0;
-
+/// The number of the control endpoint.
 pub const CONTROL: usize = 2;
 
 /// Sections 0 and 1 of centre A, and then section 2 of centre B. Train 1 is registered at A, train 2 at B.
@@ -41,12 +38,6 @@ pub fn two_centres(alloc: Global) -> Result<Line, &'static str>
     Line::from_toml(alloc, TWO_CENTRES)
         .ok()
         .ok_or("the line file is accepted")
-}
-
-/// A node of centre A.
-pub fn node_of_a(alloc: Global) -> Result<Node, Fail> {
-    let line = two_centres(alloc)?;
-    Ok(Node::new(alloc, &line, 0)?)
 }
 
 // Train 1 opens its session.

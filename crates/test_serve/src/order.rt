@@ -129,8 +129,8 @@ fn wait_for<R: Clock>(rt: &R, flag: &AtomicBool) -> Done<()> {
     Err(Missed::NoAnswer)
 }
 
-/// All bytes until the peer ends the connection.
-pub fn heard_to_the_end(alloc: Global, stream: &TcpStream) -> Done<Vec<u8>> {
+// All bytes until the peer ends the connection.
+fn heard_to_the_end(alloc: Global, stream: &TcpStream) -> Done<Vec<u8>> {
     let mut heard = Vec::new(alloc);
     let mut piece = [0u8; 256];
     let mut input = stream;

@@ -5,13 +5,13 @@ use crate::line::two_centres;
 use crate::play::Round;
 use crate::railway::{audited, served};
 use crate::sheet::{Paper, cells};
-use crate::{interlocking, journals, options, order, sinks, slots, trains};
+use crate::{initiations, interlocking, journals, options, order, sinks, slots, trains};
 use cli_commands::auditing::Verdict;
 use rbc_line::Line;
 use std::alloc::Global;
 use std::net::{Net, TcpListener, TcpStream};
 use std::sync::Wait;
-use std::sync::atomic::AtomicUsize;
+use std::sync::atomic::{AtomicU8, AtomicUsize};
 use std::test::*;
 use std::thread::Threads;
 use std::time::Clock;
@@ -89,6 +89,7 @@ pub const OPENED_FIRST: Seen<'_> = Seen::Begins("> train A 9B028000000040000040\
 #[test]
 fn each_play_ends_as_it_should(rt: HostRuntime) -> Result<(), Fail> {
     let alloc = rt.alloc();
+    end_as_they_should(&rt, alloc, &initiations::PLAYS)?;
     end_as_they_should(&rt, alloc, &interlocking::PLAYS)?;
     end_as_they_should(&rt, alloc, &slots::PLAYS)?;
     end_as_they_should(&rt, alloc, &trains::PLAYS)?;
@@ -120,18 +121,29 @@ fn end_so<R: Threads + Wait + Sync + Net<Stream = TcpStream, Listener = TcpListe
     alloc: Global,
     play: &'static Play<'static>,
 ) -> Done<()> {
+    let line = two_centres(alloc).ok().ok_or(Missed::Memory)?;
     let of_a = cells(alloc).ok().ok_or(Missed::Memory)?;
     let of_b = cells(alloc).ok().ok_or(Missed::Memory)?;
+    end_so_on(rt, alloc, play, &line, (of_a.as_slice(), of_b.as_slice()))
+}
+
+// The same on this line, with journals in these cells.
+fn end_so_on<R: Threads + Wait + Sync + Net<Stream = TcpStream, Listener = TcpListener> + Clock>(
+    rt: &R,
+    alloc: Global,
+    play: &'static Play<'static>,
+    line: &Line,
+    (of_a, of_b): (&[AtomicU8], &[AtomicU8]),
+) -> Done<()> {
     let (a, b) = rooms_of(play);
     let (room_a, room_b) = (AtomicUsize::new(a), AtomicUsize::new(b));
     let papers = Papers {
-        a: Paper::new(&of_a, &room_a),
-        b: Paper::new(&of_b, &room_b),
+        a: Paper::new(of_a, &room_a),
+        b: Paper::new(of_b, &room_b),
     };
-    let line = two_centres(alloc).ok().ok_or(Missed::Memory)?;
     let scene = Scene {
         alloc,
-        line: &line,
+        line,
         play,
         papers,
     };

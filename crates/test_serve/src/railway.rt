@@ -10,7 +10,6 @@ use rbc_line::Line;
 use rbc_world::WorldEvent;
 use serve_journal::JournalFile;
 use serve_line::{Endpoints, NoNotes, Record, ServeOptions, serve};
-use serve_workers::reading::Rate;
 use std::alloc::Global;
 use std::net::{Net, SocketAddr, TcpListener, TcpStream};
 use std::sync::Wait;
@@ -104,26 +103,22 @@ fn ended<R: Threads + Wait + Sync + Clock>(
 }
 
 fn options_of(mode: ServeMode) -> ServeOptions {
-    let usual = ServeOptions::default();
+    let mut options = ServeOptions::default();
     match mode {
-        ServeMode::Usual => usual,
-        ServeMode::Slow => ServeOptions {
-            rate: Rate {
-                per_second: 20,
-                burst: 2,
-            },
-            ..usual
-        },
-        ServeMode::Bound => ServeOptions {
-            is_bound: true,
-            ..usual
-        },
-        ServeMode::Reporting => ServeOptions {
-            is_telling: true,
-            shows_life: true,
-            ..usual
-        },
+        ServeMode::Usual => {}
+        ServeMode::Slow => {
+            options.rate.per_second = 20;
+            options.rate.burst = 2;
+        }
+        ServeMode::Bound => {
+            options.is_bound = true;
+        }
+        ServeMode::Reporting => {
+            options.is_telling = true;
+            options.shows_life = true;
+        }
     }
+    options
 }
 
 // Journals of the two centres, written on these papers.

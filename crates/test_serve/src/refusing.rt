@@ -7,7 +7,8 @@ use rbc_node::{Node, Open};
 use rbc_world::{Body, Event, Frame};
 use serve_line::clients::run_endpoint;
 use serve_line::state::{
-    Server, State, connections_of, endpoints_of, nodes_of, sinks_of, wakers_of,
+    CentreSink, Endpoint, Server, State, connections_of, endpoints_of, nodes_of, sinks_of,
+    wakers_of,
 };
 use serve_line::status::MentionOrder;
 use serve_line::{Endpoints, NoNotes, ServeOptions};
@@ -16,7 +17,7 @@ use std::net::{Net, SocketAddr, TcpListener, TcpStream};
 use std::sync::{Mutex, Wait};
 use std::test::*;
 use std::thread;
-use std::thread::Threads;
+use std::thread::{Parker, Threads};
 use std::time::Clock;
 
 // The last stamp that a step may have.
@@ -74,6 +75,15 @@ fn ask_at_the_door<R: Threads + Wait + Sync + Net<Stream = TcpStream> + Clock>(
     asked
 }
 
+/// The centres of a line, and their endpoints.
+#[derive(Clone, Copy)]
+struct Centres<'a> {
+    alloc: Global,
+    line: &'a Line,
+    nodes: &'a [Node],
+    endpoints: &'a [Endpoint],
+}
+
 fn asked<R: Threads + Wait + Sync + Net<Stream = TcpStream, Listener = TcpListener> + Clock>(
     rt: &R,
     alloc: Global,
@@ -85,26 +95,48 @@ fn asked<R: Threads + Wait + Sync + Net<Stream = TcpStream, Listener = TcpListen
         .ok_or(Missed::Endpoint)?;
     let (listening, socket, _) = endpoints.all();
     let endpoints = endpoints_of(alloc, line, nodes, listening, socket)?;
-    let wakers = wakers_of(alloc, line)?;
-    let connections = connections_of(alloc, line, &wakers, false)?;
-    let sinks = sinks_of(
-        alloc,
-        line,
-        &connections,
-        &endpoints,
-        &[],
-        ServeOptions::default(),
-    )?;
-    let mentions = Mutex::new(MentionOrder::new(alloc, line)?);
-    let state = State::new(line.centre_count());
-    let server = Server {
+    let centres = Centres {
         alloc,
         line,
         nodes,
-        sinks: &sinks,
-        endpoints: &endpoints,
+        endpoints: endpoints.as_slice(),
+    };
+    asked_of(rt, centres)
+}
+
+fn asked_of<R: Threads + Wait + Sync + Net<Stream = TcpStream> + Clock>(
+    rt: &R,
+    centres: Centres<'_>,
+) -> Result<(), Fail> {
+    let wakers = wakers_of(centres.alloc, centres.line)?;
+    let connections = connections_of(centres.alloc, centres.line, &wakers, false)?;
+    let sinks = sinks_of(
+        centres.alloc,
+        centres.line,
+        &connections,
+        centres.endpoints,
+        &[],
+        ServeOptions::default(),
+    )?;
+    asked_with(rt, centres, &wakers, &sinks)
+}
+
+fn asked_with<'a, R: Threads + Wait + Sync + Net<Stream = TcpStream> + Clock>(
+    rt: &R,
+    centres: Centres<'a>,
+    wakers: &'a [Vec<Parker>],
+    sinks: &'a [CentreSink<'a>],
+) -> Result<(), Fail> {
+    let mentions = Mutex::new(MentionOrder::new(centres.alloc, centres.line)?);
+    let state = State::new(centres.line.centre_count());
+    let server = Server {
+        alloc: centres.alloc,
+        line: centres.line,
+        nodes: centres.nodes,
+        sinks,
+        endpoints: centres.endpoints,
         links: &[],
-        wakers: &wakers,
+        wakers,
         journals: &[],
         mentions: &mentions,
         state: &state,

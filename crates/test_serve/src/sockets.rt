@@ -50,21 +50,33 @@ fn only_the_owner_may_connect(rt: HostRuntime) -> Result<(), Fail> {
     Ok(())
 }
 
+// Listens at the path. The result is whether another listener, and one that would free the path, find it busy.
+fn are_busy(rt: &HostRuntime, path: &str) -> Result<(bool, bool), Fail> {
+    let first = listen_at_path(rt, path).ok().ok_or("the path is free")?;
+    let second = listen_at_path(rt, path);
+    let freed = free_path(rt, path);
+    drop(first);
+    Ok((
+        matches!(second, Err(SocketFault::Busy)),
+        matches!(freed, Err(SocketFault::Busy)),
+    ))
+}
+
+// Whether the socket of a listener that has ended is replaced by another one, and its path is freed after that.
+fn are_replaced_and_freed(rt: &HostRuntime, path: &str) -> (bool, bool) {
+    let listener = listen_at_path(rt, path);
+    let is_replaced = listener.is_ok();
+    drop(listener);
+    (is_replaced, free_path(rt, path).is_ok())
+}
+
 #[test]
 fn a_socket_has_one_listener(rt: HostRuntime) -> Result<(), Fail> {
     let path = path_of(&rt, "one")?;
-    let first = listen_at_path(&rt, path.as_str())
-        .ok()
-        .ok_or("the path is free")?;
-    let second = listen_at_path(&rt, path.as_str());
-    assert!(rt; matches!(second, Err(SocketFault::Busy)));
-    assert!(rt; matches!(free_path(&rt, path.as_str()), Err(SocketFault::Busy)));
-    drop(first);
-    let third = listen_at_path(&rt, path.as_str());
-    assert!(rt; third.is_ok());
-    drop(third);
-    assert!(rt; free_path(&rt, path.as_str()).is_ok());
-    assert!(rt; !fs::exists(&rt, path.as_str())?);
+    let during = are_busy(&rt, path.as_str())?;
+    let after = are_replaced_and_freed(&rt, path.as_str());
+    let is_there = fs::exists(&rt, path.as_str())?;
+    assert!(rt; (during, after, is_there) == ((true, true), (true, true), false));
     Ok(())
 }
 
@@ -75,8 +87,8 @@ fn a_file_that_is_not_a_socket_stays(rt: HostRuntime) -> Result<(), Fail> {
     let refused = listen_at_path(&rt, path.as_str());
     let text = fs::read_to_string(&rt, path.as_str())?;
     fs::remove_file(&rt, path.as_str())?;
-    assert!(rt; matches!(refused, Err(SocketFault::NotSocket)));
-    assert!(rt; text.as_str() == "text");
+    let is_refused = matches!(refused, Err(SocketFault::NotSocket));
+    assert!(rt; (is_refused, text.as_str()) == (true, "text"));
     Ok(())
 }
 

@@ -1,30 +1,19 @@
 //! The logs of two centres' nodes, gathered and merged into one run.
 
-use crate::centres::centre::start;
-use crate::centres::held::Held;
-use crate::centres::logs::stamps_of;
-use crate::centres::world::run;
 use crate::codec::bytes::bytes_of;
-use crate::line::{A, B, START};
-use crate::nodes::{both, node_of};
+use crate::line::{A, B, START, two_centres};
+use crate::nodes::both;
 use rbc_log::{Entry, merge};
+use rbc_msgs::decode_train;
 use rbc_node::{Family, GatherFault, Node, Open, Share, gather};
-use rbc_world::{Answer, Body, Event, Frame, WorldEvent};
+use rbc_world::{Answer, Body, Event, Frame, Outputs, World, WorldEvent};
 use std::alloc::Global;
 use std::sync::Wait;
-use std::sync::atomic::Ordering;
 use std::test::*;
-use std::thread;
-use std::thread::Threads;
 
-// Gathers the logs of two nodes, and merges them.
-fn merged(alloc: Global, a: (Node, Share), b: (Node, Share)) -> Result<Vec<Entry>, Fail> {
-    let nodes = vec![in alloc; b.0, a.0]?;
-    let shares = vec![in alloc; a.1, b.1]?;
-    gathered(alloc, nodes, shares)
-}
-
-fn gathered(alloc: Global, nodes: Vec<Node>, shares: Vec<Share>) -> Result<Vec<Entry>, Fail> {
+/// Gathers the logs of two nodes, and merges them.
+pub fn merged(alloc: Global, a: Node, b: Node, shares: Vec<Share>) -> Result<Vec<Entry>, Fail> {
+    let nodes = vec![in alloc; b, a]?;
     let family = gather(alloc, nodes, shares)
         .ok()
         .ok_or("the logs are a family")?;
@@ -43,6 +32,16 @@ fn entries_of(alloc: Global, family: &Family) -> Result<Vec<Entry>, Fail> {
     )
 }
 
+// The answers of the line's world to the events, and the world after them.
+fn run(alloc: Global, events: &[WorldEvent]) -> Result<Outputs, Fail> {
+    let line = two_centres(alloc)?;
+    Ok(
+        World::run(alloc, &line, events)
+            .ok()
+            .ok_or("no step is refused")?,
+    )
+}
+
 // Whether the entries are the world's answers to the events.
 fn is_run(alloc: Global, events: &[WorldEvent], entries: &[Entry]) -> Result<bool, Fail> {
     let outputs = run(alloc, events)?;
@@ -50,8 +49,8 @@ fn is_run(alloc: Global, events: &[WorldEvent], entries: &[Entry]) -> Result<boo
     Ok(answers.len() == entries.len() && answers.iter().zip(entries).all(|(a, e)| is_answer(a, e)))
 }
 
-// The same, and whether the entries have these centres and stamps.
-fn is_run_with(
+/// Whether the entries are the world's answers to the events, and have these centres and stamps.
+pub fn is_run_with(
     alloc: Global,
     events: &[WorldEvent],
     entries: &[Entry],
@@ -61,6 +60,15 @@ fn is_run_with(
     Ok(seen.as_slice() == stamps && is_run(alloc, events, entries)?)
 }
 
+// The centre and the stamp of each entry.
+fn stamps_of(alloc: Global, entries: &[Entry]) -> Result<Vec<(u8, u32)>, Fail> {
+    let mut stamps = Vec::new(alloc);
+    for entry in entries {
+        stamps.push((entry.centre, entry.outcome.stamp))?;
+    }
+    Ok(stamps)
+}
+
 fn is_answer(answer: &Answer, entry: &Entry) -> bool {
     match answer {
         Answer::Outcome(outcome) => outcome.is_same(&entry.outcome),
@@ -68,67 +76,22 @@ fn is_answer(answer: &Answer, entry: &Entry) -> bool {
     }
 }
 
-// A takes a set that is held back, and B takes one meanwhile. The result is whether each set is taken.
-fn set_side_by_side<R: Threads + Wait + Sync>(
-    rt: &R,
-    gate: &Held,
-    a: (&Node, &mut Share),
-    b: (&Node, &mut Share),
-) -> (bool, bool) {
-    let (a, of_a) = a;
-    let (b, of_b) = b;
-    thread::join(
-        rt,
-        || a.commit(rt, gate, of_a, Event::Set(0)).is_ok(),
-        || {
-            gate.wait_for(&gate.is_begun);
-            let answer = b.commit(rt, gate, of_b, Event::Set(2));
-            gate.is_other_answered.store(true, Ordering::SeqCst);
-            gate.is_next_answered.store(true, Ordering::SeqCst);
-            answer.is_ok()
-        },
-    )
-}
-
-// The merged entries of nodes that commit side by side, whether the gate gave up, and whether the sets were taken.
-fn side_by_side<R: Threads + Wait + Sync>(
-    rt: &R,
-    alloc: Global,
-) -> Result<(Vec<Entry>, bool, (bool, bool)), Fail> {
-    let (a, b) = both(alloc)?;
-    let mut of_a = a.share();
-    let mut of_b = b.share();
-    let gate = Held::new();
-    let taken = set_side_by_side(rt, &gate, (&a, &mut of_a), (&b, &mut of_b));
-    let entries = merged(alloc, (a, of_a), (b, of_b))?;
-    Ok((entries, gate.gave_up.load(Ordering::SeqCst), taken))
-}
-
-// The same two sets, as the world takes them.
-fn sets_in_the_world(alloc: Global) -> Result<Vec<WorldEvent>, Fail> {
-    let mut events = Vec::new(alloc);
-    for (centre, section) in [(A, 0), (B, 2)] {
-        events.push(WorldEvent::Set { centre, section })?;
+// Section 1 is set, and a train that centre B registers starts in it, at A.
+fn start(alloc: Global) -> Result<Vec<Event>, Fail> {
+    let mut events = vec![in alloc; Event::Set(1)]?;
+    for text in &START {
+        events.push(said(alloc, text)?)?;
     }
     Ok(events)
 }
 
-// Whether the entries are those of the two sets.
-fn are_the_sets(alloc: Global, entries: &[Entry]) -> Result<bool, Fail> {
-    let events = sets_in_the_world(alloc)?;
-    is_run_with(alloc, &events, entries, &[(A, 1), (B, 1)])
+fn said(alloc: Global, text: &str) -> Result<Event, Fail> {
+    let bytes = bytes_of(alloc, text)?;
+    let message = decode_train(alloc, &bytes).ok().ok_or("it is a message")?;
+    Ok(Event::Train(message))
 }
 
-#[test]
-fn what_two_centres_take_side_by_side_is_one_run(rt: HostRuntime) -> Result<(), Fail> {
-    let (entries, gave_up, taken) = side_by_side(&rt, rt.alloc())?;
-    assert!(rt; (gave_up, taken) == (false, (true, true)));
-    assert!(rt; are_the_sets(rt.alloc(), &entries)?);
-    Ok(())
-}
-
-// A start at A of a train that B registers, as the world takes it. The frames that ask for the right and give it
-// follow.
+// The same start, as the world takes it. The frames that ask for the right and give it follow.
 fn start_in_the_world(alloc: Global) -> Result<Vec<WorldEvent>, Fail> {
     let set = WorldEvent::Set {
         centre: A,
@@ -224,7 +187,8 @@ fn begun_and_merged<R: Wait>(rt: &R, alloc: Global) -> Result<([Shown; 4], Vec<E
     let mut of_a = a.share();
     let mut of_b = b.share();
     let frames = begun(rt, alloc, (&a, &mut of_a), (&b, &mut of_b))?;
-    let entries = merged(alloc, (a, of_a), (b, of_b))?;
+    let shares = vec![in alloc; of_a, of_b]?;
+    let entries = merged(alloc, a, b, shares)?;
     Ok((frames, entries))
 }
 
@@ -246,7 +210,8 @@ fn a_node_shows_the_frame_that_it_sent(rt: HostRuntime) -> Result<(), Fail> {
 }
 
 // The reason why the logs of these nodes do not form a family.
-fn fault_of(alloc: Global, nodes: Vec<Node>, shares: Vec<Share>) -> Result<GatherFault, Fail> {
+fn fault_of(alloc: Global, a: Node, b: Node, shares: Vec<Share>) -> Result<GatherFault, Fail> {
+    let nodes = vec![in alloc; a, b]?;
     Ok(
         gather(alloc, nodes, shares)
             .err()
@@ -254,16 +219,11 @@ fn fault_of(alloc: Global, nodes: Vec<Node>, shares: Vec<Share>) -> Result<Gathe
     )
 }
 
-fn fault_of_two(alloc: Global, a: Node, b: Node, shares: Vec<Share>) -> Result<GatherFault, Fail> {
-    let nodes = vec![in alloc; a, b]?;
-    fault_of(alloc, nodes, shares)
-}
-
 #[test]
 fn a_family_lacks_a_share(rt: HostRuntime) -> Result<(), Fail> {
     let (a, b) = both(rt.alloc())?;
     commit(&rt, &a, &mut a.share(), Event::Set(0))?;
-    let fault = fault_of_two(rt.alloc(), a, b, Vec::new(rt.alloc()))?;
+    let fault = fault_of(rt.alloc(), a, b, Vec::new(rt.alloc()))?;
     assert!(rt; fault == GatherFault::Shares);
     Ok(())
 }
@@ -280,16 +240,7 @@ fn shared<R: Wait>(rt: &R, node: &Node) -> Result<Share, Fail> {
 fn a_family_has_a_frame_that_nobody_sent(rt: HostRuntime) -> Result<(), Fail> {
     let (a, b) = both(rt.alloc())?;
     let share = shared(&rt, &b)?;
-    let fault = fault_of_two(rt.alloc(), a, b, vec![in rt.alloc(); share]?)?;
+    let fault = fault_of(rt.alloc(), a, b, vec![in rt.alloc(); share]?)?;
     assert!(rt; fault == GatherFault::Foreign);
-    Ok(())
-}
-
-#[test]
-fn a_family_lacks_a_centre(rt: HostRuntime) -> Result<(), Fail> {
-    let alloc = rt.alloc();
-    let a = node_of(alloc, A)?;
-    let fault = fault_of(alloc, vec![in alloc; a]?, Vec::new(alloc))?;
-    assert!(rt; fault == GatherFault::Centres);
     Ok(())
 }

@@ -1,8 +1,12 @@
+//! The log of a node: each node has its own, under a lock of its own.
+
+use crate::centres::gather::{is_run_with, merged};
 use crate::centres::held::Held;
-use crate::line::A;
+use crate::line::{A, B};
 use crate::nodes::{both, node_of};
+use rbc_log::Entry;
 use rbc_node::{Node, Open, Share, ShareFault};
-use rbc_world::{Event, Outcome, Word};
+use rbc_world::{Event, Outcome, Word, WorldEvent};
 use std::alloc::Global;
 use std::sync::Wait;
 use std::sync::atomic::Ordering;
@@ -10,42 +14,12 @@ use std::test::*;
 use std::thread;
 use std::thread::Threads;
 
-// A takes two sets with its own share, and refuses one with B's share. The result is the two stamps, the last receipt
-// (`last_of`), and the fault of the refused set.
-fn taken_and_refused<R: Wait>(
-    rt: &R,
-    alloc: Global,
-) -> Result<([u32; 2], (usize, usize, u32), ShareFault), Fail> {
-    let (a, b) = both(alloc)?;
-    taken_and_refused_at(rt, &a, (&mut a.share(), &mut b.share()))
-}
-
-fn taken_and_refused_at<R: Wait>(
-    rt: &R,
-    a: &Node,
-    (of_a, of_b): (&mut Share, &mut Share),
-) -> Result<([u32; 2], (usize, usize, u32), ShareFault), Fail> {
-    let first = stamp_of(rt, a, of_a, 0)?;
-    let second = stamp_of(rt, a, of_a, 0)?;
-    let third = refused(rt, a, of_b, 0)?;
-    Ok(([first, second], last_of(of_a)?, third))
-}
-
-#[test]
-fn a_share_of_another_centre_is_stray(rt: HostRuntime) -> Result<(), Fail> {
-    let (stamps, last, third) = taken_and_refused(&rt, rt.alloc())?;
-    assert!(rt; (stamps, last) == ([1, 2], (2, 1, 2)));
-    assert!(rt; (third, third.number()) == (ShareFault::Stray, 5));
-    Ok(())
-}
-
-// The node takes the set. The result is its stamp.
-fn stamp_of<R: Wait>(rt: &R, node: &Node, share: &mut Share, section: u16) -> Result<u32, Fail> {
-    let outcome = node
-        .commit(rt, &Open, share, Event::Set(section))
+// The node takes the set.
+fn take<R: Wait>(rt: &R, node: &Node, share: &mut Share, section: u16) -> Result<(), Fail> {
+    node.commit(rt, &Open, share, Event::Set(section))
         .ok()
         .ok_or("the set is taken")?;
-    Ok(outcome.stamp)
+    Ok(())
 }
 
 // The node refuses the set. The result is the fault.
@@ -60,12 +34,6 @@ fn refused<R: Wait>(
             .err()
             .ok_or("the set is refused")?,
     )
-}
-
-// The count of receipts, and the place and the stamp of the last one.
-fn last_of(share: &Share) -> Result<(usize, usize, u32), Fail> {
-    let last = share.receipts().last().ok_or("there are receipts")?;
-    Ok((share.receipts().len(), last.place, last.outcome.stamp))
 }
 
 // A share with a receipt of A is used at a new node of A: before the node has taken anything, and after another set.
@@ -87,9 +55,9 @@ fn refused_again<R: Wait>(
     begun_again: &Node,
     share: &mut Share,
 ) -> Result<[ShareFault; 2], Fail> {
-    stamp_of(rt, a, share, 0)?;
+    take(rt, a, share, 0)?;
     let lacking = refused(rt, begun_again, share, 0)?;
-    stamp_of(rt, begun_again, &mut begun_again.share(), 1)?;
+    take(rt, begun_again, &mut begun_again.share(), 1)?;
     let differing = refused(rt, begun_again, share, 0)?;
     Ok([lacking, differing])
 }
@@ -113,12 +81,14 @@ fn done(answer: Result<Outcome, ShareFault>) -> Done {
     }
 }
 
-// A takes a set that is held back. Meanwhile B takes one, and then A takes another. The result is that of each set.
+// A takes a set that is held back. Meanwhile B takes one, and then A takes another, with a share of its own. The result
+// is that of each set.
 fn set_side_by_side<R: Threads + Wait + Sync>(
     rt: &R,
     gate: &Held,
     a: (&Node, &mut Share),
     b: (&Node, &mut Share),
+    next_of_a: &mut Share,
 ) -> (Done, (Done, Done)) {
     let (a, of_a) = a;
     let (b, of_b) = b;
@@ -129,7 +99,7 @@ fn set_side_by_side<R: Threads + Wait + Sync>(
             gate.wait_for(&gate.is_begun);
             let other = b.commit(rt, gate, of_b, Event::Set(2));
             gate.is_other_answered.store(true, Ordering::SeqCst);
-            let next = a.commit(rt, &Open, &mut a.share(), Event::Set(1));
+            let next = a.commit(rt, &Open, next_of_a, Event::Set(1));
             gate.is_next_answered.store(true, Ordering::SeqCst);
             (done(other), done(next))
         },
@@ -146,23 +116,35 @@ fn gated(gate: &Held) -> Gated {
     )
 }
 
-/// The results of the sets, those of the gate, and the counts of the shares' receipts.
-type SideBySide = ((Done, (Done, Done)), Gated, (usize, usize));
+/// The results of the sets, those of the gate, and the merged entries of the nodes.
+type SideBySide = ((Done, (Done, Done)), Gated, Vec<Entry>);
 
 fn side_by_side<R: Threads + Wait + Sync>(rt: &R, alloc: Global) -> Result<SideBySide, Fail> {
     let (a, b) = both(alloc)?;
     let mut of_a = a.share();
+    let mut next_of_a = a.share();
     let mut of_b = b.share();
     let gate = Held::new();
-    let sets = set_side_by_side(rt, &gate, (&a, &mut of_a), (&b, &mut of_b));
-    let receipts = (of_a.receipts().len(), of_b.receipts().len());
-    Ok((sets, gated(&gate), receipts))
+    let sets = set_side_by_side(rt, &gate, (&a, &mut of_a), (&b, &mut of_b), &mut next_of_a);
+    let shares = vec![in alloc; of_a, next_of_a, of_b]?;
+    let entries = merged(alloc, a, b, shares)?;
+    Ok((sets, gated(&gate), entries))
+}
+
+// Whether the entries are those of the three sets.
+fn are_the_sets(alloc: Global, entries: &[Entry]) -> Result<bool, Fail> {
+    let mut events = Vec::new(alloc);
+    for (centre, section) in [(A, 0), (B, 2), (A, 1)] {
+        events.push(WorldEvent::Set { centre, section })?;
+    }
+    is_run_with(alloc, &events, entries, &[(A, 1), (B, 1), (A, 2)])
 }
 
 #[test]
 fn a_commit_waits_for_the_lock_of_its_centre_alone(rt: HostRuntime) -> Result<(), Fail> {
-    let (sets, gate, receipts) = side_by_side(&rt, rt.alloc())?;
+    let (sets, gate, entries) = side_by_side(&rt, rt.alloc())?;
     assert!(rt; sets == (Some((1, 0)), (Some((1, 2)), Some((2, 1)))));
-    assert!(rt; (gate, receipts) == ((false, 2), (1, 1)));
+    assert!(rt; gate == (false, 2));
+    assert!(rt; are_the_sets(rt.alloc(), &entries)?);
     Ok(())
 }

@@ -1,51 +1,9 @@
-//! A board carries a frame from one caller to another, and takes one frame under each number. So does a queue, which
-//! has room for 64 frames.
+//! A queue carries the frames of a link from one caller to another, in the order of their numbers. It has room for 64.
 ghost use Rattle.std.specs.Prelude.{◌≤◌};
 
-use rbc_board::{Carrier, CellBoard, QueueCarrier};
+use rbc_board::{Carrier, QueueCarrier};
 use rbc_linkmsg::{Body, Frame};
 use std::test::*;
-
-// The frame in which a right is asked for.
-fn asked() -> Frame {
-    Frame::new(1, 4, Body::AskRight { engine: 2 })
-}
-
-// A frame is put twice under number 1. The result is the frames that another caller gets: before the puts, between
-// them, and under number 2. With it are the results of both puts.
-fn put_twice(board: &CellBoard) -> Result<([Option<Frame>; 3], [Result<(), Frame>; 2]), Fail> {
-    let mut sender = board.seen()?;
-    let mut receiver = board.seen()?;
-    let before = board.get(&mut receiver, 1);
-    let first = board.put(&mut sender, 1, asked());
-    let between = board.get(&mut receiver, 1);
-    let second = board.put(&mut sender, 1, asked());
-    let under_two = board.get(&mut receiver, 2);
-    Ok(([before, between, under_two], [first, second]))
-}
-
-#[test]
-fn a_frame_that_was_put_is_got_and_is_not_put_again(rt: HostRuntime) -> Result<(), Fail> {
-    let board = CellBoard::new(rt.alloc(), 65_536)?;
-    let (got, put) = put_twice(&board)?;
-    assert!(rt; got == [None, Some(asked()), None]);
-    assert!(rt; put == [Ok(()), Err(asked())]);
-    Ok(())
-}
-
-#[test]
-fn a_board_takes_no_frame_under_another_number_or_past_its_cells(
-    rt: HostRuntime,
-) -> Result<(), Fail> {
-    let board = CellBoard::new(rt.alloc(), 1)?;
-    let mut seen = board.seen()?;
-    let second = Frame::new(2, 5, Body::GiveRight { engine: 2 });
-    let under_one = board.put(&mut seen, 1, second);
-    let past_the_cells = board.put(&mut seen, 2, second);
-    assert!(rt; [under_one, past_the_cells] == [Err(second), Err(second)]);
-    assert!(rt; board.get(&mut seen, 0) == None);
-    Ok(())
-}
 
 // A frame of this number.
 fn numbered(number: u32) -> Frame

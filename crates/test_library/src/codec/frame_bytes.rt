@@ -2,7 +2,8 @@
 //! frame.
 
 use crate::codec::bytes::bytes_of;
-use rbc_linkmsg::{FrameFault, decode_frame, encode_frame};
+use rbc_linkmsg::{Body, Frame, FrameFault, decode_frame, encode_frame};
+use std::alloc::Global;
 use std::test::*;
 
 // A frame of each body, and frames at the limits of each field.
@@ -118,6 +119,22 @@ static FAULTS: [(&str, FrameFault); 47] = [
         FrameFault::Value,
     ),
 ];
+
+// Whether these are the bytes of the frame.
+fn is_spelled(alloc: Global, frame: &Frame, text: &str) -> Result<bool, Fail> {
+    let wanted = bytes_of(alloc, text)?;
+    let bytes = encode_frame(alloc, frame)?;
+    Ok(bytes.as_slice() == wanted.as_slice())
+}
+
+#[test]
+fn a_right_is_asked_for_and_given(rt: HostRuntime) -> Result<(), Fail> {
+    let asked = Frame::new(1, 4, Body::AskRight { engine: 2 });
+    let given = Frame::new(1, 5, Body::GiveRight { engine: 2 });
+    assert!(rt; is_spelled(rt.alloc(), &asked, FRAMES[0])?);
+    assert!(rt; is_spelled(rt.alloc(), &given, FRAMES[1])?);
+    Ok(())
+}
 
 #[test]
 fn each_frame_is_read_and_written(rt: HostRuntime) -> Result<(), Fail> {

@@ -16,9 +16,9 @@ const SEED: u32 = 20_261_126;
 const MOST: u16 = 1_100;
 
 // The numbers that a train's message may have, and those that a centre's message may have.
-const OF_TRAINS: [u8; 10] = [129, 132, 136, 137, 138, 150, 155, 156, 157, 159];
+static OF_TRAINS: [u8; 10] = [129, 132, 136, 137, 138, 150, 155, 156, 157, 159];
 
-const OF_CENTRES: [u8; 8] = [3, 8, 9, 24, 32, 39, 40, 41];
+static OF_CENTRES: [u8; 8] = [3, 8, 9, 24, 32, 39, 40, 41];
 
 // A train's messages, with packets that are kept and packets that are passed over; and a centre's message.
 const TRAIN_DATA: &str = "81070000000100000040010280A03282585001400510190010616015";

@@ -135,13 +135,18 @@ fn a_megabyte_comes_in_one_piece(rt: HostRuntime) -> Result<(), Fail> {
     let message = bytes_of(rt.alloc(), MESSAGES[2])?;
     let (begin, rest) = message.split_at(message.len().min(9));
     let bytes = megabyte(rt.alloc(), &message, begin)?;
-    let mut stream = Stream::new(rt.alloc());
-    let mut messages = Vec::new(rt.alloc());
-    let fed = stream.feed(&bytes, &mut messages);
-    assert!(rt; (fed, messages.len()) == (Ok(()), 40_330));
-    let fed = stream.feed(rest, &mut messages);
-    assert!(rt; (fed, messages.len()) == (Ok(()), 40_331));
+    assert!(rt; counts_after(rt.alloc(), &bytes, rest) == Ok([40_330, 40_331]));
     Ok(())
+}
+
+// The counts of messages after each of these pieces of a stream.
+fn counts_after(alloc: Global, first: &[u8], second: &[u8]) -> Result<[usize; 2], StreamFault> {
+    let mut stream = Stream::new(alloc);
+    let mut messages = Vec::new(alloc);
+    stream.feed(first, &mut messages)?;
+    let count = messages.len();
+    stream.feed(second, &mut messages)?;
+    Ok([count, messages.len()])
 }
 
 // 40 330 whole messages, and after them the beginning of one.

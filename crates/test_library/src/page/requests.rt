@@ -1,7 +1,7 @@
-//! The status of the answer to each request.
+//! The status of the answer to bytes that are not a request, are a part of one, or are too many.
 
 use crate::page::shown::answered;
-use serve_page::{Asked, MOST_REQUEST, Refusal, asked_of, refusal};
+use serve_page::{Asked, MOST_REQUEST, asked_of};
 use std::alloc::Global;
 use std::test::*;
 
@@ -13,130 +13,6 @@ fn status(alloc: Global, bytes: &[u8]) -> Result<u16, Fail> {
     }
     let status = text.as_str().get(9..12).ok_or("there is a status")?;
     Ok(status.parse().ok().ok_or("it is a number")?)
-}
-
-// The status of the answer to a request of this method for this address, at this host.
-fn status_of(alloc: Global, method: &str, target: &str, host: &str) -> Result<u16, Fail> {
-    let text = format!(in alloc; "{method} {target} HTTP/1.1\r\nHost: {host}\r\n\r\n")?;
-    status(alloc, text.as_bytes())
-}
-
-static ADDRESSES: [(&str, u16); 32] = [
-    ("/", 200),
-    ("/line.json", 200),
-    ("/now", 200),
-    ("/now?since=", 200),
-    ("/now?since=511", 200),
-    ("/now?since=512", 304),
-    ("/now?since=0512", 304),
-    ("/now?since=+512", 200),
-    ("/now?since=5", 200),
-    ("/now?since=99999999999999999999", 200),
-    ("/now?since=-5", 200),
-    ("/now?x=1&since=512", 304),
-    ("/now?since=512&since=5", 304),
-    ("/now?since=5&since=512", 200),
-    ("/now?since&x=512", 200),
-    ("/?x=1", 200),
-    ("/line.json?", 200),
-    ("/nowhere?since=512", 404),
-    ("/nowhere", 404),
-    ("/line.json/", 404),
-    ("//", 404),
-    ("/../etc/passwd", 404),
-    ("http://localhost/", 200),
-    ("http://localhost:8080/now?since=512", 304),
-    ("http://127.0.0.1/line.json", 200),
-    ("http://127.0.0.1:1", 200),
-    ("http://localhost/nowhere", 404),
-    ("http://example.com/", 421),
-    ("http://localhost.example.com/now", 421),
-    ("http:///now", 421),
-    ("https://localhost/", 404),
-    ("*", 404),
-];
-
-#[test]
-fn three_addresses_are_known(rt: HostRuntime) -> Result<(), Fail> {
-    for (target, expected) in &ADDRESSES {
-        assert!(rt;
-            status_of(rt.alloc(), "GET", target, "localhost:1")? == *expected,
-            "{target}"
-        );
-    }
-    Ok(())
-}
-
-static METHODS: [&str; 8] = [
-    "POST", "PUT", "DELETE", "OPTIONS", "CONNECT", "TRACE", "get", "HEADS",
-];
-
-#[test]
-fn head_is_answered_as_get(rt: HostRuntime) -> Result<(), Fail> {
-    for (target, expected) in &ADDRESSES {
-        assert!(rt;
-            status_of(rt.alloc(), "HEAD", target, "localhost:1")? == *expected,
-            "{target}"
-        );
-    }
-    Ok(())
-}
-
-#[test]
-fn no_other_method_is_answered(rt: HostRuntime) -> Result<(), Fail> {
-    for method in &METHODS {
-        assert!(rt;
-            status_of(rt.alloc(), method, "/", "localhost:1")? == 405,
-            "{method}"
-        );
-    }
-    Ok(())
-}
-
-static HOSTS: [(&str, u16); 10] = [
-    ("localhost", 200),
-    ("127.0.0.1", 200),
-    ("127.0.0.1:8080", 200),
-    ("example.com", 421),
-    ("localhost.example.com", 421),
-    ("127.0.0.1.example.com:80", 421),
-    ("127.0.0.10", 421),
-    ("a@localhost", 421),
-    ("0.0.0.0", 421),
-    ("", 421),
-];
-
-#[test]
-fn another_host_is_not_answered(rt: HostRuntime) -> Result<(), Fail> {
-    for (host, expected) in &HOSTS {
-        assert!(rt;
-            status_of(rt.alloc(), "GET", "/now", host)? == *expected,
-            "{host}"
-        );
-    }
-    Ok(())
-}
-
-#[test]
-fn a_target_of_this_host_needs_its_host_too(rt: HostRuntime) -> Result<(), Fail> {
-    for (host, expected) in &HOSTS {
-        assert!(rt;
-            status_of(rt.alloc(), "GET", "http://localhost/now", host)? == *expected,
-            "{host}"
-        );
-    }
-    Ok(())
-}
-
-#[test]
-fn a_request_names_one_host(rt: HostRuntime) -> Result<(), Fail> {
-    let none = status(rt.alloc(), b"GET / HTTP/1.1\r\n\r\n")?;
-    let twice = b"GET / HTTP/1.1\r\nHost: localhost\r\nhOsT: localhost\r\n\r\n";
-    let twice = status(rt.alloc(), twice)?;
-    let after = b"GET / HTTP/1.1\r\nHost: localhost\r\nX-Host: example.com\r\n\r\n";
-    let after = status(rt.alloc(), after)?;
-    assert!(rt; (none, twice, after) == (400, 400, 200));
-    Ok(())
 }
 
 static NO_REQUESTS: [&[u8]; 6] = [
@@ -191,21 +67,5 @@ fn a_long_request_is_refused(rt: HostRuntime) -> Result<(), Fail> {
     let many = status_of_long(rt.alloc(), 64, 1)?;
     let few = status_of_long(rt.alloc(), 63, 1)?;
     assert!(rt; (one, many, few) == (431, 431, 0));
-    Ok(())
-}
-
-#[test]
-fn what_follows_a_request_is_not_read(rt: HostRuntime) -> Result<(), Fail> {
-    let two = b"GET /line.json HTTP/1.1\r\nHost: localhost\r\n\r\nDELETE / HTTP/1.1\r\n\r\n";
-    assert!(rt; matches!(asked_of(two), Asked::Line));
-    Ok(())
-}
-
-#[test]
-fn a_refusal_has_its_own_text(rt: HostRuntime) -> Result<(), Fail> {
-    let time = refusal(Refusal::Time);
-    let crowd = refusal(Refusal::Crowd);
-    assert!(rt; time.starts_with("HTTP/1.1 408 "));
-    assert!(rt; crowd.starts_with("HTTP/1.1 503 "));
     Ok(())
 }

@@ -91,17 +91,6 @@ fn written_now(shared_writer: &SharedWriter<Tape<'_>>, reply: &Reply) -> Answer 
 }
 
 #[test]
-fn a_reply_is_written_at_once_where_none_waits(rt: HostRuntime) -> Result<(), Fail> {
-    let version = reply_of(rt.alloc(), VERSION)?;
-    let wanted = bytes_of(rt.alloc(), VERSION)?;
-    let kept = Mutex::new(Vec::new(rt.alloc()));
-    let answer = written_now(&pipe_over(&kept, false), &version);
-    assert!(rt; answer == Some(Ok(())));
-    assert!(rt; kept.lock(&rt).as_slice() == wanted.as_slice());
-    Ok(())
-}
-
-#[test]
 fn no_reply_overtakes_one_that_waits(rt: HostRuntime) -> Result<(), Fail> {
     let wanted = row_of(rt.alloc(), ACCEPTED, VERSION)?;
     let kept = Mutex::new(Vec::new(rt.alloc()));

@@ -6,7 +6,7 @@ use std::sync::atomic::{AtomicBool, Ordering};
 /// How many numbers it asks for.
 pub const ASKED: usize = 8;
 
-/// Asks for the numbers of its list, whatever comes of them, and says after the last that nothing new comes.
+/// Asks for the numbers of its list, whatever comes of them, and says before the last that nothing new comes.
 #[derive(Drop)]
 pub struct Unruly<'a> {
     numbers: [u32; ASKED],
@@ -15,13 +15,18 @@ pub struct Unruly<'a> {
 }
 
 impl<'a> Unruly<'a> {
-    /// A carrier that will hand over frames in the order of these numbers.
+    /// An order that asks for these numbers, one in each turn.
     pub fn new(numbers: [u32; ASKED], is_over: &'a AtomicBool) -> Unruly<'a> {
         Unruly {
             numbers,
             next: 0,
             is_over,
         }
+    }
+
+    /// The number of turns that were taken.
+    pub fn turns(&self) -> usize {
+        self.next
     }
 }
 
@@ -42,7 +47,7 @@ impl Order for Unruly<'_> {
 
     fn go_on(&mut self, _is_committed: bool) {
         self.next = self.next.saturating_add(1);
-        if self.next >= ASKED {
+        if self.next.saturating_add(1) >= ASKED {
             self.is_over.store(true, Ordering::SeqCst);
         }
     }

@@ -1,0 +1,136 @@
+//! An initiation that came over a connection before its centre ended it. The connection serves no train again.
+
+use crate::codec::bytes::bytes_of;
+use crate::line::{INITIATION, VERSION, two_centres};
+use crate::nodes::node_of_a;
+use crossbeam_channel::{Receiver, bounded};
+use rbc_msgs::decode_train;
+use rbc_node::Open;
+use rbc_world::{Event, Outcome};
+use serve_workers::AnswerSink;
+use serve_workers::connections::{Connection, ConnectionSink, Shared, TrainConnections};
+use serve_workers::writing::{Reply, SharedWriter, run_writer};
+use std::alloc::Global;
+use std::io::Read;
+use std::net::{IpAddr, Ipv4Addr, Net, Shutdown, SocketAddr, TcpListener, TcpStream};
+use std::sync::{Arc, Wait};
+use std::test::*;
+
+// Train 1 initiates its session again, with T_TRAIN 2 and 3.
+const SECOND_INITIATION: &str = "9B028000000080000040";
+
+const THIRD_INITIATION: &str = "9B0280000000C0000040";
+
+// Message 32 with T_TRAIN 2, and after it message 32 with T_TRAIN 3.
+const LATER_VERSIONS: &str = "2002C00000009FFFFFE8002002C0000000DFFFFFE800";
+
+// The connections that submit the three answers.
+static SUBMITTED_BY: [usize; 3] = [0, 1, 0];
+
+/// A connection: the source of its writer, and the train's end.
+#[derive(Drop)]
+struct Ends {
+    stream: Arc<TcpStream, Global>,
+    shared_writer: Arc<SharedWriter<Shared>, Global>,
+    replies: Receiver<Reply>,
+    train: TcpStream,
+}
+
+// The answers of centre A to the three initiations.
+fn answers<R: Wait>(rt: &R, alloc: Global) -> Result<Vec<Outcome>, Fail> {
+    let node = node_of_a(alloc)?;
+    let mut share = node.share();
+    let mut outcomes = Vec::new(alloc);
+    for digits in [INITIATION, SECOND_INITIATION, THIRD_INITIATION] {
+        let bytes = bytes_of(alloc, digits)?;
+        let message = decode_train(alloc, &bytes).ok().ok_or("it is a message")?;
+        let taken = node.commit(rt, &Open, &mut share, Event::Train(message));
+        outcomes.push(taken.ok().ok_or("the message is taken")?)?;
+    }
+    Ok(outcomes)
+}
+
+// The two ends of a connection: the train's, and the other.
+fn pair<R: Net<Stream = TcpStream, Listener = TcpListener>>(
+    rt: &R,
+) -> Result<(TcpStream, TcpStream), Fail> {
+    let loopback = SocketAddr::new(IpAddr::V4(Ipv4Addr::LOCALHOST), 0);
+    let listener = TcpListener::bind(rt, loopback)?;
+    let train = TcpStream::connect(rt, listener.local_addr()?)?;
+    let (stream, _) = listener.accept()?;
+    Ok((train, stream))
+}
+
+// A connection of this number.
+fn entered<R: Net<Stream = TcpStream, Listener = TcpListener> + Wait>(
+    rt: &R,
+    alloc: Global,
+    connections: &TrainConnections<'_>,
+    number: usize,
+) -> Result<Ends, Fail> {
+    let (train, stream) = pair(rt)?;
+    let stream = Arc::new(alloc, stream)?;
+    let shared_writer = Arc::new(alloc, SharedWriter::new(Shared(Arc::try_clone(&stream)?)))?;
+    let (sender, replies) = bounded(alloc, 8)?;
+    let writer = Arc::try_clone(&shared_writer)?;
+    let connection = Connection::new(sender, writer, Arc::try_clone(&stream)?);
+    connections.enter(rt, number, connection)?;
+    Ok(Ends {
+        stream,
+        shared_writer,
+        replies,
+        train,
+    })
+}
+
+// The connection leaves, its writer writes the answers that wait, and it ends: all bytes at its train.
+fn brought<R: Wait>(
+    rt: &R,
+    alloc: Global,
+    connections: &TrainConnections<'_>,
+    number: usize,
+    ends: Ends,
+) -> Result<Vec<u8>, Fail> {
+    connections.leave(rt, number);
+    let _ = run_writer(rt, &ends.replies, &mut ends.shared_writer.end(rt));
+    let _ = ends.stream.shutdown(Shutdown::Both);
+    let mut bytes = Vec::new(alloc);
+    let mut train = &ends.train;
+    train.read_to_end(&mut bytes)?;
+    Ok(bytes)
+}
+
+// The bytes of both connections after the answers were submitted.
+fn brought_by_two<R: Net<Stream = TcpStream, Listener = TcpListener> + Wait>(
+    rt: &R,
+    alloc: Global,
+    connections: &TrainConnections<'_>,
+    outcomes: &[Outcome],
+) -> Result<(Vec<u8>, Vec<u8>), Fail> {
+    let first = entered(rt, alloc, connections, 0)?;
+    let second = entered(rt, alloc, connections, 1)?;
+    for (outcome, number) in outcomes.iter().zip(SUBMITTED_BY.iter()) {
+        ConnectionSink {
+            connections,
+            number: *number,
+        }
+        .answered(rt, outcome);
+    }
+    let first = brought(rt, alloc, connections, 0, first);
+    let second = brought(rt, alloc, connections, 1, second);
+    Ok((first?, second?))
+}
+
+#[test]
+fn a_connection_that_was_ended_serves_no_train_again(rt: HostRuntime) -> Result<(), Fail> {
+    let alloc = rt.alloc();
+    let outcomes = answers(&rt, alloc)?;
+    let line = two_centres(alloc)?;
+    let connections = TrainConnections::new(alloc, &line, 2, &[])?;
+    let (first, second) = brought_by_two(&rt, alloc, &connections, &outcomes)?;
+    let wanted = (bytes_of(alloc, VERSION)?, bytes_of(alloc, LATER_VERSIONS)?);
+    assert!(rt;
+        (first.as_slice(), second.as_slice()) == (wanted.0.as_slice(), wanted.1.as_slice())
+    );
+    Ok(())
+}
