@@ -1,6 +1,6 @@
 //! Tests of the pages of a line, over bytes in memory. They are of the answer to each request, and of the pages of a
-//! running line and of a print. A person can read the pages without a script. The expected answers are those of
-//! HTTP/1.1 (RFC 9110, RFC 9112).
+//! running line and of a print. So are the health and the metrics. A person can read the pages without a script. The
+//! expected answers are those of HTTP/1.1 (RFC 9110, RFC 9112).
 pub mod line;
 #[cfg(test)]
 mod requests;
@@ -8,3 +8,5 @@ mod requests;
 mod run;
 #[cfg(test)]
 mod shown;
+#[cfg(test)]
+mod watched;

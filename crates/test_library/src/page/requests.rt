@@ -21,7 +21,7 @@ fn status_of(alloc: Global, method: &str, target: &str, host: &str) -> Result<u1
     status(alloc, text.as_bytes())
 }
 
-static ADDRESSES: [(&str, u16); 32] = [
+static ADDRESSES: [(&str, u16); 37] = [
     ("/", 200),
     ("/line.json", 200),
     ("/now", 200),
@@ -37,6 +37,11 @@ static ADDRESSES: [(&str, u16); 32] = [
     ("/now?since=512&since=5", 304),
     ("/now?since=5&since=512", 200),
     ("/now?since&x=512", 200),
+    ("/health", 503),
+    ("/health?x=1", 503),
+    ("/healthy", 404),
+    ("/metrics", 200),
+    ("/metrics/", 404),
     ("/?x=1", 200),
     ("/line.json?", 200),
     ("/nowhere?since=512", 404),
@@ -57,7 +62,7 @@ static ADDRESSES: [(&str, u16); 32] = [
 ];
 
 #[test]
-fn three_addresses_are_known(rt: HostRuntime) -> Result<(), Fail> {
+fn five_addresses_are_known(rt: HostRuntime) -> Result<(), Fail> {
     for (target, expected) in &ADDRESSES {
         assert!(rt;
             status_of(rt.alloc(), "GET", target, "localhost:1")? == *expected,

@@ -45,7 +45,13 @@ fn lengths(text: &str) -> Result<(usize, usize), Fail> {
 
 #[test]
 fn each_answer_says_its_length(rt: HostRuntime) -> Result<(), Fail> {
-    for asked in [Asked::Page, Asked::Line, Asked::Now { since: None }] {
+    for asked in [
+        Asked::Page,
+        Asked::Line,
+        Asked::Now { since: None },
+        Asked::Health,
+        Asked::Metrics,
+    ] {
         let (is, said) = lengths(answered(rt.alloc(), asked)?.as_str())?;
         assert!(rt; is == said);
     }
