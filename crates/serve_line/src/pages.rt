@@ -159,7 +159,7 @@ fn answer_to<R: Wait + Clock>(
     asked: Asked,
 ) -> Result<String, Fault<'static>> {
     let mut seen = endpoint.seen.lock(rt);
-    if let Asked::Page | Asked::Now { .. } = asked {
+    if let Asked::Page | Asked::Now { .. } | Asked::Health | Asked::Metrics = asked {
         refresh(rt, server, &mut seen)?;
     }
     let page_snapshot = &seen.page_snapshot;

@@ -10,6 +10,7 @@ mod notes;
 mod snapshot;
 
 pub use kinds::{Kind, Level};
+pub(crate) use life::{LIMITS, end_of};
 pub use life::{Life, write_life};
 pub use mention_order::MentionOrder;
 pub use notes::{Backlog, NoNotes, NoteForm, Notes, QueuedNotes, StderrNotes, write_notes};

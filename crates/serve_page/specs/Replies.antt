@@ -1,11 +1,13 @@
 -- The bytes of an answer.
-use Rattle.std.specs.Prelude.{◌≡◌, ◌≢◌, ◌⊎◌, ℕ, Some, List, [], ◌++◌, length}
+use Rattle.std.specs.Prelude.{◌≡◌, ◌≢◌, ◌⊎◌, ℕ, Some, List, [], ◌++◌, length, false, true}
 use Rattle.std.specs.Fmt.{decimal}
 use Rattle.serve_page.specs.declared.request.Asked.{Asked}
 use Rattle.serve_page.specs.declared.request.Asked.TheVariants as asked
 use Rattle.serve_page.specs.declared.request.Refusal.{Refusal}
 use Rattle.serve_page.specs.declared.request.Refusal.TheVariants as refusal
 use Rattle.serve_page.specs.declared.reply.TheConstants as constants
+use Rattle.text_page.specs.declared.view.LineNow.{LineNow}
+use Rattle.text_page.specs.Health.{is_healthy}
 
 -- the answer to a refused request, in any state of the line
 abbrev pub refusal_text : Refusal → List ℕ
@@ -25,13 +27,18 @@ answer_of head body = head ++ decimal (length body) ++ constants.END.now ++ body
 abbrev pub HasBody : List ℕ → List ℕ → Type 0
 HasBody head text = (body : List ℕ) × (text ≡ answer_of head body)
 
--- The answer to a request if the line is shown in this version. The answer to a refused request is a fixed text. The
--- answer for the current state reports no change if and only if the request names this version. Any other answer has
--- the length of its body in its head.
-abbrev pub IsAnswer : ℕ → Asked → List ℕ → Type 0
-IsAnswer version asked.More text = text ≡ []
-IsAnswer version (asked.Refused why) text = text ≡ refusal_text why
-IsAnswer version asked.Page text = HasBody constants.HTML.now text
-IsAnswer version asked.Line text = HasBody constants.JSON.now text
-IsAnswer version (asked.Now since) text =
+-- The answer to a request if the line is shown in this state and version. The answer to a refused request is a fixed
+-- text. The answer for the current state reports no change if and only if the request names this version. The answer
+-- for the health is the fixed text that each centre answers, if and only if each does. Any other answer has the length
+-- of its body in its head.
+abbrev pub IsAnswer : LineNow → ℕ → Asked → List ℕ → Type 0
+IsAnswer now version asked.More text = text ≡ []
+IsAnswer now version (asked.Refused why) text = text ≡ refusal_text why
+IsAnswer now version asked.Page text = HasBody constants.HTML.now text
+IsAnswer now version asked.Line text = HasBody constants.JSON.now text
+IsAnswer now version (asked.Now since) text =
     ((since ≡ Some version) × (text ≡ constants.SAME.now)) ⊎ ((since ≢ Some version) × HasBody constants.JSON.now text)
+IsAnswer now version asked.Health text =
+    ((is_healthy now ≡ true) × (text ≡ constants.HEALTHY.now))
+    ⊎ ((is_healthy now ≡ false) × HasBody constants.UNHEALTHY.now text)
+IsAnswer now version asked.Metrics text = HasBody constants.METRICS.now text

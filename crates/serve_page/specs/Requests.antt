@@ -99,13 +99,16 @@ IsSinceOf None since = since ≡ None
 abbrev pub IsSince : List ℕ → Option ℕ → Type 0
 IsSince query since = IsSinceOf (find names_since (raw_pairs query)) since
 
--- The meaning of an address. Three paths are known, and only that of the current state reads the query.
+-- The meaning of an address. Five paths are known, and only that of the current state reads the query.
 abbrev pub IsAskedAt : List ℕ → Asked → Type 0
 IsAskedAt address asked.Page = path_of address ≡ codes "/"
 IsAskedAt address asked.Line = path_of address ≡ codes "/line.json"
 IsAskedAt address (asked.Now since) = (path_of address ≡ codes "/now") × IsSince (query_of address) since
+IsAskedAt address asked.Health = path_of address ≡ codes "/health"
+IsAskedAt address asked.Metrics = path_of address ≡ codes "/metrics"
 IsAskedAt address (asked.Refused refusal.Address) =
     (path_of address ≢ codes "/") × (path_of address ≢ codes "/line.json") × (path_of address ≢ codes "/now")
+    × (path_of address ≢ codes "/health") × (path_of address ≢ codes "/metrics")
 IsAskedAt address other = ⊥
 
 -- the fields of a head that name a host

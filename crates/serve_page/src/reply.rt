@@ -5,13 +5,22 @@ ghost use Rattle.serve_page.specs.Replies.{refusal_text, IsAnswer, HasBody, answ
 
 use crate::request::{Asked, Refusal};
 use std::alloc::{AllocError, Global};
-use text_page::{Layout, LineNow, line_json, live_page, now_json};
+use text_page::{Layout, LineNow, causes_of, line_json, live_page, metrics_of, now_json};
 
 const HTML: &str =
     "HTTP/1.1 200 OK\r\nContent-Type: text/html; charset=utf-8\r\nContent-Security-Policy: default-src 'none'; style-src 'unsafe-inline'; script-src 'unsafe-inline'; connect-src 'self'; img-src data:; base-uri 'none'; form-action 'none'; frame-ancestors 'none'\r\nReferrer-Policy: no-referrer\r\nX-Content-Type-Options: nosniff\r\nCross-Origin-Resource-Policy: same-origin\r\nCache-Control: no-store\r\nConnection: close\r\nContent-Length: ";
 
 const JSON: &str =
     "HTTP/1.1 200 OK\r\nContent-Type: application/json\r\nX-Content-Type-Options: nosniff\r\nCross-Origin-Resource-Policy: same-origin\r\nCache-Control: no-store\r\nConnection: close\r\nContent-Length: ";
+
+const METRICS: &str =
+    "HTTP/1.1 200 OK\r\nContent-Type: text/plain; version=0.0.4; charset=utf-8\r\nX-Content-Type-Options: nosniff\r\nCross-Origin-Resource-Policy: same-origin\r\nCache-Control: no-store\r\nConnection: close\r\nContent-Length: ";
+
+const HEALTHY: &str =
+    "HTTP/1.1 200 OK\r\nContent-Type: text/plain\r\nX-Content-Type-Options: nosniff\r\nCross-Origin-Resource-Policy: same-origin\r\nCache-Control: no-store\r\nConnection: close\r\nContent-Length: 3\r\n\r\nok\n";
+
+const UNHEALTHY: &str =
+    "HTTP/1.1 503 Service Unavailable\r\nContent-Type: text/plain\r\nX-Content-Type-Options: nosniff\r\nCross-Origin-Resource-Policy: same-origin\r\nCache-Control: no-store\r\nConnection: close\r\nContent-Length: ";
 
 const END: &str = "\r\n\r\n";
 
@@ -54,7 +63,7 @@ pub fn refusal(why: Refusal) -> &'static str
     }
 }
 
-/// The answer to a request, if the line is shown in this version. It is empty if the request is not complete.
+/// The answer to a request, if the line is shown in this state and version. It is empty if the request is not complete.
 pub fn answer(
     alloc: Global,
     layout: &Layout,
@@ -62,7 +71,7 @@ pub fn answer(
     version: u64,
     asked: Asked,
 ) -> Result<String, AllocError>
-    ensures { IfOk result (λ text. IsAnswer version asked (string_bytes text)) }
+    ensures { IfOk result (λ text. IsAnswer now.now version asked (string_bytes text)) }
 {
     match asked {
         Asked::More => Ok(String::new(alloc)),
@@ -71,6 +80,9 @@ pub fn answer(
         Asked::Line => found(alloc, JSON, line_json(alloc, layout)?.as_str()),
         Asked::Now { since: Some(seen) } if seen == version => String::from_str(alloc, SAME),
         Asked::Now { .. } => found(alloc, JSON, now_json(alloc, layout, now, version)?.as_str()),
+        Asked::Health if now.is_healthy() => String::from_str(alloc, HEALTHY),
+        Asked::Health => found(alloc, UNHEALTHY, causes_of(alloc, layout, now)?.as_str()),
+        Asked::Metrics => found(alloc, METRICS, metrics_of(alloc, layout, now)?.as_str()),
     }
 }
 

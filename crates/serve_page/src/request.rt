@@ -32,6 +32,10 @@ pub enum Asked {
     Line,
     /// The current state; nothing, if version `since` is still shown.
     Now { since: Option<u64> },
+    /// Whether each centre answers.
+    Health,
+    /// The metrics of the line.
+    Metrics,
     /// The request is refused.
     Refused(Refusal),
 }
@@ -143,6 +147,12 @@ fn asked_at(address: &[u8]) -> Asked
         return Asked::Now {
             since: since_in(query),
         };
+    }
+    if path == b"/health".as_slice() {
+        return Asked::Health;
+    }
+    if path == b"/metrics".as_slice() {
+        return Asked::Metrics;
     }
     Asked::Refused(Refusal::Address)
 }

@@ -97,17 +97,25 @@ fn add_stretch(
 
 /// The use of a section, the train that uses it, and whether it is wished back.
 pub(crate) fn state_of(now: SectionNow) -> [Cell<'static>; 3] {
-    let (state, train) = match now.usage {
-        Usage::Shut => ("shut", None),
-        Usage::Open => ("open", None),
-        Usage::Kept { nid_engine } => ("kept", Some(nid_engine)),
-        Usage::Given { nid_engine } => ("given", Some(nid_engine)),
+    let train = match now.usage {
+        Usage::Shut | Usage::Open => None,
+        Usage::Kept { nid_engine } | Usage::Given { nid_engine } => Some(nid_engine),
     };
     [
-        Cell::Text(state),
+        Cell::Text(word_of(now.usage)),
         number_of(train),
         Cell::Flag(now.is_wished),
     ]
+}
+
+/// The word for the use of a section.
+pub(crate) fn word_of(usage: Usage) -> &'static str {
+    match usage {
+        Usage::Shut => "shut",
+        Usage::Open => "open",
+        Usage::Kept { .. } => "kept",
+        Usage::Given { .. } => "given",
+    }
 }
 
 /// Writes the place of each section.

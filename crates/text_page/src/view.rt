@@ -122,6 +122,31 @@ pub struct CentreNow {
     pub seats: u64,
     /// The centre's journal can't be written now.
     pub is_stuck: bool,
+    /// The end that the centre has reached. It takes no further event.
+    pub end: Option<End>,
+    pub limits: Limits,
+}
+
+/// The end of a centre's life.
+#[derive(Clone, Copy)]
+pub enum End {
+    /// The log is full.
+    Log,
+    /// The last stamp is used.
+    Clock,
+    /// A link to another centre has too few frame numbers left for a step.
+    Link,
+}
+
+/// The limits of a centre's life.
+#[derive(Clone, Copy)]
+pub struct Limits {
+    /// The most entries of the log.
+    pub entries: u64,
+    /// The last stamp.
+    pub clock: u32,
+    /// The most frames of each link to another centre.
+    pub frames: u32,
 }
 
 /// The used part of a link's life.

@@ -1,6 +1,7 @@
 use crate::looking::news::News;
 use crate::looking::seen::see_centre;
 use crate::looking::sent::Sent;
+use crate::status::LIMITS;
 use rbc_line::Line;
 use rbc_node::Node;
 use std::alloc::{AllocError, Global};
@@ -102,6 +103,8 @@ const UNUSED: CentreNow = CentreNow {
     taken: 0,
     seats: 0,
     is_stuck: false,
+    end: None,
+    limits: LIMITS,
 };
 
 fn links_of(alloc: Global, line: &Line) -> Result<Vec<LinkNow>, AllocError> {

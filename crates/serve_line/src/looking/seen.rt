@@ -1,5 +1,6 @@
 //! The view of one centre.
 
+use crate::status::end_of;
 use rbc_book::Entry;
 use rbc_line::Line;
 use rbc_log::CentreLog;
@@ -37,6 +38,7 @@ fn see_life(log: &CentreLog, now: &mut LineNow) {
             Some(entry) => entry.outcome.stamp,
             None => 0,
         };
+        place.end = end_of(log);
     }
 }
 

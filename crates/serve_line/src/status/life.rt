@@ -5,12 +5,33 @@ use rbc_log::{CentreLog, MOST_ENTRIES};
 use rbc_node::Node;
 use std::io::Write;
 use std::sync::Wait;
-use text_script::LAST_STAMP;
+use text_page::{End, Limits};
 use text_script::print::name_of;
 use text_script::status::Fault;
+use text_script::{Event, LAST_STAMP, StepFault};
 
 /// The most frames of a directed link.
 const MOST_FRAMES: u32 = 65_536;
+
+/// The limits of each centre.
+pub(crate) const LIMITS: Limits = Limits {
+    entries: MOST_ENTRIES as u64,
+    clock: LAST_STAMP,
+    frames: MOST_FRAMES,
+};
+
+/// The end that a centre has reached, if it takes no further event. A `set` would have the next stamp: it is refused if
+/// and only if the clock or a link is at its end.
+pub(crate) fn end_of(log: &CentreLog) -> Option<End> {
+    if log.entries().len() >= MOST_ENTRIES {
+        return Some(End::Log);
+    }
+    match log.core().may_step(&Event::Set(0)) {
+        Err(StepFault::ClockEnd) => Some(End::Clock),
+        Err(StepFault::LinkFull) => Some(End::Link),
+        Err(StepFault::Memory) | Ok(()) => None,
+    }
+}
 
 /// The usage of a centre's log, of its clock and of its fullest link, as noted last.
 #[derive(Clone, Copy)]

@@ -2,8 +2,8 @@
 
 use std::alloc::{AllocError, Global};
 use text_page::{
-    CentreNow, Layout, LineNow, LinkNow, MissionNow, Phase, Place, Run, SectionNow, SessionNow,
-    Usage,
+    CentreNow, Layout, Limits, LineNow, LinkNow, MissionNow, Phase, Place, Run, SectionNow,
+    SessionNow, Usage,
 };
 
 /// The layout of its sections: two of 100 m with home A, and two with home B.
@@ -109,6 +109,12 @@ fn add_lives(now: &mut LineNow) -> Result<(), AllocError> {
             taken: 1,
             seats: 9,
             is_stuck: entries == 1,
+            end: None,
+            limits: Limits {
+                entries: 10,
+                clock: 20,
+                frames: 30,
+            },
         })?;
     }
     now.links.push(LinkNow {
