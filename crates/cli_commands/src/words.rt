@@ -77,6 +77,9 @@ pub enum Request<'a> {
         /// The longest time in seconds that the train waits for the centre, if it is given.
         timeout_s: Option<u32>,
     },
+    /// Send lines to the interlocking's endpoint of running centres: those of the arguments ([`lines_of`]), or of
+    /// standard input.
+    Tell(TellWords<'a>),
     /// Run trains over centres in this process, on the line of this file or on a built-in line. Browsers see it at
     /// this port.
     LivePage {
@@ -149,6 +152,15 @@ pub struct ServeWords<'a> {
     pub journal: Option<JournalWords<'a>>,
 }
 
+/// The endpoint and the options of `tell`.
+#[derive(Clone, Copy, Debug)]
+pub struct TellWords<'a> {
+    /// The endpoint's port, or the path of its socket.
+    pub endpoint: &'a str,
+    /// The longest time in seconds that the client waits for the endpoint, if it is given.
+    pub timeout_s: Option<u32>,
+}
+
 /// The options of `trains` besides the line and the port.
 #[derive(Clone, Copy, Debug)]
 pub struct TrainsWords {
@@ -188,6 +200,20 @@ pub fn requested<'a, S: AsStr>(alloc: Global, words: &'a [S]) -> Result<Request<
     named(&matches).ok_or(Fault::Words)
 }
 
+/// The lines of `tell` in its arguments; none if they are on standard input.
+pub fn lines_of<'a, S: AsStr>(alloc: Global, words: &'a [S]) -> Result<Vec<&'a str>, Fault<'a>> {
+    let Ok(matches) = matched(alloc, words) else {
+        return Err(Fault::Words);
+    };
+    let mut lines = Vec::new(alloc);
+    if let Some((_, words)) = matches.subcommand()
+        && let Some(given) = words.get_strs("LINE")
+    {
+        lines.extend_from_slice(given)?;
+    }
+    Ok(lines)
+}
+
 // The arguments, by the table of the commands. A number with a plus sign is refused.
 fn matched<'a, S: AsStr>(alloc: Global, words: &'a [S]) -> Result<ArgMatches<'a>, Error> {
     let matches = rbcline(alloc)?.try_get_matches_from(words)?;
@@ -210,6 +236,7 @@ fn named<'a>(matches: &ArgMatches<'a>) -> Option<Request<'a>> {
         "serve" => named_serve(words),
         "drive" => named_drive(words),
         "trains" => named_trains(words),
+        "tell" => named_tell(words),
         "demo" => Some(named_demo(words)),
         _ => named_of_file(command, words),
     }
@@ -356,6 +383,13 @@ fn named_trains<'a>(words: &ArgMatches<'a>) -> Option<Request<'a>> {
             is_shut: words.get_flag("no-release"),
         },
     })
+}
+
+fn named_tell<'a>(words: &ArgMatches<'a>) -> Option<Request<'a>> {
+    Some(Request::Tell(TellWords {
+        endpoint: words.get_str("ENDPOINT")?,
+        timeout_s: words.get_one("timeout"),
+    }))
 }
 
 fn named_demo<'a>(words: &ArgMatches<'a>) -> Request<'a> {

@@ -38,6 +38,8 @@ mod slots;
 #[cfg(test)]
 mod sockets;
 #[cfg(test)]
+mod telling;
+#[cfg(test)]
 mod torn;
 #[cfg(test)]
 mod trains;
