@@ -110,6 +110,8 @@ def forms():
         found[name] = Form(name, unescaped(about), pairs)
     for command, maker in re.findall(rf"if form\.name == {TEXT} \{{\s*command = command\.arg\((\w+)\(alloc\)\)", text):
         single(text, maker, found[command])
+    for command, maker in re.findall(rf"{TEXT} => command[^,]*?\.arg\((\w+)\(alloc\)\)", function(text, "with_own")):
+        single(text, maker, found[command])
     for command, table in arms(text, "flags_of").items():
         found[command].options += [Option(it, "", unescaped(about)) for it, about, _ in made[table]]
     for command, table in arms(text, "parts_of").items():

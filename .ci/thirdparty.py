@@ -90,8 +90,11 @@ def licence_files(crate):
 
 
 def words_of(text):
-    """The text of a licence on one line: without what precedes MIT's permission, and without Apache's appendix."""
-    return " ".join(text[max(text.find(MIT), 0) :].partition("END OF TERMS AND CONDITIONS")[0].split())
+    """The text of a licence on one line: without what precedes MIT's permission, and without Apache's appendix.
+
+    Apache's address begins with http here, also if a copy has https."""
+    words = " ".join(text[max(text.find(MIT), 0) :].partition("END OF TERMS AND CONDITIONS")[0].split())
+    return words.replace("https://www.apache.org/", "http://www.apache.org/")
 
 
 def kind(text):
@@ -143,6 +146,7 @@ def page():
     text += "\n## MIT\n\nThe copyright lines of each crate, as in the table, precede this text in its file.\n"
     text += "".join(f"\n```\n{wrapped(it)}\n```\n" for it in sorted(mits))
     text += "\n## Apache License 2.0\n\nIts terms in the kit's files are word for word those of [LICENSE](LICENSE).\n"
+    text += "The address of the licence begins with `https` in some of them.\n"
     if any("Unicode" in said for _, said in remarks):
         text += f"\n## Unicode License v3\n\nThe text in the kit's `{UNICODE}`:\n\n```\n{in_kit(f'rattle/{UNICODE}').strip()}\n```\n"
     return text

@@ -1,7 +1,7 @@
 # Completion of rbcline in bash: source this file. Made by `.ci/names --write` from crates/cli_commands/src/forms.rt
 _rbcline() {
     local word="${COMP_WORDS[COMP_CWORD]}" options="--help"
-    local commands="check explain run script test storm demo serve drive trains print audit watch words decode encode picture pcap help --help --version"
+    local commands="check explain run script test storm demo serve drive trains tell print audit watch words decode encode picture pcap help --help --version"
     if [ "$COMP_CWORD" = 1 ]; then
         mapfile -t COMPREPLY < <(compgen -W "$commands" -- "$word")
         return
@@ -12,7 +12,7 @@ _rbcline() {
         mapfile -t COMPREPLY < <(compgen -d -- "$word")
         return
         ;;
-    --trains | --loss | --seed | --events | --page | --page | --address | --rate | --burst | --timeout | --trains | --loss | --late | --seed | --seconds | --message | --from | --to | --train | --port) return ;;
+    --trains | --loss | --seed | --events | --page | --page | --address | --rate | --burst | --timeout | --trains | --loss | --late | --seed | --seconds | --timeout | --message | --from | --to | --train | --port) return ;;
     esac
     if [[ "$word" == --* ]]; then
         case "${COMP_WORDS[1]}" in
@@ -20,6 +20,7 @@ _rbcline() {
         serve) options+=" --quiet --journald --tell --life --bind --no-sync --no-print --page --address --control --rate --burst --journal --resume --keep" ;;
         drive) options+=" --timeout" ;;
         trains) options+=" --no-release --trains --loss --late --seed --seconds" ;;
+        tell) options+=" --timeout" ;;
         words) options+=" --message --numbers" ;;
         decode) options+=" --frame --json" ;;
         encode) options+=" --frame" ;;

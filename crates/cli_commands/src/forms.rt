@@ -24,7 +24,7 @@ const SCRIPT: (&str, &str) = (
     "The script, one event a line; `-` is standard input",
 );
 
-static FORMS: [Form; 18] = [
+static FORMS: [Form; 19] = [
     Form {
         name: "check",
         about: "Read a line file, and say how many centres, tracks, sections and trains it has",
@@ -102,6 +102,14 @@ static FORMS: [Form; 18] = [
             ("PORT", "The port of the first centre, as given to `serve`"),
             FILE,
         ],
+    },
+    Form {
+        name: "tell",
+        about: "Send lines to the interlocking's endpoint of running centres, and print the answers",
+        words: &[(
+            "ENDPOINT",
+            "The port of the endpoint, or the path of its socket",
+        )],
     },
     Form {
         name: "print",
@@ -209,6 +217,7 @@ fn with_own<'a>(
         "explain" => command.arg(script(alloc)),
         "test" => command.arg(scenarios(alloc)),
         "serve" => command.group(journals(alloc)?),
+        "tell" => command.arg(lines(alloc)),
         _ => Ok(command),
     }
 }
@@ -226,6 +235,12 @@ fn scenarios<'a>(alloc: Global) -> Arg<'a> {
     Arg::new(alloc, "WORDS")
         .help("Scenarios: texts in words, with lines `expect ..`; `-` is standard input")
         .required(true)
+        .num_args(1..)
+}
+
+fn lines<'a>(alloc: Global) -> Arg<'a> {
+    Arg::new(alloc, "LINE")
+        .help("Lines such as `set A 1`, `show` or `stop` [default: the lines of standard input]")
         .num_args(1..)
 }
 

@@ -28,6 +28,7 @@ mod options;
 mod pcap;
 mod picture;
 mod printed;
+mod requests;
 pub mod rerunning;
 pub mod run;
 pub mod running;

@@ -98,6 +98,13 @@ static DRIVE: [(&str, &str, &str); 1] = [(
     "How long to wait for the centre at most [default: no limit]",
 )];
 
+// The options of `tell`.
+static TELL: [(&str, &str, &str); 1] = [(
+    "timeout",
+    "SECONDS",
+    "How long to wait for the endpoint at most [default: no limit]",
+)];
+
 // The options of `demo` with a value.
 static DEMO: [(&str, &str, &str); 5] = [
     (
@@ -171,6 +178,7 @@ pub fn parts_of(command: &str) -> &'static [(&'static str, &'static str, &'stati
         "pcap" => &PCAP,
         "serve" => &DOORS,
         "drive" => &DRIVE,
+        "tell" => &TELL,
         "demo" => &DEMO,
         "trains" => &TRAINS,
         _ => &[],

@@ -2,6 +2,9 @@ use crate::decode::Decoding;
 use crate::forms::rbcline;
 use crate::numbers::signed_number;
 use crate::pcap::Capturing;
+pub use crate::requests::{
+    JournalStart, JournalWords, Listing, Request, ServeWords, TellWords, TrainsWords,
+};
 use clap::error::ErrorKind;
 use clap::{ArgMatches, Error};
 use cli_demo::Settings;
@@ -10,190 +13,6 @@ use std::convert::AsStr;
 use std::net::IpAddr;
 use text_replay::Cut;
 use text_script::status::Fault;
-
-/// The request of the arguments.
-#[derive(Clone, Copy)]
-pub enum Request<'a> {
-    /// Print the version of the program.
-    Version,
-    /// Read the line, and print its counts.
-    Check {
-        file: &'a str,
-    },
-    /// Print all faults of the line file, or show the line; or print all faults of a script.
-    Explain {
-        file: &'a str,
-        script: Option<&'a str>,
-    },
-    /// Run the script on the line.
-    Run {
-        file: &'a str,
-        script: &'a str,
-    },
-    /// print the script of a text in words.
-    Script {
-        file: &'a str,
-        text: &'a str,
-    },
-    /// Play the scenarios of the arguments on the line, and judge them.
-    Test {
-        file: &'a str,
-    },
-    /// Run the script on the line, with drawn deliveries after each event.
-    Storm {
-        file: &'a str,
-        script: &'a str,
-        seed: u64,
-    },
-    /// Run trains on the line of this file, or on a built-in line.
-    Demo {
-        file: Option<&'a str>,
-        settings: Settings,
-    },
-    /// Print the run of the journals in the folder.
-    Print {
-        file: &'a str,
-        listing: Listing<'a>,
-    },
-    /// Run the events of a print or of journals again, and compare its lines or their stamps with the run.
-    Audit {
-        file: &'a str,
-        printed: &'a str,
-    },
-    /// Find the first event of a print after which the promise to the world outside is broken.
-    Watch {
-        file: &'a str,
-        printed: &'a str,
-    },
-    /// Run the centres of the line: the first listens at this port, the others at the ports after it.
-    Serve {
-        file: &'a str,
-        port: u16,
-        words: ServeWords<'a>,
-    },
-    /// Act as a train: send the lines of the file to the centre at this port.
-    Drive {
-        port: u16,
-        file: &'a str,
-        /// The longest time in seconds that the train waits for the centre, if it is given.
-        timeout_s: Option<u32>,
-    },
-    /// Run trains over centres in this process, on the line of this file or on a built-in line. Browsers see it at
-    /// this port.
-    LivePage {
-        file: Option<&'a str>,
-        page: u16,
-        words: TrainsWords,
-    },
-    /// Run trains over the running centres of the line: the first of them listens at this port.
-    Trains {
-        port: u16,
-        file: &'a str,
-        words: TrainsWords,
-    },
-    /// Show the bytes of the arguments field by field.
-    Decode(Decoding),
-    /// Print the bytes of the fields in the file.
-    Encode {
-        fields: &'a str,
-        is_frame: bool,
-    },
-    /// Show the message of these hexadecimal digits field by field.
-    Message {
-        digits: &'a str,
-    },
-    /// Put a print of `run`, or the journals in a folder, into words.
-    Printed {
-        file: &'a str,
-        listing: Listing<'a>,
-    },
-    /// Draw this part of a print of `run`, or of the journals in a folder.
-    Picture {
-        file: &'a str,
-        printed: &'a str,
-        cut: Cut,
-        is_html: bool,
-    },
-    /// Make a capture of a print of `run`, or of the journals in a folder.
-    Capture(Capturing<'a>),
-}
-
-/// A print that is shown line by line.
-#[derive(Clone, Copy, Debug)]
-pub struct Listing<'a> {
-    /// The name of its file, or of the folder of its journals.
-    pub name: &'a str,
-    /// Each event is shown with its number.
-    pub is_numbered: bool,
-}
-
-/// The options of `serve` besides the line and the port.
-#[derive(Clone, Copy)]
-pub struct ServeWords<'a> {
-    /// No notes are written.
-    pub is_quiet: bool,
-    /// Notes begin with their level, in the form of systemd's journal.
-    pub is_for_journald: bool,
-    /// The port at which browsers see the line, if there is one.
-    pub page: Option<u16>,
-    /// The address at which trains connect, if it is not 127.0.0.1.
-    pub address: Option<IpAddr>,
-    /// The path of the Unix socket of the interlocking, if it has one in place of a port.
-    pub control: Option<&'a str>,
-    /// A train's messages are taken only over the connection that serves the train.
-    pub is_bound: bool,
-    /// Control connections receive the sections that are shut.
-    pub is_telling: bool,
-    /// `show` prints the used part of each log, clock and link.
-    pub shows_life: bool,
-    /// The number of messages that a train's connection may send in a second, if it is given.
-    pub per_second: Option<u32>,
-    /// The number of messages that it may send at once, if it is given.
-    pub burst: Option<u32>,
-    /// No event is printed at the end.
-    pub is_unprinted: bool,
-    /// The journals that the centres write, if they write any.
-    pub journal: Option<JournalWords<'a>>,
-}
-
-/// The options of `trains` besides the line and the port.
-#[derive(Clone, Copy, Debug)]
-pub struct TrainsWords {
-    /// The most trains, if it is given.
-    pub trains: Option<u8>,
-    /// How many of 100 messages are lost, if it is given.
-    pub loss: Option<u8>,
-    /// How many of 100 messages are late, if it is given.
-    pub late: Option<u8>,
-    /// The seed of all that is drawn by lot, if it is given.
-    pub seed: Option<u64>,
-    /// The most seconds, if they are given.
-    pub seconds: Option<u32>,
-    /// Another interlocking releases the sections.
-    pub is_shut: bool,
-}
-
-/// Whether centres begin new journals, or continue from those in the folder.
-#[derive(Clone, Copy, PartialEq, Eq)]
-pub enum JournalStart {
-    /// They begin: no journal in the folder has an event.
-    Begin,
-    /// They continue: each centre has its journal.
-    Resume,
-    /// They continue if each centre has its journal, and begin otherwise.
-    Keep,
-}
-
-/// The options of `serve` for journals.
-#[derive(Clone, Copy)]
-pub struct JournalWords<'a> {
-    /// The folder in which each centre has its journal.
-    pub folder: &'a str,
-    /// Whether the centres begin new journals.
-    pub start: JournalStart,
-    /// Each write is awaited until the disk has it.
-    pub is_synced: bool,
-}
 
 /// Reads the arguments after the program's name. If they are refused, the fault has the reason, or help.
 pub fn requested<'a, S: AsStr>(alloc: Global, words: &'a [S]) -> Result<Request<'a>, Fault<'a>> {
@@ -204,6 +23,20 @@ pub fn requested<'a, S: AsStr>(alloc: Global, words: &'a [S]) -> Result<Request<
         Err(error) => return Err(Fault::Usage(error)),
     };
     named(&matches).ok_or(Fault::Words)
+}
+
+/// The lines of `tell` in its arguments; none if they are on standard input.
+pub fn lines_of<'a, S: AsStr>(alloc: Global, words: &'a [S]) -> Result<Vec<&'a str>, Fault<'a>> {
+    let Ok(matches) = matched(alloc, words) else {
+        return Err(Fault::Words);
+    };
+    let mut lines = Vec::new(alloc);
+    if let Some((_, words)) = matches.subcommand()
+        && let Some(given) = words.get_strs("LINE")
+    {
+        lines.extend_from_slice(given)?;
+    }
+    Ok(lines)
 }
 
 // The arguments, by the table of the commands. A number with a plus sign is refused, and a wrong address.
@@ -244,6 +77,7 @@ fn named<'a>(matches: &ArgMatches<'a>) -> Option<Request<'a>> {
         "serve" => named_serve(words),
         "drive" => named_drive(words),
         "trains" => named_trains(words),
+        "tell" => named_tell(words),
         "demo" => Some(named_demo(words)),
         _ => named_of_file(command, words),
     }
@@ -404,6 +238,13 @@ fn named_trains<'a>(words: &ArgMatches<'a>) -> Option<Request<'a>> {
             is_shut: words.get_flag("no-release"),
         },
     })
+}
+
+fn named_tell<'a>(words: &ArgMatches<'a>) -> Option<Request<'a>> {
+    Some(Request::Tell(TellWords {
+        endpoint: words.get_str("ENDPOINT")?,
+        timeout_s: words.get_one("timeout"),
+    }))
 }
 
 fn named_demo<'a>(words: &ArgMatches<'a>) -> Request<'a> {

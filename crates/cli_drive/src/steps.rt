@@ -74,7 +74,7 @@ pub fn steps_of(alloc: Global, text: &str) -> Result<Vec<Step>, StepsFault>
 }
 
 /// The lines of a file. Bytes after the last line feed are a line; an empty rest is not.
-fn whole_rows_of<'a, 't>(rows: &'a [&'t str]) -> &'a [&'t str]
+pub(crate) fn whole_rows_of<'a, 't>(rows: &'a [&'t str]) -> &'a [&'t str]
     ensures { map (λ row. row.now) result.now ≡ whole_rows (map (λ row. row.now) rows.now) }
 {
     let Some((last, before)) = rows.split_last() else {
@@ -120,7 +120,11 @@ fn step_in(alloc: Global, words: &[&str]) -> Result<Step, StepFault>
 }
 
 /// Splits a text at each separator.
-fn parts<'a>(alloc: Global, text: &'a str, separator: char) -> Result<Vec<&'a str>, AllocError>
+pub(crate) fn parts<'a>(
+    alloc: Global,
+    text: &'a str,
+    separator: char,
+) -> Result<Vec<&'a str>, AllocError>
     requires { separator < 128 }
     ensures { IfOk result
         (λ parts. map (λ part. part.now) parts.items ≡ slice_split (λ b. b == separator) text.entry.now) }

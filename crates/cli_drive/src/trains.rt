@@ -19,6 +19,7 @@ mod fault;
 mod hearing;
 mod inbox;
 mod interlocking;
+mod lots;
 mod radio;
 mod releasing;
 mod replies;

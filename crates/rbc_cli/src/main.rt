@@ -7,11 +7,13 @@
 mod centres;
 mod live_page;
 mod record;
+mod tell;
 mod train;
 mod trains;
 
 use crate::centres::run_centres;
 use crate::live_page::run_live_page;
+use crate::tell::run_tell;
 use crate::train::run_train;
 use crate::trains::run_trains;
 use cli_commands::command::command;
@@ -42,6 +44,7 @@ fn main(rt: HostRuntime) -> ExitCode {
             let done = run_train(&rt, port, file, timeout_s, &mut out);
             ended(done, &mut out, &mut err)
         }
+        Ok(Request::Tell(tell)) => run_tell(&rt, &words, tell, &mut out, &mut err),
         Ok(Request::Trains { port, file, words }) => {
             let done = run_trains(&rt, port, file, &words, &mut out);
             ended(done, &mut out, &mut err)

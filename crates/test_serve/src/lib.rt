@@ -38,4 +38,6 @@ mod slots;
 #[cfg(test)]
 mod sockets;
 #[cfg(test)]
+mod telling;
+#[cfg(test)]
 mod trains;

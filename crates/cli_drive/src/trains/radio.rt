@@ -1,10 +1,12 @@
 //! The radio: messages between trains and centres are lost, late or repeated by lot.
 
-use cli_storm::{Draws, below, in_hundred};
+use crate::trains::lots::in_hundred;
+use rand::RngExt;
+use rand_pcg::Pcg32;
 use std::alloc::{AllocError, Global};
 
 /// The longest delay of a late message, in seconds.
-const MOST_LATE: usize = 20;
+const MOST_LATE: u32 = 20;
 
 /// A message on the way between a train and a centre.
 #[derive(Debug, Drop)]
@@ -48,7 +50,7 @@ impl Radio {
     }
 
     /// A message is sent. By lot it is lost, or late. Half of the late ones arrive in time too.
-    pub(crate) fn send(&mut self, draws: &mut Draws, mut letter: Letter) -> Result<(), AllocError> {
+    pub(crate) fn send(&mut self, draws: &mut Pcg32, mut letter: Letter) -> Result<(), AllocError> {
         self.sent = self.sent.saturating_add(1);
         if in_hundred(draws, self.loss) {
             self.lost = self.lost.saturating_add(1);
@@ -59,8 +61,8 @@ impl Radio {
             if in_hundred(draws, 50) {
                 self.put(copied(self.alloc, &letter)?)?;
             }
-            let seconds = below(draws, MOST_LATE) as u32;
-            letter.due = letter.due.saturating_add((seconds + 1) * 100);
+            let seconds = draws.random_range(1..=MOST_LATE);
+            letter.due = letter.due.saturating_add(seconds * 100);
         }
         self.put(letter)
     }

@@ -8,7 +8,8 @@ use crate::trains::radio::{Letter, Radio};
 use crate::trains::report::Tally;
 use crate::trains::settings::Settings;
 use crate::trains::train::Train;
-use cli_storm::Draws;
+use rand::SeedableRng;
+use rand_pcg::Pcg32;
 use rbc_line::Line;
 use std::alloc::Global;
 use std::io::Write;
@@ -28,7 +29,7 @@ pub(crate) struct Running<'a, R> {
     pub(crate) interlocking: Interlocking,
     pub(crate) radio: Radio,
     pub(crate) calls: Calls,
-    pub(crate) draws: Draws,
+    pub(crate) draws: Pcg32,
     /// The time, in units of 10 ms.
     pub(crate) now: u32,
     pub(crate) tally: Tally,
@@ -61,7 +62,7 @@ pub fn run<R: Net<Stream = TcpStream> + Clock + AllocGlobal, W: Write>(
         interlocking,
         radio: Radio::new(alloc, settings.loss, settings.late),
         calls,
-        draws: Draws { x: settings.seed },
+        draws: Pcg32::seed_from_u64(settings.seed),
         now: 1_000,
         tally: Tally::new(),
     };

@@ -3,7 +3,8 @@
 ghost use Rattle.std.specs.Prelude.{◌≡◌, ◌<◌, ◌≤◌, IfSome, length, true};
 ghost use Rattle.train_unit.specs.Trains as rules;
 
-use cli_storm::{Draws, below};
+use rand::RngExt;
+use rand_pcg::Pcg32;
 use rbc_line::{Line, Section};
 use rbc_msgs::{TrackBody, TrackMsg, encode_train};
 use std::alloc::{AllocError, Global};
@@ -31,10 +32,10 @@ impl Train {
     }
 
     /// It runs as far as it may, at a speed by lot.
-    pub(crate) fn run(&mut self, draws: &mut Draws)
+    pub(crate) fn run(&mut self, draws: &mut Pcg32)
         ensures { HasRun self.old self.new }
     {
-        let speed = below(draws, 400) as u32 + 200;
+        let speed = draws.random_range(200..600u32);
         if let Some(front) = self.next_front(speed) {
             self.run_to(front);
         }
