@@ -147,22 +147,41 @@ fn each_verdict_has_its_status(rt: HostRuntime) -> Result<(), Fail> {
     Ok(())
 }
 
+/// Lines that are not sent, and the reason.
+struct Unsent<'a> {
+    lines: &'a [&'a str],
+    fault: LinesFault,
+}
+
+static UNSENT: [Unsent<'_>; 4] = [
+    Unsent {
+        lines: &["show", "set A 1\nset A 2"],
+        fault: LinesFault::Control(2),
+    },
+    Unsent {
+        lines: &["set\tA 1"],
+        fault: LinesFault::Control(1),
+    },
+    Unsent {
+        lines: &["show", "show", "\u{7f}"],
+        fault: LinesFault::Control(3),
+    },
+    Unsent {
+        lines: &["show", "stop", "show"],
+        fault: LinesFault::Stop(2),
+    },
+];
+
 #[test]
 fn only_plain_lines_are_sent(rt: HostRuntime) -> Result<(), Fail> {
     let alloc = rt.alloc();
-    let refused: [(&[&str], LinesFault); 4] = [
-        (&["show", "set A 1\nset A 2"], LinesFault::Control(2)),
-        (&["set\tA 1"], LinesFault::Control(1)),
-        (&["show", "show", "\u{7f}"], LinesFault::Control(3)),
-        (&["show", "stop", "show"], LinesFault::Stop(2)),
-    ];
-    for (lines, fault) in refused {
-        assert!(rt; request_of(alloc, lines).err() == Some(fault));
+    for unsent in &UNSENT {
+        assert!(rt; request_of(alloc, unsent.lines).err() == Some(unsent.fault));
     }
     let sent = request_of(alloc, &["set A 1", "", "stop"])
         .ok()
         .ok_or("sent")?;
-    assert!(rt; sent.as_slice() == b"set A 1\n\nstop\n");
+    assert!(rt; sent.as_slice() == "set A 1\n\nstop\n".as_bytes());
     Ok(())
 }
 
@@ -184,9 +203,11 @@ fn at_most_65536_bytes_are_sent(rt: HostRuntime) -> Result<(), Fail> {
 fn a_last_line_needs_no_line_feed(rt: HostRuntime) -> Result<(), Fail> {
     let alloc = rt.alloc();
     let whole = lines_in(alloc, "set A 1\n\nshow\n")?;
-    assert!(rt; whole.as_slice() == ["set A 1", "", "show"].as_slice());
+    let three: &[&str] = &["set A 1", "", "show"];
+    assert!(rt; whole.as_slice() == three);
     let part = lines_in(alloc, "show")?;
-    assert!(rt; part.as_slice() == ["show"].as_slice());
+    let one: &[&str] = &["show"];
+    assert!(rt; part.as_slice() == one);
     assert!(rt; lines_in(alloc, "")?.is_empty());
     Ok(())
 }
