@@ -1,9 +1,9 @@
 -- Tests of the texts of a list, and the verdict on them.
-use Rattle.std.proofs.Common.{[], ◌+◌, ◌∙◌, ◌∷◌, ◌≡◌, ◌||◌, ap, Bool, cond, List, map, nat_lt, refl, Some, sym, ℕ}
+use Rattle.std.proofs.Common.{[], ◌+◌, ◌||◌, ◌∙◌, ◌∷◌, ◌≡◌, ap, Bool, cond, List, map, nat_lt, refl, Some, sym, ℕ}
 use Rattle.std.proofs.lemmas.List.Sums.{sum_by-cons}
 use Rattle.std.specs.List.{count_by, list_any, position_from}
-use Rattle.cli_drive.specs.Answers.{is_answer, is_answered, is_journal_fault, is_refusal, is_script_fault}
-use Rattle.cli_drive.specs.Answers.{judged, judged_by, verdict_of}
+use Rattle.cli_drive.specs.Answers.{is_answer, is_answered, is_journal_fault, is_refusal, is_script_fault, judged}
+use Rattle.cli_drive.specs.Answers.{judged_by, verdict_of}
 
 any_of_map : {A B : Type 0} (p : B → Bool) (f : A → B) (xs : List A)
     → list_any p (map f xs) ≡ list_any (λ x. p (f x)) xs

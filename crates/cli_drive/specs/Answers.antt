@@ -1,7 +1,7 @@
 -- The lines for the interlocking's endpoint, and the verdict on the answers to them. All texts are bytes.
 use Rattle.std.specs.List.{list_any, starts_with}
-use Rattle.std.specs.Prelude.{[], ◌+◌, ◌++◌, ◌<◌, ◌==◌, ◌||◌, ◌∷◌, ◌≡◌, Bool, codes, count_by, flat_map, if◌then◌else◌}
-use Rattle.std.specs.Prelude.{length, List, nat_lt, None, not, option_map, position, Some, ℕ, ⊤, ◌≤◌}
+use Rattle.std.specs.Prelude.{[], ◌++◌, ◌+◌, ◌<◌, ◌==◌, ◌||◌, ◌∷◌, ◌≡◌, ◌≤◌, Bool, codes, count_by, flat_map}
+use Rattle.std.specs.Prelude.{if◌then◌else◌, length, List, nat_lt, None, not, option_map, position, Some, ℕ, ⊤}
 use Rattle.std.specs.Str.{bytes_eq}
 use Rattle.cli_drive.specs.declared.telling.LinesFault.{LinesFault}
 use Rattle.cli_drive.specs.declared.telling.LinesFault.TheVariants.{Control, Long, Memory, Stop}

@@ -165,7 +165,6 @@ pub fn copy_answers<C: Read, O: Write>(
     Ok(text)
 }
 
-#[tactic(auto, using(crate::proofs::Views::judged_of_map))]
 /// The verdict on the answers to these lines. If they have several faults, it is the one with the greatest status. The
 /// fault is `Socket` if the answers are not text, or their last line is not whole.
 pub fn judge(alloc: Global, lines: &[&str], answers: &[u8]) -> Result<Verdict, DriveFault>

@@ -155,7 +155,7 @@ fn callee_of<'a>(words: TellWords<'a>) -> Option<Callee<'a>> {
     let endpoint = words.endpoint;
     let is_number = !endpoint.is_empty() && endpoint.bytes().all(|byte| byte.is_ascii_digit());
     let address = if is_number {
-        let port = endpoint.parse().ok()?;
+        let port: u16 = endpoint.parse().ok()?;
         if port == 0 {
             return None;
         }

@@ -2,8 +2,8 @@ use Rattle.std.proofs.Common.{◌∙◌, map, rules, sym, tests}
 use Rattle.std.proofs.lemmas.Iterator.{YieldsList-from_slice}
 use Rattle.std.proofs.lemmas.Iterator.Adapters.{position_from-zero}
 use Rattle.std.proofs.lemmas.Iterator.Search.{position_from_yields_List}
-use Rattle.cli_drive.proofs.Views.{position_of_map}
 use Rattle.cli_drive.proofs.telling.first_control.Goals as goal
+use Rattle.cli_drive.proofs.Views.{position_of_map}
 use Rattle.cli_drive.specs.Answers.{has_control}
 
 pub returns-clause-place : goal.returns-clause-place
