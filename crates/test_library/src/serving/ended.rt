@@ -116,9 +116,9 @@ fn brought_by_two<R: Net<Stream = TcpStream, Listener = TcpListener> + Wait>(
         }
         .answered(rt, outcome);
     }
-    let first = brought(rt, alloc, connections, 0, first);
-    let second = brought(rt, alloc, connections, 1, second);
-    Ok((first?, second?))
+    let first = brought(rt, alloc, connections, 0, first)?;
+    let second = brought(rt, alloc, connections, 1, second)?;
+    Ok((first, second))
 }
 
 #[test]
