@@ -100,6 +100,21 @@ fn brought<R: Wait>(
     Ok(bytes)
 }
 
+// The connections submit the answers, in order.
+fn hand_in<R: Wait>(rt: &R, connections: &TrainConnections<'_>, outcomes: &[Outcome]) {
+    for (outcome, number) in outcomes.iter().zip(SUBMITTED_BY.iter()) {
+        submit(rt, connections, *number, outcome);
+    }
+}
+
+fn submit<R: Wait>(rt: &R, connections: &TrainConnections<'_>, number: usize, outcome: &Outcome) {
+    ConnectionSink {
+        connections,
+        number,
+    }
+    .answered(rt, outcome);
+}
+
 // The bytes of both connections after the answers were submitted.
 fn brought_by_two<R: Net<Stream = TcpStream, Listener = TcpListener> + Wait>(
     rt: &R,
@@ -109,13 +124,7 @@ fn brought_by_two<R: Net<Stream = TcpStream, Listener = TcpListener> + Wait>(
 ) -> Result<(Vec<u8>, Vec<u8>), Fail> {
     let first = entered(rt, alloc, connections, 0)?;
     let second = entered(rt, alloc, connections, 1)?;
-    for (outcome, number) in outcomes.iter().zip(SUBMITTED_BY.iter()) {
-        ConnectionSink {
-            connections,
-            number: *number,
-        }
-        .answered(rt, outcome);
-    }
+    hand_in(rt, connections, outcomes);
     let first = brought(rt, alloc, connections, 0, first)?;
     let second = brought(rt, alloc, connections, 1, second)?;
     Ok((first, second))
