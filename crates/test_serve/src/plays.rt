@@ -11,7 +11,7 @@ use rbc_line::Line;
 use std::alloc::Global;
 use std::net::{Net, TcpListener, TcpStream};
 use std::sync::Wait;
-use std::sync::atomic::{AtomicU8, AtomicUsize};
+use std::sync::atomic::AtomicUsize;
 use std::test::*;
 use std::thread::Threads;
 use std::time::Clock;
@@ -121,29 +121,18 @@ fn end_so<R: Threads + Wait + Sync + Net<Stream = TcpStream, Listener = TcpListe
     alloc: Global,
     play: &'static Play<'static>,
 ) -> Done<()> {
-    let line = two_centres(alloc).ok().ok_or(Missed::Memory)?;
     let of_a = cells(alloc).ok().ok_or(Missed::Memory)?;
     let of_b = cells(alloc).ok().ok_or(Missed::Memory)?;
-    end_so_on(rt, alloc, play, &line, (of_a.as_slice(), of_b.as_slice()))
-}
-
-// The same on this line, with journals in these cells.
-fn end_so_on<R: Threads + Wait + Sync + Net<Stream = TcpStream, Listener = TcpListener> + Clock>(
-    rt: &R,
-    alloc: Global,
-    play: &'static Play<'static>,
-    line: &Line,
-    (of_a, of_b): (&[AtomicU8], &[AtomicU8]),
-) -> Done<()> {
     let (a, b) = rooms_of(play);
     let (room_a, room_b) = (AtomicUsize::new(a), AtomicUsize::new(b));
     let papers = Papers {
-        a: Paper::new(of_a, &room_a),
-        b: Paper::new(of_b, &room_b),
+        a: Paper::new(&of_a, &room_a),
+        b: Paper::new(&of_b, &room_b),
     };
+    let line = two_centres(alloc).ok().ok_or(Missed::Memory)?;
     let scene = Scene {
         alloc,
-        line,
+        line: &line,
         play,
         papers,
     };
