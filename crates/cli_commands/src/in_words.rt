@@ -2,8 +2,8 @@
 
 use crate::files::Files;
 use crate::line_file::line_file_in;
-use crate::numbering::Numbering;
-use crate::printed::printed_in;
+use crate::margin::Margin;
+use crate::printed::{Printed, timed_print_in};
 use crate::words::Listing;
 use hex::FromHexError;
 use rbc_line::Line;
@@ -55,16 +55,12 @@ pub fn tell_printed<'a, F: Files, O: Write>(
     out: &mut O,
 ) -> Result<bool, Fault<'a>> {
     let given = line_file_in(alloc, file, files)?;
-    let text = printed_in(alloc, &given, listing.name, files)?;
+    let Printed { text, times_ms } = timed_print_in(alloc, &given, listing.name, files)?;
     let Ok(mut out) = BufWriter::new(alloc, out) else {
         return Err(AllocError.into());
     };
-    let numbering = if listing.is_numbered {
-        Some(Numbering::new())
-    } else {
-        None
-    };
-    let done = print_told(alloc, &given.line, text.as_str(), numbering, &mut out);
+    let margin = Margin::new(&listing, times_ms);
+    let done = print_told(alloc, &given.line, text.as_str(), margin, &mut out);
     out.flush()?;
     done
 }
@@ -73,21 +69,21 @@ fn print_told<W: Write>(
     alloc: Global,
     line: &Line,
     text: &str,
-    mut numbering: Option<Numbering>,
+    mut margin: Margin,
     out: &mut W,
 ) -> Result<bool, Fault<'static>> {
     let mut retelling = Retelling::new(alloc, line)?;
     let mut is_told = false;
     for row in text.lines() {
-        if let Some(numbering) = &mut numbering {
-            numbering.print(out, row)?;
-        }
-        match retelling.told(alloc, line, row)? {
-            Some(words) => {
-                is_told = true;
-                writeln!(out, "{words}")?;
+        let words = retelling.told(alloc, line, row)?;
+        if margin.begin(out, row)? {
+            match words {
+                Some(words) => {
+                    is_told = true;
+                    writeln!(out, "{words}")?;
+                }
+                None => writeln!(out, "{row}")?,
             }
-            None => writeln!(out, "{row}")?,
         }
     }
     Ok(is_told)

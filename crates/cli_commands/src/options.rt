@@ -84,6 +84,16 @@ static DOORS: [(&str, &str, &str); 8] = [
     ),
 ];
 
+// The options of `print` and `words` with a value.
+static TIMES: [(&str, &str, &str); 2] = [
+    (
+        "since",
+        "TIME",
+        "Print only events of journals from this time on, such as 2026-11-29T08:00:00Z",
+    ),
+    ("until", "TIME", "Print only events of journals before this time"),
+];
+
 // The options of `pcap`.
 static PCAP: [(&str, &str, &str); 1] = [(
     "port",
@@ -174,6 +184,7 @@ static TRAINS: [(&str, &str, &str); 5] = [
 /// The options of a command with a value: the name, the name of the value, and the meaning.
 pub fn parts_of(command: &str) -> &'static [(&'static str, &'static str, &'static str)] {
     match command {
+        "print" | "words" => &TIMES,
         "picture" => &CUT,
         "pcap" => &PCAP,
         "serve" => &DOORS,
@@ -185,11 +196,14 @@ pub fn parts_of(command: &str) -> &'static [(&'static str, &'static str, &'stati
     }
 }
 
-// The options of `print` and `words`.
-static NUMBERED: [(&str, &str); 1] = [(
-    "numbers",
-    "Print the number of each event, as `picture` counts them",
-)];
+// The options of `print` and `words` without a value.
+static LISTED: [(&str, &str); 2] = [
+    (
+        "numbers",
+        "Print the number of each event, as `picture` counts them",
+    ),
+    ("times", "Print the UTC time of each event of journals"),
+];
 
 static PICTURE: [(&str, &str); 1] = [(
     "html",
@@ -250,7 +264,7 @@ pub fn flags_of(command: &str) -> &'static [(&'static str, &'static str)] {
         "encode" => &ENCODE,
         "demo" => &LIVING,
         "trains" => &RELEASING,
-        "print" | "words" => &NUMBERED,
+        "print" | "words" => &LISTED,
         _ => &[],
     }
 }

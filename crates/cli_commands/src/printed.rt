@@ -3,12 +3,13 @@
 use crate::files::Files;
 use crate::journal::{Part, journals_in, unfit_at};
 use crate::line_file::{LineFile, line_file_in};
-use crate::numbering::Numbering;
+use crate::margin::Margin;
 use crate::rerunning::{RerunFault, print_rerun};
 use crate::words::Listing;
 use std::alloc::{AllocError, Global};
 use std::io::{BufWriter, Write};
 use std::str::from_utf8;
+use text_journal::Entry;
 use text_script::status::Fault;
 
 /// Prints the run of a line whose journals are in a folder. If these are not a run of the line, nothing is printed.
@@ -24,13 +25,30 @@ pub fn print_journals<'a, F: Files, O: Write>(
     let Ok(mut out) = BufWriter::new(alloc, out) else {
         return Err(AllocError.into());
     };
-    let done = if listing.is_numbered {
-        print_numbered(alloc, &given, listing.name, files, &mut out)
-    } else {
+    let done = if listing.is_plain() {
         print_found(alloc, &given, listing.name, files, &mut out)
+    } else {
+        print_listed(alloc, &given, listing, files, &mut out)
     };
     out.flush()?;
-    done
+    Ok(done?.part)
+}
+
+/// What was read of journals besides their print.
+#[derive(Drop)]
+struct Found {
+    /// The time of each event of the print, in milliseconds since 1970 in UTC, if its journal has it.
+    times_ms: Vec<Option<u64>>,
+    /// The part that was read, if a program writes the journals.
+    part: Option<Part>,
+}
+
+/// The text of a print, and the times of its events.
+#[derive(Drop)]
+pub(crate) struct Printed {
+    pub text: String,
+    /// In milliseconds since 1970 in UTC. It is empty if the print is a file.
+    pub times_ms: Vec<Option<u64>>,
 }
 
 /// The text of a print: the file of this name, or the print of the journals, if the name is a folder's.
@@ -40,12 +58,27 @@ pub(crate) fn printed_in<'a, F: Files>(
     printed: &'a str,
     files: &F,
 ) -> Result<String, Fault<'a>> {
-    if files.is_folder(printed) {
+    Ok(timed_print_in(alloc, given, printed, files)?.text)
+}
+
+/// The same, with the times of the events.
+pub(crate) fn timed_print_in<'a, F: Files>(
+    alloc: Global,
+    given: &LineFile,
+    printed: &'a str,
+    files: &F,
+) -> Result<Printed, Fault<'a>> {
+    let (text, times_ms) = if files.is_folder(printed) {
         let mut text = Vec::new(alloc);
-        print_found(alloc, given, printed, files, &mut text)?;
-        return String::from_utf8(text).map_err(|_| Fault::CannotRead(printed));
+        let Found { times_ms, .. } = print_found(alloc, given, printed, files, &mut text)?;
+        (String::from_utf8(text).ok(), times_ms)
+    } else {
+        (files.text(printed), Vec::new(alloc))
+    };
+    match text {
+        Some(text) => Ok(Printed { text, times_ms }),
+        None => Err(Fault::CannotRead(printed)),
     }
-    files.text(printed).ok_or(Fault::CannotRead(printed))
 }
 
 /// Whether an event is in the text of a print.
@@ -58,22 +91,26 @@ pub(crate) fn has_event(text: &str) -> bool {
     false
 }
 
-// Writes the print of the journals in a folder, with the number of each event.
-fn print_numbered<F: Files, W: Write>(
+// Writes the chosen events of the print of journals, with their numbers and times.
+fn print_listed<'a, F: Files, W: Write>(
     alloc: Global,
     given: &LineFile,
-    folder: &str,
+    listing: Listing<'a>,
     files: &F,
     out: &mut W,
-) -> Result<Option<Part>, Fault<'static>> {
+) -> Result<Found, Fault<'a>> {
     let mut text = Vec::new(alloc);
-    let done = print_found(alloc, given, folder, files, &mut text);
-    let mut numbering = Numbering::new();
+    let Found { times_ms, part } = print_found(alloc, given, listing.name, files, &mut text)?;
+    let mut margin = Margin::new(&listing, times_ms);
     for row in from_utf8(&text).unwrap_or("").lines() {
-        numbering.print(out, row)?;
-        writeln!(out, "{row}")?;
+        if margin.begin(out, row)? {
+            writeln!(out, "{row}")?;
+        }
     }
-    done
+    Ok(Found {
+        times_ms: Vec::new(alloc),
+        part,
+    })
 }
 
 // Writes the print of the journals in a folder.
@@ -83,13 +120,19 @@ fn print_found<F: Files, W: Write>(
     folder: &str,
     files: &F,
     out: &mut W,
-) -> Result<Option<Part>, Fault<'static>> {
+) -> Result<Found, Fault<'static>> {
     let events = journals_in(alloc, given, folder, files)?;
     let part = events.part();
+    let times_ms = times_of(alloc, &events.entries)?;
     match print_rerun(alloc, &given.line, events.entries, out) {
-        Ok(()) => Ok(part),
+        Ok(()) => Ok(Found { times_ms, part }),
         Err(RerunFault::Unfit(place)) => Err(unfit_at(alloc, &given.line, place)?),
         Err(RerunFault::Refused(fault)) => Err(fault.into()),
         Err(RerunFault::Untold(fault)) => Err(fault.into()),
     }
+}
+
+// The times of the entries.
+fn times_of(alloc: Global, entries: &[Entry]) -> Result<Vec<Option<u64>>, AllocError> {
+    entries.iter().map(|entry| entry.time_ms).collect(alloc)
 }

@@ -1,5 +1,8 @@
 //! The requests of the arguments.
 
+ghost use Rattle.std.specs.Prelude.{◌↔◌, IsTrue};
+ghost use Rattle.cli_commands.specs.Times.{IsWithin};
+
 use crate::decode::Decoding;
 use crate::pcap::Capturing;
 use cli_demo::Settings;
@@ -123,6 +126,50 @@ pub struct Listing<'a> {
     pub name: &'a str,
     /// Each event is shown with its number.
     pub is_numbered: bool,
+    /// Each event is shown with its time, if its journal has it.
+    pub is_timed: bool,
+    /// Only the events of this time are shown.
+    pub range: TimeRange,
+}
+
+impl Listing<'_> {
+    /// Whether all events are shown, as they are.
+    pub(crate) fn is_plain(&self) -> bool {
+        !self.is_numbered
+            && !self.is_timed
+            && self.range.since_ms.is_none()
+            && self.range.until_ms.is_none()
+    }
+}
+
+/// A range of time, in milliseconds since 1970 in UTC.
+#[derive(Clone, Copy, Debug)]
+pub struct TimeRange {
+    /// Its beginning, if it has one.
+    pub since_ms: Option<u64>,
+    /// The first moment after it, if it has an end.
+    pub until_ms: Option<u64>,
+}
+
+impl TimeRange {
+    /// Whether an event of this time is within the range. An event whose time is not known is only within the range
+    /// that has neither a beginning nor an end.
+    pub fn contains(self, time_ms: Option<u64>) -> bool
+        ensures { IsTrue result ↔ IsWithin self time_ms }
+    {
+        let Some(time_ms) = time_ms else {
+            return self.since_ms.is_none() && self.until_ms.is_none();
+        };
+        let has_begun = match self.since_ms {
+            Some(since_ms) => since_ms <= time_ms,
+            None => true,
+        };
+        let has_ended = match self.until_ms {
+            Some(until_ms) => until_ms <= time_ms,
+            None => false,
+        };
+        has_begun && !has_ended
+    }
 }
 
 /// The options of `serve` besides the line and the port.

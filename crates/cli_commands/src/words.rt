@@ -3,11 +3,12 @@ use crate::forms::rbcline;
 use crate::numbers::signed_number;
 use crate::pcap::Capturing;
 pub use crate::requests::{
-    JournalStart, JournalWords, Listing, Request, ServeWords, TellWords, TrainsWords,
+    JournalStart, JournalWords, Listing, Request, ServeWords, TellWords, TimeRange, TrainsWords,
 };
 use clap::error::ErrorKind;
 use clap::{ArgMatches, Error};
 use cli_demo::Settings;
+use jiff::Timestamp;
 use std::alloc::{AllocError, Global};
 use std::convert::AsStr;
 use std::net::IpAddr;
@@ -48,20 +49,36 @@ fn matched<'a, S: AsStr>(alloc: Global, words: &'a [S]) -> Result<ArgMatches<'a>
         )?;
         return Err(rbcline(alloc)?.error(ErrorKind::ValueValidation, reason.as_str())?);
     }
-    if let Some(word) = wrong_address(&matches) {
-        let reason = format!(in alloc;
-            "invalid value '{word}' for '--address <ADDRESS>': it is not an address of IPv4 or IPv6, as 192.0.2.1"
-        )?;
+    if let Some((word, name, form)) = wrong_value(&matches) {
+        let reason = format!(in alloc; "invalid value '{word}' for '{name}': it is not {form}")?;
         return Err(rbcline(alloc)?.error(ErrorKind::ValueValidation, reason.as_str())?);
     }
     Ok(matches)
 }
 
-// The value of `--address`, if it is not an address.
-fn wrong_address<'a>(matches: &ArgMatches<'a>) -> Option<&'a str> {
+// The forms of values that are neither numbers nor free words.
+const ADDRESS: &str = "an address of IPv4 or IPv6, as 192.0.2.1";
+const TIME: &str = "a time with its zone, as 2026-11-29T08:00:00Z";
+
+// The first value that is not an address or a time where one is asked for, with its option and the form.
+fn wrong_value<'a>(matches: &ArgMatches<'a>) -> Option<(&'a str, &'static str, &'static str)> {
     let (_, words) = matches.subcommand()?;
-    let word = words.get_str("address")?;
-    match word.parse::<IpAddr>() {
+    if let Some(word) = words.get_str("address")
+        && word.parse::<IpAddr>().is_err()
+    {
+        return Some((word, "--address <ADDRESS>", ADDRESS));
+    }
+    if let Some(word) = wrong_time(words, "since") {
+        return Some((word, "--since <TIME>", TIME));
+    }
+    let word = wrong_time(words, "until")?;
+    Some((word, "--until <TIME>", TIME))
+}
+
+// The value of the option of this name, if it is not a time.
+fn wrong_time<'a>(words: &ArgMatches<'a>, name: &str) -> Option<&'a str> {
+    let word = words.get_str(name)?;
+    match word.parse::<Timestamp>() {
         Ok(_) => None,
         Err(_) => Some(word),
     }
@@ -154,7 +171,18 @@ fn listing_of<'a>(words: &ArgMatches<'a>, name: &str) -> Option<Listing<'a>> {
     Some(Listing {
         name: words.get_str(name)?,
         is_numbered: words.get_flag("numbers"),
+        is_timed: words.get_flag("times"),
+        range: TimeRange {
+            since_ms: time_of(words, "since"),
+            until_ms: time_of(words, "until"),
+        },
     })
+}
+
+// The time of the option of this name. A time before 1970 is that of its beginning.
+fn time_of(words: &ArgMatches<'_>, name: &str) -> Option<u64> {
+    let time: Timestamp = words.get_str(name)?.parse().ok()?;
+    Some(u64::try_from(time.as_millisecond()).unwrap_or(0))
 }
 
 fn named_decode<'a>(words: &ArgMatches<'a>) -> Request<'a> {

@@ -1,13 +1,13 @@
 //! Centres that keep journals: an event is written before its answer is sent, a full disk, and centres that go on from
-//! journals. The checksums are those of `sha256sum` over the rest of each line.
+//! journals.
 
 use crate::line::{INITIATION_OF_ONE, VERSION};
 use crate::play::Act;
 use crate::plays::{Before, Journals, Play, Seen, ServeMode, Taken};
 
-const SET_1: &str = "c4ee5feb 1 > set A 1\n";
+const SET_1: [&str; 1] = ["1 > set A 1"];
 
-const OPENED: &str = "c4ee5feb 1 > set A 1\nb89d5030 2 > train A 9B028000000040000040\n";
+const OPENED: [&str; 2] = ["1 > set A 1", "2 > train A 9B028000000040000040"];
 
 // Both journals are empty, and may grow to the size of a paper.
 const EMPTY: Journals<'_> = Journals {
@@ -45,18 +45,18 @@ pub static PLAYS: [Play<'_>; 6] = [
             &[
                 (0, Act::Control),
                 (0, Act::Asks("set A 1\n", "> set A 1\nA 1 Done\n")),
-                (0, Act::Written(SET_1)),
+                (0, Act::Written(&SET_1)),
                 (1, Act::Train),
                 (1, Act::Sends(INITIATION_OF_ONE)),
                 (1, Act::Hears(VERSION)),
-                (1, Act::Written(OPENED)),
+                (1, Act::Written(&OPENED)),
             ],
         )],
         status: 0,
         seen: &[
             Seen::Begins("> set A 1\nA 1 Done\n> train A 9B028000000040000040\nA -> 1 "),
-            Seen::OfA(OPENED),
-            Seen::OfB(""),
+            Seen::OfA(&OPENED),
+            Seen::OfB(&[]),
         ],
     },
     // A line waits for its answer until there is room. The first five bytes of its entry are written, and the file has
@@ -74,7 +74,7 @@ pub static PLAYS: [Play<'_>; 6] = [
                 (0, Act::Control),
                 (1, Act::Control),
                 (0, Act::Asks("set A 1\n", "")),
-                (0, Act::Fills("c4ee5")),
+                (0, Act::Fills(5)),
                 (1, Act::Asks("set A 0\n", "journal fault\n")),
                 (2, Act::Train),
                 (2, Act::Ends),
@@ -86,7 +86,7 @@ pub static PLAYS: [Play<'_>; 6] = [
         status: 0,
         seen: &[
             Seen::Begins("> set A 1\nA 1 Done\n> set B 2\nB 2 Done\nsection 0 A shut\n"),
-            Seen::OfA(SET_1),
+            Seen::OfA(&SET_1),
         ],
     },
     Play {
@@ -101,11 +101,11 @@ pub static PLAYS: [Play<'_>; 6] = [
             &[
                 (0, Act::Control),
                 (0, Act::Asks("set A 1\n", "")),
-                (0, Act::Fills("c4ee5")),
+                (0, Act::Fills(5)),
             ],
         )],
         status: 6,
-        seen: &[Seen::Begins("> set A 1\nA 1 Done\n"), Seen::OfA("c4ee5")],
+        seen: &[Seen::Begins("> set A 1\nA 1 Done\n"), Seen::LengthOfA(5)],
     },
     // The frames go over their links once more, and no centre takes one twice.
     Play {
@@ -132,8 +132,8 @@ pub static PLAYS: [Play<'_>; 6] = [
         status: 0,
         seen: &[
             Seen::Counts("> deliver", 2),
-            Seen::OfA("63d4e101 6 > set A 0\n"),
-            Seen::OfB(""),
+            Seen::OfA(&["6 > set A 0"]),
+            Seen::OfB(&[]),
             Seen::Audits(7, 7),
         ],
     },

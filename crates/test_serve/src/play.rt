@@ -36,10 +36,10 @@ pub enum Act<'a> {
     StartsOverTwo,
     /// At least this many milliseconds have passed since the play began.
     Lasts(u64),
-    /// The journal of centre A is this text.
-    Written(&'a str),
-    /// The journal becomes this text, and the centre notices that it is full.
-    Fills(&'a str),
+    /// The journal of centre A has these entries.
+    Written(&'a [&'a str]),
+    /// The journal comes to this many bytes, and the centre notices that it is full.
+    Fills(usize),
     /// The journal has room for this many bytes from now on.
     HasRoom(usize),
 }
@@ -143,14 +143,21 @@ fn done_beside<R: Threads + Sync + Net<Stream = TcpStream, Listener = TcpListene
     match act {
         Act::StartsOverTwo => start_over_two(rt, stage.alloc, stage.addresses),
         Act::Lasts(least) => lasts(rt, stage.begun, least),
-        Act::Written(text) if !stage.journal.has(text.as_bytes()) => Err(Missed::Entry),
-        Act::Fills(text) => stage.journal.fills(rt, text.as_bytes()),
+        Act::Written(entries) => has_entries(stage, entries),
+        Act::Fills(length) => stage.journal.fills(rt, length),
         Act::HasRoom(room) => {
             stage.journal.allow(room);
             Ok(())
         }
-        Act::Written(_) => Ok(()),
         _ => Err(Missed::Endpoint),
+    }
+}
+
+fn has_entries(stage: Stage<'_>, entries: &[&str]) -> Done<()> {
+    match stage.journal.has(stage.alloc, entries) {
+        Ok(true) => Ok(()),
+        Ok(false) => Err(Missed::Entry),
+        Err(_) => Err(Missed::Memory),
     }
 }
 

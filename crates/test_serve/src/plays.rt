@@ -77,10 +77,12 @@ pub enum Seen<'a> {
     Counts(&'a str, usize),
     /// An audit finds the print equal, with at least and at most this many events.
     Audits(u64, u64),
-    /// The journal of centre A is this text.
-    OfA(&'a str),
-    /// The journal of centre B is this text.
-    OfB(&'a str),
+    /// The journal of centre A has these entries.
+    OfA(&'a [&'a str]),
+    /// The journal of centre B has these entries.
+    OfB(&'a [&'a str]),
+    /// The journal of centre A has this many bytes.
+    LengthOfA(usize),
 }
 
 /// Centre A took train 1's first message: it is the first event of the print.
@@ -190,7 +192,12 @@ fn is_seen(scene: Scene<'_>, printed: &str, seen: Seen<'_>) -> Done<bool> {
             Verdict::Equal { events } => Ok(least <= events && events <= most),
             Verdict::Differs { .. } => Ok(false),
         },
-        Seen::OfA(text) => Ok(scene.papers.a.has(text.as_bytes())),
-        Seen::OfB(text) => Ok(scene.papers.b.has(text.as_bytes())),
+        Seen::OfA(entries) => has_entries(scene, scene.papers.a, entries),
+        Seen::OfB(entries) => has_entries(scene, scene.papers.b, entries),
+        Seen::LengthOfA(length) => Ok(scene.papers.a.length() == length),
     }
+}
+
+fn has_entries(scene: Scene<'_>, paper: Paper<'_>, entries: &[&str]) -> Done<bool> {
+    paper.has(scene.alloc, entries).ok().ok_or(Missed::Memory)
 }

@@ -31,21 +31,34 @@ impl<'a> Paper<'a> {
         Paper { cells, room }
     }
 
-    /// Whether it has exactly these bytes.
-    pub fn has(&self, text: &[u8]) -> bool {
-        for (i, cell) in self.cells.iter().enumerate() {
-            let wanted = text.get(i).copied().unwrap_or(0);
-            if cell.load(Ordering::SeqCst) != wanted {
-                return false;
-            }
-        }
-        true
+    /// The number of its bytes.
+    pub fn length(&self) -> usize {
+        self.cells
+            .iter()
+            .take_while(|cell| cell.load(Ordering::SeqCst) != 0)
+            .count()
     }
 
-    /// Waits until it has these bytes, and then a while, so that the centre notices the full file.
-    pub fn fills<R: Clock>(&self, rt: &R, text: &[u8]) -> Done<()> {
+    /// Whether its lines are those of these entries. An entry is given without checksum and time. Each line has a time.
+    pub fn has(&self, alloc: Global, entries: &[&str]) -> Result<bool, AllocError> {
+        let mut bytes = Vec::new(alloc);
+        for cell in self.cells.iter().take(self.length()) {
+            bytes.push(cell.load(Ordering::SeqCst))?;
+        }
+        let text = std::str::from_utf8(&bytes).unwrap_or("");
+        let mut found = 0;
+        for (row, entry) in text.lines().zip(entries.iter()) {
+            if is_line_of(row, entry) {
+                found += 1;
+            }
+        }
+        Ok(found == entries.len() && text.lines().count() == found)
+    }
+
+    /// Waits until it has this many bytes, and then a while, so that the centre notices the full file.
+    pub fn fills<R: Clock>(&self, rt: &R, length: usize) -> Done<()> {
         for _ in 0..PATIENCE_S.saturating_mul(1000) {
-            if self.has(text) {
+            if self.length() == length {
                 thread::sleep(rt, Duration::from_millis(400));
                 return Ok(());
             }
@@ -63,6 +76,26 @@ impl<'a> Paper<'a> {
     pub fn open(self) -> Sheet<'a> {
         Sheet { paper: self, at: 0 }
     }
+}
+
+// Whether a line has the stamp and the event of an entry, and a time in milliseconds of this century.
+fn is_line_of(row: &str, entry: &str) -> bool {
+    match parts_of(row) {
+        Some((stamp, time, event)) => {
+            time.len() == 13
+                && time.parse::<u64>().is_ok()
+                && entry.split_once(' ') == Some((stamp, event))
+        }
+        None => false,
+    }
+}
+
+// The stamp, the time and the event of a line.
+fn parts_of(row: &str) -> Option<(&str, &str, &str)> {
+    let (_, rest) = row.split_once(' ')?;
+    let (stamp, rest) = rest.split_once(' ')?;
+    let (time, event) = rest.split_once(' ')?;
+    Some((stamp, time, event))
 }
 
 /// Such a file, opened for writing, with the position of the next write.

@@ -64,7 +64,7 @@ pub fn keep_journal<R: Wait + Clock, N: Notes, F: DurableFile + Drop>(
 
 impl<N: Notes> JournalWriter<'_, N> {
     // Writes the next events, and returns their count. After an error none of them counts as written.
-    fn write_next<R: Wait, F: DurableFile + Drop>(
+    fn write_next<R: Wait + Clock, F: DurableFile + Drop>(
         &self,
         rt: &R,
         file: &mut JournalFile<F>,
