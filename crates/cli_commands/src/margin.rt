@@ -1,4 +1,4 @@
-//! The events of a print that are shown, and what stands before each of their lines.
+//! The chosen events of a print, and the margin of their lines: numbers and times.
 
 use crate::requests::{Listing, TimeRange};
 use jiff::Timestamp;
@@ -38,7 +38,7 @@ impl Margin {
         }
     }
 
-    /// Goes on to this line. Prints what stands before it if it is shown, and returns whether it is.
+    /// Reads the next line. Prints its margin if the line is shown, and returns whether it is.
     pub fn begin<W: Write>(&mut self, out: &mut W, row: &str) -> io::Result<bool> {
         let is_event = row.starts_with("> ") && row != "> show";
         if is_event {
@@ -75,7 +75,7 @@ impl Margin {
     }
 }
 
-// The time so many milliseconds after 1970 began in UTC.
+// The time of this many milliseconds after the start of 1970 in UTC.
 fn timestamp_of(time_ms: u64) -> Option<Timestamp> {
     Timestamp::from_millisecond(i64::try_from(time_ms).ok()?).ok()
 }

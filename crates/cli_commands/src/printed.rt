@@ -34,7 +34,7 @@ pub fn print_journals<'a, F: Files, O: Write>(
     Ok(done?.part)
 }
 
-/// What was read of journals besides their print.
+/// The times and the part of journals that were printed.
 #[derive(Drop)]
 struct Found {
     /// The time of each event of the print, in milliseconds since 1970 in UTC, if its journal has it.

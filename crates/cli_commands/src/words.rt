@@ -60,7 +60,7 @@ fn matched<'a, S: AsStr>(alloc: Global, words: &'a [S]) -> Result<ArgMatches<'a>
 const ADDRESS: &str = "an address of IPv4 or IPv6, as 192.0.2.1";
 const TIME: &str = "a time with its zone, as 2026-11-29T08:00:00Z";
 
-// The first value that is not an address or a time where one is asked for, with its option and the form.
+// The first value of `--address`, `--since` or `--until` that is not of its form, with its option and the form.
 fn wrong_value<'a>(matches: &ArgMatches<'a>) -> Option<(&'a str, &'static str, &'static str)> {
     let (_, words) = matches.subcommand()?;
     if let Some(word) = words.get_str("address")
