@@ -192,14 +192,18 @@ impl Demo {
 
     // Looks at the true places of all trains.
     fn check(&mut self) -> Result<(), DemoFault> {
-        let mut trains = Vec::new(self.alloc);
+        let mut all = Vec::new(self.alloc);
+        let mut accepted = Vec::new(self.alloc);
         for train in 0..self.drivers.len() {
             if let Some(ends) = self.ends(train) {
-                trains.push((ends, self.is_accepted(train)))?;
+                all.push(ends)?;
+                if self.is_accepted(train) {
+                    accepted.push(ends)?;
+                }
             }
         }
         let Interlocking { sections, released } = &self.interlocking;
-        if !is_safe(sections, released, &trains) {
+        if !is_safe(sections, released, &all, &accepted) {
             self.tally.is_safe = false;
         }
         Ok(())

@@ -3,11 +3,11 @@
 //!
 //! [`run`] places trains on the line ([`Settings`]), and runs until all have arrived or the seconds are over. The
 //! on-board unit of each train (`train_unit`) decides which messages it may send, and how far it may run. The module
-//! `check` looks only at the true places of the trains, at the end of each second. Sections are released over the
-//! control endpoint of the centres.
+//! `check` looks only at the true places of the trains, at the end of each second. An [`Observer`] gets these places.
+//! Sections are released over the control endpoint of the centres.
 //!
 //! ```
-//! let are_apart = run(rt, &line, settings, out)?;
+//! let are_apart = run(rt, &line, settings, &NoObserver, out)?;
 //! ```
 //!
 //! Bodies are free. docs/FORMATS.md fixes the printed text.
@@ -20,6 +20,7 @@ mod hearing;
 mod inbox;
 mod interlocking;
 mod lots;
+mod observer;
 mod radio;
 mod releasing;
 mod replies;
@@ -29,5 +30,6 @@ mod settings;
 mod train;
 
 pub use fault::TrainsFault;
+pub use observer::{NoObserver, Observer, TruePlace};
 pub use seconds::run;
 pub use settings::Settings;

@@ -1,4 +1,4 @@
-//! Draws the safe fronts that trains reported.
+//! Draws the safe fronts that trains reported, and their places down to the safe rear end.
 
 use crate::run::Run;
 use crate::scale::Scale;
@@ -14,7 +14,8 @@ struct Front {
     is_start: bool,
 }
 
-/// Draws the fronts of each train as one path, which begins again at each mission.
+/// Draws the fronts of each train as one path, which begins again at each mission. A band is drawn at each front whose
+/// safe rear end is known, from the rear end to the front.
 pub fn draw_fronts(
     alloc: Global,
     svg: &mut String,
@@ -26,6 +27,7 @@ pub fn draw_fronts(
         if run.wants(train) && !fronts.is_empty() {
             let colour = colour_of(train);
             let dashes = dashes_of(train);
+            draw_bands(svg, scale, colour, &fronts)?;
             write!(svg, "<path class=\"front c{colour} d{dashes}\" d=\"")?;
             draw_path(svg, scale, &fronts)?;
             writeln!(svg, "\"/>")?;
@@ -73,6 +75,26 @@ pub fn has_left(run: &Run<'_>, event: usize, train: u8, place: &Place) -> bool {
         }
     }
     false
+}
+
+// Draws the bands of a train as one path. There is none if no rear end is known.
+fn draw_bands(
+    svg: &mut String,
+    scale: &Scale<'_>,
+    colour: u8,
+    fronts: &[Front],
+) -> Result<(), AllocError> {
+    if !fronts.iter().any(|front| front.place.rear.is_some()) {
+        return Ok(());
+    }
+    write!(svg, "<path class=\"band c{colour}\" d=\"")?;
+    for front in fronts.iter().filter(|front| front.place.rear.is_some()) {
+        let rear = scale.rear(&front.place);
+        let y = scale.y(front.event);
+        let x = scale.front(&front.place);
+        write!(svg, "M{rear} {y}H{x}")?;
+    }
+    writeln!(svg, "\"/>")
 }
 
 fn draw_path(svg: &mut String, scale: &Scale<'_>, fronts: &[Front]) -> Result<(), AllocError> {

@@ -112,7 +112,7 @@ fn draw_signs(svg: &mut String, y: u64) -> Result<(), AllocError> {
     )?;
     writeln!(
         svg,
-        "<path class=\"front\" d=\"M196 {y}m0 -8l22 6\"/><text x=\"224\" y=\"{y}\" class=\"small\">front it reported</text>"
+        "<path class=\"band\" d=\"M196 {y}m0 -2h22\"/><path class=\"front\" d=\"M196 {y}m0 -8l22 6\"/><text x=\"224\" y=\"{y}\" class=\"small\">place it reported</text>"
     )?;
     for (sign, x, words) in &SIGNS {
         draw_sign(svg, *sign, *x, y, words)?;

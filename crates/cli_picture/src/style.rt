@@ -13,6 +13,7 @@ pub const STYLE: &str = ".bar{fill:currentColor;fill-opacity:.3;stroke:currentCo
 .way.old{fill:none;stroke-width:2}
 .seat text,.name{font-size:11px;font-weight:bold;fill:currentColor;stroke:#fff;stroke-width:3px;paint-order:stroke}
 .front{fill:none;stroke:currentColor;stroke-width:2;stroke-linejoin:round}
+.band{fill:none;stroke:currentColor;stroke-width:6;stroke-opacity:.8}
 .sign{fill:currentColor;stroke:currentColor;stroke-width:1.5}
 .hollow{fill:#fff}
 .cut{fill:none;stroke:currentColor;stroke-width:1.5;stroke-dasharray:4 3}

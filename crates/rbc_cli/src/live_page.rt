@@ -6,8 +6,12 @@ use cli_commands::demo::line_of_demo;
 use cli_commands::disk::Disk;
 use cli_commands::line_file::LineFile;
 use cli_commands::words::{ServeWords, TrainsWords};
+use cli_drive::trains;
+use cli_drive::trains::Observer;
 use serve_journal::SystemFile;
-use serve_line::{Endpoints, NoNotes, NoteForm, Record, ServeOptions, StderrNotes, serve};
+use serve_line::{
+    Endpoints, NoNotes, NoteForm, Record, ServeOptions, StderrNotes, TruePlace, TruePlaces, serve,
+};
 use std::alloc::AllocError;
 use std::fs::File;
 use std::io::{Eprint, Write};
@@ -44,7 +48,8 @@ const fn served_at(page: u16) -> ServeWords<'static> {
 }
 
 /// Runs the centres of a line, and trains that obey over them, until all trains have ended their missions. Browsers on
-/// this host see the line at the port `page`. The centres listen at the ports after it. Returns the exit status.
+/// this host see the line at the port `page`, with the true places of the trains. The centres listen at the ports after
+/// it. Returns the exit status.
 pub fn run_live_page<
     R: Threads
         + Wait
@@ -77,6 +82,28 @@ pub fn run_live_page<
     ended(done, out, err)
 }
 
+/// Shows the true places of trains on the page.
+struct PagePlaces<'a, R> {
+    rt: &'a R,
+    places: TruePlaces,
+}
+
+impl<R: Wait + AllocGlobal> Observer for PagePlaces<'_, R> {
+    fn see(&self, places: &[trains::TruePlace]) -> Result<(), AllocError> {
+        let mut shown = Vec::new(self.rt.alloc());
+        for place in places {
+            shown.push(TruePlace {
+                nid_engine: place.nid_engine,
+                track: place.track,
+                rear: u32::try_from(place.rear).unwrap_or(0),
+                front: place.front,
+            })?;
+        }
+        self.places.replace(self.rt, shown);
+        Ok(())
+    }
+}
+
 // Serves in a thread of its own, runs the trains, and stops the centres.
 fn run_all<
     R: Threads
@@ -94,6 +121,9 @@ fn run_all<
     words: &TrainsWords,
     out: &mut O,
 ) -> Result<(), Fault<'static>> {
+    let places = TruePlaces::new(rt.alloc())?;
+    let endpoints = endpoints.and_true_places(places.share()?);
+    let observer = PagePlaces { rt, places };
     thread::scope(thread::scope_env(), rt, |scope| {
         if scope
             .spawn(move || serve_unprinted(rt, given, endpoints))
@@ -101,7 +131,8 @@ fn run_all<
         {
             return Err(AllocError.into());
         }
-        let done = run_on(rt, given, settings_of(port, words, SECOND_MS), out);
+        let settings = settings_of(port, words, SECOND_MS);
+        let done = run_on(rt, given, settings, &observer, out);
         let control = port.saturating_add(u16::from(given.line.centre_count()));
         stop(rt, control);
         done

@@ -3,7 +3,7 @@
 use cli_commands::disk::Disk;
 use cli_commands::line_file::{LineFile, line_file_in};
 use cli_commands::words::TrainsWords;
-use cli_drive::trains::{Settings, TrainsFault, run};
+use cli_drive::trains::{NoObserver, Observer, Settings, TrainsFault, run};
 use std::alloc::AllocError;
 use std::fs::File;
 use std::io::Write;
@@ -23,17 +23,24 @@ pub fn run_trains<
     O: Write,
 >(rt: &R, port: u16, file: &'a str, words: &TrainsWords, out: &mut O) -> Result<(), Fault<'a>> {
     let given = line_file_in(rt.alloc(), file, &Disk(rt))?;
-    run_on(rt, &given, settings_of(port, words, SECOND_MS), out)
+    run_on(
+        rt,
+        &given,
+        settings_of(port, words, SECOND_MS),
+        &NoObserver,
+        out,
+    )
 }
 
-/// Runs trains on a line over its centres.
-pub fn run_on<R: Net<Stream = TcpStream> + Clock + AllocGlobal, O: Write>(
+/// Runs trains on a line over its centres. The observer gets their true places.
+pub fn run_on<R: Net<Stream = TcpStream> + Clock + AllocGlobal, P: Observer, O: Write>(
     rt: &R,
     given: &LineFile,
     settings: Settings,
+    observer: &P,
     out: &mut O,
 ) -> Result<(), Fault<'static>> {
-    match run(rt, &given.line, settings, out) {
+    match run(rt, &given.line, settings, observer, out) {
         Ok(true) => Ok(()),
         Ok(false) => Err(Fault::Differs),
         Err(TrainsFault::Memory) => Err(AllocError.into()),

@@ -1,5 +1,6 @@
 use crate::looking::PageSnapshot;
-use crate::state::{ENDPOINT_REST_MS, Endpoint, Listening};
+use crate::state::{ENDPOINT_REST_MS, Endpoint, PagePort};
+use crate::true_places::TruePlaces;
 use rbc_line::Line;
 use rbc_node::Node;
 use std::alloc::Global;
@@ -26,6 +27,8 @@ pub(crate) struct PageEndpoint {
     came: AtomicU64,
     waker: Parker,
     pub seen: Mutex<Seen>,
+    /// The true places of the trains, if they run in this process.
+    pub true_places: Option<TruePlaces>,
 }
 
 /// A place for one browser's connection.
@@ -54,7 +57,7 @@ impl PageEndpoint {
         alloc: Global,
         (line, nodes): (&Line, &[Node]),
         endpoints: &[Endpoint],
-        listening: Listening,
+        port: PagePort,
     ) -> Result<PageEndpoint, Fault<'static>> {
         let mut places = Vec::new(alloc);
         for _ in 0..BROWSERS {
@@ -68,8 +71,8 @@ impl PageEndpoint {
         page_snapshot.now = page_snapshot.look(rt, alloc, line, nodes)?;
         let version = first_version(rt);
         Ok(PageEndpoint {
-            listener: listening.listener,
-            address: listening.address,
+            listener: port.listening.listener,
+            address: port.listening.address,
             places,
             came: AtomicU64::new(0),
             waker: Parker::new(),
@@ -78,6 +81,7 @@ impl PageEndpoint {
                 version,
                 page_snapshot,
             }),
+            true_places: port.true_places,
         })
     }
 

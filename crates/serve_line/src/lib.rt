@@ -16,9 +16,12 @@ mod running;
 pub mod state;
 pub mod status;
 mod tally;
+mod true_places;
 
 pub use crate::state::{Endpoints, ServeOptions, SocketFault, free_path};
 pub use crate::status::{Kind, Level, NoNotes, NoteForm, Notes, StderrNotes};
 pub use journals::Record;
 pub use running::serve;
 pub use serve_control::ServeFault;
+pub use text_page::TruePlace;
+pub use true_places::TruePlaces;

@@ -160,7 +160,7 @@ fn answer_to<R: Wait + Clock>(
 ) -> Result<String, Fault<'static>> {
     let mut seen = endpoint.seen.lock(rt);
     if let Asked::Page | Asked::Now { .. } | Asked::Health | Asked::Metrics = asked {
-        refresh(rt, server, &mut seen)?;
+        refresh(rt, server, endpoint, &mut seen)?;
     }
     let page_snapshot = &seen.page_snapshot;
     let version = seen.version;
@@ -178,6 +178,7 @@ fn answer_to<R: Wait + Clock>(
 fn refresh<R: Wait + Clock>(
     rt: &R,
     server: &Server<'_>,
+    endpoint: &PageEndpoint,
     seen: &mut Seen,
 ) -> Result<(), Fault<'static>> {
     let Ok(time) = Instant::now(rt) else {
@@ -197,8 +198,11 @@ fn refresh<R: Wait + Clock>(
     if let Some(opened) = server.open_kept(rt, now) {
         let now = opened.into_inner();
         has_changed = now.events != shown.events;
-        let before = std::mem::replace(shown, now);
-        copy_marks(&before, shown);
+        let mut before = std::mem::replace(shown, now);
+        copy_marks(&mut before, shown);
+    }
+    if let Some(places) = &endpoint.true_places {
+        has_changed = places.copy_to(rt, &mut shown.true_places)? || has_changed;
     }
     if mark_endpoints(rt, server, shown) || has_changed {
         seen.version = seen.version.saturating_add(1);
@@ -206,9 +210,10 @@ fn refresh<R: Wait + Clock>(
     Ok(())
 }
 
-// Copies the marks of the endpoints from the earlier view.
-fn copy_marks(before: &LineNow, now: &mut LineNow) {
+// Takes the marks of the endpoints and the true places of trains from the earlier view.
+fn copy_marks(before: &mut LineNow, now: &mut LineNow) {
     now.is_stopped = before.is_stopped;
+    std::mem::swap(&mut now.true_places, &mut before.true_places);
     for (place, old) in now.centres.iter_mut().zip(before.centres.iter()) {
         place.taken = old.taken;
         place.seats = old.seats;

@@ -85,12 +85,12 @@ fn serve_noted<
     let (listening, socket, page) = endpoints.all();
     let endpoints = endpoints_of(alloc, line, &nodes, listening, socket)?;
     let page = match page {
-        Some(listening) => Some(PageEndpoint::new(
+        Some(port) => Some(PageEndpoint::new(
             rt,
             alloc,
             (line, &nodes),
             &endpoints,
-            listening,
+            port,
         )?),
         None => None,
     };

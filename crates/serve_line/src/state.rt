@@ -19,7 +19,7 @@ pub use build::{
     connections_of, endpoints_of, journals_of, links_of, nodes_of, sinks_of, wakers_of,
 };
 pub use control_socket::{SocketFault, free_path, listen_at_path};
-pub use endpoints::{Endpoints, Listening, ListeningAt};
+pub use endpoints::{Endpoints, Listening, ListeningAt, PagePort};
 pub use limits::ENDPOINT_REST_MS;
 pub use options::ServeOptions;
 pub use paces::Paces;

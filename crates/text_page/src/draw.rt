@@ -16,7 +16,7 @@ const colour=centre=>'h'+line.centres.findIndex(it=>it.centre==centre)%8;
 const chip=centre=>centre==null?'nobody':tag('span',{class:'chip '+colour(centre)},centre);
 const metres=m=>m.toLocaleString('en').replaceAll(',',String.fromCharCode(8239))+' m';
 const front=it=>Math.ceil(it.front_m),end=it=>it.last==null?null:line.sections[it.last].to_m;
-let line,marked='',legend,shown;
+let line,marked='',legend=[],shown;
 
 // Changes the drawn elements into the new ones. An element of the same name and key stays in place, with its focus, its
 // selection and its tooltip.
@@ -46,6 +46,7 @@ function update(parts){
 const shape={
   section:(state,from,to)=>draw('rect',{class:state,x:from,y:60,width:to-from,height:30}),
   train:(rear,front)=>draw('path',{class:'block',d:`M${rear} 63H${front}l6 6l-6 6H${rear}z`}),
+  place:(rear,front)=>draw('path',{class:'place',d:`M${rear} 56H${front}`}),
   authority:(from,to)=>draw('path',{class:'hand',d:`M${from} 69H${to}M${to} 62v14`}),
   lent:(from,to)=>draw('path',{class:'pool',d:`M${from} 69H${to}`}),
   asked:x=>draw('path',{class:'sign',d:`M${x} 60m-6 -9h12l-6 9zm6 9v30`}),
@@ -101,6 +102,12 @@ function trains(name,now,x,width){
       shape.train(rear,head),it.asked_to_keep==null?null:shape.asked(to(it.asked_to_keep)),
       shape.label(it,middle,y))})]]}
 
+// The true places of the trains on a track.
+const places=(name,now,x,width)=>(now.true_places??[]).filter(it=>it.track==name).map(it=>draw('g',
+  {'data-k':'p'+it.train,'data-t':it.train},draw('title',{},`true place of train ${it.train}`),
+  shape.place(x(it.rear_m),x(it.front_m)),
+  draw('text',{class:'at',x:Math.min(x(it.front_m)+3,width-5*(it.train+'').length),y:59},it.train)));
+
 const tall={};
 function track(name,now){
   const own=line.sections.filter(it=>it.track==name);
@@ -119,9 +126,9 @@ function track(name,now){
   const [lanes,blocks]=trains(name,now,x,width),high=tall[name]=Math.max(tall[name]??1,lanes),top=45-13*high;
   return tag('figure',{'data-k':name},tag('figcaption',{},'Track ',tag('b',{},name),`, ${long/1e3} km`),
     draw('svg',{viewBox:`0 ${top} ${width} ${136-top}`,width,height:136-top,role:'group','aria-label':'track '+name},
-      ...parts,...homes,...borders,...scale(long,width,x),...blocks))}
+      ...parts,...homes,...borders,...scale(long,width,x),...blocks,...places(name,now,x,width)))}
 
-function explained(){
+function explained(demo){
   const a=line.centres[0].centre,b=(line.centres[1]??line.centres[0]).centre,it={train:12,supervisor:a};
   const frame={width:52,height:39,viewBox:'0 52 64 48','aria-hidden':true};
   const icon=(words,parts,centre=a)=>tag('span',{},draw('svg',frame,
@@ -129,7 +136,7 @@ function explained(){
   const box=state=>draw('g',{class:'s'},shape.section(state,2,62));
   const low=(...parts)=>[draw('g',{transform:'translate(0 20)'},...parts)];
   const train=it=>low(shape.label(it,32,46),shape.train(20,40));
-  const attributes={'data-k':'legend',open:innerWidth>700?'':null};
+  const attributes={'data-k':demo?'legend of a demo':'legend',open:innerWidth>700?'':null};
   return tag('details',attributes,tag('summary',{},'Legend'),tag('div',{class:'key'},
     icon('train, its number and its supervising centre',train(it)),
     icon('a handover to another centre is announced',train({...it,handover_to:b})),
@@ -141,6 +148,7 @@ function explained(){
     icon('kept for a train',[box('kept')]),
     icon('asked back by the interlocking',[box('given'),shape.wished(4,60)]),
     icon('the train is asked to end here',[box('given'),shape.asked(32)]),
+    demo?icon('true place (demo only)',low(shape.place(10,44))):null,
     icon('border between two centres',[box('open'),shape.border(32)]),
     icon('home centre of sections',[draw('g',{transform:'translate(0 -36)'},shape.home(a,2,62))])),
     tag('div',{class:'chips'},'Colours of the centres:',...line.centres.map(it=>chip(it.centre))))}
@@ -174,11 +182,12 @@ function show(now,words,alerts,more=()=>[]){
   const heard=new Set(now.sessions.map(it=>it.train)).size;
   const known=[...now.trains,...now.sessions.filter(it=>it.state=='start waits')];
   const left=[...new Set(now.sections.filter(it=>it.train).map(it=>it.train))].filter(t=>!known.some(it=>it.train==t));
-  legend??=explained();
+  const demo=!!now.true_places?.length;
+  legend[+demo]??=explained(demo);
   update([tag('p',{class:'when'},words),
     ...[...alerts,...left.map(t=>`train ${t}: sections are in use for it, and no centre has its mission`)]
       .map(it=>tag('div',{class:'alert',role:'alert','data-k':it},it)),
-    ...line.tracks.map(it=>track(it.track,now)).filter(it=>it),legend,
+    ...line.tracks.map(it=>track(it.track,now)).filter(it=>it),legend[+demo],
     tag('div',{class:'two','data-k':'two'},
       section('trains',`Trains: ${now.trains.length} under way, ${heard} with a session`,
         table(['Train','Supervisor','Track','Rear end','Front end','End of authority','Distance to end','Sections',

@@ -11,7 +11,8 @@ const part=(used,most)=>{
 
 function present(raw){
   const now={...raw},alerts=[];
-  for(const name of ['trains','sections','sessions','centres','links','last'])now[name]=rows(raw[name]);
+  for(const name of ['trains','sections','sessions','centres','links','true_places','last'])
+    now[name]=rows(raw[name]??[]);
   if(now.stopped)alerts.push('stop was said: no connection is taken any more');
   for(const it of now.centres){
     if(it.stuck)alerts.push(`journal of ${it.centre}: it can't be written. Only written events are shown`);

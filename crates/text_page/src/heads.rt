@@ -1,11 +1,12 @@
 //! The words for a person of tables and of their columns, by their names in JSON.
 
-static TITLES: [(&str, &str); 6] = [
+static TITLES: [(&str, &str); 7] = [
     ("trains", "Trains"),
     ("sections", "Sections"),
     ("sessions", "Sessions"),
     ("centres", "Centres"),
     ("links", "Links"),
+    ("true_places", "True places (demo only)"),
     ("last", "Last events"),
 ];
 

@@ -25,5 +25,5 @@ pub use page::{line_json, live_page, now_json};
 pub use run::{Changes, Part, RunSheet};
 pub use view::{
     CentreNow, End, Layout, Limits, LineNow, LinkNow, MissionNow, Phase, Place, Run, SectionNow,
-    SessionNow, Usage,
+    SessionNow, TruePlace, Usage,
 };

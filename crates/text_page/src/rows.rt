@@ -10,6 +10,7 @@ pub(crate) fn add_now(sheet: &mut Sheet, layout: &Layout, now: &LineNow) -> Resu
     add_state(sheet, layout, now)?;
     add_centres(sheet, layout, now)?;
     add_links(sheet, layout, now)?;
+    add_true_places(sheet, layout, now)?;
     add_last(sheet, now)
 }
 
@@ -170,6 +171,23 @@ fn add_links(sheet: &mut Sheet, layout: &Layout, now: &LineNow) -> Result<(), Al
             name_of(&layout.centres, link.to as usize),
             Cell::Number(u64::from(link.sent)),
             Cell::Number(u64::from(link.taken)),
+        ])?;
+    }
+    sheet.end()
+}
+
+// Writes the true places of trains, if there are any.
+fn add_true_places(sheet: &mut Sheet, layout: &Layout, now: &LineNow) -> Result<(), AllocError> {
+    if now.true_places.is_empty() {
+        return Ok(());
+    }
+    sheet.begin("true_places", &["train", "track", "rear_m", "front_m"])?;
+    for place in now.true_places.iter() {
+        sheet.row(&[
+            Cell::Number(u64::from(place.nid_engine)),
+            name_of(&layout.tracks, place.track as usize),
+            Cell::Tenths(u64::from(place.rear)),
+            Cell::Tenths(u64::from(place.front)),
         ])?;
     }
     sheet.end()

@@ -50,6 +50,7 @@ svg text{font:11px system-ui,sans-serif;text-anchor:middle;fill:var(--ink)}
 #dots rect{fill:var(--kept)}#dots circle{fill:var(--dot)}.tick{stroke:var(--rule);stroke-width:.6}
 .home rect{fill:currentColor}.home text{fill:var(--panel);font-weight:bold}
 .border{stroke:var(--ink);stroke-width:1.6;stroke-dasharray:5 3;fill:none}
+.place{stroke:var(--ink);stroke-width:4;fill:none}svg .at{font-size:9px;text-anchor:start}
 .block{fill:currentColor;stroke:var(--panel);stroke-width:.8}.hand{stroke:currentColor;stroke-width:3;fill:none}
 .pool{stroke:currentColor;stroke-width:3;stroke-dasharray:3 4;fill:none}
 .sign{fill:var(--bad);stroke:var(--bad);stroke-width:2}.lead{stroke:var(--rule);stroke-width:.8;fill:none}

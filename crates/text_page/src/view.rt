@@ -158,6 +158,18 @@ pub struct LinkNow {
     pub taken: u32,
 }
 
+/// The true place of a train. The centres do not know it: the program that runs the trains does.
+#[derive(Clone, Copy, PartialEq, Eq)]
+pub struct TruePlace {
+    pub nid_engine: u32,
+    /// The number of its track.
+    pub track: u8,
+    /// The rear end, in decimetres from the start of the track; 0 if it is before the start.
+    pub rear: u32,
+    /// The front end, in decimetres from the start of the track.
+    pub front: u32,
+}
+
 /// The line as its centres reported it.
 #[derive(Drop)]
 pub struct LineNow {
@@ -173,6 +185,8 @@ pub struct LineNow {
     /// By the centres' numbers.
     pub centres: Vec<CentreNow>,
     pub links: Vec<LinkNow>,
+    /// The true places of trains that run in the same process. Empty if there are none.
+    pub true_places: Vec<TruePlace>,
     /// The last events in words, the newest first.
     pub last: Vec<String>,
 }

@@ -231,6 +231,7 @@ fn last_of(alloc: Global, part: Part, run: &Played) -> Result<LineNow, AllocErro
         sessions: Vec::new(alloc),
         centres: Vec::new(alloc),
         links: Vec::new(alloc),
+        true_places: Vec::new(alloc),
         last: Vec::new(alloc),
     };
     add_last(alloc, &mut now, part.first, run)?;

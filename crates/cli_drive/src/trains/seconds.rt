@@ -4,6 +4,7 @@ use crate::trains::calls::Calls;
 use crate::trains::check::are_apart;
 use crate::trains::fault::TrainsFault;
 use crate::trains::interlocking::Interlocking;
+use crate::trains::observer::{Observer, TruePlace};
 use crate::trains::radio::{Letter, Radio};
 use crate::trains::report::Tally;
 use crate::trains::settings::Settings;
@@ -36,12 +37,13 @@ pub(crate) struct Running<'a, R> {
 }
 
 /// Runs trains over the centres of a line, which listen on this host. It ends when all trains have ended their missions
-/// at their goals, or when the seconds are over. Returns whether no two trains were on one section at the end of a
-/// second.
-pub fn run<R: Net<Stream = TcpStream> + Clock + AllocGlobal, W: Write>(
+/// at their goals, or when the seconds are over. At the end of each second the observer gets the true places. Returns
+/// whether no two trains were on one section at the end of a second.
+pub fn run<R: Net<Stream = TcpStream> + Clock + AllocGlobal, P: Observer, W: Write>(
     rt: &R,
     line: &Line,
     settings: Settings,
+    observer: &P,
     out: &mut W,
 ) -> Result<bool, TrainsFault> {
     let alloc = rt.alloc();
@@ -66,24 +68,28 @@ pub fn run<R: Net<Stream = TcpStream> + Clock + AllocGlobal, W: Write>(
         now: 1_000,
         tally: Tally::new(),
     };
-    run.all(out)?;
+    run.all(observer, out)?;
     Ok(run.tally.are_apart)
 }
 
 impl<R: Net<Stream = TcpStream> + Clock> Running<'_, R> {
-    fn all<W: Write>(&mut self, out: &mut W) -> Result<(), TrainsFault> {
+    fn all<P: Observer, W: Write>(&mut self, observer: &P, out: &mut W) -> Result<(), TrainsFault> {
         self.begin(out)?;
         for _ in 0..self.settings.seconds {
             if self.have_all_ended() {
                 break;
             }
-            self.second(out)?;
+            self.second(observer, out)?;
         }
         self.end(out)
     }
 
     // A second: sections are released, trains run and send, and messages arrive.
-    fn second<W: Write>(&mut self, out: &mut W) -> Result<(), TrainsFault> {
+    fn second<P: Observer, W: Write>(
+        &mut self,
+        observer: &P,
+        out: &mut W,
+    ) -> Result<(), TrainsFault> {
         self.now = self.now.saturating_add(100);
         self.release()?;
         for i in 0..self.trains.len() {
@@ -101,7 +107,7 @@ impl<R: Net<Stream = TcpStream> + Clock> Running<'_, R> {
         thread::sleep(self.rt, Duration::from_millis(self.settings.second_ms));
         self.collect()?;
         self.deliver(out)?;
-        self.look()?;
+        self.look(observer)?;
         self.show_often(out)
     }
 
@@ -146,15 +152,23 @@ impl<R: Net<Stream = TcpStream> + Clock> Running<'_, R> {
         true
     }
 
-    // Looks at the true places of all trains.
-    fn look(&mut self) -> Result<(), TrainsFault> {
+    // Looks at the true places of all trains, and shows them to the observer.
+    fn look<P: Observer>(&mut self, observer: &P) -> Result<(), TrainsFault> {
+        let mut ends = Vec::new(self.alloc);
         let mut places = Vec::new(self.alloc);
         for train in &self.trains {
-            places.push(train.ends)?;
+            ends.push(train.ends)?;
+            places.push(TruePlace {
+                nid_engine: train.unit.nid_engine(),
+                track: train.ends.track,
+                front: train.ends.front,
+                rear: train.ends.rear,
+            })?;
         }
-        if !are_apart(&self.interlocking.sections, &places) {
+        if !are_apart(&self.interlocking.sections, &ends) {
             self.tally.are_apart = false;
         }
+        observer.see(&places)?;
         Ok(())
     }
 }

@@ -88,6 +88,7 @@ fn nothing_of(alloc: Global, line: &Line) -> Result<LineNow, AllocError> {
         sessions: Vec::new(alloc),
         centres: vec![in alloc; UNUSED; line.centre_count() as usize]?,
         links: links_of(alloc, line)?,
+        true_places: Vec::new(alloc),
         last: Vec::new(alloc),
     })
 }

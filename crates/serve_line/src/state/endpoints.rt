@@ -1,6 +1,7 @@
 use crate::state::control_socket::listen_at_path;
 use crate::state::streams::bound_accept;
 use crate::status::{Level, Notes};
+use crate::true_places::TruePlaces;
 use rbc_line::Line;
 use serve_control::ServeFault;
 use std::alloc::Global;
@@ -18,7 +19,7 @@ use text_script::print::name_of;
 pub struct Endpoints {
     ports: Vec<Listening>,
     socket: Option<ListeningAt>,
-    page: Option<Listening>,
+    page: Option<PagePort>,
 }
 
 /// The address of this host that only this host can connect to.
@@ -31,6 +32,14 @@ pub struct Listening {
     pub listener: TcpListener,
     /// Its address. If port 0 was asked for, the system picked the port.
     pub address: SocketAddr,
+}
+
+/// The port of the page, and the true places that it shows.
+#[derive(Drop)]
+pub struct PagePort {
+    pub listening: Listening,
+    /// The true places of the trains, if they run in this process.
+    pub true_places: Option<TruePlaces>,
 }
 
 /// A Unix socket that listens.
@@ -127,11 +136,22 @@ impl Endpoints {
         port: u16,
         notes: &N,
     ) -> Result<Endpoints, ServeFault> {
-        let page = listen_noted(rt, "page", (LOCALHOST, u32::from(port)), notes)?;
+        let listening = listen_noted(rt, "page", (LOCALHOST, u32::from(port)), notes)?;
         Ok(Endpoints {
-            page: Some(page),
+            page: Some(PagePort {
+                listening,
+                true_places: None,
+            }),
             ..self
         })
+    }
+
+    /// The page shows these true places of trains too, if there is a page.
+    pub fn and_true_places(mut self, places: TruePlaces) -> Endpoints {
+        if let Some(page) = &mut self.page {
+            page.true_places = Some(places);
+        }
+        self
     }
 
     /// The address of centre `number`; after the centres, that of the control endpoint, if it is a port.
@@ -141,12 +161,12 @@ impl Endpoints {
 
     /// The address of the page, if there is one.
     pub fn page_address(&self) -> Option<SocketAddr> {
-        self.page.as_ref().map(|page| page.address)
+        self.page.as_ref().map(|page| page.listening.address)
     }
 
     /// The ports of the centres, in the order of their numbers, and then that of the control endpoint, if it has one.
     /// After those the socket of the control endpoint and the port of the page, if there are any.
-    pub fn all(self) -> (Vec<Listening>, Option<ListeningAt>, Option<Listening>) {
+    pub fn all(self) -> (Vec<Listening>, Option<ListeningAt>, Option<PagePort>) {
         (self.ports, self.socket, self.page)
     }
 }

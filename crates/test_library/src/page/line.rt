@@ -3,7 +3,7 @@
 use std::alloc::{AllocError, Global};
 use text_page::{
     CentreNow, Layout, Limits, LineNow, LinkNow, MissionNow, Phase, Place, Run, SectionNow,
-    SessionNow, Usage,
+    SessionNow, TruePlace, Usage,
 };
 
 /// The layout of its sections: two of 100 m with home A, and two with home B.
@@ -49,6 +49,7 @@ pub fn now(alloc: Global) -> Result<LineNow, AllocError> {
         sessions: Vec::new(alloc),
         centres: Vec::new(alloc),
         links: Vec::new(alloc),
+        true_places: Vec::new(alloc),
         last: Vec::new(alloc),
     };
     add_all(alloc, &mut now)?;
@@ -71,6 +72,12 @@ fn add_train(now: &mut LineNow) -> Result<(), AllocError> {
         })?;
     }
     now.missions.push(Some(mission()))?;
+    now.true_places.push(TruePlace {
+        nid_engine: 19,
+        track: 0,
+        rear: 200,
+        front: 1_100,
+    })?;
     now.sessions.push(SessionNow {
         nid_engine: 19,
         centre: 0,

@@ -76,6 +76,7 @@ static CONTENTS: [(Asked, &[&str]); 4] = [
             "[\"A\",21000,4,4,1,9,0]",
             "[\"B\",21001,1,4,1,9,1]",
             "[\"A\",\"B\",3,2]",
+            "\"true_places\":[[\"train\",\"track\",\"rear_m\",\"front_m\"],[19,\"main\",20.0,110.0]]",
             "[\"4 · \\u003cb> A B \\u003c/b> & more\"]",
         ],
     ),
@@ -100,11 +101,23 @@ static CONTENTS: [(Asked, &[&str]); 4] = [
             "<h2>Trains</h2><table><tr><th scope='col'>Train<th scope='col'>Supervisor",
             "<tr><td>19<td>A<td>B<td>main<td><td>123.4<td>0<td>1<td>",
             "<tr><td>0<td>1<td>main<td>0<td>200<td>A<td>given<td>19<td>\n",
+            "<h2>True places (demo only)</h2><table><tr><th scope='col'>Train<th scope='col'>Track",
+            "<tr><td>19<td>main<td>20<td>110\n",
             "<noscript><meta http-equiv='refresh'",
             "<td>4 · &lt;b&gt;\"A\\B\"&lt;/b&gt; &amp; more\n",
         ],
     ),
 ];
+
+#[test]
+fn the_centres_alone_show_no_true_place(rt: HostRuntime) -> Result<(), Fail> {
+    let (alloc, asked) = (rt.alloc(), Asked::Now { since: None });
+    let (layout, mut now) = (layout(alloc)?, now(alloc)?);
+    now.true_places.clear();
+    let text = answer(alloc, &layout, &now, VERSION, asked)?;
+    assert!(rt; (text.contains("\"links\""), text.contains("true_places")) == (true, false));
+    Ok(())
+}
 
 #[test]
 fn each_answer_has_its_status_and_its_contents(rt: HostRuntime) -> Result<(), Fail> {
