@@ -150,6 +150,7 @@ fn entries_of(alloc: Global, before: &[Before<'_>]) -> Done<Vec<Entry>> {
         entries
             .push(Entry {
                 stamp: *stamp,
+                time_ms: None,
                 event,
             })
             .ok()

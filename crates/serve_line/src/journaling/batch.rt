@@ -51,6 +51,7 @@ fn entries_from(alloc: Global, log: &CentreLog, written: usize) -> Result<Vec<En
         };
         next.push(Entry {
             stamp: entry.outcome.stamp,
+            time_ms: None,
             event,
         })?;
     }
