@@ -11,7 +11,7 @@
 //! ```text
 //! let file = make_journal(&rt, "day/A.journal")?;
 //! let mut journal = JournalFile::open(SystemFile::new(file, true), 0)?;
-//! journal.add(b"journal 1 A ..\n")?;
+//! journal.add(b"journal 2 A ..\n")?;
 //! if let Some(kept) = journal.keep(alloc, &line, &entries)? {
 //!     // each event up to kept.stamp() is on the disk
 //! }

@@ -1,26 +1,24 @@
 -- Properties of notes, for entries in memory.
-use Rattle.std.proofs.Common.{[], ◌++◌, ◌∙◌, ◌∷◌, ◌≡◌, ◌≢◌, ap, append_assoc, arith, Bool, Bor, Err, false, Global, inl}
-use Rattle.std.proofs.Common.{inr, length, List, map, None, Ok, Option, refl, Result, rules, Some, subst, suc, sym}
-use Rattle.std.proofs.Common.{take, true, Vec, zero, ℕ}
-use Rattle.std.proofs.lemmas.Bool.{true≢false}
+use Rattle.std.proofs.Common.{[], ◌++◌, ◌∙◌, ◌∷◌, ◌≡◌, ◌≢◌, ap, append_assoc, arith, Bool, Bor, Err, Global, inl, inr}
+use Rattle.std.proofs.Common.{List, map, None, Ok, Option, refl, Result, rules, Some, subst, suc, sym, take, true, Vec}
+use Rattle.std.proofs.Common.{zero, ℕ}
 use Rattle.std.proofs.lemmas.List.{append_cancel_right}
 use Rattle.std.proofs.lemmas.Slice.Eq.{bytes_eq-Decides}
-use Rattle.std.proofs.Math.Dec.{eqb}
 use Rattle.std.specs.Fmt.{decimal}
-use Rattle.std.specs.List.{AllByRecursion, flat_map, starts_with}
+use Rattle.std.specs.List.{AllByRecursion, flat_map}
 use Rattle.std.specs.Prelude.{codes, IfErr, IfOk, IsTrue, MatchOption}
 use Rattle.std.specs.Str.{bytes_eq}
 use Rattle.hex.specs.Hex.{encode_upper}
 use Rattle.rbc_spec.specs.Line.{is_centre, IsLine, Line}
-use Rattle.text_journal.proofs.Asking.{name_is_word, three, words_of}
-use Rattle.text_journal.proofs.Letters.{lacks_append, word_of_number}
+use Rattle.text_journal.proofs.Asking.{name_is_word, three, verb, words_of}
+use Rattle.text_journal.proofs.Letters.{lacks_append, no_cut, one_cut}
 use Rattle.text_journal.proofs.Lines.{checksum_is_word, cut_after, cut_lines, digest_is_word, lacks_take, line_of}
-use Rattle.text_journal.proofs.Lines.{lines_of, no_cut, no_reading, one_cut, one_reading, some_same, told_of}
-use Rattle.text_journal.proofs.Lines.{words_read}
+use Rattle.text_journal.proofs.Lines.{lines_of, no_reading, one_reading, some_same, told_of, words_read}
 use Rattle.text_journal.specs.declared.entry.Entry.{Entry}
 use Rattle.text_journal.specs.declared.fault.JournalFault.{JournalFault}
 use Rattle.text_journal.specs.declared.fault.JournalFault.TheVariants.{Memory}
-use Rattle.text_journal.specs.Journal.{checksum, digest, entry_line, first_line, journal, told}
+use Rattle.text_journal.specs.Journal.{checksum, digest, digested, entry_line, first_line, journal, time_text, told, V1, V2}
+use Rattle.text_journal.specs.Journal.{Version, version_words}
 use Rattle.text_journal.specs.Reading.{ArePartsOf, Begins, early, Follows, IsAt, IsNote, Lacks, Noted, noted_of, torn}
 use Rattle.text_script.specs.Entries.{event_of}
 use Rattle.text_script.specs.Print.Rows.{event_row, name_at}
@@ -45,8 +43,11 @@ row_is line (event.Deliver from to n) =
 
 told_is : (line : Line) (e : Entry) → told line e ≡ told_of line (noted_of e) ++ 10 ∷ []
 told_is line e =
-    ap (λ (t : List ℕ). decimal e.stamp ++ 32 ∷ t) (row_is line e.event)
-    ∙ sym (append_assoc (decimal e.stamp) (32 ∷ 62 ∷ 32 ∷ words_of line (event_of e.event)) (10 ∷ []))
+    let time = time_text e.time_ms in
+    let row : List ℕ = 62 ∷ 32 ∷ words_of line (event_of e.event) in
+    ap (λ (t : List ℕ). decimal e.stamp ++ 32 ∷ (time ++ t)) (row_is line e.event)
+    ∙ sym (append_assoc (decimal e.stamp) (32 ∷ (time ++ row)) (10 ∷ [])
+    ∙ ap (λ (t : List ℕ). decimal e.stamp ++ 32 ∷ t) (append_assoc time row (10 ∷ [])))
 
 pub entry_line_is : (line : Line) (e : Entry) → entry_line line e ≡ line_of line (noted_of e) ++ 10 ∷ []
 entry_line_is line e =
@@ -83,54 +84,44 @@ one_following line good c text es fs h k =
     (ap (λ (t : List ℕ). t ++ h.rest) (sym (entry_lines_are line es)) ∙ sym h.whole ∙ k.whole
     ∙ ap (λ (t : List ℕ). t ++ k.rest) (entry_lines_are line fs))
 
-start_feed : Lacks 10 (codes "journal 1 ")
-start_feed = (
-  λ e. omega arith,
-  (
-    λ e. omega arith,
-    (
-      λ e. omega arith,
-      (
-        λ e. omega arith,
-        (
-          λ e. omega arith,
-          (λ e. omega arith, (λ e. omega arith, (λ e. omega arith, (λ e. omega arith, (λ e. omega arith, tt))))),
-        ),
-      ),
-    ),
-  ),
-)
+start_feed : (v : Version) → Lacks 10 (version_words v)
+start_feed V1 = lacks_append 10 (codes "journal") (codes " 1 ") (verb (codes "journal") refl).feed
+    (λ e. omega arith, (λ e. omega arith, (λ e. omega arith, tt)))
+start_feed V2 = lacks_append 10 (codes "journal") (codes " 2 ") (verb (codes "journal") refl).feed
+    (λ e. omega arith, (λ e. omega arith, (λ e. omega arith, tt)))
 
 -- the first line contains no line feed
-pub first_feed : (line : Line) → IsLine line → (c : ℕ) (file : List ℕ) → is_centre line c ≡ true
-    → Lacks 10 (first_line line c file)
-first_feed line good c file it =
-    lacks_append 10 (codes "journal 1 ") (name_at line c ++ 32 ∷ digest file) (start_feed)
-    (lacks_append 10 (name_at line c) (32 ∷ digest file) (name_is_word line good c it).feed
-    (λ e. omega arith, (digest_is_word file).feed))
+pub first_feed : (v : Version) (line : Line) → IsLine line → (c : ℕ) (file : List ℕ) → is_centre line c ≡ true
+    → Lacks 10 (first_line v line c file)
+first_feed v line good c file it =
+    lacks_append 10 (version_words v) (name_at line c ++ 32 ∷ digest (digested v line file)) (start_feed v)
+    (lacks_append 10 (name_at line c) (32 ∷ digest (digested v line file)) (name_is_word line good c it).feed
+    (λ e. omega arith, (digest_is_word (digested v line file)).feed))
 
-unended : (line : Line) → IsLine line → (c : ℕ) (file rest : List ℕ) (n : ℕ) → is_centre line c ≡ true →
-    take n (first_line line c file) ≡ first_line line c file ++ 10 ∷ rest → ⊥
-unended line good c file rest n it e =
-    no_cut 10 (first_line line c file) rest (subst (Lacks 10) e (lacks_take 10 n _ (first_feed line good c file it)))
+unended : (v w : Version) (line : Line) → IsLine line → (c : ℕ) (file rest : List ℕ) (n : ℕ) → is_centre line c ≡ true
+    → take n (first_line v line c file) ≡ first_line w line c file ++ 10 ∷ rest → ⊥
+unended v w line good c file rest n it e =
+    no_cut 10 (first_line w line c file) rest
+    (subst (Lacks 10) e (lacks_take 10 n _ (first_feed v line good c file it)))
 
-same_rest : (line : Line) → IsLine line → (c : ℕ) (file rest other : List ℕ) → is_centre line c ≡ true →
-    first_line line c file ++ 10 ∷ rest ≡ first_line line c file ++ 10 ∷ other → rest ≡ other
-same_rest line good c file rest other it e =
-    (one_cut 10 (first_line line c file) (first_line line c file) rest other (first_feed line good c file it)
-    (first_feed line good c file it) e).1
+same_rest : (v w : Version) (line : Line) → IsLine line → (c : ℕ) (file rest other : List ℕ) → is_centre line c ≡ true
+    → first_line v line c file ++ 10 ∷ rest ≡ first_line w line c file ++ 10 ∷ other → rest ≡ other
+same_rest v w line good c file rest other it e =
+    (one_cut 10 (first_line v line c file) (first_line w line c file) rest other (first_feed v line good c file it)
+    (first_feed w line good c file it) e).1
 
-pub one_beginning : (line : Line) → IsLine line → (c : ℕ) (file text : List ℕ) (es fs : List Entry)
+pub one_beginning : (v w : Version) (line : Line) → IsLine line → (c : ℕ) (file text : List ℕ) (es fs : List Entry)
     → is_centre line c ≡ true →
-    Begins line c file text es → Begins line c file text fs → map noted_of es ≡ map noted_of fs
-one_beginning line good c file text es fs it (torn rest e h) (torn other f k) =
+    Begins v line c file text es → Begins w line c file text fs → map noted_of es ≡ map noted_of fs
+one_beginning v w line good c file text es fs it (torn rest e h) (torn other f k) =
     one_following line good c rest es fs h
-    (subst (λ (t : List ℕ). Follows line c t fs) (sym (same_rest line good c file rest other it (sym e ∙ f))) k)
-one_beginning line good c file text es fs it (torn rest e h) (early n f none) =
-    absurd (unended line good c file rest n it (sym f ∙ e))
-one_beginning line good c file text es fs it (early n e none) (torn rest f k) =
-    absurd (unended line good c file rest n it (sym e ∙ f))
-one_beginning line good c file text es fs it (early n e none) (early m f other) = ap (map noted_of) (none ∙ sym other)
+    (subst (λ (t : List ℕ). Follows line c t fs) (sym (same_rest v w line good c file rest other it (sym e ∙ f))) k)
+one_beginning v w line good c file text es fs it (torn rest e h) (early n f none) =
+    absurd (unended w v line good c file rest n it (sym f ∙ e))
+one_beginning v w line good c file text es fs it (early n e none) (torn rest f k) =
+    absurd (unended v w line good c file rest n it (sym e ∙ f))
+one_beginning v w line good c file text es fs it (early n e none) (early m f other) =
+    ap (map noted_of) (none ∙ sym other)
 
 -- ## A cut
 
@@ -150,10 +141,10 @@ cut_following line good c es n h =
       },
     )
 
-pub cut_journal : (line : Line) → IsLine line → (c : ℕ) (file : List ℕ) (es : List Entry) (n : ℕ)
+pub cut_journal : (v : Version) (line : Line) → IsLine line → (c : ℕ) (file : List ℕ) (es : List Entry) (n : ℕ)
     → AllByRecursion (λ e. IsNote line c (noted_of e)) es →
-    (k : ℕ) × Begins line c file (take n (journal line c file es)) (take k es)
-cut_journal line good c file es n h = elim (cut_after (first_line line c file) (flat_map (entry_line line) es) n) [
+    (k : ℕ) × Begins v line c file (take n (journal v line c file es)) (take k es)
+cut_journal v line good c file es n h = elim (cut_after (first_line v line c file) (flat_map (entry_line line) es) n) [
   | inl e ↦ (0, early n e refl)
   | inr d ↦ let cut = cut_following line good c es d.0 h in
       (cut.0, torn (take d.0 (flat_map (entry_line line) es)) d.1 cut.1)
@@ -194,13 +185,13 @@ pub row_of : (line : Line) (e : Entry) (row : List ℕ) → entry_line line e �
     → row ≡ line_of line (noted_of e)
 row_of line e row h = append_cancel_right row (line_of line (noted_of e)) (10 ∷ []) (sym h ∙ entry_line_is line e)
 
-pub guess_parts : (line : Line) (c : ℕ) (e : Entry) (row : List ℕ) (found : Option (Bor (List ℕ) × Bor (List ℕ)))
+pub guess_parts : (line : Line) (c : ℕ) (e : Entry) (row : List ℕ) (found : Option (ℕ × Option ℕ × Bor (List ℕ)))
     → ArePartsOf row found →
     IsNote line c (noted_of e) → entry_line line e ≡ row ++ 10 ∷ [] →
-    MatchOption found ⊥ (λ x. (x.0.now ≡ decimal e.stamp) × (x.1.now ≡ words_of line (event_of e.event)))
+    MatchOption found ⊥ (λ x. (x.0 ≡ e.stamp) × (x.1 ≡ e.time_ms) × (x.2.now ≡ words_of line (event_of e.event)))
 guess_parts line c e row found parts note h =
-    parts (checksum (told_of line (noted_of e) ++ 10 ∷ [])) (decimal e.stamp) (words_of line (event_of e.event))
-    (checksum_is_word _).blank (word_of_number e.stamp (omega (arith, note.stamp))).blank (row_of line e row h)
+    parts (checksum (told_of line (noted_of e) ++ 10 ∷ [])) (words_of line (event_of e.event)) e.stamp e.time_ms
+    (checksum_is_word _).blank note.stamp note.time (row_of line e row h)
 
 pub guess_asks : (line : Line) → IsLine line → (c : ℕ) (e : Entry) (words : List ℕ) → IsNote line c (noted_of e)
     → words ≡ words_of line (event_of e.event) →
@@ -214,80 +205,68 @@ no_show line c e note same = subst (IsAt line c) (some_same _ _ (sym same)) note
 pub not_none : {X : Type 0} (x : X) → None ≡ Some x → ⊥
 not_none x e = cc
 
-pub ok_same : {E : Type 0} (x y : ℕ) (r : Result ℕ E) → r ≡ Ok x → r ≡ Ok y → x ≡ y
-ok_same x y r h k = cc
-
 -- ## The first line
 
-torn_text : (line : Line) (c : ℕ) (file text rest : List ℕ) (es : List Entry)
-    → text ≡ first_line line c file ++ 10 ∷ rest → Follows line c rest es → Begins line c file text es
-torn_text line c file text rest es e h = torn rest e h
+torn_text : (v : Version) (line : Line) (c : ℕ) (file text rest : List ℕ) (es : List Entry)
+    → text ≡ first_line v line c file ++ 10 ∷ rest → Follows line c rest es → Begins v line c file text es
+torn_text v line c file text rest es e h = torn rest e h
 
-torn_rest : (line : Line) → IsLine line → (c : ℕ) (file text rest : List ℕ) (es : List Entry) → is_centre line c ≡ true
-    → text ≡ first_line line c file ++ 10 ∷ rest →
-    Begins line c file text es → Follows line c rest es
-torn_rest line good c file text rest es it e (torn other f k) =
-    subst (λ (t : List ℕ). Follows line c t es) (same_rest line good c file other rest it (sym f ∙ e)) k
-torn_rest line good c file text rest es it e (early n f none) = absurd (unended line good c file rest n it (sym f ∙ e))
+torn_rest : (v w : Version) (line : Line) → IsLine line → (c : ℕ) (file text rest : List ℕ) (es : List Entry)
+    → is_centre line c ≡ true → text ≡ first_line v line c file ++ 10 ∷ rest →
+    Begins w line c file text es → Follows line c rest es
+torn_rest v w line good c file text rest es it e (torn other f k) =
+    subst (λ (t : List ℕ). Follows line c t es) (same_rest w v line good c file other rest it (sym f ∙ e)) k
+torn_rest v w line good c file text rest es it e (early n f none) =
+    absurd (unended w v line good c file rest n it (sym f ∙ e))
 
-pub found_torn : (line : Line) (c : ℕ) (file text rest : List ℕ) (r : Result (Vec Entry Global) JournalFault)
-    → text ≡ first_line line c file ++ 10 ∷ rest →
-    IfOk r (λ read. Follows line c rest read.items) → IfOk r (λ read. Begins line c file text read.items)
-found_torn line c file text rest (Ok read) e h = torn_text line c file text rest read.items e h
-found_torn line c file text rest (Err why) e h = tt
+pub found_torn : (v : Version) (line : Line) (c : ℕ) (file text rest : List ℕ)
+    (r : Result (Vec Entry Global) JournalFault) → text ≡ first_line v line c file ++ 10 ∷ rest →
+    IfOk r (λ read. Follows line c rest read.items)
+    → IfOk r (λ read. (w : Version) × Begins w line c file text read.items)
+found_torn v line c file text rest (Ok read) e h = (v, torn_text v line c file text rest read.items e h)
+found_torn v line c file text rest (Err why) e h = tt
 
-pub only_torn : (line : Line) → IsLine line
+pub only_torn : (v : Version) (line : Line) → IsLine line
     → (c : ℕ) (file text rest : List ℕ) (r : Result (Vec Entry Global) JournalFault) → is_centre line c ≡ true →
-    text ≡ first_line line c file ++ 10 ∷ rest → IfOk r (λ read. Follows line c rest read.items) →
-    IfOk r (λ read. (es : List Entry) → Begins line c file text es → map noted_of read.items ≡ map noted_of es)
-only_torn line good c file text rest (Ok read) it e h =
-    λ es k. one_beginning line good c file text read.items es it (torn_text line c file text rest read.items e h) k
-only_torn line good c file text rest (Err why) it e h = tt
+    text ≡ first_line v line c file ++ 10 ∷ rest → IfOk r (λ read. Follows line c rest read.items) →
+    IfOk r (λ read. (w : Version) (es : List Entry) → Begins w line c file text es
+    → map noted_of read.items ≡ map noted_of es)
+only_torn v line good c file text rest (Ok read) it e h = λ w es k.
+    one_beginning v w line good c file text read.items es it (torn_text v line c file text rest read.items e h) k
+only_torn v line good c file text rest (Err why) it e h = tt
 
-pub refused_torn : (line : Line) → IsLine line
+pub refused_torn : (v : Version) (line : Line) → IsLine line
     → (c : ℕ) (file text rest : List ℕ) (r : Result (Vec Entry Global) JournalFault) → is_centre line c ≡ true →
-    text ≡ first_line line c file ++ 10 ∷ rest
+    text ≡ first_line v line c file ++ 10 ∷ rest
     → IfErr r (λ why. why ≢ Memory → (es : List Entry) → Follows line c rest es → ⊥) →
-    IfErr r (λ why. why ≢ Memory → (es : List Entry) → Begins line c file text es → ⊥)
-refused_torn line good c file text rest (Ok read) it e h = tt
-refused_torn line good c file text rest (Err why) it e h =
-    λ other es k. h other es (torn_rest line good c file text rest es it e k)
+    IfErr r (λ why. why ≢ Memory → (w : Version) (es : List Entry) → Begins w line c file text es → ⊥)
+refused_torn v line good c file text rest (Ok read) it e h = tt
+refused_torn v line good c file text rest (Err why) it e h =
+    λ other w es k. h other es (torn_rest v w line good c file text rest es it e k)
 
 -- a different first line begins no journal of this centre
 pub foreign_row : (line : Line) → IsLine line → (c : ℕ) (file text row rest : List ℕ) → is_centre line c ≡ true
-    → text ≡ row ++ 10 ∷ rest → Lacks 10 row →
-    row ≢ first_line line c file → (es : List Entry) → Begins line c file text es → ⊥
-foreign_row line good c file text row rest it e clean other es (torn more f k) =
-    other (one_cut 10 row (first_line line c file) rest more clean (first_feed line good c file it) (sym e ∙ f)).0
-foreign_row line good c file text row rest it e clean other es (early n f none) =
-    no_cut 10 row rest (subst (Lacks 10) (sym f ∙ e) (lacks_take 10 n _ (first_feed line good c file it)))
+    → text ≡ row ++ 10 ∷ rest → Lacks 10 row → ((v : Version) → row ≢ first_line v line c file)
+    → (v : Version) (es : List Entry) → Begins v line c file text es → ⊥
+foreign_row line good c file text row rest it e clean other v es (torn more f k) =
+    other v (one_cut 10 row (first_line v line c file) rest more clean (first_feed v line good c file it) (sym e ∙ f)).0
+foreign_row line good c file text row rest it e clean other v es (early n f none) =
+    no_cut 10 row rest (subst (Lacks 10) (sym f ∙ e) (lacks_take 10 n _ (first_feed v line good c file it)))
 
-take_again : (n : ℕ) (xs : List ℕ) → take (length (take n xs)) xs ≡ take n xs
-take_again zero xs = refl
-take_again (suc n) [] = refl
-take_again (suc n) (x ∷ xs) = ap (λ (t : List ℕ). x ∷ t) (take_again n xs)
-
--- a text that ends within the first line is a front of it
-pub early_text : (line : Line) (c : ℕ) (file text : List ℕ) → starts_with eqb (first_line line c file) text ≡ true
-    → Begins line c file text []
-early_text line c file text h =
-    early (length text) ((bytes_eq-Decides text (take (length text) (first_line line c file))).0 h) refl
-
+-- a text without a line feed that is no front of a first line
 pub foreign_start : (line : Line) (c : ℕ) (file text : List ℕ) → Lacks 10 text
-    → starts_with eqb (first_line line c file) text ≡ false →
-    (es : List Entry) → Begins line c file text es → ⊥
-foreign_start line c file text clean other es (torn rest e h) =
-    no_cut 10 (first_line line c file) rest (subst (Lacks 10) e clean)
-foreign_start line c file text clean other es (early n e none) =
-    true≢false (sym (subst (λ (t : List ℕ). starts_with eqb (first_line line c file) t ≡ true) (sym e)
-    ((bytes_eq-Decides _ _).1 (sym (take_again n (first_line line c file))))) ∙ other)
+    → ((v : Version) (n : ℕ) → text ≢ take n (first_line v line c file))
+    → (v : Version) (es : List Entry) → Begins v line c file text es → ⊥
+foreign_start line c file text clean other v es (torn rest e h) =
+    no_cut 10 (first_line v line c file) rest (subst (Lacks 10) e clean)
+foreign_start line c file text clean other v es (early n e none) = other v n e
 
 -- ## A line and its line feed
 
-is_true : (b : Bool) → IsTrue b → b ≡ true
+pub is_true : (b : Bool) → IsTrue b → b ≡ true
 is_true b h = search rules
 
-true_is : (b : Bool) → b ≡ true → IsTrue b
+pub true_is : (b : Bool) → b ≡ true → IsTrue b
 true_is b h = search rules
 
 pub ended : (text front row : List ℕ) (last : ℕ) (b : Bool) → text ≡ front ++ last ∷ [] → last ≡ 10

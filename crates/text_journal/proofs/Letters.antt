@@ -1,6 +1,6 @@
 -- The bytes that the parts of a line do not contain.
-use Rattle.std.proofs.Common.{[], ◌%◌, ◌++◌, ◌/◌, ◌<◌, ◌^◌, ◌∙◌, ◌∷◌, ◌≡◌, ◌≢◌, ap, arith, Bool, cond, false, get_or}
-use Rattle.std.proofs.Common.{inl, inr, length, List, refl, rules, suc, sym, true, zero, ℕ}
+use Rattle.std.proofs.Common.{[], ◌%◌, ◌++◌, ◌/◌, ◌<◌, ◌^◌, ◌∙◌, ◌∷◌, ◌≡◌, ◌≢◌, ap, arith, Bool, cond, drop, false}
+use Rattle.std.proofs.Common.{get_or, inl, inr, length, List, refl, rules, suc, sym, true, zero, ℕ}
 use Rattle.std.proofs.lemmas.Bool.{cases_Bool, ne_eqb}
 use Rattle.std.proofs.lemmas.Fmt.{decimal_by_steps}
 use Rattle.std.proofs.lemmas.List.Splits.{slice_split_at, slice_split_none}
@@ -40,6 +40,26 @@ cut_once c a r h = slice_split_at (λ x. x == c) a c r (none_passes c a h) (sear
 
 pub cut_last : (c : ℕ) (a : List ℕ) → Lacks c a → slice_split (λ x. x == c) a ≡ a ∷ []
 cut_last c a h = slice_split_none (λ x. x == c) a (none_passes c a h)
+
+-- ## A text is cut at a byte in one way
+
+cons_head : (p q : ℕ) (xs ys : List ℕ) → p ∷ xs ≡ q ∷ ys → p ≡ q
+cons_head p q xs ys e = cc
+
+cons_tail : (p q : ℕ) (xs ys : List ℕ) → p ∷ xs ≡ q ∷ ys → xs ≡ ys
+cons_tail p q xs ys e = ap (drop 1) e
+
+pub one_cut : (c : ℕ) (a b x y : List ℕ) → Lacks c a → Lacks c b → a ++ c ∷ x ≡ b ++ c ∷ y → (a ≡ b) × (x ≡ y)
+one_cut c [] [] x y h k e = (refl, cons_tail c c x y e)
+one_cut c [] (q ∷ b) x y h k e = absurd (k.0 (sym (cons_head c q _ _ e)))
+one_cut c (p ∷ a) [] x y h k e = absurd (h.0 (cons_head p c _ _ e))
+one_cut c (p ∷ a) (q ∷ b) x y h k e =
+    let more = one_cut c a b x y h.1 k.1 (cons_tail p q _ _ e) in
+    (λ i. cons_head p q _ _ e i ∷ more.0 i, more.1)
+
+pub no_cut : (c : ℕ) (a x : List ℕ) → Lacks c (a ++ c ∷ x) → ⊥
+no_cut c [] x h = h.0 refl
+no_cut c (p ∷ a) x h = no_cut c a x h.1
 
 -- ## Digits and names
 

@@ -1,6 +1,9 @@
 pub mod Letters
+pub mod Rows
 pub mod Asking
+pub mod Times
 pub mod Lines
 pub mod Entries
+pub mod Starts
 pub mod Sorted
 pub mod Whole

@@ -1,16 +1,16 @@
 -- The lines of a journal: the note of a line, and the ends that a text of lines may have.
-use Rattle.std.proofs.Common.{[], ◌++◌, ◌<◌, ◌^◌, ◌∙◌, ◌∷◌, ◌≡◌, ◌⊎◌, ap, append_assoc, arith, drop, inl, inr, List}
-use Rattle.std.proofs.Common.{refl, Some, subst, suc, sym, take, true, zero, ℕ}
-use Rattle.std.proofs.lemmas.Fmt.{digits_value-decimal}
+use Rattle.std.proofs.Common.{[], ◌++◌, ◌∙◌, ◌∷◌, ◌≡◌, ◌⊎◌, ap, append_assoc, arith, drop, inl, inr, List, refl, Some}
+use Rattle.std.proofs.Common.{subst, suc, sym, take, true, zero, ℕ}
 use Rattle.std.specs.Fmt.{decimal}
 use Rattle.std.specs.List.{AllByRecursion, flat_map}
 use Rattle.std.specs.Prelude.{codes}
-use Rattle.std.specs.Str.Parse.{digits_value}
 use Rattle.rbc_spec.specs.Line.{is_centre, IsLine, Line}
-use Rattle.text_journal.proofs.Asking.{delivery_read, name_is_word, own, set_read, three, train_read, unset_read, verb}
+use Rattle.text_journal.proofs.Asking.{delivery_read, name_is_word, set_read, three, train_read, unset_read, verb}
 use Rattle.text_journal.proofs.Asking.{words_of}
-use Rattle.text_journal.proofs.Letters.{IsWord, lacks_append, lower_hex_is_word, upper_hex_is_word, word_of_number}
-use Rattle.text_journal.specs.Journal.{checksum, digest}
+use Rattle.text_journal.proofs.Letters.{IsWord, lacks_append, lower_hex_is_word, no_cut, one_cut, upper_hex_is_word}
+use Rattle.text_journal.proofs.Letters.{word_of_number}
+use Rattle.text_journal.proofs.Times.{same_number, same_time, time_feed}
+use Rattle.text_journal.specs.Journal.{checksum, digest, time_text}
 use Rattle.text_journal.specs.Reading.{IsAt, IsNote, Lacks, Noted}
 use Rattle.text_script.specs.Print.Rows.{name_at}
 use Rattle.text_script.specs.Script.{Asked, Deliver, row_asks, Set, Show, Train, Unset}
@@ -19,7 +19,7 @@ use Rattle.text_script.specs.Script.{Asked, Deliver, row_asks, Set, Show, Train,
 
 -- the text of an entry and its line, both without the line feed
 abbrev pub told_of : Line → Noted → List ℕ
-told_of line x = decimal x.stamp ++ 32 ∷ 62 ∷ 32 ∷ words_of line x.event
+told_of line x = decimal x.stamp ++ 32 ∷ (time_text x.time ++ 62 ∷ 32 ∷ words_of line x.event)
 
 abbrev pub line_of : Line → Noted → List ℕ
 line_of line x = checksum (told_of line x ++ 10 ∷ []) ++ 32 ∷ told_of line x
@@ -69,35 +69,15 @@ pub line_feed : (line : Line) → IsLine line → (c : ℕ) (x : Noted) → IsNo
 line_feed line good c x n =
     lacks_append 10 (checksum (told_of line x ++ 10 ∷ [])) (32 ∷ told_of line x) (checksum_is_word _).feed (
       λ e. omega arith,
-      lacks_append 10 (decimal x.stamp) (32 ∷ 62 ∷ 32 ∷ words_of line x.event)
-          (word_of_number x.stamp (omega (arith, n.stamp))).feed
-          (λ e. omega arith, (λ e. omega arith, (λ e. omega arith, words_feed line good c x.event n.centre n.at))),
+      lacks_append 10 (decimal x.stamp) (32 ∷ (time_text x.time ++ 62 ∷ 32 ∷ words_of line x.event))
+          (word_of_number x.stamp (omega (arith, n.stamp))).feed (
+            λ e. omega arith,
+            lacks_append 10 (time_text x.time) (62 ∷ 32 ∷ words_of line x.event) (time_feed x.time n.time)
+                (λ e. omega arith, (λ e. omega arith, words_feed line good c x.event n.centre n.at)),
+          ),
     )
 
--- ## A text is cut at a byte in one way
-
-cons_head : (p q : ℕ) (xs ys : List ℕ) → p ∷ xs ≡ q ∷ ys → p ≡ q
-cons_head p q xs ys e = cc
-
-cons_tail : (p q : ℕ) (xs ys : List ℕ) → p ∷ xs ≡ q ∷ ys → xs ≡ ys
-cons_tail p q xs ys e = ap (drop 1) e
-
-pub one_cut : (c : ℕ) (a b x y : List ℕ) → Lacks c a → Lacks c b → a ++ c ∷ x ≡ b ++ c ∷ y → (a ≡ b) × (x ≡ y)
-one_cut c [] [] x y h k e = (refl, cons_tail c c x y e)
-one_cut c [] (q ∷ b) x y h k e = absurd (k.0 (sym (cons_head c q _ _ e)))
-one_cut c (p ∷ a) [] x y h k e = absurd (h.0 (cons_head p c _ _ e))
-one_cut c (p ∷ a) (q ∷ b) x y h k e =
-    let more = one_cut c a b x y h.1 k.1 (cons_tail p q _ _ e) in
-    (λ i. cons_head p q _ _ e i ∷ more.0 i, more.1)
-
-pub no_cut : (c : ℕ) (a x : List ℕ) → Lacks c (a ++ c ∷ x) → ⊥
-no_cut c [] x h = h.0 refl
-no_cut c (p ∷ a) x h = no_cut c a x h.1
-
 -- ## A line has one note
-
-same_number : (m n : ℕ) → m < 2 ^ 64 → n < 2 ^ 64 → decimal m ≡ decimal n → m ≡ n
-same_number m n h k e = sym (digits_value-decimal own m h) ∙ ap (digits_value 10) e ∙ digits_value-decimal own n k
 
 pub some_same : {X : Type 0} (a b : X) → Some a ≡ Some b → a ≡ b
 some_same a b e = cc
@@ -108,12 +88,13 @@ same_note line good c x y m n e =
     let told = (one_cut 32 _ _ _ _ (checksum_is_word _).blank (checksum_is_word _).blank e).1 in
     let parts = one_cut 32 _ _ _ _ (word_of_number x.stamp (omega (arith, m.stamp))).blank
     (word_of_number y.stamp (omega (arith, n.stamp))).blank told in
-    let words : words_of line x.event ≡ words_of line y.event = ap (drop 2) parts.1 in
+    let after = same_time x.time y.time _ _ m.time n.time parts.1 in
+    let words : words_of line x.event ≡ words_of line y.event = ap (drop 1) after.1 in
     let event : x.event ≡ y.event = some_same _ _
     (sym (words_read line good c x.event m.centre m.at) ∙ ap (row_asks line) words
     ∙ words_read line good c y.event n.centre n.at) in
     let stamp : x.stamp ≡ y.stamp = same_number _ _ (omega (arith, m.stamp)) (omega (arith, n.stamp)) parts.0 in
-    λ i. record { stamp = stamp i; event = event i }
+    λ i. record { stamp = stamp i; time = after.0 i; event = event i }
 
 -- ## Many lines
 

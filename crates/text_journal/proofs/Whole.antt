@@ -9,7 +9,7 @@ use Rattle.text_journal.proofs.Entries.{entry_line_is, first_feed}
 use Rattle.text_journal.proofs.Letters.{lacks_at}
 use Rattle.text_journal.proofs.Lines.{lacks_take, line_of}
 use Rattle.text_journal.specs.declared.entry.Entry.{Entry}
-use Rattle.text_journal.specs.Journal.{entry_line, first_line, journal}
+use Rattle.text_journal.specs.Journal.{entry_line, first_line, journal, Version}
 use Rattle.text_journal.specs.Reading.{Begins, early, Lacks, noted_of, torn}
 use Rattle.text_journal.specs.Whole.{AreWhole}
 
@@ -83,11 +83,11 @@ lines_end line (e ∷ es) =
           ∙ sym (append_assoc row more.0 (10 ∷ []))),
     )
 
-pub whole_journal : (line : Line) → IsLine line → (c : ℕ) (file text : List ℕ) (es : List Entry) (n : ℕ)
+pub whole_journal : (v : Version) (line : Line) → IsLine line → (c : ℕ) (file text : List ℕ) (es : List Entry) (n : ℕ)
     → is_centre line c ≡ true →
-    Begins line c file text es → AreWhole text n → 0 < n → take n text ≡ journal line c file es
-whole_journal line good c file text es n it (torn rest e h) whole some =
-    let first = first_line line c file in
+    Begins v line c file text es → AreWhole text n → 0 < n → take n text ≡ journal v line c file es
+whole_journal v line good c file text es n it (torn rest e h) whole some =
+    let first = first_line v line c file in
     let end = lines_end line es in
     let front : List ℕ = first ++ end.0 in
     let parts : text ≡ front ++ 10 ∷ h.rest =
@@ -96,9 +96,9 @@ whole_journal line good c file text es n it (torn rest e h) whole some =
     ∙ sym (append_assoc first end.0 (10 ∷ h.rest)) in
     ap (take n) parts ∙ cut_whole front h.rest n h.unended (subst (λ (t : List ℕ). AreWhole t n) parts whole)
     ∙ append_assoc first end.0 (10 ∷ []) ∙ ap (λ (t : List ℕ). first ++ t) (sym end.1)
-whole_journal line good c file text es n it (early m e none) whole some =
+whole_journal v line good c file text es n it (early m e none) whole some =
     let clean : Lacks 10 text =
-    subst (Lacks 10) (sym e) (lacks_take 10 m (first_line line c file) (first_feed line good c file it)) in
+    subst (Lacks 10) (sym e) (lacks_take 10 m (first_line v line c file) (first_feed v line good c file it)) in
     elim whole.ended [
       | inl nought ↦ absurd (let never : ⊥ = omega (arith, nought, some) in never)
       | inr feed ↦ absurd (lacks_at 10 text clean (n - 1) (omega (arith, some, whole.within)) feed)

@@ -1,4 +1,5 @@
 pub mod Journal
+pub mod LineText
 pub mod Order
 pub mod Reading
 pub mod Whole

@@ -1,11 +1,12 @@
 -- The reading of a journal that may end anywhere.
+use Rattle.std.specs.Fmt.{decimal}
 use Rattle.std.specs.List.{AllByRecursion, flat_map}
-use Rattle.std.specs.Prelude.{[], ◌++◌, ◌<◌, ◌^◌, ◌∷◌, ◌≡◌, ◌≢◌, Err, length, List, MatchOption, Ok, Option, Result}
-use Rattle.std.specs.Prelude.{slice_index, take, true, ℕ}
+use Rattle.std.specs.Prelude.{[], ◌++◌, ◌<◌, ◌^◌, ◌∷◌, ◌≡◌, ◌≢◌, Err, IfSome, length, List, MatchOption, Ok, Option}
+use Rattle.std.specs.Prelude.{Result, slice_index, take, true, ℕ}
 use denote.Ref.{Bor}
 use Rattle.rbc_spec.specs.Line.{is_centre, Line}
 use Rattle.text_journal.specs.declared.entry.Entry.{Entry}
-use Rattle.text_journal.specs.Journal.{entry_line, first_line}
+use Rattle.text_journal.specs.Journal.{entry_line, first_line, time_text, Version}
 use Rattle.text_script.specs.declared.script.EntryFault.{EntryFault}
 use Rattle.text_script.specs.declared.script.EntryFault.TheVariants as refused
 use Rattle.text_script.specs.Entries.{event_of}
@@ -17,13 +18,14 @@ Lacks c text = AllByRecursion (λ b. b ≢ c) text
 
 -- ## Entries
 
--- the content of an entry in memory: a stamp, and the event as a line of a script asks for it
+-- the content of an entry in memory: a stamp, a time if there is one, and the event as a line of a script asks for it
 pub record Noted : Type 0 where
   pub stamp : ℕ
+  pub time : Option ℕ
   pub event : Asked
 
 abbrev pub noted_of : Entry → Noted
-noted_of e = record { stamp = e.stamp; event = event_of e.event }
+noted_of e = record { stamp = e.stamp; time = e.time_ms; event = event_of e.event }
 
 -- an event that reaches centre c, and that a line of a script can ask for
 abbrev pub IsAt : Line → ℕ → Asked → Type 0
@@ -33,9 +35,14 @@ IsAt line c (Set d s) = (d ≡ c) × (s < 2 ^ 16)
 IsAt line c (Unset d s) = (d ≡ c) × (s < 2 ^ 16)
 IsAt line c (Deliver from d number) = (d ≡ c) × (is_centre line from ≡ true) × (number < 2 ^ 32)
 
+-- no time, or a time of 64 bits
+abbrev pub IsTime : Option ℕ → Type 0
+IsTime time = IfSome time (λ ms. ms < 2 ^ 64)
+
 -- an entry that the journal of centre c may contain
 pub record IsNote (line : Line) (c : ℕ) (x : Noted) : Type 0 where
   pub stamp : x.stamp < 2 ^ 32
+  pub time : IsTime x.time
   pub centre : is_centre line c ≡ true
   pub at : IsAt line c x.event
 
@@ -48,20 +55,27 @@ pub record Follows (line : Line) (c : ℕ) (text : List ℕ) (es : List Entry) :
   pub unended : Lacks 10 rest
   pub whole : text ≡ flat_map (entry_line line) es ++ rest
 
--- The text is a journal of these entries, whose last line may be cut short; or it is the first line, cut short
-pub data Begins (line : Line) (c : ℕ) (file text : List ℕ) (es : List Entry) : Type 0 where
-  torn : (rest : List ℕ) → text ≡ first_line line c file ++ 10 ∷ rest → Follows line c rest es
-      → Begins line c file text es
-  early : (n : ℕ) → text ≡ take n (first_line line c file) → es ≡ [] → Begins line c file text es
+-- The text is a journal of these entries, of this version, and its last line may be cut short; or it is the first line,
+-- cut short
+pub data Begins (v : Version) (line : Line) (c : ℕ) (file text : List ℕ) (es : List Entry) : Type 0 where
+  torn : (rest : List ℕ) → text ≡ first_line v line c file ++ 10 ∷ rest → Follows line c rest es
+      → Begins v line c file text es
+  early : (n : ℕ) → text ≡ take n (first_line v line c file) → es ≡ [] → Begins v line c file text es
 
 -- ## A line
 
--- the parts of such a line: a checksum, a stamp, the sign of an event and its words
-abbrev pub ArePartsOf : List ℕ → Option (Bor (List ℕ) × Bor (List ℕ)) → Type 0
+-- the parts of such a line after its stamp: a time if there is one, the sign of an event and its words
+abbrev pub AreTimeAndWords : List ℕ → Option (Option ℕ × Bor (List ℕ)) → Type 0
+AreTimeAndWords text found =
+    (time : Option ℕ) (words : List ℕ) → IsTime time → text ≡ time_text time ++ 62 ∷ 32 ∷ words
+    → MatchOption found ⊥ (λ x. (x.0 ≡ time) × (x.1.now ≡ words))
+
+-- the parts of such a line: a checksum, a stamp, and those after it
+abbrev pub ArePartsOf : List ℕ → Option (ℕ × Option ℕ × Bor (List ℕ)) → Type 0
 ArePartsOf row found =
-    (sum stamp words : List ℕ) → Lacks 32 sum → Lacks 32 stamp
-    → row ≡ sum ++ 32 ∷ (stamp ++ 32 ∷ 62 ∷ 32 ∷ words)
-    → MatchOption found ⊥ (λ x. (x.0.now ≡ stamp) × (x.1.now ≡ words))
+    (sum words : List ℕ) (stamp : ℕ) (time : Option ℕ) → Lacks 32 sum → stamp < 2 ^ 32 → IsTime time
+    → row ≡ sum ++ 32 ∷ (decimal stamp ++ 32 ∷ (time_text time ++ 62 ∷ 32 ∷ words))
+    → MatchOption found ⊥ (λ x. (x.0 ≡ stamp) × (x.1 ≡ time) × (x.2.now ≡ words))
 
 -- the entry has this line; a refusal for the form means that no entry has it
 abbrev pub Finds : Line → ℕ → List ℕ → Result Entry EntryFault → Type 0

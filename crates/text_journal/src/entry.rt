@@ -3,10 +3,13 @@ ghost use Rattle.text_journal.specs.Order.{taken_at};
 
 use text_script::WorldEvent;
 
-/// An event that a centre took, and the stamp of the answer.
+/// An event that a centre took, the stamp of the answer, and the time at which it was written.
 #[derive(Debug, Drop)]
 pub struct Entry {
     pub stamp: u32,
+    /// In milliseconds since 1970-01-01 UTC, by the clock of the machine. Times need not rise: a clock may be set back.
+    /// `None` if the line has no time.
+    pub time_ms: Option<u64>,
     pub event: WorldEvent,
 }
 

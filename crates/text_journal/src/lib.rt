@@ -1,17 +1,22 @@
 //! The journal of a centre: a file with one line for each event of the centre's log. A line has the stamp of its
-//! event and a checksum. Lines are written one at a time. If a file is cut at any byte, its whole lines can still be
-//! read.
+//! event, the time at which it was written, and a checksum. Lines are written one at a time. If a file is cut at any
+//! byte, its whole lines can still be read.
 //!
 //! ```
 //! let mut text = Vec::new(alloc);
 //! text.extend_from_slice(first_line(alloc, &line, B, FILE)?.as_bytes())?;
 //! text.push(b'\n')?;
-//! for (stamp, event) in [(1, set), (7, frame), (8, train)] {
-//!     add_entry(alloc, &line, &Entry { stamp, event }, &mut text)?;
+//! for (stamp, time_ms, event) in [(1, NEW_YEAR, set), (7, BEFORE, frame), (8, None, train)] {
+//!     let entry = Entry {
+//!         stamp,
+//!         time_ms,
+//!         event,
+//!     };
+//!     add_entry(alloc, &line, &entry, &mut text)?;
 //! }
 //! ```
 //!
-//! Here `B` is the number of the centre, and `FILE` is the text of the line file.
+//! Here `B` is the number of the centre, and `FILE` is the text of the line file. `NEW_YEAR` and `BEFORE` are times.
 //!
 //! Bodies are free. docs/FORMATS.md fixes the format.
 #![tactic(auto)]
@@ -19,6 +24,7 @@
 mod digest;
 mod entry;
 mod fault;
+mod first;
 mod laws;
 mod length;
 mod name;
@@ -26,6 +32,7 @@ mod order;
 mod reading;
 mod rising;
 mod row;
+mod values;
 mod writing;
 
 pub use entry::Entry;

@@ -1,19 +1,21 @@
 ghost use Rattle.std.specs.Prelude.{◌≡◌, ◌≢◌, map, true, List, IfOk, IfErr};
 ghost use Rattle.rbc_spec.specs.Line.{IsLine, is_centre};
+ghost use Rattle.text_journal.specs.Journal.{Version};
 ghost use Rattle.text_journal.specs.Reading.{Begins, Follows, noted_of};
 ghost use Rattle.text_journal.specs.declared.entry.Entry.{Entry};
 ghost use Rattle.text_journal.specs.declared.fault.JournalFault.TheVariants.{Memory};
 
 use crate::entry::Entry;
 use crate::fault::JournalFault;
+use crate::first::{begins_first_line, is_first_line};
 use crate::row::entry_in;
-use crate::writing::first_line;
 use rbc_line::Line;
 use std::alloc::Global;
 use text_script::script::EntryFault;
 
-/// Reads the entries of a centre's journal, which may end anywhere. A last line without a line feed is left out. The
-/// first line has the digest of the line file's text.
+/// Reads the entries of a centre's journal, which may be of version 1 or 2, and may end anywhere. A last line without a
+/// line feed is left out. In both versions a line may have a time or none. In version 1 the first line has the
+/// digest of `file`, the text of the line file, and in version 2 that of all values of the line.
 pub fn read_journal(
     alloc: Global,
     line: &Line,
@@ -22,24 +24,23 @@ pub fn read_journal(
     text: &str,
 ) -> Result<Vec<Entry>, JournalFault>
     requires { is_centre line.now centre ≡ true }
-    ensures found { IfOk result (λ read. Begins line.now centre file.now text.now read.items) }
-    ensures only { IfOk result (λ read. (es : List Entry) → Begins line.now centre file.now text.now es
-        → map noted_of read.items ≡ map noted_of es) }
-    ensures refused { IfErr result (λ why. why ≢ Memory → (es : List Entry)
-        → Begins line.now centre file.now text.now es → ⊥) }
+    ensures found { IfOk result (λ read. (v : Version) × Begins v line.now centre file.now text.now read.items) }
+    ensures only { IfOk result (λ read. (v : Version) (es : List Entry)
+        → Begins v line.now centre file.now text.now es → map noted_of read.items ≡ map noted_of es) }
+    ensures refused { IfErr result (λ why. why ≢ Memory → (v : Version) (es : List Entry)
+        → Begins v line.now centre file.now text.now es → ⊥) }
 {
     known_line(line);
-    let first = first_line(alloc, line, centre, file)?;
     match text.split_once('\n') {
         Some((row, rest)) => {
-            if row == first.as_str() {
+            if is_first_line(alloc, line, centre, file, row)? {
                 entries_in(alloc, line, centre, rest)
             } else {
                 Err(JournalFault::Foreign)
             }
         }
         None => {
-            if first.as_str().starts_with(text) {
+            if begins_first_line(alloc, line, centre, file, text)? {
                 Ok(Vec::new(alloc))
             } else {
                 Err(JournalFault::Foreign)

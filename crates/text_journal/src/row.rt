@@ -1,7 +1,7 @@
 ghost use Rattle.std.specs.Prelude.{◌≡◌, ◌↔◌, ℕ, ◌<◌, ◌^◌, ◌∷◌, ◌++◌, [], true, length, slice_index, IsTrue};
 ghost use Rattle.rbc_spec.specs.Line.{IsLine, is_centre};
 ghost use Rattle.text_script.specs.Entries.{event_of};
-ghost use Rattle.text_journal.specs.Reading.{ArePartsOf, Finds, Guesses, IsAt, Tells};
+ghost use Rattle.text_journal.specs.Reading.{ArePartsOf, AreTimeAndWords, Finds, Guesses, IsAt, Tells};
 
 use crate::entry::Entry;
 use crate::writing::entry_line;
@@ -58,27 +58,46 @@ fn guessed(alloc: Global, line: &Line, row: &str) -> Result<Entry, EntryFault>
     requires { IsLine line.now }
     ensures { Guesses line.now row.now result }
 {
-    let Some((stamp, words)) = parts(row) else {
-        return Err(EntryFault::Form);
-    };
-    let Ok(stamp) = stamp.parse() else {
+    let Some((stamp, time_ms, words)) = parts(row) else {
         return Err(EntryFault::Form);
     };
     match entry_of(alloc, line, words) {
-        Ok(script::Entry::Event(event)) => Ok(Entry { stamp, event }),
+        Ok(script::Entry::Event(event)) => Ok(Entry {
+            stamp,
+            time_ms,
+            event,
+        }),
         Ok(script::Entry::Show) => Err(EntryFault::Form),
         Err(why) => Err(why),
     }
 }
 
-// The stamp and the words of the event: they follow the checksum, with the sign of an event between them.
-fn parts(row: &str) -> Option<(&str, &str)>
+// The stamp, the time and the words of the event: they follow the checksum.
+fn parts(row: &str) -> Option<(u32, Option<u64>, &str)>
     ensures { ArePartsOf row.now result }
 {
     let (_, told) = row.split_once(' ')?;
-    let (stamp, event) = told.split_once(' ')?;
-    let (_, words) = event.split_once(' ')?;
-    Some((stamp, words))
+    let (digits, rest) = told.split_once(' ')?;
+    let Ok(stamp) = digits.parse() else {
+        return None;
+    };
+    let (time_ms, words) = time_and_words(rest)?;
+    Some((stamp, time_ms, words))
+}
+
+// The time, if the text begins with one, and the words of the event: they follow the sign of an event.
+fn time_and_words(text: &str) -> Option<(Option<u64>, &str)>
+    ensures { AreTimeAndWords text.now result }
+{
+    if let Some(words) = text.strip_prefix("> ") {
+        return Some((None, words));
+    }
+    let (digits, event) = text.split_once(' ')?;
+    let Ok(ms) = digits.parse() else {
+        return None;
+    };
+    let words = event.strip_prefix("> ")?;
+    Some((Some(ms), words))
 }
 
 // Whether the text is the line with its line feed.

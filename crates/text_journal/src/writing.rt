@@ -1,16 +1,32 @@
-ghost use Rattle.std.specs.Prelude.{◌≡◌, ◌++◌, IfOk, OnOk, OnErr, string_bytes};
-ghost use Rattle.text_journal.specs.Journal.{entry_line, first_line, told};
+ghost use Rattle.std.specs.Prelude.{◌≡◌, ◌++◌, [], IfOk, OnOk, OnErr, string_bytes};
+ghost use Rattle.text_journal.specs.Journal.{entry_line, first_line, time_text, told, V1, V2};
 
 use crate::digest::{checksum, digest};
 use crate::entry::Entry;
+use crate::values::line_text;
 use rbc_line::Line;
 use std::alloc::{AllocError, Global};
 use std::io::Write;
 use text_script::print::{name_of, print_event};
 
-/// The first line of a centre's journal, without its line feed. `file` is the text of the line file.
-pub fn first_line(alloc: Global, line: &Line, centre: u8, file: &str) -> Result<String, AllocError>
-    ensures { IfOk result (λ row. string_bytes row ≡ first_line line.now centre file.now) }
+/// The first line of a centre's journal of version 2, without its line feed.
+pub fn first_line(alloc: Global, line: &Line, centre: u8) -> Result<String, AllocError>
+    ensures { IfOk result (λ row. string_bytes row ≡ first_line V2 line.now centre []) }
+{
+    let name = name_of(line, centre);
+    let text = line_text(alloc, line)?;
+    let digits = digest(alloc, text.as_bytes())?;
+    format!(in alloc; "journal 2 {name} {digits}")
+}
+
+/// The same of a journal of version 1, which is read and is no more begun. `file` is the text of the line file.
+pub(crate) fn old_first_line(
+    alloc: Global,
+    line: &Line,
+    centre: u8,
+    file: &str,
+) -> Result<String, AllocError>
+    ensures { IfOk result (λ row. string_bytes row ≡ first_line V1 line.now centre file.now) }
 {
     let name = name_of(line, centre);
     let digits = digest(alloc, file.as_bytes())?;
@@ -44,7 +60,7 @@ pub(crate) fn entry_line(alloc: Global, line: &Line, entry: &Entry) -> Result<Ve
     Ok(row)
 }
 
-// The stamp and the event of an entry, as its line has them.
+// The stamp, the time and the event of an entry, as its line has them.
 fn told(alloc: Global, line: &Line, entry: &Entry) -> Result<Vec<u8>, AllocError>
     ensures { IfOk result (λ text. text.items ≡ told line.now entry.now) }
 {
@@ -52,8 +68,22 @@ fn told(alloc: Global, line: &Line, entry: &Entry) -> Result<Vec<u8>, AllocError
     if write!(text, "{} ", entry.stamp).is_err() {
         return Err(AllocError);
     }
+    add_time(&mut text, entry.time_ms)?;
     match print_event(alloc, &mut text, line, &entry.event) {
         Ok(()) => Ok(text),
+        Err(_) => Err(AllocError),
+    }
+}
+
+// Adds the text of a time, with a blank. It adds nothing if there is none.
+fn add_time(text: &mut Vec<u8>, time_ms: Option<u64>) -> Result<(), AllocError>
+    ensures { OnOk result (text.new.items ≡ text.old.items ++ time_text time_ms) }
+{
+    let Some(ms) = time_ms else {
+        return Ok(());
+    };
+    match write!(text, "{ms} ") {
+        Ok(()) => Ok(()),
         Err(_) => Err(AllocError),
     }
 }

@@ -24,14 +24,18 @@ engine = 1
 registrar = \"A\"
 ";
 
-/// The first line of the journal of B.
+/// The first line of the journal of B, of version 2.
 pub const FIRST: &str =
+    "journal 2 B ba35c55526b8ee737edcb0f3cc29d5304c156d9964d7e8ca30cc4d3f91642eea";
+
+/// The same of version 1.
+pub const OLD_FIRST: &str =
     "journal 1 B ba35c55526b8ee737edcb0f3cc29d5304c156d9964d7e8ca30cc4d3f91642eea";
 
-/// Three lines after it.
+/// Three lines after one of them: the time of the second is below that of the first, and the third has none.
 pub const ENTRIES: &str = "
-3a1cc061 1 > set B 1
-44a52c2b 7 > deliver A B 1
+2713c6e9 1 1767225600000 > set B 1
+41e121de 7 1767225599999 > deliver A B 1
 5000362a 8 > train B 9B028000000040000040
 ";
 

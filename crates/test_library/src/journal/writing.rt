@@ -6,6 +6,10 @@ use std::alloc::Global;
 use std::test::*;
 use text_journal::{Entry, add_entry, first_line};
 
+// The start of 2026, and the millisecond before it.
+const NEW_YEAR: Option<u64> = Some(1_767_225_600_000);
+const BEFORE: Option<u64> = Some(1_767_225_599_999);
+
 // The bytes of a message that opens a session.
 fn initiation(alloc: Global) -> Result<Vec<u8>, Fail> {
     Ok(vec![in alloc; 0x9B, 0x02, 0x80, 0, 0, 0, 0x40, 0, 0, 0x40]?)
@@ -30,8 +34,13 @@ fn written(alloc: Global) -> Result<Vec<u8>, Fail> {
         centre: B,
         bytes: initiation(alloc)?,
     };
-    for (stamp, event) in [(1, set), (7, frame), (8, train)] {
-        add_entry(alloc, &line, &Entry { stamp, event }, &mut text)?;
+    for (stamp, time_ms, event) in [(1, NEW_YEAR, set), (7, BEFORE, frame), (8, None, train)] {
+        let entry = Entry {
+            stamp,
+            time_ms,
+            event,
+        };
+        add_entry(alloc, &line, &entry, &mut text)?;
     }
     Ok(text)
 }

@@ -3,4 +3,4 @@ use Rattle.text_journal.proofs.Whole.{whole_journal}
 
 pub returns : goal.returns
 returns c =
-    λ line number file text es n good it h whole some. whole_journal line good number file text es n it h whole some
+    λ v line number file text es n good it h whole some. whole_journal v line good number file text es n it h whole some
