@@ -219,6 +219,11 @@ fn text_before(bytes: &[u8], at: usize) -> &str {
     from_utf8(lines).unwrap_or("")
 }
 
+// Whether a file begins as a journal of version 1 or 2.
+fn is_of_known_version(bytes: &[u8]) -> bool {
+    bytes.starts_with(b"journal 1 ") || bytes.starts_with(b"journal 2 ")
+}
+
 // The fault of the journal with this name and these bytes, as it is reported.
 fn fault_of(
     alloc: Global,
@@ -229,9 +234,9 @@ fn fault_of(
     Ok(match fault {
         JournalFault::Memory => AllocError.into(),
         JournalFault::Damaged(row) => Fault::Damaged { journal, row },
-        JournalFault::Foreign if bytes.starts_with(b"journal 1 ") => Fault::Foreign(journal),
+        JournalFault::Foreign if is_of_known_version(bytes) => Fault::Foreign(journal),
         JournalFault::Foreign if bytes.starts_with(b"journal ") => {
-            Fault::NoJournal(format!(in alloc; "{journal}: it has another version than 1")?)
+            Fault::NoJournal(format!(in alloc; "{journal}: it has another version than 1 and 2")?)
         }
         JournalFault::Foreign => {
             Fault::NoJournal(format!(in alloc; "{journal}: it is not a journal")?)

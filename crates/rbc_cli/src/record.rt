@@ -81,7 +81,7 @@ impl Locked<'_> {
             let Some(place) = places.pop() else {
                 break;
             };
-            let mut first = first_line(rt.alloc(), &given.line, centre, given.text.as_str())?;
+            let mut first = first_line(rt.alloc(), &given.line, centre)?;
             first.push('\n')?;
             files.push(begun_one(rt, place, first.as_str(), words.is_synced, notes)?)?;
         }

@@ -24,11 +24,11 @@ engine = 1
 registrar = \"A\"
 ";
 
-/// The first line of the journal of B, of version 2.
+/// The first line of the journal of B, of version 2: its digest is that of the values of the line.
 pub const FIRST: &str =
-    "journal 2 B ba35c55526b8ee737edcb0f3cc29d5304c156d9964d7e8ca30cc4d3f91642eea";
+    "journal 2 B c8c7010c54c6bcdebb164494cef02f19a321e54b556d9660c7b49c71216f517b";
 
-/// The same of version 1.
+/// The same of version 1: its digest is that of the line file.
 pub const OLD_FIRST: &str =
     "journal 1 B ba35c55526b8ee737edcb0f3cc29d5304c156d9964d7e8ca30cc4d3f91642eea";
 

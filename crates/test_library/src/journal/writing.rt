@@ -1,6 +1,6 @@
 //! The writing of a journal.
 
-use crate::journal::line::{B, ENTRIES, FILE, FIRST, two_centres};
+use crate::journal::line::{B, ENTRIES, FIRST, two_centres};
 use rbc_world::WorldEvent;
 use std::alloc::Global;
 use std::test::*;
@@ -19,7 +19,7 @@ fn initiation(alloc: Global) -> Result<Vec<u8>, Fail> {
 fn written(alloc: Global) -> Result<Vec<u8>, Fail> {
     let line = two_centres(alloc)?;
     let mut text = Vec::new(alloc);
-    text.extend_from_slice(first_line(alloc, &line, B, FILE)?.as_bytes())?;
+    text.extend_from_slice(first_line(alloc, &line, B)?.as_bytes())?;
     text.push(b'\n')?;
     let set = WorldEvent::Set {
         centre: B,
