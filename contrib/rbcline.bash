@@ -12,7 +12,7 @@ _rbcline() {
         mapfile -t COMPREPLY < <(compgen -d -- "$word")
         return
         ;;
-    --trains | --loss | --seed | --events | --page | --page | --address | --rate | --burst | --timeout | --trains | --loss | --late | --seed | --seconds | --timeout | --message | --from | --to | --train | --port) return ;;
+    --trains | --loss | --seed | --events | --page | --page | --address | --rate | --burst | --timeout | --trains | --loss | --late | --seed | --seconds | --timeout | --message | --since | --until | --from | --to | --train | --port) return ;;
     esac
     if [[ "$word" == --* ]]; then
         case "${COMP_WORDS[1]}" in
@@ -21,7 +21,7 @@ _rbcline() {
         drive) options+=" --timeout" ;;
         trains) options+=" --no-release --trains --loss --late --seed --seconds" ;;
         tell) options+=" --timeout" ;;
-        words) options+=" --message --numbers" ;;
+        words) options+=" --message --numbers --times --since --until" ;;
         decode) options+=" --frame --json" ;;
         encode) options+=" --frame" ;;
         picture) options+=" --html --from --to --train" ;;

@@ -4,7 +4,7 @@
 //!
 //! ```
 //! let mut text = Vec::new(alloc);
-//! text.extend_from_slice(first_line(alloc, &line, B, FILE)?.as_bytes())?;
+//! text.extend_from_slice(first_line(alloc, &line, B)?.as_bytes())?;
 //! text.push(b'\n')?;
 //! for (stamp, time_ms, event) in [(1, NEW_YEAR, set), (7, BEFORE, frame), (8, None, train)] {
 //!     let entry = Entry {
@@ -16,7 +16,7 @@
 //! }
 //! ```
 //!
-//! Here `B` is the number of the centre, and `FILE` is the text of the line file. `NEW_YEAR` and `BEFORE` are times.
+//! Here `B` is the number of the centre. `NEW_YEAR` and `BEFORE` are times.
 //!
 //! Bodies are free. docs/FORMATS.md fixes the format.
 #![tactic(auto)]

@@ -46,7 +46,7 @@ fn the_first_damaged_line_is_told(rt: HostRuntime) -> Result<(), Fail> {
 }
 
 // The first line of a journal, and the lines after it.
-static FOREIGN: [(&str, &str); 11] = [
+static FOREIGN: [(&str, &str); 13] = [
     (
         "journal 3 B ba35c55526b8ee737edcb0f3cc29d5304c156d9964d7e8ca30cc4d3f91642eea",
         ENTRIES,
@@ -56,11 +56,19 @@ static FOREIGN: [(&str, &str); 11] = [
         ENTRIES,
     ),
     (
-        "journal 2 A ba35c55526b8ee737edcb0f3cc29d5304c156d9964d7e8ca30cc4d3f91642eea",
+        "journal 2 A c8c7010c54c6bcdebb164494cef02f19a321e54b556d9660c7b49c71216f517b",
         ENTRIES,
     ),
     (
         "journal 1 B ba35c55526b8ee737edcb0f3cc29d5304c156d9964d7e8ca30cc4d3f91642eeb",
+        ENTRIES,
+    ),
+    (
+        "journal 2 B ba35c55526b8ee737edcb0f3cc29d5304c156d9964d7e8ca30cc4d3f91642eea",
+        ENTRIES,
+    ),
+    (
+        "journal 1 B c8c7010c54c6bcdebb164494cef02f19a321e54b556d9660c7b49c71216f517b",
         ENTRIES,
     ),
     ("journal 1 B", ENTRIES),
