@@ -83,6 +83,7 @@ pub fn run_live_page<
 }
 
 /// Shows the true places of trains on the page.
+#[derive(Drop)]
 struct PagePlaces<'a, R> {
     rt: &'a R,
     places: TruePlaces,
