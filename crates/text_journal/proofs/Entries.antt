@@ -17,8 +17,8 @@ use Rattle.text_journal.proofs.Lines.{lines_of, no_reading, one_reading, some_sa
 use Rattle.text_journal.specs.declared.entry.Entry.{Entry}
 use Rattle.text_journal.specs.declared.fault.JournalFault.{JournalFault}
 use Rattle.text_journal.specs.declared.fault.JournalFault.TheVariants.{Memory}
-use Rattle.text_journal.specs.Journal.{checksum, digest, digested, entry_line, first_line, journal, time_text, told, V1, V2}
-use Rattle.text_journal.specs.Journal.{Version, version_words}
+use Rattle.text_journal.specs.Journal.{checksum, digest, digested, entry_line, first_line, journal, time_text, told, V1}
+use Rattle.text_journal.specs.Journal.{V2, Version, version_words}
 use Rattle.text_journal.specs.Reading.{ArePartsOf, Begins, early, Follows, IsAt, IsNote, Lacks, Noted, noted_of, torn}
 use Rattle.text_script.specs.Entries.{event_of}
 use Rattle.text_script.specs.Print.Rows.{event_row, name_at}
@@ -253,7 +253,7 @@ foreign_row line good c file text row rest it e clean other v es (torn more f k)
 foreign_row line good c file text row rest it e clean other v es (early n f none) =
     no_cut 10 row rest (subst (Lacks 10) (sym f ∙ e) (lacks_take 10 n _ (first_feed v line good c file it)))
 
--- a text without a line feed that is no front of a first line
+-- a text without a line feed with which no first line begins
 pub foreign_start : (line : Line) (c : ℕ) (file text : List ℕ) → Lacks 10 text
     → ((v : Version) (n : ℕ) → text ≢ take n (first_line v line c file))
     → (v : Version) (es : List Entry) → Begins v line c file text es → ⊥

@@ -1,5 +1,5 @@
 pub mod Letters
-pub mod Rows
+pub mod TextLines
 pub mod Asking
 pub mod Times
 pub mod Lines

@@ -126,7 +126,7 @@ one_reading line good c (x ∷ xs) (y ∷ ys) r s m n h k e =
     let more = one_reading line good c xs ys r s m.1 n.1 h k cut.1 in
     λ i. first i ∷ more i
 
--- if a line is not the line of a note, there is no reading
+-- a text with a line that no note has is not read
 pub no_reading : (line : Line) → IsLine line → (c : ℕ) (xs ys : List Noted) (r row others : List ℕ) →
     AllByRecursion (IsNote line c) xs → AllByRecursion (IsNote line c) ys → Lacks 10 r → Lacks 10 row →
     AllByRecursion (λ x. line_of line x ≡ row → ⊥) xs →

@@ -29,7 +29,7 @@ old_starts line c file text b other told V1 n e =
 old_starts line c file text b other told V2 n e =
     absurd (true≢false (sym (starts_so (first_line V2 line c file) text n e) ∙ other))
 
--- the text is no front of a first line of version 2
+-- no first line of version 2 begins with the text
 pub starts_old : (line : Line) (c : ℕ) (file text : List ℕ) (b : Bool)
     → starts_with eqb (first_line V2 line c file) text ≡ false
     → b ≡ starts_with eqb (first_line V1 line c file) text →

@@ -49,7 +49,7 @@ same_time p q x y h k e =
 
 -- ## The text after a stamp
 
--- it begins with the sign of an event: there is no time
+-- it begins with the sign of an event, and so it has no time
 pub no_time : (text words found : List ℕ) (time : Option ℕ) → IsTime time → text ≡ time_text time ++ 62 ∷ 32 ∷ words
     → text ≡ codes "> " ++ found → (None ≡ time) × (found ≡ words)
 no_time text words found time h e f =

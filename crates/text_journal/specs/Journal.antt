@@ -22,12 +22,12 @@ pub data Version : Type 0 where
   V1 : Version
   V2 : Version
 
--- the words of a first line that say its version
+-- the first words of a journal, which have its version
 abbrev pub version_words : Version → List ℕ
 version_words V1 = codes "journal 1 "
 version_words V2 = codes "journal 2 "
 
--- the text whose digest is in the first line: that of the line file in version 1, and all values of the line in version 2
+-- the text whose digest is in the first line: in version 1 the line file, and in version 2 all values of the line
 abbrev pub digested : Version → Line → List ℕ → List ℕ
 digested V1 line file = file
 digested V2 line file = line_text line

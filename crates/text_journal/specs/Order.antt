@@ -1,9 +1,9 @@
 -- The entries of a line's journals as one list, and rising stamps.
-use Rattle.std.specs.Prelude.{◌≡◌, ℕ, ◌+◌, ◌-◌, ◌<◌, ◌≤◌, List, map, length, slice_index, Option, Some, None}
 use Rattle.std.specs.List.{AllPairs}
+use Rattle.std.specs.Prelude.{◌+◌, ◌-◌, ◌<◌, ◌≡◌, ◌≤◌, length, List, map, None, Option, slice_index, Some, ℕ}
 use Rattle.rbc_spec.specs.World.{centre_of}
-use Rattle.text_script.specs.rbc_world.Views.{event_of}
 use Rattle.text_journal.specs.declared.entry.Entry.{Entry}
+use Rattle.text_script.specs.rbc_world.Views.{event_of}
 
 -- the centre that took the event of an entry
 abbrev pub taken_at : Entry → ℕ

@@ -18,7 +18,7 @@ Lacks c text = AllByRecursion (λ b. b ≢ c) text
 
 -- ## Entries
 
--- the content of an entry in memory: a stamp, a time if there is one, and the event as a line of a script asks for it
+-- the content of an entry in memory. It has a stamp, a time or none, and the event as a line of a script asks for it.
 pub record Noted : Type 0 where
   pub stamp : ℕ
   pub time : Option ℕ
@@ -55,8 +55,8 @@ pub record Follows (line : Line) (c : ℕ) (text : List ℕ) (es : List Entry) :
   pub unended : Lacks 10 rest
   pub whole : text ≡ flat_map (entry_line line) es ++ rest
 
--- The text is a journal of these entries, of this version, and its last line may be cut short; or it is the first line,
--- cut short
+-- The text is a journal of these entries, of this version. Its last line may be cut short. Or it is the first line, cut
+-- short.
 pub data Begins (v : Version) (line : Line) (c : ℕ) (file text : List ℕ) (es : List Entry) : Type 0 where
   torn : (rest : List ℕ) → text ≡ first_line v line c file ++ 10 ∷ rest → Follows line c rest es
       → Begins v line c file text es

@@ -1,5 +1,5 @@
 -- The whole lines of a text.
-use Rattle.std.specs.Prelude.{◌≡◌, ◌⊎◌, ℕ, ◌-◌, ◌≤◌, List, length, drop, slice_index}
+use Rattle.std.specs.Prelude.{◌-◌, ◌≡◌, ◌≤◌, ◌⊎◌, drop, length, List, slice_index, ℕ}
 use Rattle.text_journal.specs.Reading.{Lacks}
 
 -- the first n bytes of a text are its whole lines: no byte, or all up to and with the last line feed

@@ -14,8 +14,8 @@ use std::alloc::Global;
 use text_script::script::EntryFault;
 
 /// Reads the entries of a centre's journal, which may be of version 1 or 2, and may end anywhere. A last line without a
-/// line feed is left out. In both versions a line may have a time or none. In version 1 the first line has the
-/// digest of `file`, the text of the line file, and in version 2 that of all values of the line.
+/// line feed is left out. In both versions a line may have a time or none. The first line has a digest. In
+/// version 1 it is that of `file`, the text of the line file. In version 2 it is that of all values of the line.
 pub fn read_journal(
     alloc: Global,
     line: &Line,

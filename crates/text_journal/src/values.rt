@@ -1,6 +1,6 @@
 ghost use Rattle.std.specs.Prelude.{◌≡◌, ◌++◌, IfOk, OnOk, string_bytes};
 ghost use Rattle.std.specs.List.{flat_map};
-ghost use Rattle.text_journal.specs.LineText.{centre_row, line_text, section_row, track_row, train_row};
+ghost use Rattle.text_journal.specs.LineText.{centre_line, line_text, section_line, track_line, train_line};
 
 use rbc_line::Line;
 use std::alloc::{AllocError, Global};
@@ -18,7 +18,7 @@ pub(crate) fn line_text(alloc: Global, line: &Line) -> Result<String, AllocError
 }
 
 fn add_centres(alloc: Global, line: &Line, text: &mut String) -> Result<(), AllocError>
-    ensures { OnOk result (string_bytes text.new ≡ string_bytes text.old ++ flat_map centre_row line.now.centres) }
+    ensures { OnOk result (string_bytes text.new ≡ string_bytes text.old ++ flat_map centre_line line.now.centres) }
 {
     for c in 0..line.centre_count() {
         let name = line.centre_name(c).unwrap_or("");
@@ -31,7 +31,7 @@ fn add_centres(alloc: Global, line: &Line, text: &mut String) -> Result<(), Allo
 }
 
 fn add_tracks(alloc: Global, line: &Line, text: &mut String) -> Result<(), AllocError>
-    ensures { OnOk result (string_bytes text.new ≡ string_bytes text.old ++ flat_map track_row line.now.tracks) }
+    ensures { OnOk result (string_bytes text.new ≡ string_bytes text.old ++ flat_map track_line line.now.tracks) }
 {
     for track in 0..line.track_count() {
         if let Some(name) = line.track_name(track) {
@@ -43,7 +43,7 @@ fn add_tracks(alloc: Global, line: &Line, text: &mut String) -> Result<(), Alloc
 }
 
 fn add_sections(alloc: Global, line: &Line, text: &mut String) -> Result<(), AllocError>
-    ensures { OnOk result (string_bytes text.new ≡ string_bytes text.old ++ flat_map section_row line.now.sections) }
+    ensures { OnOk result (string_bytes text.new ≡ string_bytes text.old ++ flat_map section_line line.now.sections) }
 {
     for s in 0..line.section_count() {
         if let Some(section) = line.section(s) {
@@ -57,7 +57,7 @@ fn add_sections(alloc: Global, line: &Line, text: &mut String) -> Result<(), All
 }
 
 fn add_trains(alloc: Global, line: &Line, text: &mut String) -> Result<(), AllocError>
-    ensures { OnOk result (string_bytes text.new ≡ string_bytes text.old ++ flat_map train_row line.now.trains) }
+    ensures { OnOk result (string_bytes text.new ≡ string_bytes text.old ++ flat_map train_line line.now.trains) }
 {
     for i in 0..line.train_count() {
         if let Some(train) = line.train(i) {

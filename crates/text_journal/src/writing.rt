@@ -19,7 +19,7 @@ pub fn first_line(alloc: Global, line: &Line, centre: u8) -> Result<String, Allo
     format!(in alloc; "journal 2 {name} {digits}")
 }
 
-/// The same of a journal of version 1, which is read and is no more begun. `file` is the text of the line file.
+/// The same of a journal of version 1, for reading. `file` is the text of the line file.
 pub(crate) fn old_first_line(
     alloc: Global,
     line: &Line,

@@ -1,20 +1,21 @@
--- The rows of a line's values, one after another.
-use Rattle.std.proofs.Common.{◌++◌, ◌+◌, ◌<◌, ◌∙◌, ◌∷◌, ◌≡◌, [], ap, List, None, Option, Bor, refl, Some, sym, take, ℕ, option_map, slice_get, length, get_or, arith}
+-- The values of a line as text lines, one after another.
+use Rattle.std.proofs.Common.{[], ◌++◌, ◌+◌, ◌<◌, ◌∙◌, ◌∷◌, ◌≡◌, ap, arith, Bor, get_or, length, List, None, Option}
+use Rattle.std.proofs.Common.{option_map, refl, slice_get, Some, sym, take, ℕ}
 use Rattle.std.proofs.lemmas.List.{flat_map_more, take_more}
-use Rattle.std.proofs.lemmas.Option.{get_or_from_slice_get, slice_get_within, slice_get-get_or}
+use Rattle.std.proofs.lemmas.Option.{get_or_from_slice_get, slice_get-get_or, slice_get_within}
 use Rattle.std.specs.List.{flat_map}
 use Rattle.std.specs.Option.{unwrap_or}
-use Rattle.rbc_spec.specs.Line.{Centre, Line, Section, Train, section}
 use Rattle.rbc_line.specs.Views.{listed_train, placed_section}
+use Rattle.rbc_spec.specs.Line.{Centre, Line, Section, section, Train}
 
--- the row of the next item, after those of the first i
-pub rows_next :
-    {X : Type 0} (row : X → List ℕ) (xs : List X) (i : ℕ) (x : X) (old now text : List ℕ)
-    → slice_get xs i ≡ Some x → now ≡ old ++ flat_map row (take i xs) → text ≡ now ++ row x
-    → text ≡ old ++ flat_map row (take (i + 1) xs)
-rows_next row xs i x old now text at before after =
-    after ∙ ap (λ (t : List ℕ). t ++ row x) before ∙ flat_map_more row old (take i xs) x
-    ∙ ap (λ t. old ++ flat_map row t)
+-- the text of the next item, after those of the first i
+pub lines_next :
+    {X : Type 0} (one : X → List ℕ) (xs : List X) (i : ℕ) (x : X) (old now text : List ℕ)
+    → slice_get xs i ≡ Some x → now ≡ old ++ flat_map one (take i xs) → text ≡ now ++ one x
+    → text ≡ old ++ flat_map one (take (i + 1) xs)
+lines_next one xs i x old now text at before after =
+    after ∙ ap (λ (t : List ℕ). t ++ one x) before ∙ flat_map_more one old (take i xs) x
+    ∙ ap (λ t. old ++ flat_map one t)
     (ap (λ y. take i xs ++ y ∷ []) (sym (get_or_from_slice_get xs i x x at))
     ∙ sym (take_more xs i x (slice_get_within xs i x at)))
 
