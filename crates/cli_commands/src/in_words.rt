@@ -1,15 +1,16 @@
 //! Puts messages, and prints of `run`, into words.
 
 use crate::files::Files;
-use crate::line_file::line_file_in;
+use crate::line_file::LineFile;
 use crate::numbering::Numbering;
+use crate::output::{flushed, tell};
 use crate::printed::printed_in;
 use crate::words::Listing;
 use hex::FromHexError;
 use rbc_line::Line;
 use std::alloc::{AllocError, Global};
 use std::io;
-use std::io::{BufWriter, Write};
+use std::io::Write;
 use text_replay::Retelling;
 use text_script::status::Fault;
 use text_words::{Field, fields_of, name_of, words_of_fault};
@@ -25,14 +26,17 @@ pub fn show_message<'a, O: Write>(
         Err(FromHexError::OutOfMemory) => return Err(AllocError.into()),
         Err(_) => return Err(Fault::NotHexadecimal(digits)),
     };
-    match fields_of(alloc, &bytes) {
+    show_bytes(alloc, &bytes, out)
+}
+
+fn show_bytes<O: Write>(alloc: Global, bytes: &[u8], out: &mut O) -> Result<(), Fault<'static>> {
+    match fields_of(alloc, bytes) {
         Ok(fields) => Ok(print_fields(out, &fields)?),
         Err(fault) => {
-            print_fields(out, name_of(&bytes).as_slice())?;
+            print_fields(out, name_of(bytes).as_slice())?;
             let number = fault.number();
             let words = words_of_fault(fault);
-            writeln!(out, "fault {number}: {words}")?;
-            out.flush()?;
+            tell(out, format_args!("fault {number}: {words}"))?;
             Err(Fault::Message(fault))
         }
     }
@@ -49,24 +53,19 @@ fn print_fields<O: Write>(out: &mut O, fields: &[Field]) -> io::Result<()> {
 /// are played again, so that frames have their contents. Returns whether a line of it could be put into words.
 pub fn tell_printed<'a, F: Files, O: Write>(
     alloc: Global,
-    file: &'a str,
+    given: &LineFile,
     listing: Listing<'a>,
     files: &F,
     out: &mut O,
 ) -> Result<bool, Fault<'a>> {
-    let given = line_file_in(alloc, file, files)?;
-    let text = printed_in(alloc, &given, listing.name, files)?;
-    let Ok(mut out) = BufWriter::new(alloc, out) else {
-        return Err(AllocError.into());
-    };
+    let text = printed_in(alloc, given, listing.name, files)?;
     let numbering = if listing.is_numbered {
         Some(Numbering::new())
     } else {
         None
     };
-    let done = print_told(alloc, &given.line, text.as_str(), numbering, &mut out);
-    out.flush()?;
-    done
+    let done = print_told(alloc, &given.line, text.as_str(), numbering, out);
+    flushed(out, done)
 }
 
 fn print_told<W: Write>(
@@ -82,7 +81,7 @@ fn print_told<W: Write>(
         if let Some(numbering) = &mut numbering {
             numbering.print(out, row)?;
         }
-        match retelling.told(alloc, line, row)? {
+        match &retelling.told(alloc, line, row)? {
             Some(words) => {
                 is_told = true;
                 writeln!(out, "{words}")?;

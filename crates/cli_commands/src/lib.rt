@@ -25,6 +25,7 @@ mod nearest;
 mod numbering;
 mod numbers;
 mod options;
+mod output;
 mod pcap;
 mod picture;
 mod printed;

@@ -2,12 +2,15 @@
 
 use crate::files::Files;
 use crate::journal::{Part, journals_in, unfit_at};
-use crate::line_file::{LineFile, line_file_in};
+use crate::line_file::LineFile;
 use crate::numbering::Numbering;
+use crate::output::flushed;
 use crate::rerunning::{RerunFault, print_rerun};
 use crate::words::Listing;
+use rbc_line::Line;
 use std::alloc::{AllocError, Global};
-use std::io::{BufWriter, Write};
+use std::io;
+use std::io::Write;
 use std::str::from_utf8;
 use text_script::status::Fault;
 
@@ -15,22 +18,17 @@ use text_script::status::Fault;
 /// If a program writes the journals meanwhile, it returns the part that it read.
 pub fn print_journals<'a, F: Files, O: Write>(
     alloc: Global,
-    file: &'a str,
+    given: &LineFile,
     listing: Listing<'a>,
     files: &F,
     out: &mut O,
 ) -> Result<Option<Part>, Fault<'a>> {
-    let given = line_file_in(alloc, file, files)?;
-    let Ok(mut out) = BufWriter::new(alloc, out) else {
-        return Err(AllocError.into());
-    };
     let done = if listing.is_numbered {
-        print_numbered(alloc, &given, listing.name, files, &mut out)
+        print_numbered(alloc, given, listing.name, files, out)
     } else {
-        print_found(alloc, &given, listing.name, files, &mut out)
+        print_found(alloc, given, listing.name, files, out)
     };
-    out.flush()?;
-    done
+    flushed(out, done)
 }
 
 /// The text of a print: the file of this name, or the print of the journals, if the name is a folder's.
@@ -40,12 +38,14 @@ pub(crate) fn printed_in<'a, F: Files>(
     printed: &'a str,
     files: &F,
 ) -> Result<String, Fault<'a>> {
-    if files.is_folder(printed) {
+    let text = if files.is_folder(printed) {
         let mut text = Vec::new(alloc);
         print_found(alloc, given, printed, files, &mut text)?;
-        return String::from_utf8(text).map_err(|_| Fault::CannotRead(printed));
-    }
-    files.text(printed).ok_or(Fault::CannotRead(printed))
+        String::from_utf8(text).ok()
+    } else {
+        files.text(printed)
+    };
+    text.ok_or(Fault::CannotRead(printed))
 }
 
 /// Whether an event is in the text of a print.
@@ -68,12 +68,19 @@ fn print_numbered<F: Files, W: Write>(
 ) -> Result<Option<Part>, Fault<'static>> {
     let mut text = Vec::new(alloc);
     let done = print_found(alloc, given, folder, files, &mut text);
+    match number_rows(from_utf8(&text).unwrap_or(""), out) {
+        Ok(()) => done,
+        Err(_) => Err(Fault::Write),
+    }
+}
+
+fn number_rows<W: Write>(text: &str, out: &mut W) -> io::Result<()> {
     let mut numbering = Numbering::new();
-    for row in from_utf8(&text).unwrap_or("").lines() {
+    for row in text.lines() {
         numbering.print(out, row)?;
         writeln!(out, "{row}")?;
     }
-    done
+    Ok(())
 }
 
 // Writes the print of the journals in a folder.
@@ -88,8 +95,14 @@ fn print_found<F: Files, W: Write>(
     let part = events.part();
     match print_rerun(alloc, &given.line, events.entries, out) {
         Ok(()) => Ok(part),
-        Err(RerunFault::Unfit(place)) => Err(unfit_at(alloc, &given.line, place)?),
-        Err(RerunFault::Refused(fault)) => Err(fault.into()),
-        Err(RerunFault::Untold(fault)) => Err(fault.into()),
+        Err(fault) => Err(fault_of(alloc, &given.line, fault)),
+    }
+}
+
+fn fault_of(alloc: Global, line: &Line, fault: RerunFault) -> Fault<'static> {
+    match fault {
+        RerunFault::Unfit(place) => unfit_at(alloc, line, place).unwrap_or(AllocError.into()),
+        RerunFault::Refused(fault) => fault.into(),
+        RerunFault::Untold(fault) => fault.into(),
     }
 }

@@ -1,9 +1,9 @@
 use crate::decode::Decoding;
+use crate::diagram::Drawing;
 use crate::forms::rbcline;
 use crate::numbers::signed_number;
-use crate::pcap::Capturing;
 pub use crate::requests::{
-    JournalStart, JournalWords, Listing, Request, ServeWords, TellWords, TrainsWords,
+    JournalStart, JournalWords, Listing, Request, ServeWords, Task, TellWords, TrainsWords,
 };
 use clap::error::ErrorKind;
 use clap::{ArgMatches, Error};
@@ -16,20 +16,29 @@ use text_script::status::Fault;
 
 /// Reads the arguments after the program's name. If they are refused, the fault has the reason, or help.
 pub fn requested<'a, S: AsStr>(alloc: Global, words: &'a [S]) -> Result<Request<'a>, Fault<'a>> {
-    let matches = match matched(alloc, words) {
-        Ok(matches) => matches,
-        Err(error) if error.kind() == ErrorKind::OutOfMemory => return Err(AllocError.into()),
-        Err(error) if error.kind() == ErrorKind::DisplayVersion => return Ok(Request::Version),
-        Err(error) => return Err(Fault::Usage(error)),
-    };
-    named(&matches).ok_or(Fault::Words)
+    match matched(alloc, words) {
+        Ok(matches) => named(&matches).ok_or(Fault::Words),
+        Err(error) => unmatched(error),
+    }
+}
+
+fn unmatched<'a>(error: Error) -> Result<Request<'a>, Fault<'a>> {
+    match error.kind() {
+        ErrorKind::OutOfMemory => Err(AllocError.into()),
+        ErrorKind::DisplayVersion => Ok(Request::Version),
+        _ => Err(Fault::Usage(error)),
+    }
 }
 
 /// The lines of `tell` in its arguments; none if they are on standard input.
 pub fn lines_of<'a, S: AsStr>(alloc: Global, words: &'a [S]) -> Result<Vec<&'a str>, Fault<'a>> {
-    let Ok(matches) = matched(alloc, words) else {
-        return Err(Fault::Words);
-    };
+    match matched(alloc, words) {
+        Ok(matches) => given_lines(alloc, &matches),
+        Err(_) => Err(Fault::Words),
+    }
+}
+
+fn given_lines<'a>(alloc: Global, matches: &ArgMatches<'a>) -> Result<Vec<&'a str>, Fault<'a>> {
     let mut lines = Vec::new(alloc);
     if let Some((_, words)) = matches.subcommand()
         && let Some(given) = words.get_strs("LINE")
@@ -42,19 +51,38 @@ pub fn lines_of<'a, S: AsStr>(alloc: Global, words: &'a [S]) -> Result<Vec<&'a s
 // The arguments, by the table of the commands. A number with a plus sign is refused, and a wrong address.
 fn matched<'a, S: AsStr>(alloc: Global, words: &'a [S]) -> Result<ArgMatches<'a>, Error> {
     let matches = rbcline(alloc)?.try_get_matches_from(words)?;
-    if let Some((name, word)) = signed_number(&matches) {
+    match test_values(alloc, &matches) {
+        Ok(()) => Ok(matches),
+        Err(error) => Err(error),
+    }
+}
+
+fn test_values(alloc: Global, matches: &ArgMatches<'_>) -> Result<(), Error> {
+    match wrong_value(alloc, matches)? {
+        Some(reason) => Err(refusal(alloc, reason.as_str())?),
+        None => Ok(()),
+    }
+}
+
+fn refusal(alloc: Global, reason: &str) -> Result<Error, AllocError> {
+    rbcline(alloc)?.error(ErrorKind::ValueValidation, reason)
+}
+
+// The reason why a value is refused that the table of the commands lets pass.
+fn wrong_value(alloc: Global, matches: &ArgMatches<'_>) -> Result<Option<String>, AllocError> {
+    if let Some((name, word)) = signed_number(matches) {
         let reason = format!(in alloc;
             "invalid value '{word}' for '{name}': a number has no sign"
         )?;
-        return Err(rbcline(alloc)?.error(ErrorKind::ValueValidation, reason.as_str())?);
+        return Ok(Some(reason));
     }
-    if let Some(word) = wrong_address(&matches) {
-        let reason = format!(in alloc;
-            "invalid value '{word}' for '--address <ADDRESS>': it is not an address of IPv4 or IPv6, as 192.0.2.1"
-        )?;
-        return Err(rbcline(alloc)?.error(ErrorKind::ValueValidation, reason.as_str())?);
-    }
-    Ok(matches)
+    let Some(word) = wrong_address(matches) else {
+        return Ok(None);
+    };
+    let reason = format!(in alloc;
+        "invalid value '{word}' for '--address <ADDRESS>': it is not an address of IPv4 or IPv6, as 192.0.2.1"
+    )?;
+    Ok(Some(reason))
 }
 
 // The value of `--address`, if it is not an address.
@@ -83,6 +111,13 @@ fn named<'a>(matches: &ArgMatches<'a>) -> Option<Request<'a>> {
     }
 }
 
+fn named_words<'a>(words: &ArgMatches<'a>) -> Option<Request<'a>> {
+    match words.get_str("message") {
+        Some(digits) => Some(Request::Message { digits }),
+        None => named_of_file("words", words),
+    }
+}
+
 fn named_of_file<'a>(command: &str, words: &ArgMatches<'a>) -> Option<Request<'a>> {
     let file = words.get_str("FILE")?;
     match command {
@@ -91,63 +126,47 @@ fn named_of_file<'a>(command: &str, words: &ArgMatches<'a>) -> Option<Request<'a
             file,
             script: words.get_str("SCRIPT"),
         }),
-        "run" => named_run(file, words),
-        "script" => named_script(file, words),
+        "run" => Some(Request::Run {
+            file,
+            script: words.get_str("SCRIPT")?,
+        }),
         "test" => Some(Request::Test { file }),
-        "storm" => named_storm(file, words),
-        "print" => named_print(file, words),
-        _ => named_of_print(command, file, words),
+        _ => Some(Request::OnLine {
+            file,
+            task: task_of(command, words)?,
+        }),
     }
 }
 
-fn named_run<'a>(file: &'a str, words: &ArgMatches<'a>) -> Option<Request<'a>> {
-    let script = words.get_str("SCRIPT")?;
-    Some(Request::Run { file, script })
+fn task_of<'a>(command: &str, words: &ArgMatches<'a>) -> Option<Task<'a>> {
+    match command {
+        "script" => Some(Task::Script(words.get_str("WORDS")?)),
+        "storm" => Some(Task::Storm {
+            script: words.get_str("SCRIPT")?,
+            seed: words.get_one("SEED")?,
+        }),
+        "print" => Some(Task::Print(listing_of(words, "FOLDER")?)),
+        "words" => Some(Task::Words(listing_of(words, "PRINTED")?)),
+        _ => task_on_print(command, words),
+    }
 }
 
-fn named_script<'a>(file: &'a str, words: &ArgMatches<'a>) -> Option<Request<'a>> {
-    let text = words.get_str("WORDS")?;
-    Some(Request::Script { file, text })
-}
-
-fn named_storm<'a>(file: &'a str, words: &ArgMatches<'a>) -> Option<Request<'a>> {
-    let script = words.get_str("SCRIPT")?;
-    let seed = words.get_one("SEED")?;
-    Some(Request::Storm { file, script, seed })
-}
-
-fn named_print<'a>(file: &'a str, words: &ArgMatches<'a>) -> Option<Request<'a>> {
-    let listing = listing_of(words, "FOLDER")?;
-    Some(Request::Print { file, listing })
-}
-
-fn named_of_print<'a>(command: &str, file: &'a str, words: &ArgMatches<'a>) -> Option<Request<'a>> {
+fn task_on_print<'a>(command: &str, words: &ArgMatches<'a>) -> Option<Task<'a>> {
     let printed = words.get_str("PRINTED")?;
     match command {
-        "audit" => Some(Request::Audit { file, printed }),
-        "watch" => Some(Request::Watch { file, printed }),
-        "picture" => Some(Request::Picture {
-            file,
+        "audit" => Some(Task::Audit(printed)),
+        "watch" => Some(Task::Watch(printed)),
+        "picture" => Some(Task::Picture(Drawing {
             printed,
             cut: cut_of(words),
             is_html: words.get_flag("html"),
-        }),
-        "pcap" => Some(Request::Capture(Capturing {
-            file,
+        })),
+        "pcap" => Some(Task::Capture {
             printed,
             first_port: words.get_one("port").unwrap_or(21_000),
-        })),
+        }),
         _ => None,
     }
-}
-
-fn named_words<'a>(words: &ArgMatches<'a>) -> Option<Request<'a>> {
-    if let Some(digits) = words.get_str("message") {
-        return Some(Request::Message { digits });
-    }
-    let file = words.get_str("FILE")?;
-    let listing = listing_of(words, "PRINTED")?;
-    Some(Request::Printed { file, listing })
 }
 
 fn listing_of<'a>(words: &ArgMatches<'a>, name: &str) -> Option<Listing<'a>> {
@@ -249,29 +268,39 @@ fn named_tell<'a>(words: &ArgMatches<'a>) -> Option<Request<'a>> {
 
 fn named_demo<'a>(words: &ArgMatches<'a>) -> Request<'a> {
     let file = words.get_str("FILE");
-    if let Some(page) = words.get_one("page") {
-        return Request::LivePage {
+    match words.get_one("page") {
+        Some(page) => Request::LivePage {
             file,
             page,
-            words: TrainsWords {
-                trains: words.get_one("trains"),
-                loss: words.get_one("loss"),
-                late: None,
-                seed: words.get_one("seed"),
-                seconds: words.get_one("events"),
-                is_shut: false,
-            },
-        };
-    }
-    Request::Demo {
-        file,
-        settings: Settings {
-            trains: words.get_one("trains").unwrap_or(64),
-            loss: words.get_one("loss").unwrap_or(0),
-            seed: words.get_one("seed").unwrap_or(0),
-            events: words.get_one("events").unwrap_or(20_000),
-            is_script: words.get_flag("script"),
+            words: live_words(words),
         },
+        None => Request::Demo {
+            file,
+            settings: settings_of(words),
+        },
+    }
+}
+
+// The options of `demo --page`.
+fn live_words(words: &ArgMatches<'_>) -> TrainsWords {
+    TrainsWords {
+        trains: words.get_one("trains"),
+        loss: words.get_one("loss"),
+        late: None,
+        seed: words.get_one("seed"),
+        seconds: words.get_one("events"),
+        is_shut: false,
+    }
+}
+
+// The options of `demo` without `--page`.
+fn settings_of(words: &ArgMatches<'_>) -> Settings {
+    Settings {
+        trains: words.get_one("trains").unwrap_or(64),
+        loss: words.get_one("loss").unwrap_or(0),
+        seed: words.get_one("seed").unwrap_or(0),
+        events: words.get_one("events").unwrap_or(20_000),
+        is_script: words.get_flag("script"),
     }
 }
 
