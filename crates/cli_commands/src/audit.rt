@@ -68,7 +68,12 @@ fn audit_events<O: Write>(
 ) -> Result<Option<Part>, Fault<'static>> {
     let Some(place) = first_unfit(alloc, line, &events.entries)? else {
         let events_read = events.entries.len() as u64;
-        tell(out, Verdict::Equal { events: events_read })?;
+        tell(
+            out,
+            Verdict::Equal {
+                events: events_read,
+            },
+        )?;
         return Ok(events.part());
     };
     let row = place.row;

@@ -122,7 +122,10 @@ fn do_task<'a, F: Files, O: Write, E: Write>(
             let has_event = draw_printed(alloc, given, drawing, files, out)?;
             note_lack(has_event, "no event", drawing.printed, err)
         }
-        Task::Capture { printed, first_port } => {
+        Task::Capture {
+            printed,
+            first_port,
+        } => {
             let has_message = capture_printed(alloc, given, printed, first_port, files, out)?;
             note_lack(has_message, "no message", printed, err)
         }
@@ -137,7 +140,9 @@ fn note_lack<E: Write>(
     err: &mut E,
 ) -> Result<(), Fault<'static>> {
     if !has_it {
-        let note = format_args!("rbcline: {lack} is in {printed}: is it a print of `run` or `serve`?");
+        let note = format_args!(
+            "rbcline: {lack} is in {printed}: is it a print of `run` or `serve`?"
+        );
         tell(err, note)?;
     }
     Ok(())

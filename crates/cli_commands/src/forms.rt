@@ -193,7 +193,10 @@ fn program<'a>(alloc: Global) -> Command<'a> {
 fn command_of<'a>(alloc: Global, form: &Form) -> Result<Command<'a>, AllocError> {
     let args = args_of(alloc, form)?;
     let groups = groups_of(alloc, form.name)?;
-    Command::new(alloc, form.name).about(form.about).args(args)?.groups(groups)
+    Command::new(alloc, form.name)
+        .about(form.about)
+        .args(args)?
+        .groups(groups)
 }
 
 // The groups of a command's options that exclude each other.

@@ -172,12 +172,7 @@ pub(crate) fn unfit_at(
 }
 
 // The fault of journals whose first unfit line is this line of this centre's journal.
-fn unfit(
-    alloc: Global,
-    line: &Line,
-    centre: u8,
-    row: usize,
-) -> Result<Fault<'static>, AllocError> {
+fn unfit(alloc: Global, line: &Line, centre: u8, row: usize) -> Result<Fault<'static>, AllocError> {
     let journal = file_name(alloc, line, centre)?;
     Ok(Fault::Unfit { journal, row })
 }

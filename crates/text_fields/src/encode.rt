@@ -191,7 +191,10 @@ impl<'a> Whole<'a> {
             WrittenFault::Memory => Err(AllocError),
             WrittenFault::Room(_) => no_room(alloc, written),
             WrittenFault::Long => {
-                String::from_str(alloc, "more than 1023 bytes: no message or frame is as long")
+                String::from_str(
+                    alloc,
+                    "more than 1023 bytes: no message or frame is as long",
+                )
             }
             WrittenFault::Other(at, shown) if at > place => missing(alloc, shown),
             WrittenFault::Other(_, shown) => other(alloc, written, shown),
