@@ -21,6 +21,7 @@ mod in_words;
 pub mod inspecting;
 pub mod journal;
 pub mod line_file;
+mod matching;
 mod nearest;
 mod numbering;
 mod numbers;
