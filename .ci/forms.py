@@ -108,9 +108,9 @@ def forms():
     for name, about, words in made["FORMS"]:
         pairs = [shared[key] if key else (it, unescaped(meaning)) for it, meaning, key in PAIR.findall(words)]
         found[name] = Form(name, unescaped(about), pairs)
-    for command, maker in re.findall(rf"if form\.name == {TEXT} \{{\s*command = command\.arg\((\w+)\(alloc\)\)", text):
+    for command, maker in re.findall(rf"if form\.name == {TEXT} \{{\s*args\.push\((\w+)\(alloc\)\)", text):
         single(text, maker, found[command])
-    for command, maker in re.findall(rf"{TEXT} => command[^,]*?\.arg\((\w+)\(alloc\)\)", function(text, "with_own")):
+    for command, maker in re.findall(rf"{TEXT} => (\w+)\(alloc\),", function(text, "add_words")):
         single(text, maker, found[command])
     for command, table in arms(text, "flags_of").items():
         found[command].options += [Option(it, "", unescaped(about)) for it, about, _ in made[table]]

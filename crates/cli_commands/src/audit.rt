@@ -2,13 +2,15 @@
 
 use crate::auditing::Audit;
 use crate::files::{Files, Rows};
-use crate::journal::{Part, journals_in, unfit};
-use crate::line_file::{LineFile, line_file_in};
+use crate::journal::{Events, Part, journals_in};
+use crate::line_file::LineFile;
+use crate::output::tell;
 use crate::rerunning::first_unfit;
 use cli_compare::Verdict;
 use rbc_line::Line;
 use std::alloc::Global;
 use std::io::Write;
+use text_journal::file_name;
 use text_script::status::Fault;
 
 /// Runs the events of a print again. Reports whether the print is that of its events, or the first line that differs.
@@ -16,18 +18,16 @@ use text_script::status::Fault;
 /// meanwhile, it returns the part that it read.
 pub fn audit_printed<'a, F: Files, O: Write>(
     alloc: Global,
-    file: &'a str,
+    given: &LineFile,
     printed: &'a str,
     files: &F,
     out: &mut O,
 ) -> Result<Option<Part>, Fault<'a>> {
-    let given = line_file_in(alloc, file, files)?;
     if files.is_folder(printed) {
-        return audit_journals(alloc, &given, printed, files, out);
+        return audit_journals(alloc, given, printed, files, out);
     }
     let verdict = verdict_of(alloc, &given.line, printed, files)?;
-    writeln!(out, "{verdict}")?;
-    out.flush()?;
+    tell(out, verdict)?;
     match verdict {
         Verdict::Equal { .. } => Ok(None),
         Verdict::Differs { .. } => Err(Fault::Differs),
@@ -41,10 +41,10 @@ fn verdict_of<'a, F: Files>(
     files: &F,
 ) -> Result<Verdict, Fault<'a>> {
     let mut rows = Audited(Audit::new(alloc, line)?);
-    if files.each_row(alloc, printed, &mut rows).is_none() {
-        return Err(Fault::CannotRead(printed));
+    match files.each_row(alloc, printed, &mut rows) {
+        Some(()) => rows.0.end(),
+        None => Err(Fault::CannotRead(printed)),
     }
-    rows.0.end()
 }
 
 // Reports whether the journals in a folder are a run of the line, or the first line that differs from one.
@@ -55,34 +55,31 @@ fn audit_journals<F: Files, O: Write>(
     files: &F,
     out: &mut O,
 ) -> Result<Option<Part>, Fault<'static>> {
-    match events_of_run(alloc, given, folder, files) {
-        Ok((events, part)) => {
-            writeln!(out, "{}", Verdict::Equal { events })?;
-            out.flush()?;
-            Ok(part)
-        }
-        Err(Fault::Unfit { journal, row }) => {
-            writeln!(out, "audit: {journal} line {row} differs")?;
-            out.flush()?;
-            Err(Fault::Differs)
-        }
-        Err(fault) => Err(fault),
-    }
+    let events = journals_in(alloc, given, folder, files)?;
+    audit_events(alloc, &given.line, &events, out)
 }
 
-// Runs the events of the journals in a folder, compares each stamp with the run's answer, and counts them.
-fn events_of_run<F: Files>(
+// Runs the events of journals, and compares each stamp with the run's answer.
+fn audit_events<O: Write>(
     alloc: Global,
-    given: &LineFile,
-    folder: &str,
-    files: &F,
-) -> Result<(u64, Option<Part>), Fault<'static>> {
-    let line = &given.line;
-    let events = journals_in(alloc, given, folder, files)?;
-    match first_unfit(alloc, line, &events.entries)? {
-        None => Ok((events.entries.len() as u64, events.part())),
-        Some(place) => Err(unfit(alloc, line, place.centre, place.row)?),
-    }
+    line: &Line,
+    events: &Events,
+    out: &mut O,
+) -> Result<Option<Part>, Fault<'static>> {
+    let Some(place) = first_unfit(alloc, line, &events.entries)? else {
+        let events_read = events.entries.len() as u64;
+        tell(
+            out,
+            Verdict::Equal {
+                events: events_read,
+            },
+        )?;
+        return Ok(events.part());
+    };
+    let row = place.row;
+    let journal = file_name(alloc, line, place.centre)?;
+    tell(out, format_args!("audit: {journal} line {row} differs"))?;
+    Err(Fault::Differs)
 }
 
 /// An audit that receives the lines of a file.

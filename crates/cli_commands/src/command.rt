@@ -10,16 +10,18 @@ use crate::files::Files;
 use crate::forms::VERSION;
 use crate::in_words::{show_message, tell_printed};
 use crate::journal::Part;
+use crate::line_file::{LineFile, line_file_in};
+use crate::output::tell;
 use crate::pcap::capture_printed;
 use crate::printed::print_journals;
 use crate::run::{check, run};
 use crate::scenarios::{script_in_words, test};
 use crate::storm::run_storm;
 use crate::watch::watch_printed;
-use crate::words::{Request, requested};
-use std::alloc::Global;
+use crate::words::{Listing, Request, Task, requested};
+use std::alloc::{AllocError, Global};
 use std::convert::AsStr;
-use std::io::Write;
+use std::io::{BufWriter, Write};
 use text_script::status::{Fault, ended};
 
 /// Runs the command of the arguments after the program's name, and returns the exit status. It is 0 for success. It
@@ -48,22 +50,20 @@ fn obey<'a, S: AsStr, F: Files, O: Write, E: Write>(
     err: &mut E,
 ) -> Result<(), Fault<'a>> {
     match requested(alloc, words)? {
-        Request::Version => print_version(out),
+        Request::Version => Ok(tell(out, format_args!("rbcline {VERSION}"))?),
         Request::Check { file } => check(alloc, file, files, out),
-        Request::Explain { file, script } => explain(alloc, file, script, files, out),
-        Request::Script { file, text } => script_in_words(alloc, file, text, files, out, err),
-        Request::Test { file } => test(alloc, file, words, files, out),
         Request::Run { file, script } => run(alloc, file, script, files, out),
-        Request::Storm { file, script, seed } => {
-            run_storm(alloc, file, script, seed, files, out)
-        }
-        Request::Demo { file, settings } => run_demo(alloc, file, settings, files, out),
-        request => obey_on_print(alloc, words, request, files, out, err),
+        Request::Encode { fields, is_frame } => encode(alloc, fields, is_frame, files, out, err),
+        Request::Message { digits } => show_message(alloc, digits, out),
+        request => match BufWriter::new(alloc, out) {
+            Ok(mut out) => obey_buffered(alloc, words, request, files, &mut out, err),
+            Err(_) => Err(AllocError.into()),
+        },
     }
 }
 
-// Runs a command on bytes, fields or a print.
-fn obey_on_print<'a, S: AsStr, F: Files, O: Write, E: Write>(
+// Runs a command whose output is buffered.
+fn obey_buffered<'a, S: AsStr, F: Files, O: Write, E: Write>(
     alloc: Global,
     words: &'a [S],
     request: Request<'a>,
@@ -72,38 +72,64 @@ fn obey_on_print<'a, S: AsStr, F: Files, O: Write, E: Write>(
     err: &mut E,
 ) -> Result<(), Fault<'a>> {
     match request {
-        Request::Print { file, listing } => {
-            tell_part(print_journals(alloc, file, listing, files, out)?, err)
-        }
-        Request::Audit { file, printed } => {
-            tell_part(audit_printed(alloc, file, printed, files, out)?, err)
-        }
-        Request::Watch { file, printed } => {
-            let has_event = watch_printed(alloc, file, printed, files, out, err)?;
-            note_lack(has_event, "no event", printed, err)
-        }
+        Request::Explain { file, script } => explain(alloc, file, script, files, out),
+        Request::Test { file } => test(alloc, file, words, files, out),
+        Request::OnLine { file, task } => obey_on_line(alloc, file, task, files, out, err),
+        Request::Demo { file, settings } => run_demo(alloc, file, settings, files, out),
         Request::Decode(decoding) => decode(alloc, words, decoding, files, out),
-        Request::Encode { fields, is_frame } => encode(alloc, fields, is_frame, files, out, err),
-        Request::Message { digits } => show_message(alloc, digits, out),
-        Request::Printed { file, listing } => {
-            let is_told = tell_printed(alloc, file, listing, files, out)?;
-            note_lack(is_told, "nothing of a run", listing.name, err)
-        }
-        Request::Picture {
-            file,
-            printed,
-            cut,
-            is_html,
-        } => {
-            let has_event = draw_printed(alloc, file, printed, cut, is_html, files, out)?;
-            note_lack(has_event, "no event", printed, err)
-        }
-        Request::Capture(capturing) => {
-            let has_message = capture_printed(alloc, capturing, files, out)?;
-            note_lack(has_message, "no message", capturing.printed, err)
-        }
         // This crate has files, but no sockets: the program itself runs these.
         _ => Err(Fault::Socket),
+    }
+}
+
+// Reads the line file of this name, and does a task on its line.
+fn obey_on_line<'a, F: Files, O: Write, E: Write>(
+    alloc: Global,
+    file: &'a str,
+    task: Task<'a>,
+    files: &F,
+    out: &mut O,
+    err: &mut E,
+) -> Result<(), Fault<'a>> {
+    match line_file_in(alloc, file, files) {
+        Ok(given) => do_task(alloc, &given, task, files, out, err),
+        Err(fault) => Err(fault),
+    }
+}
+
+fn do_task<'a, F: Files, O: Write, E: Write>(
+    alloc: Global,
+    given: &LineFile,
+    task: Task<'a>,
+    files: &F,
+    out: &mut O,
+    err: &mut E,
+) -> Result<(), Fault<'a>> {
+    match task {
+        Task::Script(text) => script_in_words(alloc, &given.line, text, files, out, err),
+        Task::Storm { script, seed } => run_storm(alloc, &given.line, script, seed, files, out),
+        Task::Print(listing) => tell_part(print_journals(alloc, given, listing, files, out)?, err),
+        Task::Audit(printed) => tell_part(audit_printed(alloc, given, printed, files, out)?, err),
+        Task::Watch(printed) => {
+            let has_event = watch_printed(alloc, given, printed, files, out, err)?;
+            note_lack(has_event, "no event", printed, err)
+        }
+        Task::Words(listing) => {
+            let is_told = tell_printed(alloc, given, listing, files, out)?;
+            note_untimed(&listing, files, err)?;
+            note_lack(is_told, "nothing of a run", listing.name, err)
+        }
+        Task::Picture(drawing) => {
+            let has_event = draw_printed(alloc, given, drawing, files, out)?;
+            note_lack(has_event, "no event", drawing.printed, err)
+        }
+        Task::Capture {
+            printed,
+            first_port,
+        } => {
+            let has_message = capture_printed(alloc, given, printed, first_port, files, out)?;
+            note_lack(has_message, "no message", printed, err)
+        }
     }
 }
 
@@ -115,11 +141,24 @@ fn note_lack<E: Write>(
     err: &mut E,
 ) -> Result<(), Fault<'static>> {
     if !has_it {
-        writeln!(
-            err,
+        let note = format_args!(
             "rbcline: {lack} is in {printed}: is it a print of `run` or `serve`?"
-        )?;
-        err.flush()?;
+        );
+        tell(err, note)?;
+    }
+    Ok(())
+}
+
+// Notes that a print has no times, if they are needed and it is a file.
+fn note_untimed<F: Files, E: Write>(
+    listing: &Listing<'_>,
+    files: &F,
+    err: &mut E,
+) -> Result<(), Fault<'static>> {
+    if listing.needs_times() && !files.is_folder(listing.name) {
+        let name = listing.name;
+        let note = format_args!("rbcline: {name} has no times: those of events are in journals");
+        tell(err, note)?;
     }
     Ok(())
 }
@@ -127,14 +166,7 @@ fn note_lack<E: Write>(
 // Reports the part of the journals that was read, if a program writes them meanwhile.
 fn tell_part<E: Write>(part: Option<Part>, err: &mut E) -> Result<(), Fault<'static>> {
     if let Some(part) = part {
-        writeln!(err, "{part}")?;
-        err.flush()?;
+        tell(err, part)?;
     }
-    Ok(())
-}
-
-fn print_version<'a, O: Write>(out: &mut O) -> Result<(), Fault<'a>> {
-    writeln!(out, "rbcline {VERSION}")?;
-    out.flush()?;
     Ok(())
 }

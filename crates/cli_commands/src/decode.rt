@@ -3,7 +3,7 @@
 use crate::files::Files;
 use std::alloc::{AllocError, Global};
 use std::convert::AsStr;
-use std::io::{BufWriter, Write};
+use std::io::Write;
 use text_fields::{Form, PrintFault, bytes_in, print_frame, print_messages};
 use text_script::status::Fault;
 
@@ -25,18 +25,15 @@ pub fn decode<'a, S: AsStr, F: Files, O: Write>(
     out: &mut O,
 ) -> Result<(), Fault<'a>> {
     let bytes = given_bytes(alloc, words, files)?;
-    let Ok(mut out) = BufWriter::new(alloc, out) else {
-        return Err(AllocError.into());
-    };
     let form = if decoding.is_json {
         Form::Json
     } else {
         Form::Text
     };
     let done = if decoding.is_frame {
-        print_frame(alloc, &bytes, form, &mut out)
+        print_frame(alloc, &bytes, form, out)
     } else {
-        print_messages(alloc, &bytes, form, &mut out)
+        print_messages(alloc, &bytes, form, out)
     };
     match done {
         Ok(true) => Ok(()),

@@ -2,10 +2,11 @@
 
 use crate::files::Files;
 use crate::line_file::{LineFile, line_file_in};
+use crate::output::flushed;
 use cli_demo::{BUILT_IN, Demo, Settings};
 use rbc_line::Line;
-use std::alloc::{AllocError, Global};
-use std::io::{BufWriter, Write};
+use std::alloc::Global;
+use std::io::Write;
 use text_script::status::Fault;
 
 /// Runs trains on the line of this file, or on the built-in line. If the check of the true places fails, the print
@@ -18,13 +19,22 @@ pub fn run_demo<'a, F: Files, O: Write>(
     out: &mut O,
 ) -> Result<(), Fault<'a>> {
     let given = line_of_demo(alloc, file, files)?;
-    let mut demo = Demo::new(alloc, &given.line, settings)?;
-    let Ok(mut out) = BufWriter::new(alloc, out) else {
-        return Err(AllocError.into());
+    run_on(alloc, &given.line, settings, out)
+}
+
+fn run_on<O: Write>(
+    alloc: Global,
+    line: &Line,
+    settings: Settings,
+    out: &mut O,
+) -> Result<(), Fault<'static>> {
+    let mut demo = Demo::new(alloc, line, settings)?;
+    let done = match demo.run(out) {
+        Ok(true) => Ok(()),
+        Ok(false) => Err(Fault::Differs),
+        Err(fault) => Err(fault.into()),
     };
-    let done = demo.run(&mut out);
-    out.flush()?;
-    if done? { Ok(()) } else { Err(Fault::Differs) }
+    flushed(out, done)
 }
 
 /// Reads the line file of a demo. Without a file it is the built-in one.

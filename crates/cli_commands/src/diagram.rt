@@ -1,34 +1,51 @@
 //! The diagram of a print of `run`.
 
 use crate::files::Files;
-use crate::line_file::line_file_in;
+use crate::line_file::LineFile;
+use crate::output::write_whole;
 use crate::printed::{has_event, printed_in};
 use cli_picture::picture;
+use rbc_line::Line;
 use std::alloc::Global;
 use std::io::Write;
 use text_replay::{Cut, page_of};
 use text_script::status::Fault;
 
-/// Draws the part of a run that the cut names, from a print of `run` or `serve` or from journals. It writes the
-/// time-distance diagram as an SVG document, or an HTML page with the line after each event. Returns whether an event
-/// is in the print.
+/// The arguments of `picture` besides the line.
+#[derive(Clone, Copy)]
+pub struct Drawing<'a> {
+    /// The name of the print's file, or of the folder of the journals.
+    pub printed: &'a str,
+    /// The part of the run that is drawn.
+    pub cut: Cut,
+    pub is_html: bool,
+}
+
+/// Draws a part of a run, from a print of `run` or `serve` or from journals. It writes the time-distance diagram as an
+/// SVG document, or an HTML page with the line after each event. Returns whether an event is in the print.
 pub fn draw_printed<'a, F: Files, O: Write>(
     alloc: Global,
-    file: &'a str,
-    printed: &'a str,
-    cut: Cut,
-    is_html: bool,
+    given: &LineFile,
+    drawing: Drawing<'a>,
     files: &F,
     out: &mut O,
 ) -> Result<bool, Fault<'a>> {
-    let given = line_file_in(alloc, file, files)?;
-    let text = printed_in(alloc, &given, printed, files)?;
-    let drawn = if is_html {
-        page_of(alloc, &given.line, text.as_str(), cut)?
+    let text = printed_in(alloc, given, drawing.printed, files)?;
+    draw(alloc, &given.line, text.as_str(), drawing, out)
+}
+
+fn draw<O: Write>(
+    alloc: Global,
+    line: &Line,
+    text: &str,
+    drawing: Drawing<'_>,
+    out: &mut O,
+) -> Result<bool, Fault<'static>> {
+    let drawn = if drawing.is_html {
+        page_of(alloc, line, text, drawing.cut)
     } else {
-        picture(alloc, &given.line, text.as_str(), cut)?
+        picture(alloc, line, text, drawing.cut)
     };
-    out.write_all(drawn.as_bytes())?;
-    out.flush()?;
-    Ok(has_event(text.as_str()))
+    write_whole(out, drawn?.as_bytes())?;
+    Ok(has_event(text))
 }

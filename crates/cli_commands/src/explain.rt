@@ -1,12 +1,13 @@
 use crate::explaining::LineText;
 use crate::files::Files;
 use crate::inspecting::Finding;
+use crate::output::flushed;
 use crate::picture::print_picture;
 use crate::script_faults::row_fault;
 use rbc_line::{Line, LineFault};
-use std::alloc::{AllocError, Global};
+use std::alloc::Global;
 use std::io;
-use std::io::{BufWriter, Write};
+use std::io::Write;
 use text_script::script::is_kept;
 use text_script::status::Fault;
 
@@ -22,15 +23,11 @@ pub fn explain<'a, F: Files, O: Write>(
     let Some(text) = files.text(file) else {
         return Err(Fault::CannotRead(file));
     };
-    let Ok(mut out) = BufWriter::new(alloc, out) else {
-        return Err(AllocError.into());
-    };
     let done = match Line::from_toml(alloc, text.as_str()) {
-        Ok(line) => explain_good(alloc, &line, script, files, &mut out),
-        Err(fault) => print_findings(alloc, &mut out, text.as_str(), fault),
+        Ok(line) => explain_good(alloc, &line, script, files, out),
+        Err(fault) => print_findings(alloc, out, text.as_str(), fault),
     };
-    out.flush()?;
-    done
+    flushed(out, done)
 }
 
 // Prints the picture of the line, or the faults of the script.

@@ -2,7 +2,7 @@
 
 use crate::numbers::bounded;
 use crate::options::{flag, flags_of, journals, part, parts_of, shown};
-use clap::{Arg, Command};
+use clap::{Arg, ArgGroup, Command};
 use std::alloc::{AllocError, Global};
 
 /// A command: its name, its purpose, and its arguments with the meaning of each.
@@ -158,11 +158,16 @@ static FORMS: [Form; 19] = [
 
 /// The program, with its commands.
 pub fn rbcline<'a>(alloc: Global) -> Result<Command<'a>, AllocError> {
-    let mut rbcline = program(alloc).bin_name("rbcline")?;
+    let commands = commands(alloc)?;
+    program(alloc).bin_name("rbcline")?.subcommands(commands)
+}
+
+fn commands<'a>(alloc: Global) -> Result<Vec<Command<'a>>, AllocError> {
+    let mut commands = Vec::new(alloc);
     for form in &FORMS {
-        rbcline = rbcline.subcommand(command_of(alloc, form)?)?;
+        commands.push(command_of(alloc, form)?)?;
     }
-    Ok(rbcline)
+    Ok(commands)
 }
 
 /// The version of the program.
@@ -186,40 +191,66 @@ fn program<'a>(alloc: Global) -> Command<'a> {
 }
 
 fn command_of<'a>(alloc: Global, form: &Form) -> Result<Command<'a>, AllocError> {
-    let mut command = Command::new(alloc, form.name).about(form.about);
-    if form.name == "words" {
-        command = command.arg(message(alloc))?;
-    }
-    if form.name == "decode" {
-        command = command.arg(bytes(alloc))?;
-    }
-    for (name, help) in flags_of(form.name) {
-        command = command.arg(flag(alloc, name, help)?)?;
-    }
-    for (name, value, help) in parts_of(form.name) {
-        command = command.arg(part(alloc, name, value, help))?;
-    }
-    for (name, help) in form.words {
-        let word = Arg::new(alloc, name).required(true).help(help);
-        command = command.arg(bounded(word, name))?;
-    }
-    with_own(alloc, form.name, command)
+    let args = args_of(alloc, form)?;
+    let groups = groups_of(alloc, form.name)?;
+    Command::new(alloc, form.name)
+        .about(form.about)
+        .args(args)?
+        .groups(groups)
 }
 
-// The command with the arguments that only it has.
-fn with_own<'a>(
-    alloc: Global,
-    name: &str,
-    command: Command<'a>,
-) -> Result<Command<'a>, AllocError> {
-    match name {
-        "demo" => command.group(shown(alloc)?)?.arg(line_of_demo(alloc)),
-        "explain" => command.arg(script(alloc)),
-        "test" => command.arg(scenarios(alloc)),
-        "serve" => command.group(journals(alloc)?),
-        "tell" => command.arg(lines(alloc)),
-        _ => Ok(command),
+// The groups of a command's options that exclude each other.
+fn groups_of<'a>(alloc: Global, command: &str) -> Result<Vec<ArgGroup<'a>>, AllocError> {
+    let mut groups = Vec::new(alloc);
+    match command {
+        "demo" => groups.push(shown(alloc)?)?,
+        "serve" => groups.push(journals(alloc)?)?,
+        _ => {}
     }
+    Ok(groups)
+}
+
+// The arguments of a command, in the order of its help.
+fn args_of<'a>(alloc: Global, form: &Form) -> Result<Vec<Arg<'a>>, AllocError> {
+    let mut args = Vec::new(alloc);
+    if form.name == "words" {
+        args.push(message(alloc))?;
+    }
+    add_options(alloc, form.name, &mut args)?;
+    add_words(alloc, form, &mut args)?;
+    Ok(args)
+}
+
+fn add_options<'a>(
+    alloc: Global,
+    command: &str,
+    args: &mut Vec<Arg<'a>>,
+) -> Result<(), AllocError> {
+    for (name, help) in flags_of(command) {
+        args.push(flag(alloc, name, help)?)?;
+    }
+    for (name, value, help) in parts_of(command) {
+        args.push(part(alloc, name, value, help))?;
+    }
+    Ok(())
+}
+
+fn add_words<'a>(alloc: Global, form: &Form, args: &mut Vec<Arg<'a>>) -> Result<(), AllocError> {
+    for (name, help) in form.words {
+        let word = Arg::new(alloc, name).required(true).help(help);
+        args.push(bounded(word, name))?;
+    }
+    // The word that only this command has.
+    let own = match form.name {
+        "decode" => bytes(alloc),
+        "demo" => line_of_demo(alloc),
+        "explain" => script(alloc),
+        "test" => scenarios(alloc),
+        "tell" => lines(alloc),
+        _ => return Ok(()),
+    };
+    args.push(own)?;
+    Ok(())
 }
 
 fn bytes<'a>(alloc: Global) -> Arg<'a> {

@@ -1,15 +1,16 @@
 //! Puts messages, and prints of `run`, into words.
 
 use crate::files::Files;
-use crate::line_file::line_file_in;
+use crate::line_file::LineFile;
 use crate::margin::Margin;
+use crate::output::{flushed, tell};
 use crate::printed::{Printed, timed_print_in};
 use crate::words::Listing;
 use hex::FromHexError;
 use rbc_line::Line;
 use std::alloc::{AllocError, Global};
 use std::io;
-use std::io::{BufWriter, Write};
+use std::io::Write;
 use text_replay::Retelling;
 use text_script::status::Fault;
 use text_words::{Field, fields_of, name_of, words_of_fault};
@@ -25,14 +26,17 @@ pub fn show_message<'a, O: Write>(
         Err(FromHexError::OutOfMemory) => return Err(AllocError.into()),
         Err(_) => return Err(Fault::NotHexadecimal(digits)),
     };
-    match fields_of(alloc, &bytes) {
+    show_bytes(alloc, &bytes, out)
+}
+
+fn show_bytes<O: Write>(alloc: Global, bytes: &[u8], out: &mut O) -> Result<(), Fault<'static>> {
+    match fields_of(alloc, bytes) {
         Ok(fields) => Ok(print_fields(out, &fields)?),
         Err(fault) => {
-            print_fields(out, name_of(&bytes).as_slice())?;
+            print_fields(out, name_of(bytes).as_slice())?;
             let number = fault.number();
             let words = words_of_fault(fault);
-            writeln!(out, "fault {number}: {words}")?;
-            out.flush()?;
+            tell(out, format_args!("fault {number}: {words}"))?;
             Err(Fault::Message(fault))
         }
     }
@@ -49,39 +53,32 @@ fn print_fields<O: Write>(out: &mut O, fields: &[Field]) -> io::Result<()> {
 /// are played again, so that frames have their contents. Returns whether a line of it could be put into words.
 pub fn tell_printed<'a, F: Files, O: Write>(
     alloc: Global,
-    file: &'a str,
+    given: &LineFile,
     listing: Listing<'a>,
     files: &F,
     out: &mut O,
 ) -> Result<bool, Fault<'a>> {
-    let given = line_file_in(alloc, file, files)?;
-    let Printed { text, times_ms } = timed_print_in(alloc, &given, listing.name, files)?;
-    let Ok(mut out) = BufWriter::new(alloc, out) else {
-        return Err(AllocError.into());
-    };
-    let margin = Margin::new(&listing, times_ms);
-    let done = print_told(alloc, &given.line, text.as_str(), margin, &mut out);
-    out.flush()?;
-    done
+    let Printed { text, times_ms } = timed_print_in(alloc, given, listing.name, files)?;
+    let mut margin = Margin::new(&listing, times_ms);
+    let done = print_told(alloc, &given.line, text.as_str(), &mut margin, out);
+    flushed(out, done)
 }
 
 fn print_told<W: Write>(
     alloc: Global,
     line: &Line,
     text: &str,
-    mut margin: Margin,
+    margin: &mut Margin,
     out: &mut W,
 ) -> Result<bool, Fault<'static>> {
     let mut retelling = Retelling::new(alloc, line)?;
     let mut is_told = false;
     for row in text.lines() {
         let words = retelling.told(alloc, line, row)?;
+        is_told = is_told || words.is_some();
         if margin.begin(out, row)? {
-            match words {
-                Some(words) => {
-                    is_told = true;
-                    writeln!(out, "{words}")?;
-                }
+            match &words {
+                Some(words) => writeln!(out, "{words}")?,
                 None => writeln!(out, "{row}")?,
             }
         }

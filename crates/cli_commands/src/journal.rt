@@ -71,12 +71,17 @@ pub fn journals_in<F: Files>(
     for centre in 0..given.line.centre_count() {
         let path = journal_name(alloc, &given.line, folder, centre)?;
         is_written = is_written || files.is_written(path.as_str());
-        let Some(bytes) = files.contents(path.as_str()) else {
-            return Err(Fault::NoJournal(path));
-        };
+        let bytes = bytes_of(path, files)?;
         journals.push(journal_of(alloc, given, centre, &bytes)?.entries)?;
     }
     events_of(alloc, given, in_order(alloc, journals)?, is_written)
+}
+
+fn bytes_of<F: Files>(path: String, files: &F) -> Result<Vec<u8>, Fault<'static>> {
+    match files.contents(path.as_str()) {
+        Some(bytes) => Ok(bytes),
+        None => Err(Fault::NoJournal(path)),
+    }
 }
 
 fn events_of(
@@ -115,17 +120,26 @@ pub fn journal_of(
     } else {
         lines_in(alloc, given, centre, whole)
     };
-    let entries = match read {
-        Ok(entries) => entries,
+    match read {
+        Ok(entries) => rising(alloc, &given.line, centre, Journal { entries, length }),
         Err(fault) => {
             let journal = file_name(alloc, &given.line, centre)?;
-            return Err(fault_of(alloc, journal, bytes, fault)?);
+            Err(fault_of(alloc, journal, bytes, fault)?)
         }
-    };
-    match first_fallen(&entries) {
+    }
+}
+
+// The journal, if each stamp is above the one before it.
+fn rising(
+    alloc: Global,
+    line: &Line,
+    centre: u8,
+    journal: Journal,
+) -> Result<Journal, Fault<'static>> {
+    match first_fallen(&journal.entries) {
         // The first line is not an entry.
-        Some(at) => Err(unfit(alloc, &given.line, centre, at + 2)?),
-        None => Ok(Journal { entries, length }),
+        Some(at) => Err(unfit(alloc, line, centre, at.saturating_add(2))?),
+        None => Ok(journal),
     }
 }
 
@@ -147,27 +161,18 @@ pub(crate) fn unfit_at(
     line: &Line,
     place: Place,
 ) -> Result<Fault<'static>, AllocError> {
-    let Place {
-        centre,
-        row,
-        sender,
-    } = place;
-    let Some(sender) = sender else {
-        return unfit(alloc, line, centre, row);
+    let Some(sender) = place.sender else {
+        return unfit(alloc, line, place.centre, place.row);
     };
-    let journal = file_name(alloc, line, centre)?;
+    let journal = file_name(alloc, line, place.centre)?;
     let other = file_name(alloc, line, sender)?;
     let journal = format!(in alloc; "{other} lacks the event that sends the frame of {journal}")?;
+    let row = place.row;
     Ok(Fault::Unfit { journal, row })
 }
 
-/// The fault of journals whose first unfit line is this line of this centre's journal.
-pub(crate) fn unfit(
-    alloc: Global,
-    line: &Line,
-    centre: u8,
-    row: usize,
-) -> Result<Fault<'static>, AllocError> {
+// The fault of journals whose first unfit line is this line of this centre's journal.
+fn unfit(alloc: Global, line: &Line, centre: u8, row: usize) -> Result<Fault<'static>, AllocError> {
     let journal = file_name(alloc, line, centre)?;
     Ok(Fault::Unfit { journal, row })
 }
@@ -231,15 +236,17 @@ fn fault_of(
     bytes: &[u8],
     fault: JournalFault,
 ) -> Result<Fault<'static>, AllocError> {
-    Ok(match fault {
-        JournalFault::Memory => AllocError.into(),
-        JournalFault::Damaged(row) => Fault::Damaged { journal, row },
-        JournalFault::Foreign if is_of_known_version(bytes) => Fault::Foreign(journal),
-        JournalFault::Foreign if bytes.starts_with(b"journal ") => {
-            Fault::NoJournal(format!(in alloc; "{journal}: it has another version than 1 and 2")?)
-        }
+    match fault {
+        JournalFault::Memory => Err(AllocError),
+        JournalFault::Damaged(row) => Ok(Fault::Damaged { journal, row }),
+        JournalFault::Foreign if is_of_known_version(bytes) => Ok(Fault::Foreign(journal)),
         JournalFault::Foreign => {
-            Fault::NoJournal(format!(in alloc; "{journal}: it is not a journal")?)
+            let lack = if bytes.starts_with(b"journal ") {
+                "it has another version than 1 and 2"
+            } else {
+                "it is not a journal"
+            };
+            Ok(Fault::NoJournal(format!(in alloc; "{journal}: {lack}")?))
         }
-    })
+    }
 }

@@ -2,12 +2,15 @@
 
 use crate::files::Files;
 use crate::journal::{Part, journals_in, unfit_at};
-use crate::line_file::{LineFile, line_file_in};
+use crate::line_file::LineFile;
 use crate::margin::Margin;
+use crate::output::flushed;
 use crate::rerunning::{RerunFault, print_rerun};
 use crate::words::Listing;
+use rbc_line::Line;
 use std::alloc::{AllocError, Global};
-use std::io::{BufWriter, Write};
+use std::io;
+use std::io::Write;
 use std::str::from_utf8;
 use text_journal::Entry;
 use text_script::status::Fault;
@@ -16,22 +19,20 @@ use text_script::status::Fault;
 /// If a program writes the journals meanwhile, it returns the part that it read.
 pub fn print_journals<'a, F: Files, O: Write>(
     alloc: Global,
-    file: &'a str,
+    given: &LineFile,
     listing: Listing<'a>,
     files: &F,
     out: &mut O,
 ) -> Result<Option<Part>, Fault<'a>> {
-    let given = line_file_in(alloc, file, files)?;
-    let Ok(mut out) = BufWriter::new(alloc, out) else {
-        return Err(AllocError.into());
-    };
     let done = if listing.is_plain() {
-        print_found(alloc, &given, listing.name, files, &mut out)
+        print_found(alloc, given, listing.name, files, out)
     } else {
-        print_listed(alloc, &given, listing, files, &mut out)
+        print_listed(alloc, given, listing, files, out)
     };
-    out.flush()?;
-    Ok(done?.part)
+    match flushed(out, done) {
+        Ok(found) => Ok(found.part),
+        Err(fault) => Err(fault),
+    }
 }
 
 /// The times and the part of journals that were printed.
@@ -58,7 +59,10 @@ pub(crate) fn printed_in<'a, F: Files>(
     printed: &'a str,
     files: &F,
 ) -> Result<String, Fault<'a>> {
-    Ok(timed_print_in(alloc, given, printed, files)?.text)
+    match timed_print_in(alloc, given, printed, files) {
+        Ok(print) => Ok(print.text),
+        Err(fault) => Err(fault),
+    }
 }
 
 /// The same, with the times of the events.
@@ -70,8 +74,8 @@ pub(crate) fn timed_print_in<'a, F: Files>(
 ) -> Result<Printed, Fault<'a>> {
     let (text, times_ms) = if files.is_folder(printed) {
         let mut text = Vec::new(alloc);
-        let Found { times_ms, .. } = print_found(alloc, given, printed, files, &mut text)?;
-        (String::from_utf8(text).ok(), times_ms)
+        let found = print_found(alloc, given, printed, files, &mut text)?;
+        (String::from_utf8(text).ok(), found.times_ms)
     } else {
         (files.text(printed), Vec::new(alloc))
     };
@@ -102,15 +106,22 @@ fn print_listed<'a, F: Files, W: Write>(
     let mut text = Vec::new(alloc);
     let Found { times_ms, part } = print_found(alloc, given, listing.name, files, &mut text)?;
     let mut margin = Margin::new(&listing, times_ms);
-    for row in from_utf8(&text).unwrap_or("").lines() {
+    match print_shown(from_utf8(&text).unwrap_or(""), &mut margin, out) {
+        Ok(()) => Ok(Found {
+            times_ms: Vec::new(alloc),
+            part,
+        }),
+        Err(_) => Err(Fault::Write),
+    }
+}
+
+fn print_shown<W: Write>(text: &str, margin: &mut Margin, out: &mut W) -> io::Result<()> {
+    for row in text.lines() {
         if margin.begin(out, row)? {
             writeln!(out, "{row}")?;
         }
     }
-    Ok(Found {
-        times_ms: Vec::new(alloc),
-        part,
-    })
+    Ok(())
 }
 
 // Writes the print of the journals in a folder.
@@ -126,13 +137,23 @@ fn print_found<F: Files, W: Write>(
     let times_ms = times_of(alloc, &events.entries)?;
     match print_rerun(alloc, &given.line, events.entries, out) {
         Ok(()) => Ok(Found { times_ms, part }),
-        Err(RerunFault::Unfit(place)) => Err(unfit_at(alloc, &given.line, place)?),
-        Err(RerunFault::Refused(fault)) => Err(fault.into()),
-        Err(RerunFault::Untold(fault)) => Err(fault.into()),
+        Err(fault) => Err(fault_of(alloc, &given.line, fault)),
     }
 }
 
 // The times of the entries.
 fn times_of(alloc: Global, entries: &[Entry]) -> Result<Vec<Option<u64>>, AllocError> {
-    entries.iter().map(|entry| entry.time_ms).collect(alloc)
+    let mut times_ms = Vec::new(alloc);
+    for entry in entries {
+        times_ms.push(entry.time_ms)?;
+    }
+    Ok(times_ms)
+}
+
+fn fault_of(alloc: Global, line: &Line, fault: RerunFault) -> Fault<'static> {
+    match fault {
+        RerunFault::Unfit(place) => unfit_at(alloc, line, place).unwrap_or(AllocError.into()),
+        RerunFault::Refused(fault) => fault.into(),
+        RerunFault::Untold(fault) => fault.into(),
+    }
 }

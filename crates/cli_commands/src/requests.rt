@@ -4,10 +4,9 @@ ghost use Rattle.std.specs.Prelude.{◌↔◌, IsTrue};
 ghost use Rattle.cli_commands.specs.Times.{IsWithin};
 
 use crate::decode::Decoding;
-use crate::pcap::Capturing;
+use crate::diagram::Drawing;
 use cli_demo::Settings;
 use std::net::IpAddr;
-use text_replay::Cut;
 
 /// The request of the arguments.
 #[derive(Clone, Copy)]
@@ -28,40 +27,19 @@ pub enum Request<'a> {
         file: &'a str,
         script: &'a str,
     },
-    /// print the script of a text in words.
-    Script {
-        file: &'a str,
-        text: &'a str,
-    },
     /// Play the scenarios of the arguments on the line, and judge them.
     Test {
         file: &'a str,
-    },
-    /// Run the script on the line, with drawn deliveries after each event.
-    Storm {
-        file: &'a str,
-        script: &'a str,
-        seed: u64,
     },
     /// Run trains on the line of this file, or on a built-in line.
     Demo {
         file: Option<&'a str>,
         settings: Settings,
     },
-    /// Print the run of the journals in the folder.
-    Print {
+    /// Do a task on the line of this file.
+    OnLine {
         file: &'a str,
-        listing: Listing<'a>,
-    },
-    /// Run the events of a print or of journals again, and compare its lines or their stamps with the run.
-    Audit {
-        file: &'a str,
-        printed: &'a str,
-    },
-    /// Find the first event of a print after which the promise to the world outside is broken.
-    Watch {
-        file: &'a str,
-        printed: &'a str,
+        task: Task<'a>,
     },
     /// Run the centres of the line: the first listens at this port, the others at the ports after it.
     Serve {
@@ -103,24 +81,38 @@ pub enum Request<'a> {
     Message {
         digits: &'a str,
     },
-    /// Put a print of `run`, or the journals in a folder, into words.
-    Printed {
-        file: &'a str,
-        listing: Listing<'a>,
+}
+
+/// A task on a line. A print is a file of this name, or the journals in a folder of this name.
+#[derive(Clone, Copy)]
+pub enum Task<'a> {
+    /// Print the script of this text in words.
+    Script(&'a str),
+    /// Run the script, with drawn deliveries after each event.
+    Storm {
+        script: &'a str,
+        seed: u64,
     },
-    /// Draw this part of a print of `run`, or of the journals in a folder.
-    Picture {
-        file: &'a str,
+    /// Print the run of the journals in the folder.
+    Print(Listing<'a>),
+    /// Run the events of a print again, and compare its lines, or the stamps of journals, with the run.
+    Audit(&'a str),
+    /// Find the first event of a print after which the promise to the world outside is broken.
+    Watch(&'a str),
+    /// Put a print into words.
+    Words(Listing<'a>),
+    /// Draw a part of a print.
+    Picture(Drawing<'a>),
+    /// Make a capture of a print.
+    Capture {
         printed: &'a str,
-        cut: Cut,
-        is_html: bool,
+        /// The port of the first centre.
+        first_port: u16,
     },
-    /// Make a capture of a print of `run`, or of the journals in a folder.
-    Capture(Capturing<'a>),
 }
 
 /// A print that is shown line by line.
-#[derive(Clone, Copy, Debug)]
+#[derive(Clone, Copy)]
 pub struct Listing<'a> {
     /// The name of its file, or of the folder of its journals.
     pub name: &'a str,
@@ -135,15 +127,17 @@ pub struct Listing<'a> {
 impl Listing<'_> {
     /// Whether all events are shown, as they are.
     pub(crate) fn is_plain(&self) -> bool {
-        !self.is_numbered
-            && !self.is_timed
-            && self.range.since_ms.is_none()
-            && self.range.until_ms.is_none()
+        !self.is_numbered && !self.needs_times()
+    }
+
+    /// Whether the times of events are needed.
+    pub(crate) fn needs_times(&self) -> bool {
+        self.is_timed || self.range.since_ms.is_some() || self.range.until_ms.is_some()
     }
 }
 
 /// A range of time, in milliseconds since 1970 in UTC.
-#[derive(Clone, Copy, Debug)]
+#[derive(Clone, Copy)]
 pub struct TimeRange {
     /// Its beginning, if it has one.
     pub since_ms: Option<u64>,
@@ -202,7 +196,7 @@ pub struct ServeWords<'a> {
 }
 
 /// The endpoint and the options of `tell`.
-#[derive(Clone, Copy, Debug)]
+#[derive(Clone, Copy)]
 pub struct TellWords<'a> {
     /// The endpoint's port, or the path of its socket.
     pub endpoint: &'a str,
@@ -211,7 +205,7 @@ pub struct TellWords<'a> {
 }
 
 /// The options of `trains` besides the line and the port.
-#[derive(Clone, Copy, Debug)]
+#[derive(Clone, Copy)]
 pub struct TrainsWords {
     /// The most trains, if it is given.
     pub trains: Option<u8>,

@@ -1,34 +1,40 @@
 //! Scripts in words, and scenarios that are judged.
 
 use crate::files::Files;
+use crate::output::{flushed, write_whole};
 use crate::run::line_in;
 use rbc_line::Line;
 use std::alloc::{AllocError, Global};
 use std::convert::AsStr;
-use std::io::{BufWriter, Write};
+use std::io::Write;
 use text_scenario::{ScriptFault, print_script, test_scenario};
 use text_script::status::Fault;
 
 /// Prints the script of a text in words. The reason why a line is refused is reported to `err`.
 pub fn script_in_words<'a, F: Files, O: Write, E: Write>(
     alloc: Global,
-    file: &'a str,
+    line: &Line,
     name: &'a str,
     files: &F,
     out: &mut O,
     err: &mut E,
 ) -> Result<(), Fault<'a>> {
-    let line = line_in(alloc, file, files)?;
-    let Some(text) = files.text(name) else {
-        return Err(Fault::CannotRead(name));
-    };
+    match files.text(name) {
+        Some(text) => text_in_words(alloc, line, text.as_str(), out, err),
+        None => Err(Fault::CannotRead(name)),
+    }
+}
+
+fn text_in_words<O: Write, E: Write>(
+    alloc: Global,
+    line: &Line,
+    text: &str,
+    out: &mut O,
+    err: &mut E,
+) -> Result<(), Fault<'static>> {
     let mut script = Vec::new(alloc);
-    match print_script(alloc, &mut script, &line, text.as_str()) {
-        Ok(()) => {
-            out.write_all(&script)?;
-            out.flush()?;
-            Ok(())
-        }
+    match print_script(alloc, &mut script, line, text) {
+        Ok(()) => Ok(write_whole(out, &script)?),
         Err(ScriptFault::Print(fault)) => Err(fault.into()),
         Err(ScriptFault::Row(row, fault)) => {
             writeln!(err, "line {row}: {fault}")?;
@@ -46,12 +52,8 @@ pub fn test<'a, S: AsStr, F: Files, O: Write>(
     out: &mut O,
 ) -> Result<(), Fault<'a>> {
     let line = line_in(alloc, file, files)?;
-    let Ok(mut out) = BufWriter::new(alloc, out) else {
-        return Err(AllocError.into());
-    };
-    let done = test_each(alloc, &line, words, files, &mut out);
-    out.flush()?;
-    done
+    let done = test_each(alloc, &line, words, files, out);
+    flushed(out, done)
 }
 
 // The names of files in the arguments: the line file, and the scenarios after it.
@@ -66,6 +68,19 @@ fn names_of<S: AsStr>(alloc: Global, words: &[S]) -> Result<Vec<&str>, AllocErro
     Ok(names)
 }
 
+fn test_one<'a, F: Files, W: Write>(
+    alloc: Global,
+    line: &Line,
+    name: &'a str,
+    files: &F,
+    out: &mut W,
+) -> Result<bool, Fault<'a>> {
+    match files.text(name) {
+        Some(text) => Ok(test_scenario(alloc, out, line, name, text.as_str())?),
+        None => Err(Fault::CannotRead(name)),
+    }
+}
+
 // Plays the scenarios that the arguments name.
 fn test_each<'a, S: AsStr, F: Files, W: Write>(
     alloc: Global,
@@ -77,11 +92,7 @@ fn test_each<'a, S: AsStr, F: Files, W: Write>(
     let mut passed = 0u32;
     let mut failed = 0u32;
     for name in names_of(alloc, words)?.iter().skip(1) {
-        let name = *name;
-        let Some(text) = files.text(name) else {
-            return Err(Fault::CannotRead(name));
-        };
-        if test_scenario(alloc, out, line, name, text.as_str())? {
+        if test_one(alloc, line, name, files, out)? {
             passed = passed.saturating_add(1);
         } else {
             failed = failed.saturating_add(1);

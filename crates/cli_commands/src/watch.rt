@@ -1,7 +1,8 @@
 //! Watches a print of any centres: whether trains were in danger after one of its events.
 
 use crate::files::{Files, Rows};
-use crate::line_file::line_file_in;
+use crate::line_file::LineFile;
+use crate::output::tell;
 use crate::printed::printed_in;
 use crate::script_faults::row_fault;
 use rbc_line::Line;
@@ -17,24 +18,36 @@ use text_script::status::Fault;
 /// whether an event is in the print.
 pub fn watch_printed<'a, F: Files, O: Write, E: Write>(
     alloc: Global,
-    file: &'a str,
+    given: &LineFile,
     printed: &'a str,
     files: &F,
     out: &mut O,
     err: &mut E,
 ) -> Result<bool, Fault<'a>> {
-    let given = line_file_in(alloc, file, files)?;
     let mut watched = Watched::new(alloc, &given.line)?;
+    match watch_rows(alloc, given, printed, files, &mut watched) {
+        Ok(()) => report(&watched, printed, out, err),
+        Err(fault) => Err(fault),
+    }
+}
+
+fn watch_rows<'a, F: Files>(
+    alloc: Global,
+    given: &LineFile,
+    printed: &'a str,
+    files: &F,
+    watched: &mut Watched<'_>,
+) -> Result<(), Fault<'a>> {
     if files.is_folder(printed) {
-        let text = printed_in(alloc, &given, printed, files)?;
+        let text = printed_in(alloc, given, printed, files)?;
         for row in text.as_str().lines() {
             watched.row(row);
         }
-    } else if files.each_row(alloc, printed, &mut watched).is_none() {
+    } else if files.each_row(alloc, printed, watched).is_none() {
         return Err(Fault::CannotRead(printed));
     }
     watched.end();
-    report(&watched, printed, out, err)
+    Ok(())
 }
 
 // Prints the end of the monitor.
@@ -47,14 +60,13 @@ fn report<'a, O: Write, E: Write>(
     let events = watched.events;
     match &watched.ending {
         None => {
-            writeln!(out, "{events} events: safe to the outside")?;
-            out.flush()?;
+            tell(out, format_args!("{events} events: safe to the outside"))?;
             Ok(events > 0)
         }
         Some(Ending::Danger(danger)) => {
             let row = watched.begun;
-            writeln!(out, "line {row}, event {events}: {}", InWords(*danger))?;
-            out.flush()?;
+            let danger = InWords(*danger);
+            tell(out, format_args!("line {row}, event {events}: {danger}"))?;
             Err(Fault::Differs)
         }
         Some(Ending::Row(cause)) => {
@@ -138,27 +150,29 @@ impl<'a> Watched<'a> {
         if self.ending.is_some() {
             return;
         }
-        if let Some(exchange) = self.reader.end()
-            && let Err(ending) = self.take(&exchange)
-        {
+        let last = self.reader.end();
+        if let Err(ending) = self.take(&last) {
             self.ending = Some(ending);
         }
     }
 
     // Reads a line. If an event is complete before it, the monitor takes that.
     fn read(&mut self, row: &str) -> Result<(), Ending> {
-        match self.reader.row(row) {
-            Ok(Some(exchange)) => self.take(&exchange)?,
-            Ok(None) => {}
-            Err(fault) => return Err(cause_of(self.alloc, self.line, row, fault)?),
-        }
-        if row.starts_with("> ") {
+        let taken = match self.reader.row(row) {
+            Ok(exchange) => self.take(&exchange),
+            Err(fault) => Err(cause_of(self.alloc, self.line, row, fault)?),
+        };
+        if taken.is_ok() && row.starts_with("> ") {
             self.begun = self.rows;
         }
-        Ok(())
+        taken
     }
 
-    fn take(&mut self, exchange: &Exchange) -> Result<(), Ending> {
+    // Takes an event, if one is complete.
+    fn take(&mut self, exchange: &Option<Exchange>) -> Result<(), Ending> {
+        let Some(exchange) = exchange else {
+            return Ok(());
+        };
         self.events = self.events.saturating_add(1);
         if let Some(watch) = self.watch.take() {
             self.watch = Some(watch.next(exchange)?);
@@ -181,7 +195,7 @@ fn cause_of(alloc: Global, line: &Line, row: &str, fault: RowFault) -> Result<En
 }
 
 /// A danger in words.
-#[derive(Clone, Copy, Debug)]
+#[derive(Clone, Copy)]
 struct InWords(Danger);
 
 impl fmt::Display for InWords {

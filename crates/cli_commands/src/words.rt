@@ -1,9 +1,9 @@
 use crate::decode::Decoding;
-use crate::forms::rbcline;
-use crate::numbers::signed_number;
-use crate::pcap::Capturing;
+use crate::diagram::Drawing;
+use crate::matching::matched;
 pub use crate::requests::{
-    JournalStart, JournalWords, Listing, Request, ServeWords, TellWords, TimeRange, TrainsWords,
+    JournalStart, JournalWords, Listing, Request, ServeWords, Task, TellWords, TimeRange,
+    TrainsWords,
 };
 use clap::error::ErrorKind;
 use clap::{ArgMatches, Error};
@@ -11,26 +11,34 @@ use cli_demo::Settings;
 use jiff::Timestamp;
 use std::alloc::{AllocError, Global};
 use std::convert::AsStr;
-use std::net::IpAddr;
 use text_replay::Cut;
 use text_script::status::Fault;
 
 /// Reads the arguments after the program's name. If they are refused, the fault has the reason, or help.
 pub fn requested<'a, S: AsStr>(alloc: Global, words: &'a [S]) -> Result<Request<'a>, Fault<'a>> {
-    let matches = match matched(alloc, words) {
-        Ok(matches) => matches,
-        Err(error) if error.kind() == ErrorKind::OutOfMemory => return Err(AllocError.into()),
-        Err(error) if error.kind() == ErrorKind::DisplayVersion => return Ok(Request::Version),
-        Err(error) => return Err(Fault::Usage(error)),
-    };
-    named(&matches).ok_or(Fault::Words)
+    match matched(alloc, words) {
+        Ok(matches) => named(&matches).ok_or(Fault::Words),
+        Err(error) => unmatched(error),
+    }
+}
+
+fn unmatched<'a>(error: Error) -> Result<Request<'a>, Fault<'a>> {
+    match error.kind() {
+        ErrorKind::OutOfMemory => Err(AllocError.into()),
+        ErrorKind::DisplayVersion => Ok(Request::Version),
+        _ => Err(Fault::Usage(error)),
+    }
 }
 
 /// The lines of `tell` in its arguments; none if they are on standard input.
 pub fn lines_of<'a, S: AsStr>(alloc: Global, words: &'a [S]) -> Result<Vec<&'a str>, Fault<'a>> {
-    let Ok(matches) = matched(alloc, words) else {
-        return Err(Fault::Words);
-    };
+    match matched(alloc, words) {
+        Ok(matches) => given_lines(alloc, &matches),
+        Err(_) => Err(Fault::Words),
+    }
+}
+
+fn given_lines<'a>(alloc: Global, matches: &ArgMatches<'a>) -> Result<Vec<&'a str>, Fault<'a>> {
     let mut lines = Vec::new(alloc);
     if let Some((_, words)) = matches.subcommand()
         && let Some(given) = words.get_strs("LINE")
@@ -38,50 +46,6 @@ pub fn lines_of<'a, S: AsStr>(alloc: Global, words: &'a [S]) -> Result<Vec<&'a s
         lines.extend_from_slice(given)?;
     }
     Ok(lines)
-}
-
-// The arguments, by the table of the commands. A number with a plus sign is refused, and a wrong address.
-fn matched<'a, S: AsStr>(alloc: Global, words: &'a [S]) -> Result<ArgMatches<'a>, Error> {
-    let matches = rbcline(alloc)?.try_get_matches_from(words)?;
-    if let Some((name, word)) = signed_number(&matches) {
-        let reason = format!(in alloc;
-            "invalid value '{word}' for '{name}': a number has no sign"
-        )?;
-        return Err(rbcline(alloc)?.error(ErrorKind::ValueValidation, reason.as_str())?);
-    }
-    if let Some((word, name, form)) = wrong_value(&matches) {
-        let reason = format!(in alloc; "invalid value '{word}' for '{name}': it is not {form}")?;
-        return Err(rbcline(alloc)?.error(ErrorKind::ValueValidation, reason.as_str())?);
-    }
-    Ok(matches)
-}
-
-// The forms of values that are neither numbers nor free words.
-const ADDRESS: &str = "an address of IPv4 or IPv6, as 192.0.2.1";
-const TIME: &str = "a time with its zone, as 2026-11-29T08:00:00Z";
-
-// The first value of `--address`, `--since` or `--until` that is not of its form, with its option and the form.
-fn wrong_value<'a>(matches: &ArgMatches<'a>) -> Option<(&'a str, &'static str, &'static str)> {
-    let (_, words) = matches.subcommand()?;
-    if let Some(word) = words.get_str("address")
-        && word.parse::<IpAddr>().is_err()
-    {
-        return Some((word, "--address <ADDRESS>", ADDRESS));
-    }
-    if let Some(word) = wrong_time(words, "since") {
-        return Some((word, "--since <TIME>", TIME));
-    }
-    let word = wrong_time(words, "until")?;
-    Some((word, "--until <TIME>", TIME))
-}
-
-// The value of the option of this name, if it is not a time.
-fn wrong_time<'a>(words: &ArgMatches<'a>, name: &str) -> Option<&'a str> {
-    let word = words.get_str(name)?;
-    match word.parse::<Timestamp>() {
-        Ok(_) => None,
-        Err(_) => Some(word),
-    }
 }
 
 // The request of matched arguments. It is there: each required argument has a value, and each number is in its range.
@@ -100,6 +64,13 @@ fn named<'a>(matches: &ArgMatches<'a>) -> Option<Request<'a>> {
     }
 }
 
+fn named_words<'a>(words: &ArgMatches<'a>) -> Option<Request<'a>> {
+    match words.get_str("message") {
+        Some(digits) => Some(Request::Message { digits }),
+        None => named_of_file("words", words),
+    }
+}
+
 fn named_of_file<'a>(command: &str, words: &ArgMatches<'a>) -> Option<Request<'a>> {
     let file = words.get_str("FILE")?;
     match command {
@@ -108,63 +79,47 @@ fn named_of_file<'a>(command: &str, words: &ArgMatches<'a>) -> Option<Request<'a
             file,
             script: words.get_str("SCRIPT"),
         }),
-        "run" => named_run(file, words),
-        "script" => named_script(file, words),
+        "run" => Some(Request::Run {
+            file,
+            script: words.get_str("SCRIPT")?,
+        }),
         "test" => Some(Request::Test { file }),
-        "storm" => named_storm(file, words),
-        "print" => named_print(file, words),
-        _ => named_of_print(command, file, words),
+        _ => Some(Request::OnLine {
+            file,
+            task: task_of(command, words)?,
+        }),
     }
 }
 
-fn named_run<'a>(file: &'a str, words: &ArgMatches<'a>) -> Option<Request<'a>> {
-    let script = words.get_str("SCRIPT")?;
-    Some(Request::Run { file, script })
+fn task_of<'a>(command: &str, words: &ArgMatches<'a>) -> Option<Task<'a>> {
+    match command {
+        "script" => Some(Task::Script(words.get_str("WORDS")?)),
+        "storm" => Some(Task::Storm {
+            script: words.get_str("SCRIPT")?,
+            seed: words.get_one("SEED")?,
+        }),
+        "print" => Some(Task::Print(listing_of(words, "FOLDER")?)),
+        "words" => Some(Task::Words(listing_of(words, "PRINTED")?)),
+        _ => task_on_print(command, words),
+    }
 }
 
-fn named_script<'a>(file: &'a str, words: &ArgMatches<'a>) -> Option<Request<'a>> {
-    let text = words.get_str("WORDS")?;
-    Some(Request::Script { file, text })
-}
-
-fn named_storm<'a>(file: &'a str, words: &ArgMatches<'a>) -> Option<Request<'a>> {
-    let script = words.get_str("SCRIPT")?;
-    let seed = words.get_one("SEED")?;
-    Some(Request::Storm { file, script, seed })
-}
-
-fn named_print<'a>(file: &'a str, words: &ArgMatches<'a>) -> Option<Request<'a>> {
-    let listing = listing_of(words, "FOLDER")?;
-    Some(Request::Print { file, listing })
-}
-
-fn named_of_print<'a>(command: &str, file: &'a str, words: &ArgMatches<'a>) -> Option<Request<'a>> {
+fn task_on_print<'a>(command: &str, words: &ArgMatches<'a>) -> Option<Task<'a>> {
     let printed = words.get_str("PRINTED")?;
     match command {
-        "audit" => Some(Request::Audit { file, printed }),
-        "watch" => Some(Request::Watch { file, printed }),
-        "picture" => Some(Request::Picture {
-            file,
+        "audit" => Some(Task::Audit(printed)),
+        "watch" => Some(Task::Watch(printed)),
+        "picture" => Some(Task::Picture(Drawing {
             printed,
             cut: cut_of(words),
             is_html: words.get_flag("html"),
-        }),
-        "pcap" => Some(Request::Capture(Capturing {
-            file,
+        })),
+        "pcap" => Some(Task::Capture {
             printed,
             first_port: words.get_one("port").unwrap_or(21_000),
-        })),
+        }),
         _ => None,
     }
-}
-
-fn named_words<'a>(words: &ArgMatches<'a>) -> Option<Request<'a>> {
-    if let Some(digits) = words.get_str("message") {
-        return Some(Request::Message { digits });
-    }
-    let file = words.get_str("FILE")?;
-    let listing = listing_of(words, "PRINTED")?;
-    Some(Request::Printed { file, listing })
 }
 
 fn listing_of<'a>(words: &ArgMatches<'a>, name: &str) -> Option<Listing<'a>> {
@@ -179,7 +134,7 @@ fn listing_of<'a>(words: &ArgMatches<'a>, name: &str) -> Option<Listing<'a>> {
     })
 }
 
-// The time of the option of this name. A time before 1970 is that of its beginning.
+// The time of the option of this name, in milliseconds since 1970. It is 0 for an earlier time.
 fn time_of(words: &ArgMatches<'_>, name: &str) -> Option<u64> {
     let time: Timestamp = words.get_str(name)?.parse().ok()?;
     Some(u64::try_from(time.as_millisecond()).unwrap_or(0))
@@ -277,29 +232,39 @@ fn named_tell<'a>(words: &ArgMatches<'a>) -> Option<Request<'a>> {
 
 fn named_demo<'a>(words: &ArgMatches<'a>) -> Request<'a> {
     let file = words.get_str("FILE");
-    if let Some(page) = words.get_one("page") {
-        return Request::LivePage {
+    match words.get_one("page") {
+        Some(page) => Request::LivePage {
             file,
             page,
-            words: TrainsWords {
-                trains: words.get_one("trains"),
-                loss: words.get_one("loss"),
-                late: None,
-                seed: words.get_one("seed"),
-                seconds: words.get_one("events"),
-                is_shut: false,
-            },
-        };
-    }
-    Request::Demo {
-        file,
-        settings: Settings {
-            trains: words.get_one("trains").unwrap_or(64),
-            loss: words.get_one("loss").unwrap_or(0),
-            seed: words.get_one("seed").unwrap_or(0),
-            events: words.get_one("events").unwrap_or(20_000),
-            is_script: words.get_flag("script"),
+            words: live_words(words),
         },
+        None => Request::Demo {
+            file,
+            settings: settings_of(words),
+        },
+    }
+}
+
+// The options of `demo --page`.
+fn live_words(words: &ArgMatches<'_>) -> TrainsWords {
+    TrainsWords {
+        trains: words.get_one("trains"),
+        loss: words.get_one("loss"),
+        late: None,
+        seed: words.get_one("seed"),
+        seconds: words.get_one("events"),
+        is_shut: false,
+    }
+}
+
+// The options of `demo` without `--page`.
+fn settings_of(words: &ArgMatches<'_>) -> Settings {
+    Settings {
+        trains: words.get_one("trains").unwrap_or(64),
+        loss: words.get_one("loss").unwrap_or(0),
+        seed: words.get_one("seed").unwrap_or(0),
+        events: words.get_one("events").unwrap_or(20_000),
+        is_script: words.get_flag("script"),
     }
 }
 

@@ -46,21 +46,22 @@ pub fn print_bytes<W: Write>(
 ) -> Result<(), EncodeFault> {
     let objects = objects_in(alloc, text)?;
     let mut whole = Whole::new(alloc, is_frame);
-    for (row, object) in &objects {
-        let row = *row;
+    print_objects(&objects, &mut whole, out)
+}
+
+fn print_objects<'a, W: Write>(
+    objects: &'a [(usize, Value)],
+    whole: &mut Whole<'a>,
+    out: &mut W,
+) -> Result<(), EncodeFault> {
+    for (row, object) in objects {
         let Some((message, written)) = field_in(object) else {
-            let words = format!(in alloc;
+            let words = format!(in whole.alloc;
                 "name, value, from and to are wanted, as decode --json prints them"
             )?;
-            return Err(EncodeFault::Line(row, words));
+            return Err(EncodeFault::Line(*row, words));
         };
-        if whole.message != message {
-            whole.print(out)?;
-            whole = Whole::new(alloc, is_frame);
-            whole.message = message;
-        }
-        whole.rows.push(row)?;
-        whole.written.push(written)?;
+        whole.add(*row, message, written, out)?;
     }
     whole.print(out)
 }
@@ -74,19 +75,23 @@ fn objects_in(alloc: Global, text: &str) -> Result<Vec<(usize, Value)>, EncodeFa
         if line.trim().is_empty() {
             continue;
         }
-        let object = match Value::from_str(alloc, line) {
-            Ok(object) => object,
-            Err(fault) if fault.is_memory() => return Err(EncodeFault::Memory),
-            Err(_) => {
-                let words = format!(in alloc; "this is not a JSON object in a line")?;
-                return Err(EncodeFault::Line(row, words));
-            }
-        };
+        let object = object_in(alloc, row, line)?;
         if object.get("fault").is_none() {
             objects.push((row, object))?;
         }
     }
     Ok(objects)
+}
+
+fn object_in(alloc: Global, row: usize, line: &str) -> Result<Value, EncodeFault> {
+    match Value::from_str(alloc, line) {
+        Ok(object) => Ok(object),
+        Err(fault) if fault.is_memory() => Err(EncodeFault::Memory),
+        Err(_) => {
+            let words = format!(in alloc; "this is not a JSON object in a line")?;
+            Err(EncodeFault::Line(row, words))
+        }
+    }
 }
 
 // The number of the message, and the field that an object is.
@@ -125,6 +130,25 @@ impl<'a> Whole<'a> {
         }
     }
 
+    // Adds the field of a line. A field of another message comes after the print of this one.
+    fn add<W: Write>(
+        &mut self,
+        row: usize,
+        message: u64,
+        written: Written<'a>,
+        out: &mut W,
+    ) -> Result<(), EncodeFault> {
+        if self.message != message {
+            self.print(out)?;
+            self.rows.clear();
+            self.written.clear();
+            self.message = message;
+        }
+        self.rows.push(row)?;
+        self.written.push(written)?;
+        Ok(())
+    }
+
     // Prints the bytes, if it has a field.
     fn print<W: Write>(&self, out: &mut W) -> Result<(), EncodeFault> {
         if self.written.is_empty() {
@@ -136,12 +160,7 @@ impl<'a> Whole<'a> {
             message_of(self.alloc, &self.written)
         };
         match done {
-            Ok(bytes) => {
-                let digits = hex::encode_upper(self.alloc, &bytes)?;
-                writeln!(out, "{digits}")?;
-                out.flush()?;
-                Ok(())
-            }
+            Ok(bytes) => print_digits(self.alloc, &bytes, out),
             Err(fault) => Err(self.fault_of(fault)),
         }
     }
@@ -158,24 +177,24 @@ impl<'a> Whole<'a> {
         let row = self.rows.get(place).copied().unwrap_or(0);
         match self.words_of(fault, place) {
             Ok(words) => EncodeFault::Line(row, words),
-            Err(fault) => fault,
+            Err(fault) => fault.into(),
         }
     }
 
     // The words of a fault at the field of this place.
-    fn words_of(&self, fault: WrittenFault, place: usize) -> Result<String, EncodeFault> {
+    fn words_of(&self, fault: WrittenFault, place: usize) -> Result<String, AllocError> {
         let alloc = self.alloc;
         let Some(written) = self.written.get(place).copied() else {
             return Ok(String::new(alloc));
         };
         match fault {
-            WrittenFault::Memory => Err(EncodeFault::Memory),
+            WrittenFault::Memory => Err(AllocError),
             WrittenFault::Room(_) => no_room(alloc, written),
             WrittenFault::Long => {
-                let words = format!(in alloc;
-                    "more than 1023 bytes: no message or frame is as long"
-                )?;
-                Ok(words)
+                String::from_str(
+                    alloc,
+                    "more than 1023 bytes: no message or frame is as long",
+                )
             }
             WrittenFault::Other(at, shown) if at > place => missing(alloc, shown),
             WrittenFault::Other(_, shown) => other(alloc, written, shown),
@@ -183,39 +202,42 @@ impl<'a> Whole<'a> {
     }
 }
 
+// Prints bytes on a line.
+fn print_digits<W: Write>(alloc: Global, bytes: &[u8], out: &mut W) -> Result<(), EncodeFault> {
+    let digits = hex::encode_upper(alloc, bytes)?;
+    writeln!(out, "{digits}")?;
+    Ok(out.flush()?)
+}
+
 // The words for a value without room.
-fn no_room(alloc: Global, written: Written) -> Result<String, EncodeFault> {
+fn no_room(alloc: Global, written: Written) -> Result<String, AllocError> {
     let Written { name, width, value } = written;
     if width > 64 {
-        let words = format!(in alloc; "{name} of {width} bits: a field has 1 to 64 bits")?;
-        return Ok(words);
+        return format!(in alloc; "{name} of {width} bits: a field has 1 to 64 bits");
     }
     let greatest = u64::MAX >> (64 - width).min(63);
-    let words = format!(in alloc; "{name} {value}: {width} bits have the values 0 to {greatest}")?;
-    Ok(words)
+    format!(in alloc; "{name} {value}: {width} bits have the values 0 to {greatest}")
 }
 
 // The words for a field that is missing after the last one.
-fn missing(alloc: Global, shown: Option<Shown>) -> Result<String, EncodeFault> {
+fn missing(alloc: Global, shown: Option<Shown>) -> Result<String, AllocError> {
     let Some(shown) = shown else {
         return Ok(String::new(alloc));
     };
     let name = shown.field.name;
     let width = shown.width;
-    let words = format!(in alloc; "{name} is missing after this field: {width} bits")?;
-    Ok(words)
+    format!(in alloc; "{name} is missing after this field: {width} bits")
 }
 
 // The words for a field in place of another.
-fn other(alloc: Global, written: Written, shown: Option<Shown>) -> Result<String, EncodeFault> {
+fn other(alloc: Global, written: Written, shown: Option<Shown>) -> Result<String, AllocError> {
     let Written { name, width, .. } = written;
-    let words = match shown {
+    match shown {
         Some(shown) => {
             let there = shown.field.name;
             let bits = shown.width;
-            format!(in alloc; "{name} of {width} bits: {there} of {bits} bits has to be here")?
+            format!(in alloc; "{name} of {width} bits: {there} of {bits} bits has to be here")
         }
-        None => format!(in alloc; "{name} of {width} bits: no field is left here")?,
-    };
-    Ok(words)
+        None => format!(in alloc; "{name} of {width} bits: no field is left here"),
+    }
 }

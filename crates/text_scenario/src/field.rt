@@ -129,28 +129,29 @@ const PLACE: &str = "a position, as `101+600 m`: a balise group up to 16383, and
 // Reads `101+600 m`: a balise group of the line's country, and the distance from it.
 fn read_position<'a>(words: &mut Words<'_, 'a>, draft: &mut Draft) -> Result<(), RowFault<'a>> {
     let word = words.word(PLACE)?;
-    let (parts, side) = match word.split_once('+') {
-        Some(parts) => (Some(parts), Direction::Nominal),
-        None => (word.split_once('-'), Direction::Reverse),
-    };
-    let Some((group, distance)) = parts else {
+    let Some((group, distance, side)) = place_in(word) else {
         return Err(RowFault::Value(word, PLACE));
     };
-    let Some(group) = number_in(group) else {
-        return Err(RowFault::Value(word, PLACE));
-    };
-    let Some(distance) = decimetres_in(distance) else {
-        return Err(RowFault::Value(word, PLACE));
-    };
-    if group > 16_383 {
-        return Err(RowFault::Value(word, PLACE));
-    }
     words.takes("m");
     draft.report.nid_lrbg = group_of(words.line.nid_c(), group % 16_384);
     draft.report.distance = distance;
     draft.report.q_dlrbg = side;
     draft.has_position = true;
     Ok(())
+}
+
+// The balise group, the decimetres from it, and their side.
+fn place_in(word: &str) -> Option<(u32, u32, Direction)> {
+    let ((group, metres), side) = match word.split_once('+') {
+        Some(parts) => (parts, Direction::Nominal),
+        None => (word.split_once('-')?, Direction::Reverse),
+    };
+    let group = number_in(group)?;
+    let distance = decimetres_in(metres)?;
+    if group > 16_383 {
+        return None;
+    }
+    Some((group, distance, side))
 }
 
 // NID_LRBG of a balise group.

@@ -50,16 +50,26 @@ fn steps_of<'a>(
     let mut defaults = Defaults::new(alloc);
     for (k, row) in text.split('\n').enumerate() {
         let number = k.saturating_add(1);
-        let said = match said_in(alloc, line, &mut defaults, row) {
-            Ok(Some(said)) => said,
-            Ok(None) => continue,
-            Err(fault) => return Err((number, fault)),
-        };
-        if steps.push(Step { row: number, said }).is_err() {
-            return Err((number, RowFault::Memory));
+        if let Err(fault) = add_step(alloc, line, &mut defaults, (number, row), &mut steps) {
+            return Err((number, fault));
         }
     }
     Ok(steps)
+}
+
+// Reads a line, and adds its step if it has one.
+fn add_step<'a>(
+    alloc: Global,
+    line: &'a Line,
+    defaults: &mut Defaults,
+    numbered: (usize, &'a str),
+    steps: &mut Vec<Step>,
+) -> Result<(), RowFault<'a>> {
+    let (row, text) = numbered;
+    if let Some(said) = said_in(alloc, line, defaults, text)? {
+        steps.push(Step { row, said })?;
+    }
+    Ok(())
 }
 
 // Plays the lines from the beginning of the line's centres, and prints the difference.
@@ -78,15 +88,19 @@ fn test_steps<W: Write>(
         centre: 0,
         answer: Answer::nothing(),
     };
-    let verdict = play(alloc, &mut world, line, &mut last, steps)?;
-    let end = End {
-        alloc,
-        line,
-        steps,
-        world: &world,
-        last: &last,
-    };
-    end.report(out, scenario, verdict)
+    match play(alloc, &mut world, line, &mut last, steps) {
+        Ok(verdict) => {
+            let end = End {
+                alloc,
+                line,
+                steps,
+                world: &world,
+                last: &last,
+            };
+            end.report(out, scenario, verdict)
+        }
+        Err(fault) => Err(fault.into()),
+    }
 }
 
 /// The centres at the end of a trial, and the lines that it played.
@@ -133,23 +147,25 @@ impl End<'_> {
 
     // Prints that answer as `run` does.
     fn print_answered(self, came: &mut Vec<u8>, k: usize) -> Result<(), PrintFault> {
-        let line = self.line;
         match expected_at(self.steps, k) {
             Some(Expectation::Section { section, .. }) => {
-                let view = self.world.view(self.alloc)?;
-                print_use(came, line, &view, section)
+                print_use(came, self.line, &self.world.view(self.alloc)?, section)
             }
             Some(Expectation::Train { nid_engine, .. }) => {
-                let view = self.world.view(self.alloc)?;
-                print_supervisor(came, line, &view, nid_engine)
+                print_supervisor(came, self.line, &self.world.view(self.alloc)?, nid_engine)
             }
-            _ => match last_event(self.steps, k) {
-                Some(event) => print_answer(self.alloc, came, line, event, &self.last.answer),
-                None => {
-                    writeln!(came, "no event")?;
-                    Ok(())
-                }
-            },
+            _ => self.print_last(came, k),
+        }
+    }
+
+    // Prints the answer to the last event before place k.
+    fn print_last(self, came: &mut Vec<u8>, k: usize) -> Result<(), PrintFault> {
+        match last_event(self.steps, k) {
+            Some(event) => print_answer(self.alloc, came, self.line, event, &self.last.answer),
+            None => {
+                writeln!(came, "no event")?;
+                Ok(())
+            }
         }
     }
 }

@@ -36,11 +36,12 @@ pub fn print_script<'a, W: Write>(
     let mut defaults = Defaults::new(alloc);
     let text = text.strip_suffix('\n').unwrap_or(text);
     for (k, row) in text.split('\n').enumerate() {
-        match said_in(alloc, line, &mut defaults, row) {
-            Ok(said) => print_said(alloc, out, line, row, &said)?,
-            Err(RowFault::Memory) => return Err(ScriptFault::Print(PrintFault::Memory)),
+        let printed = match said_in(alloc, line, &mut defaults, row) {
+            Ok(said) => print_said(alloc, out, line, row, &said),
+            Err(RowFault::Memory) => Err(PrintFault::Memory),
             Err(fault) => return Err(ScriptFault::Row(k.saturating_add(1), fault)),
-        }
+        };
+        printed?;
     }
     Ok(())
 }

@@ -4,7 +4,7 @@ use crate::expectation::Expectation;
 use crate::expecting::read_expectation;
 use crate::known::Defaults;
 use crate::row_fault::RowFault;
-use crate::sending::read_sending;
+use crate::sending::{Sending, read_sending};
 use crate::words::{Words, words_of};
 use rbc_line::Line;
 use rbc_world::WorldEvent;
@@ -49,28 +49,38 @@ pub fn said_in<'a>(
         return Ok(None);
     }
     match entry_of(alloc, line, row) {
-        Ok(entry) => return Ok(Some(Said::Entry(entry))),
-        Err(EntryFault::Memory) => return Err(RowFault::Memory),
-        Err(EntryFault::Form) => {}
+        Ok(entry) => Ok(Some(Said::Entry(entry))),
+        Err(EntryFault::Memory) => Err(RowFault::Memory),
+        Err(EntryFault::Form) => {
+            let rest = words.as_slice();
+            read_all(Words { alloc, line, rest }, defaults)
+        }
     }
-    let mut words = Words {
-        alloc,
-        line,
-        rest: words.as_slice(),
-    };
+}
+
+fn read_all<'a>(
+    mut words: Words<'_, 'a>,
+    defaults: &mut Defaults,
+) -> Result<Option<Said>, RowFault<'a>> {
     let said = read_said(&mut words, defaults)?;
-    words.end()?;
-    Ok(Some(said))
+    match words.end() {
+        Ok(()) => Ok(Some(said)),
+        Err(fault) => Err(fault),
+    }
 }
 
 fn read_said<'a>(words: &mut Words<'_, 'a>, defaults: &mut Defaults) -> Result<Said, RowFault<'a>> {
-    Ok(match words.one_of("an event", &VERBS)? {
-        Verb::Train => Said::Entry(Entry::Event(read_train(words, defaults)?)),
-        Verb::Interlocking => Said::Entry(Entry::Event(read_interlocking(words)?)),
-        Verb::Deliver => Said::Entry(Entry::Event(read_delivery(words, defaults)?)),
-        Verb::Expect => Said::Expect(read_expectation(words)?),
-        Verb::Show => Said::Entry(Entry::Show),
-    })
+    let event = match words.one_of("an event", &VERBS)? {
+        Verb::Train => read_train(words, defaults),
+        Verb::Interlocking => read_interlocking(words),
+        Verb::Deliver => read_delivery(words, defaults),
+        Verb::Expect => return Ok(Said::Expect(read_expectation(words)?)),
+        Verb::Show => return Ok(Said::Entry(Entry::Show)),
+    };
+    match event {
+        Ok(event) => Ok(Said::Entry(Entry::Event(event))),
+        Err(fault) => Err(fault),
+    }
 }
 
 fn read_train<'a>(
@@ -80,9 +90,13 @@ fn read_train<'a>(
     let nid_engine = words.engine()?;
     let known = defaults.known(nid_engine);
     match read_sending(words, nid_engine, &known) {
-        Ok(sending) => Ok(defaults.send(&sending.sent, sending.t_train)?),
+        Ok(sending) => send(&sending, defaults),
         Err(fault) => Err(fault),
     }
+}
+
+fn send<'a>(sending: &Sending, defaults: &mut Defaults) -> Result<WorldEvent, RowFault<'a>> {
+    Ok(defaults.send(&sending.sent, sending.t_train)?)
 }
 
 static ACTS: [(&str, bool); 2] = [("release", true), ("take back", false)];

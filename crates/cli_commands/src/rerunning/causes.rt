@@ -19,27 +19,37 @@ pub fn with_causes(alloc: Global, line: &Line, entries: Vec<Entry>) -> Result<Ca
 }
 
 fn keep_caused(alloc: Global, world: &mut World, entries: Vec<Entry>) -> Result<Caused, StepFault> {
-    let mut cut: Vec<u8> = Vec::new(alloc);
-    let mut kept = Vec::new(alloc);
-    let mut left_out = 0usize;
+    let mut caused = Caused {
+        entries: Vec::new(alloc),
+        left_out: 0,
+    };
+    let mut cut = Vec::new(alloc);
     let mut answer = Answer::nothing();
     for entry in entries {
-        let centre = entry.centre();
-        if cut.contains(&centre) {
-            left_out = left_out.saturating_add(1);
-            continue;
-        }
-        world.step_to(&entry.event, &mut answer)?;
-        match &answer {
-            Answer::NotSent => {
-                cut.push(centre)?;
-                left_out = left_out.saturating_add(1);
-            }
-            Answer::Outcome(_) | Answer::NoCentre | Answer::Fault(_) => kept.push(entry)?,
-        }
+        keep_one(&mut caused, &mut cut, world, &mut answer, entry)?;
     }
-    Ok(Caused {
-        entries: kept,
-        left_out,
-    })
+    Ok(caused)
+}
+
+// Keeps an entry, or leaves it out: its frame was not sent, or its journal is cut before it.
+fn keep_one(
+    caused: &mut Caused,
+    cut: &mut Vec<u8>,
+    world: &mut World,
+    answer: &mut Answer,
+    entry: Entry,
+) -> Result<(), StepFault> {
+    let centre = entry.centre();
+    if cut.contains(&centre) {
+        caused.left_out = caused.left_out.saturating_add(1);
+        return Ok(());
+    }
+    world.step_to(&entry.event, answer)?;
+    if let Answer::NotSent = answer {
+        cut.push(centre)?;
+        caused.left_out = caused.left_out.saturating_add(1);
+    } else {
+        caused.entries.push(entry)?;
+    }
+    Ok(())
 }

@@ -3,7 +3,7 @@ use text_script::StepFault;
 use text_script::status::PrintFault;
 
 /// Why the print of journals is not complete.
-#[derive(Debug, Drop)]
+#[derive(Clone, Copy)]
 pub enum RerunFault {
     /// The entries are not a run of the line: the place of the first unfit one. Nothing is written.
     Unfit(Place),

@@ -2,7 +2,7 @@ use text_journal::Entry;
 use text_script::{Answer, WorldEvent};
 
 /// The place of an unfit entry: the centre of its journal, and its line in that journal, from 1.
-#[derive(Clone, Copy, Debug, PartialEq, Eq)]
+#[derive(Clone, Copy)]
 pub struct Place {
     pub centre: u8,
     pub row: usize,
