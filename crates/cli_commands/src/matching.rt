@@ -15,8 +15,8 @@ const ADDRESS: &str = "an address of IPv4 or IPv6, as 192.0.2.1";
 /// The form of a time.
 const TIME: &str = "a time with its zone, as 2026-11-29T08:00:00Z";
 
-/// The arguments, by the table of the commands. A number with a plus sign is refused. So are a wrong address and a wrong
-/// time.
+/// The arguments, by the table of the commands. Refused are a number with a plus sign, a wrong
+/// address and a wrong time.
 pub fn matched<'a, S: AsStr>(alloc: Global, words: &'a [S]) -> Result<ArgMatches<'a>, Error> {
     let matches = rbcline(alloc)?.try_get_matches_from(words)?;
     match test_values(alloc, &matches) {

@@ -91,7 +91,11 @@ static TIMES: [(&str, &str, &str); 2] = [
         "TIME",
         "Print only events of journals from this time on, such as 2026-11-29T08:00:00Z",
     ),
-    ("until", "TIME", "Print only events of journals before this time"),
+    (
+        "until",
+        "TIME",
+        "Print only events of journals before this time",
+    ),
 ];
 
 // The options of `pcap`.

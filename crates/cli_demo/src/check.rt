@@ -42,10 +42,8 @@ fn are_on_released(sections: &[Section], released: &[bool], trains: &[Ends]) -> 
     ensures { result ≡ are_on_released sections.now released.now trains.now }
 {
     sections.len() <= released.len()
-        && sections
-            .iter()
-            .zip(released.iter())
-            .all(|(section, is_released)| *is_released || !is_taken(section, trains))
+        && sections.iter().zip(released.iter()).all(|(section, is_released)| *is_released
+            || !is_taken(section, trains))
 }
 
 // Whether one of these trains is on the section.

@@ -85,13 +85,7 @@ fn serve_noted<
     let (listening, socket, page) = endpoints.all();
     let endpoints = endpoints_of(alloc, line, &nodes, listening, socket)?;
     let page = match page {
-        Some(port) => Some(PageEndpoint::new(
-            rt,
-            alloc,
-            (line, &nodes),
-            &endpoints,
-            port,
-        )?),
+        Some(port) => Some(PageEndpoint::new(rt, alloc, (line, &nodes), &endpoints, port)?),
         None => None,
     };
     let links = links_of(alloc, line, &nodes)?;

@@ -40,7 +40,10 @@ static DAMAGED: [(&str, usize); 15] = [
 fn the_first_damaged_line_is_told(rt: HostRuntime) -> Result<(), Fail> {
     for (others, line) in &DAMAGED {
         assert!(rt; damaged(rt.alloc(), FIRST, others)? == *line, "{others}");
-        assert!(rt; damaged(rt.alloc(), OLD_FIRST, others)? == *line, "{others}");
+        assert!(rt;
+            damaged(rt.alloc(), OLD_FIRST, others)? == *line,
+            "{others}"
+        );
     }
     Ok(())
 }

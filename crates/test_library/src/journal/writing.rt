@@ -8,6 +8,7 @@ use text_journal::{Entry, add_entry, first_line};
 
 // The start of 2026, and the millisecond before it.
 const NEW_YEAR: Option<u64> = Some(1_767_225_600_000);
+
 const BEFORE: Option<u64> = Some(1_767_225_599_999);
 
 // The bytes of a message that opens a session.
