@@ -46,10 +46,10 @@ impl<'a> Paper<'a> {
             bytes.push(cell.load(Ordering::SeqCst))?;
         }
         let text = std::str::from_utf8(&bytes).unwrap_or("");
-        let mut found = 0;
+        let mut found = 0usize;
         for (row, entry) in text.lines().zip(entries.iter()) {
             if is_line_of(row, entry) {
-                found += 1;
+                found = found.saturating_add(1);
             }
         }
         Ok(found == entries.len() && text.lines().count() == found)
