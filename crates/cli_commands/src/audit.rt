@@ -55,8 +55,11 @@ fn audit_journals<F: Files, O: Write>(
     files: &F,
     out: &mut O,
 ) -> Result<Option<Part>, Fault<'static>> {
-    let events = journals_in(alloc, given, folder, files)?;
-    audit_events(alloc, &given.line, &events, out)
+    match journals_in(alloc, given, folder, files) {
+        Ok(events) => audit_events(alloc, &given.line, &events, out),
+        Err(Fault::Unfit { journal, row }) => Err(differs(journal.as_str(), row, out)),
+        Err(fault) => Err(fault),
+    }
 }
 
 // Runs the events of journals, and compares each stamp with the run's answer.
@@ -76,10 +79,16 @@ fn audit_events<O: Write>(
         )?;
         return Ok(events.part());
     };
-    let row = place.row;
     let journal = file_name(alloc, line, place.centre)?;
-    tell(out, format_args!("audit: {journal} line {row} differs"))?;
-    Err(Fault::Differs)
+    Err(differs(journal.as_str(), place.row, out))
+}
+
+// Reports the first line of a journal that differs from the run. The result is the fault of that.
+fn differs<O: Write>(journal: &str, row: usize, out: &mut O) -> Fault<'static> {
+    match tell(out, format_args!("audit: {journal} line {row} differs")) {
+        Ok(()) => Fault::Differs,
+        Err(_) => Fault::Write,
+    }
 }
 
 /// An audit that receives the lines of a file.
