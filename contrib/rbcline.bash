@@ -12,12 +12,12 @@ _rbcline() {
         mapfile -t COMPREPLY < <(compgen -d -- "$word")
         return
         ;;
-    --trains | --loss | --seed | --events | --page | --page | --address | --rate | --burst | --timeout | --trains | --loss | --late | --seed | --seconds | --timeout | --message | --since | --until | --from | --to | --train | --port) return ;;
+    --trains | --loss | --seed | --events | --page | --page | --page-address | --address | --rate | --burst | --timeout | --trains | --loss | --late | --seed | --seconds | --timeout | --message | --since | --until | --from | --to | --train | --port) return ;;
     esac
     if [[ "$word" == --* ]]; then
         case "${COMP_WORDS[1]}" in
         demo) options+=" --script --trains --loss --seed --events --page" ;;
-        serve) options+=" --quiet --journald --tell --life --bind --no-sync --no-print --page --address --control --rate --burst --journal --resume --keep" ;;
+        serve) options+=" --quiet --journald --tell --life --bind --no-sync --no-print --page --page-address --address --control --rate --burst --journal --resume --keep" ;;
         drive) options+=" --timeout" ;;
         trains) options+=" --no-release --trains --loss --late --seed --seconds" ;;
         tell) options+=" --timeout" ;;

@@ -171,7 +171,7 @@ fn commands<'a>(alloc: Global) -> Result<Vec<Command<'a>>, AllocError> {
 }
 
 /// The version of the program.
-pub(crate) const VERSION: &str = "0.8.0";
+pub(crate) const VERSION: &str = "0.9.0";
 
 // The exit statuses, and a first command to try.
 const ENDS: &str =
@@ -230,7 +230,7 @@ fn add_options<'a>(
         args.push(flag(alloc, name, help)?)?;
     }
     for (name, value, help) in parts_of(command) {
-        args.push(part(alloc, name, value, help))?;
+        args.push(part(alloc, name, value, help)?)?;
     }
     Ok(())
 }

@@ -1,5 +1,7 @@
 //! The chosen events of a print, and the margin of their lines: numbers and times.
 
+ghost use Rattle.std.specs.Prelude.{◌≡◌, ◌==◌, ◌+◌, ◌-◌, ◌^◌, if◌then◌else◌, IfSome, None, min, option_and_then, slice_get};
+
 use crate::requests::{Listing, TimeRange};
 use jiff::Timestamp;
 use std::io;
@@ -40,34 +42,48 @@ impl Margin {
 
     /// Reads the next line. Prints its margin if the line is shown, and returns whether it is.
     pub fn begin<W: Write>(&mut self, out: &mut W, row: &str) -> io::Result<bool> {
-        let is_event = row.starts_with("> ") && row != "> show";
-        if is_event {
-            self.events = self.events.saturating_add(1);
+        let number = self.number_of(row);
+        if number.is_some() {
             self.is_shown = self.range.contains(self.time_ms());
         }
         if self.is_shown {
-            self.print(out, is_event)?;
+            self.print(out, number)?;
         }
         Ok(self.is_shown)
     }
 
+    // Counts the event whose first line this is, and returns its number, from 1.
+    fn number_of(&mut self, row: &str) -> Option<usize>
+        ensures number { IfSome result (λ number. number ≡ self.new.events) }
+        ensures next { IfSome result (λ number. number ≡ min (self.old.events + 1) (2 ^ 64 - 1)) }
+        ensures kept { result ≡ None → self.new ≡ self.old }
+    {
+        if !row.starts_with("> ") || row == "> show" {
+            return None;
+        }
+        self.events = self.events.saturating_add(1);
+        Some(self.events)
+    }
+
     // The time of the last event.
-    fn time_ms(&self) -> Option<u64> {
+    fn time_ms(&self) -> Option<u64>
+        ensures { result ≡ option_and_then (λ time. time)
+            (if self.now.events == 0 then None else slice_get self.now.times_ms.items (self.now.events - 1)) }
+    {
         *self.times_ms.get(self.events.checked_sub(1)?)?
     }
 
-    // Prints the number and the time of the last event, or blanks before its other lines.
-    fn print<W: Write>(&self, out: &mut W, is_event: bool) -> io::Result<()> {
+    // Prints the number and the time of the event whose first line this is, or blanks before another line.
+    fn print<W: Write>(&self, out: &mut W, number: Option<usize>) -> io::Result<()> {
         if self.is_numbered {
-            if is_event {
-                write!(out, "{:>6}  ", self.events)?;
-            } else {
-                out.write_all(&[b' '; NUMBER_WIDTH])?;
+            match number {
+                Some(number) => write!(out, "{number:>6}  ")?,
+                None => out.write_all(&[b' '; NUMBER_WIDTH])?,
             }
         }
         if self.is_timed {
             match self.time_ms().and_then(timestamp_of) {
-                Some(time) if is_event => write!(out, "{time:.3}  ")?,
+                Some(time) if number.is_some() => write!(out, "{time:.3}  ")?,
                 _ => out.write_all(&[b' '; TIME_WIDTH])?,
             }
         }

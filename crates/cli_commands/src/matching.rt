@@ -51,11 +51,14 @@ fn wrong_value(alloc: Global, matches: &ArgMatches<'_>) -> Result<Option<String>
     Ok(Some(reason))
 }
 
-// The first value of `--address`, `--since` or `--until` that is not of its form, with its option and the form.
+// The first value of an address or of a time that is not of its form, with its option and the form.
 fn wrong_form<'a>(matches: &ArgMatches<'a>) -> Option<(&'a str, &'static str, &'static str)> {
     let (_, words) = matches.subcommand()?;
-    if let Some(word) = wrong_address(words) {
+    if let Some(word) = wrong_address(words, "address") {
         return Some((word, "--address <ADDRESS>", ADDRESS));
+    }
+    if let Some(word) = wrong_address(words, "page-address") {
+        return Some((word, "--page-address <ADDRESS>", ADDRESS));
     }
     if let Some(word) = wrong_time(words, "since") {
         return Some((word, "--since <TIME>", TIME));
@@ -64,9 +67,9 @@ fn wrong_form<'a>(matches: &ArgMatches<'a>) -> Option<(&'a str, &'static str, &'
     Some((word, "--until <TIME>", TIME))
 }
 
-// The value of `--address`, if it is not an address.
-fn wrong_address<'a>(words: &ArgMatches<'a>) -> Option<&'a str> {
-    let word = words.get_str("address")?;
+// The value of the option of this name, if it is not an address.
+fn wrong_address<'a>(words: &ArgMatches<'a>, name: &str) -> Option<&'a str> {
+    let word = words.get_str(name)?;
     match word.parse::<IpAddr>() {
         Ok(_) => None,
         Err(_) => Some(word),

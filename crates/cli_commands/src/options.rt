@@ -32,20 +32,28 @@ pub fn part<'a>(
     name: &'static str,
     value: &'static str,
     help: &'static str,
-) -> Arg<'a> {
+) -> Result<Arg<'a>, AllocError> {
     let part = Arg::new(alloc, name)
         .long(name)
         .value_name(value)
         .help(help);
-    bounded(part, name)
+    if name == "page-address" {
+        return part.requires_arg("page");
+    }
+    Ok(bounded(part, name))
 }
 
 // The options of `serve` with a value.
-static DOORS: [(&str, &str, &str); 8] = [
+static DOORS: [(&str, &str, &str); 9] = [
     (
         "page",
         "PORT",
-        "Show the line to browsers on this host, at http://127.0.0.1:PORT/",
+        "Show the line to browsers, at http://127.0.0.1:PORT/",
+    ),
+    (
+        "page-address",
+        "ADDRESS",
+        "Show it at this address of the host, also to other hosts [default: 127.0.0.1]",
     ),
     (
         "address",

@@ -175,6 +175,8 @@ pub struct ServeWords<'a> {
     pub is_for_journald: bool,
     /// The port at which browsers see the line, if there is one.
     pub page: Option<u16>,
+    /// The address at which browsers connect, if it is not 127.0.0.1.
+    pub page_address: Option<IpAddr>,
     /// The address at which trains connect, if it is not 127.0.0.1.
     pub address: Option<IpAddr>,
     /// The path of the Unix socket of the interlocking, if it has one in place of a port.

@@ -11,6 +11,7 @@ use cli_demo::Settings;
 use jiff::Timestamp;
 use std::alloc::{AllocError, Global};
 use std::convert::AsStr;
+use std::net::{AddrParseError, IpAddr};
 use text_replay::Cut;
 use text_script::status::Fault;
 
@@ -162,16 +163,15 @@ fn named_serve<'a>(words: &ArgMatches<'a>) -> Option<Request<'a>> {
     })
 }
 
-// The options of `serve`; `None` if the address is not one of IPv4 or IPv6.
+// The options of `serve`; `None` if an address is not one of IPv4 or IPv6.
 fn serve_words<'a>(words: &ArgMatches<'a>) -> Option<ServeWords<'a>> {
-    let address = match words.get_str("address") {
-        Some(text) => Some(text.parse().ok()?),
-        None => None,
-    };
+    let page_address = address_of(words, "page-address").ok()?;
+    let address = address_of(words, "address").ok()?;
     Some(ServeWords {
         is_quiet: words.get_flag("quiet"),
         is_for_journald: words.get_flag("journald"),
         page: words.get_one("page"),
+        page_address,
         address,
         control: words.get_str("control"),
         is_bound: words.get_flag("bind"),
@@ -182,6 +182,14 @@ fn serve_words<'a>(words: &ArgMatches<'a>) -> Option<ServeWords<'a>> {
         is_unprinted: words.get_flag("no-print"),
         journal: journal_words(words),
     })
+}
+
+// The value of the option of this name, if it is given.
+fn address_of(words: &ArgMatches<'_>, name: &str) -> Result<Option<IpAddr>, AddrParseError> {
+    match words.get_str(name) {
+        Some(text) => Ok(Some(text.parse()?)),
+        None => Ok(None),
+    }
 }
 
 // The options of journals. Only one of the three folders is given, and only with it `--no-sync` and `--no-print`.

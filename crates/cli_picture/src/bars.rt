@@ -5,7 +5,7 @@ use crate::scale::Scale;
 use crate::style::{colour_of, dashes_of};
 use rbc_place::{section_end, section_start};
 use std::alloc::{AllocError, Global};
-use text_replay::{Stretch, stretches_of};
+use text_replay::Stretch;
 use text_script::Mark;
 
 pub fn draw_bars(
@@ -15,7 +15,7 @@ pub fn draw_bars(
     run: &Run<'_>,
 ) -> Result<(), AllocError> {
     for section in 0..run.line.section_count() {
-        for stretch in stretches_of(alloc, &run.views, section)? {
+        for stretch in run.sections.stretches(alloc, section, run.events.len())? {
             draw_stretch(svg, scale, run, section, &stretch)?;
         }
     }

@@ -1,11 +1,10 @@
 //! Explains the colours and signs.
 
 use crate::marks::{Sign, shape_of};
-use crate::run::{Run, mission_in, nid_engine_of};
+use crate::run::{Run, nid_engine_of};
 use crate::style::{colour_of, dashes_of};
 use rbc_line::Line;
 use std::alloc::AllocError;
-use text_script::{LineView, Mark};
 
 // The signs, each with its place and its meaning.
 static SIGNS: [(Sign, u64, &str); 5] = [
@@ -65,28 +64,10 @@ fn shows(run: &Run<'_>, train: u8) -> bool {
         return false;
     }
     let nid_engine = nid_engine_of(run.line, train);
-    for (e, view) in run.views.iter().enumerate() {
-        if run.report(e, train).is_some()
-            || mission_in(view, train).is_some()
-            || names(view, nid_engine)
-        {
-            return true;
-        }
-    }
-    false
-}
-
-/// Whether a section is in use for a train.
-fn names(view: &LineView, train: u32) -> bool {
-    for section in &view.sections {
-        match section.mark {
-            Mark::Kept { nid_engine } | Mark::Given { nid_engine } if nid_engine == train => {
-                return true;
-            }
-            _ => {}
-        }
-    }
-    false
+    let missions = run.missions.of(train.into());
+    let has_mission = missions.iter().any(|turn| turn.value.is_some());
+    let has_report = (0..run.events.len()).any(|e| run.report(e, train).is_some());
+    has_mission || has_report || run.sections.names(nid_engine)
 }
 
 /// Draws a train's number, beside a bar and a front in its colour.

@@ -3,10 +3,10 @@
 use crate::heard::event_of;
 use crate::run::Run;
 use rbc_line::Line;
-use std::alloc::Global;
-use text_replay::{Cut, events_in, train_in};
+use std::alloc::{AllocError, Global};
+use text_replay::{Cut, SectionChanges, Turns, events_in, train_in};
 use text_script::status::Fault;
-use text_script::{Answer, World, WorldEvent};
+use text_script::{Answer, LineView, World, WorldEvent};
 
 /// Plays the events of a print, up to the last that is drawn.
 pub fn played<'a>(
@@ -44,6 +44,8 @@ fn run_from<'a>(
     (first, after): (usize, usize),
     only: Option<u8>,
 ) -> Result<Run<'a>, Fault<'static>> {
+    let trains = usize::from(line.train_count());
+    let sessions = trains.saturating_mul(line.centre_count().into());
     let mut run = Run {
         line,
         event_count: events.len(),
@@ -51,7 +53,9 @@ fn run_from<'a>(
         only,
         events: Vec::new(alloc),
         before: world.view(alloc)?,
-        views: Vec::new(alloc),
+        sections: SectionChanges::new(alloc, line)?,
+        missions: Turns::new(alloc, trains)?,
+        waits: Turns::new(alloc, sessions)?,
     };
     play(alloc, world, events, after, &mut run)?;
     Ok(run)
@@ -89,9 +93,23 @@ fn play(
     for event in events.iter().take(after).skip(run.skipped) {
         world.step_to(event, &mut answer)?;
         let what = event_of(alloc, run.line, event, &answer)?;
+        note(run, &world.view(alloc)?)?;
         run.events.push(what)?;
-        let view = world.view(alloc)?;
-        run.views.push(view)?;
+    }
+    Ok(())
+}
+
+// Notes the line after the next drawn event.
+fn note(run: &mut Run<'_>, view: &LineView) -> Result<(), AllocError> {
+    let event = run.events.len();
+    run.sections.note(event, view)?;
+    for (train, seen) in view.trains.iter().enumerate() {
+        run.missions.note(train, event, seen.mission)?;
+        let first = train.saturating_mul(seen.sessions.len());
+        for (centre, session) in seen.sessions.iter().enumerate() {
+            let number = first.saturating_add(centre);
+            run.waits.note(number, event, session.waiting)?;
+        }
     }
     Ok(())
 }

@@ -3,6 +3,7 @@
 
 use rbc_line::Line;
 use rbc_place::Place;
+use text_replay::{SectionChanges, Turn, Turns};
 use text_script::{LineView, MissionView};
 
 /// The kind of an event.
@@ -58,8 +59,12 @@ pub struct Run<'a> {
     pub events: Vec<Event>,
     /// The line before the first drawn event.
     pub before: LineView,
-    /// The line after each drawn event.
-    pub views: Vec<LineView>,
+    /// The views of the sections after the drawn events.
+    pub sections: SectionChanges,
+    /// The missions after the drawn events, by train.
+    pub missions: Turns<Option<MissionView>>,
+    /// The places of starts of mission that wait after the drawn events, by train, and then by centre.
+    pub waits: Turns<Option<Place>>,
 }
 
 impl Run<'_> {
@@ -86,36 +91,32 @@ impl Run<'_> {
         }
     }
 
-    /// The line before an event.
-    pub fn view_before(&self, event: usize) -> &LineView {
+    /// The mission of a train before an event and after it.
+    pub fn missions(&self, event: usize, train: u8) -> (Option<MissionView>, Option<MissionView>) {
+        let before = self.mission_before(event, train);
+        (before, self.mission_after(event, train))
+    }
+
+    fn mission_before(&self, event: usize, train: u8) -> Option<MissionView> {
         match event.checked_sub(1) {
-            Some(place) => self.views.get(place).unwrap_or(&self.before),
-            None => &self.before,
+            Some(before) => self.mission_after(before, train),
+            None => self.before.trains.get(usize::from(train))?.mission,
         }
     }
 
-    /// The mission of a train before an event and after it.
-    pub fn missions(&self, event: usize, train: u8) -> (Option<MissionView>, Option<MissionView>) {
-        let after = match self.views.get(event) {
-            Some(view) => mission_in(view, train),
-            None => None,
-        };
-        (mission_in(self.view_before(event), train), after)
+    fn mission_after(&self, event: usize, train: u8) -> Option<MissionView> {
+        if event < self.events.len() {
+            self.missions.at(train.into(), event)?
+        } else {
+            None
+        }
     }
-}
 
-/// The mission of a train.
-pub fn mission_in(view: &LineView, train: u8) -> Option<MissionView> {
-    match view.trains.get(usize::from(train)) {
-        Some(train) => train.mission,
-        None => None,
+    /// The places of a train's starts of mission that wait at a centre.
+    pub fn waits_at(&self, train: u8, centre: u8) -> &[Turn<Option<Place>>] {
+        let first = usize::from(train).saturating_mul(self.line.centre_count().into());
+        self.waits.of(first.saturating_add(centre.into()))
     }
-}
-
-/// The place of a train whose start of mission waits at a centre.
-pub fn waiting_in(view: &LineView, train: u8, centre: u8) -> Option<Place> {
-    let train = view.trains.get(usize::from(train))?;
-    train.sessions.get(usize::from(centre))?.waiting
 }
 
 /// The NID_ENGINE of a train by its place in the line file.

@@ -1,7 +1,7 @@
 //! Draws the supervisor of each train, and the starts of mission that wait for the right to supervise it.
 
 use crate::fronts::has_left;
-use crate::run::{Run, waiting_in};
+use crate::run::Run;
 use crate::scale::Scale;
 use crate::style::colour_of;
 use rbc_place::Place;
@@ -122,16 +122,15 @@ fn draw_waits(
     train: u8,
     centre: u8,
 ) -> Result<(), AllocError> {
-    let mut wait = None;
-    for e in 0..=run.views.len() {
-        let place = match run.views.get(e) {
-            Some(view) => waiting_in(view, train, centre),
-            None => None,
-        };
-        if let Some((since, place)) = ended(wait, place) {
-            draw_box(svg, scale, train, WAIT, (since, e), &place)?;
+    let waits = run.waits_at(train, centre);
+    for (w, wait) in waits.iter().enumerate() {
+        if let Some(place) = wait.value {
+            let until = match waits.get(w.saturating_add(1)) {
+                Some(next) => next.since,
+                None => run.events.len(),
+            };
+            draw_box(svg, scale, train, WAIT, (wait.since, until), &place)?;
         }
-        wait = followed(wait, place, e);
     }
     Ok(())
 }

@@ -144,17 +144,22 @@ pub fn opened<
     notes: &N,
 ) -> Result<Endpoints, ServeFault> {
     let (alloc, line) = (rt.alloc(), &given.line);
-    let ip = words.address.unwrap_or(IpAddr::V4(Ipv4Addr::LOCALHOST));
-    let first = SocketAddr::new(ip, port);
+    let first = at_host(words.address, port);
     let endpoints = Endpoints::open_centres(rt, alloc, line, first, notes)?;
     let endpoints = match words.control {
         Some(path) => endpoints.and_socket(rt, alloc, path, notes)?,
         None => endpoints.and_control(rt, line, port, notes)?,
     };
     match words.page {
-        Some(page) => endpoints.and_page(rt, page, notes),
+        Some(page) => endpoints.and_page(rt, at_host(words.page_address, page), notes),
         None => Ok(endpoints),
     }
+}
+
+// The port at an address of this host; without one at 127.0.0.1.
+fn at_host(address: Option<IpAddr>, port: u16) -> SocketAddr {
+    let ip = address.unwrap_or(IpAddr::V4(Ipv4Addr::LOCALHOST));
+    SocketAddr::new(ip, port)
 }
 
 // Notes on standard error, in the form of the arguments.

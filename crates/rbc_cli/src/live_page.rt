@@ -34,6 +34,7 @@ const fn served_at(page: u16) -> ServeWords<'static> {
     ServeWords {
         is_quiet: true,
         page: Some(page),
+        page_address: None,
         address: None,
         control: None,
         is_bound: false,

@@ -1,5 +1,9 @@
 -- The relation between a view of a line and its state.
-use Rattle.std.specs.Prelude.{◌≡◌, IfSome, length, List, None, Option, option_and_then, option_map, slice_get, Some, ℕ}
+use Rattle.std.specs.Prelude.{◌≡◌, Bool, IfSome, length, List, None, Option, option_and_then, option_map, slice_get}
+use Rattle.std.specs.Prelude.{Some, ℕ}
+use Rattle.law_invariants.specs.Flow.Shows.{shown}
+use Rattle.rbc_book.specs.declared.page.Entry.{Entry}
+use Rattle.rbc_book.specs.Entries.{entry_of}
 use Rattle.rbc_centre.specs.rbc_place.Places.{place_of}
 use Rattle.rbc_centre.specs.rbc_session.SessionStates.{phase_of}
 use Rattle.rbc_centre.specs.rbc_shorten.Facts.{standing_of}
@@ -24,6 +28,11 @@ mark_shown mark.Shut = line_centre.Shut
 mark_shown mark.Open = line_centre.Open
 mark_shown (mark.Kept t) = line_centre.Kept t
 mark_shown (mark.Given t) = line_centre.Given t
+
+-- the mark of a section with this entry in its home's book, if `given` holds of the trains that have it in their
+-- movement authorities
+abbrev pub mark_by : Entry → (ℕ → Bool) → line_centre.Mark
+mark_by e given = shown (entry_of e) given
 
 abbrev pub supervisor_shown : Supervisor → line_centre.Supervisor
 supervisor_shown (supervisor.At c) = line_centre.At c

@@ -29,6 +29,26 @@ pub enum Mark {
     Given { nid_engine: u32 },
 }
 
+impl Mark {
+    /// The mark of a section with this entry in its home's book. A section in use is in its train's movement authority,
+    /// or is kept for the train.
+    pub fn of(entry: Entry, is_in_hand: bool) -> Mark
+        ensures { mark_shown result ≡ shown (entry_of entry) (λ _. is_in_hand) }
+    {
+        match entry {
+            Entry::Shut => Mark::Shut,
+            Entry::Open => Mark::Open,
+            Entry::Taken { nid_engine } | Entry::Out { nid_engine } => {
+                if is_in_hand {
+                    Mark::Given { nid_engine }
+                } else {
+                    Mark::Kept { nid_engine }
+                }
+            }
+        }
+    }
+}
+
 /// A section of the line.
 #[derive(Clone, Copy, Debug, PartialEq, Eq)]
 pub struct SectionView {
@@ -173,21 +193,15 @@ impl World {
         }
     }
 
-    // The mark of a section with this entry in its home's book. A section in use is in its train's movement authority,
-    // or is kept for the train.
+    // The mark of a section with this entry in its home's book.
     fn mark_at(&self, s: u16, entry: Entry, trains: &[TrainView]) -> Mark
         requires { AreTrainsSeen (line_of self.now) (state_of self.now) trains.now }
         ensures { mark_shown result ≡ shown (entry_of entry) (is_in_its_hand (line_of self.now) (state_of self.now) s) }
     {
         match entry {
-            Entry::Shut => Mark::Shut,
-            Entry::Open => Mark::Open,
-            Entry::Taken { nid_engine } | Entry::Out { nid_engine } => {
-                if self.is_given(s, nid_engine, trains) {
-                    Mark::Given { nid_engine }
-                } else {
-                    Mark::Kept { nid_engine }
-                }
+            Entry::Shut | Entry::Open => Mark::of(entry, false),
+            Entry::Out { nid_engine } | Entry::Taken { nid_engine } => {
+                Mark::of(entry, self.is_given(s, nid_engine, trains))
             }
         }
     }

@@ -1,1 +1,3 @@
 pub mod Journaling
+pub mod Notes
+pub mod Snapshots

@@ -68,7 +68,8 @@ impl PageEndpoint {
             ports.push(endpoint.address.port())?;
         }
         let mut page_snapshot = PageSnapshot::new(alloc, line, ports)?;
-        page_snapshot.now = page_snapshot.look(rt, alloc, line, nodes)?;
+        let found = page_snapshot.look(rt, alloc, line, nodes)?;
+        page_snapshot.show(found);
         let version = first_version(rt);
         Ok(PageEndpoint {
             listener: port.listening.listener,

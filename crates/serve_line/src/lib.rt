@@ -7,6 +7,7 @@
 
 mod browsers;
 pub mod clients;
+mod counting;
 pub mod journaling;
 mod journals;
 mod links;

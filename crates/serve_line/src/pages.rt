@@ -1,8 +1,10 @@
 use crate::browsers::{PageEndpoint, Seen};
 use crate::clients::is_idle;
+use crate::counting::mark_counts;
+use crate::looking::PageSnapshot;
 use crate::state::{Endpoint, Peer, Server};
 use crate::status::{Level, Notes};
-use serve_page::{Asked, LineNow, Refusal, answer, asked_of, refusal};
+use serve_page::{Asked, LineNow, Refusal, answer, answer_metrics, asked_of, refusal};
 use std::alloc::Global;
 use std::io::{ErrorKind, Read, Write};
 use std::net::{Shutdown, TcpStream};
@@ -48,7 +50,7 @@ pub(crate) fn run_pages<R: Threads + Wait + Sync + Clock, N: Notes + Sync>(
             };
             if scope
                 .spawn(move || {
-                    serve_browser(rt, server, endpoint, &stream);
+                    serve_browser(rt, server, notes, endpoint, &stream);
                     place.leave(rt);
                 })
                 .is_err()
@@ -88,9 +90,10 @@ fn refuse(stream: &TcpStream) {
 }
 
 // Answers one request, and ends the connection.
-fn serve_browser<R: Wait + Clock>(
+fn serve_browser<R: Wait + Clock, N: Notes>(
     rt: &R,
     server: &Server<'_>,
+    notes: &N,
     endpoint: &PageEndpoint,
     stream: &TcpStream,
 ) {
@@ -100,7 +103,7 @@ fn serve_browser<R: Wait + Clock>(
     let Some((asked, has_body)) = read_request(server, stream) else {
         return;
     };
-    let Ok(text) = answer_to(rt, server, endpoint, asked) else {
+    let Ok(text) = answer_to(rt, server, notes, endpoint, asked) else {
         return;
     };
     write_bounded(stream, part_of(text.as_str(), has_body).as_bytes());
@@ -152,9 +155,10 @@ fn is_rest(kind: ErrorKind) -> bool {
 }
 
 // The bytes of the answer. The centres are read only if the answer needs them, and by one thread at a time.
-fn answer_to<R: Wait + Clock>(
+fn answer_to<R: Wait + Clock, N: Notes>(
     rt: &R,
     server: &Server<'_>,
+    notes: &N,
     endpoint: &PageEndpoint,
     asked: Asked,
 ) -> Result<String, Fault<'static>> {
@@ -162,15 +166,18 @@ fn answer_to<R: Wait + Clock>(
     if let Asked::Page | Asked::Now { .. } | Asked::Health | Asked::Metrics = asked {
         refresh(rt, server, endpoint, &mut seen)?;
     }
-    let page_snapshot = &seen.page_snapshot;
-    let version = seen.version;
-    Ok(answer(
-        server.alloc,
-        &page_snapshot.layout,
-        &page_snapshot.now,
-        version,
-        asked,
-    )?)
+    if let Asked::Metrics = asked {
+        mark_counts(rt, server, notes, &mut seen.page_snapshot.counts);
+        let PageSnapshot {
+            layout,
+            now,
+            counts,
+            ..
+        } = &seen.page_snapshot;
+        return Ok(answer_metrics(server.alloc, layout, now, Some(counts))?);
+    }
+    let PageSnapshot { layout, now, .. } = &seen.page_snapshot;
+    Ok(answer(server.alloc, layout, now, seen.version, asked)?)
 }
 
 // Reads the centres again if the last view is old. While a journal can't be written, the page shows the old view. So
@@ -190,17 +197,14 @@ fn refresh<R: Wait + Clock>(
         }
     }
     seen.at = Some(time);
-    let now = seen
+    let found = seen
         .page_snapshot
         .look(rt, server.alloc, server.line, server.nodes)?;
-    let shown = &mut seen.page_snapshot.now;
     let mut has_changed = false;
-    if let Some(opened) = server.open_kept(rt, now) {
-        let now = opened.into_inner();
-        has_changed = now.events != shown.events;
-        let mut before = std::mem::replace(shown, now);
-        copy_marks(&mut before, shown);
+    if let Some(opened) = server.open_kept(rt, found) {
+        has_changed = seen.page_snapshot.show(opened.into_inner());
     }
+    let shown = &mut seen.page_snapshot.now;
     if let Some(places) = &endpoint.true_places {
         has_changed = places.copy_to(rt, &mut shown.true_places)? || has_changed;
     }
@@ -208,17 +212,6 @@ fn refresh<R: Wait + Clock>(
         seen.version = seen.version.saturating_add(1);
     }
     Ok(())
-}
-
-// Takes the marks of the endpoints and the true places of trains from the earlier view.
-fn copy_marks(before: &mut LineNow, now: &mut LineNow) {
-    now.is_stopped = before.is_stopped;
-    std::mem::swap(&mut now.true_places, &mut before.true_places);
-    for (place, old) in now.centres.iter_mut().zip(before.centres.iter()) {
-        place.taken = old.taken;
-        place.seats = old.seats;
-        place.is_stuck = old.is_stuck;
-    }
 }
 
 // Marks whether connections are accepted, the number of connections, and the journals that can't be written. The result

@@ -7,11 +7,16 @@ mod kinds;
 mod life;
 mod mention_order;
 mod notes;
+mod silences;
 mod snapshot;
 
 pub use kinds::{Kind, Level};
 pub(crate) use life::{LIMITS, end_of};
 pub use life::{Life, write_life};
 pub use mention_order::MentionOrder;
-pub use notes::{Backlog, NoNotes, NoteForm, Notes, QueuedNotes, StderrNotes, write_notes};
+pub use notes::{
+    Backlog, NoNotes, NoteCounts, NoteForm, Notes, QueuedNotes, StderrNotes, write_notes,
+};
+pub(crate) use silences::Silences;
+pub(crate) use snapshot::Snapshot;
 pub use snapshot::show;

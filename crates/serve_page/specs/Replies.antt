@@ -27,6 +27,10 @@ answer_of head body = head ++ decimal (length body) ++ constants.END.now ++ body
 abbrev pub HasBody : List ℕ → List ℕ → Type 0
 HasBody head text = (body : List ℕ) × (text ≡ answer_of head body)
 
+-- the answer to a request for the metrics
+abbrev pub IsMetrics : List ℕ → Type 0
+IsMetrics text = HasBody constants.METRICS.now text
+
 -- The answer to a request if the line is shown in this state and version. The answer to a refused request is a fixed
 -- text. The answer for the current state reports no change if and only if the request names this version. The answer
 -- for the health is the fixed text that each centre answers, if and only if each does. Any other answer has the length
@@ -41,4 +45,4 @@ IsAnswer now version (asked.Now since) text =
 IsAnswer now version asked.Health text =
     ((is_healthy now ≡ true) × (text ≡ constants.HEALTHY.now))
     ⊎ ((is_healthy now ≡ false) × HasBody constants.UNHEALTHY.now text)
-IsAnswer now version asked.Metrics text = HasBody constants.METRICS.now text
+IsAnswer now version asked.Metrics text = IsMetrics text

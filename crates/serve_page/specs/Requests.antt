@@ -1,6 +1,6 @@
 -- The meaning of a request.
-use Rattle.std.specs.Char.{to_ascii_lowercase}
-use Rattle.std.specs.List.{find}
+use Rattle.std.specs.Char.{is_ascii_digit, to_ascii_lowercase}
+use Rattle.std.specs.List.{find, list_all}
 use Rattle.std.specs.Prelude.{[], ◌&&◌, ◌<◌, ◌==◌, ◌^◌, ◌||◌, ◌∷◌, ◌≡◌, ◌≢◌, ◌≤◌, Bool, codes, drop, false, filter}
 use Rattle.std.specs.Prelude.{if◌then◌else◌, length, List, map, None, Option, position, Some, take, true, ℕ, ⊤}
 use Rattle.std.specs.Str.{bytes_eq}
@@ -32,9 +32,34 @@ is_port_part (b ∷ bytes) = b == 58
 abbrev pub has_name : List ℕ → List ℕ → Bool
 has_name name host = bytes_eq (take (length name) host) name && is_port_part (drop (length name) host)
 
--- a host is one of the names that mean this host everywhere
-abbrev pub is_loopback : List ℕ → Bool
-is_loopback host = has_name (codes "localhost") host || has_name (codes "127.0.0.1") host
+-- the bytes before a place; without one, all of them
+abbrev pub host_before : List ℕ → Option ℕ → List ℕ
+host_before rest (Some i) = take i rest
+host_before rest None = rest
+
+-- the first colon
+abbrev pub colon_in : List ℕ → Option ℕ
+colon_in bytes = position (λ b. b == 58) bytes
+
+-- the bytes before it
+abbrev pub before_colon : List ℕ → List ℕ
+before_colon host = host_before host (colon_in host)
+
+abbrev pub is_digit_or_dot : ℕ → Bool
+is_digit_or_dot b = is_ascii_digit b || b == 46
+
+abbrev pub is_dotted : List ℕ → Bool
+is_dotted text = list_all is_digit_or_dot text
+
+-- An address of IPv6 in brackets, or of IPv4, with a port or without. The name of a host is neither: it has no bracket,
+-- and not only digits and dots.
+abbrev pub is_address : List ℕ → Bool
+is_address [] = false
+is_address (b ∷ rest) = b == 91 || is_ascii_digit b && is_dotted (before_colon (b ∷ rest))
+
+-- a host means the one that is asked: it is `localhost` or an address
+abbrev pub is_here : List ℕ → Bool
+is_here host = has_name (codes "localhost") host || is_address host
 
 -- a method that only reads
 abbrev pub is_reading : List ℕ → Bool
@@ -44,11 +69,7 @@ is_reading method = bytes_eq method (codes "GET") || bytes_eq method (codes "HEA
 abbrev pub slash_in : List ℕ → Option ℕ
 slash_in bytes = position (λ b. b == 47) bytes
 
--- the bytes before that slash, and those from it on; without one, all of them, and the address of the page
-abbrev pub host_before : List ℕ → Option ℕ → List ℕ
-host_before rest (Some i) = take i rest
-host_before rest None = rest
-
+-- the bytes from that slash on; without one, the address of the page
 abbrev pub address_from : List ℕ → Option ℕ → List ℕ
 address_from rest (Some i) = drop i rest
 address_from rest None = codes "/"
@@ -60,11 +81,11 @@ is_absolute target = bytes_eq (take 7 target) (codes "http://")
 -- a target names no host, or this one
 abbrev pub is_ours : List ℕ → Bool
 is_ours target =
-    if is_absolute target then is_loopback (host_before (drop 7 target) (slash_in (drop 7 target))) else true
+    if is_absolute target then is_here (host_before (drop 7 target) (slash_in (drop 7 target))) else true
 
 -- a host is this one, and the target names no other
 abbrev pub is_for_us : List ℕ → List ℕ → Bool
-is_for_us host target = is_loopback host && is_ours target
+is_for_us host target = is_here host && is_ours target
 
 -- the address in a target
 abbrev pub address_in : List ℕ → List ℕ

@@ -15,6 +15,6 @@
 mod reply;
 mod request;
 
-pub use reply::{answer, refusal};
+pub use reply::{answer, answer_metrics, refusal};
 pub use request::{Asked, MOST_REQUEST, Refusal, asked_of};
 pub use text_page::{CentreNow, LineNow};

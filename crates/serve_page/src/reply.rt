@@ -1,11 +1,13 @@
 //! The bytes of an answer.
 
 ghost use Rattle.std.specs.Prelude.{◌≡◌, string_bytes, IfOk};
-ghost use Rattle.serve_page.specs.Replies.{refusal_text, IsAnswer, HasBody, answer_of};
+ghost use Rattle.serve_page.specs.Replies.{refusal_text, IsAnswer, IsMetrics, HasBody, answer_of};
 
 use crate::request::{Asked, Refusal};
 use std::alloc::{AllocError, Global};
-use text_page::{Layout, LineNow, causes_of, line_json, live_page, metrics_of, now_json};
+use text_page::{
+    Layout, LineCounts, LineNow, causes_of, line_json, live_page, metrics_of, now_json,
+};
 
 const HTML: &str =
     "HTTP/1.1 200 OK\r\nContent-Type: text/html; charset=utf-8\r\nContent-Security-Policy: default-src 'none'; style-src 'unsafe-inline'; script-src 'unsafe-inline'; connect-src 'self'; img-src data:; base-uri 'none'; form-action 'none'; frame-ancestors 'none'\r\nReferrer-Policy: no-referrer\r\nX-Content-Type-Options: nosniff\r\nCross-Origin-Resource-Policy: same-origin\r\nCache-Control: no-store\r\nConnection: close\r\nContent-Length: ";
@@ -64,6 +66,7 @@ pub fn refusal(why: Refusal) -> &'static str
 }
 
 /// The answer to a request, if the line is shown in this state and version. It is empty if the request is not complete.
+/// The metrics are those without counts (`answer_metrics`).
 pub fn answer(
     alloc: Global,
     layout: &Layout,
@@ -82,8 +85,24 @@ pub fn answer(
         Asked::Now { .. } => found(alloc, JSON, now_json(alloc, layout, now, version)?.as_str()),
         Asked::Health if now.is_healthy() => String::from_str(alloc, HEALTHY),
         Asked::Health => found(alloc, UNHEALTHY, causes_of(alloc, layout, now)?.as_str()),
-        Asked::Metrics => found(alloc, METRICS, metrics_of(alloc, layout, now)?.as_str()),
+        Asked::Metrics => answer_metrics(alloc, layout, now, None),
     }
+}
+
+/// The answer to a request for the metrics, with the counts of running centres, if there are any.
+pub fn answer_metrics(
+    alloc: Global,
+    layout: &Layout,
+    now: &LineNow,
+    counts: Option<&LineCounts>,
+) -> Result<String, AllocError>
+    ensures { IfOk result (λ text. IsMetrics (string_bytes text)) }
+{
+    found(
+        alloc,
+        METRICS,
+        metrics_of(alloc, layout, now, counts)?.as_str(),
+    )
 }
 
 // The answer with this head and this body.

@@ -4,7 +4,8 @@ ghost use Rattle.std.specs.Prelude.{◌≡◌, ◌≤◌, ℕ, List, ◌∷◌, 
 ghost use Rattle.httparse.specs.declared.spans.HeaderSpan.{HeaderSpan};
 ghost use Rattle.httparse.specs.Grammar.{RequestHead, ReadsRequest};
 ghost use Rattle.httparse.specs.Spans.{span_bytes, IsRequestAt};
-ghost use Rattle.serve_page.specs.Requests.{names_host, has_name, is_loopback, is_reading, is_for_us, is_ours};
+ghost use Rattle.serve_page.specs.Requests.{names_host, has_name, is_address, is_here, is_reading, is_for_us, is_ours};
+ghost use Rattle.serve_page.specs.Requests.{before_colon, colon_in, is_digit_or_dot, is_dotted};
 ghost use Rattle.serve_page.specs.Requests.{address_in, slash_in, named_in, path_of, query_of, AreHosts, AreHostsOf};
 ghost use Rattle.serve_page.specs.Requests.{IsAsked, IsAskedAt, IsAskedBy, IsNumber, IsSince};
 
@@ -96,7 +97,7 @@ fn asked_by(bytes: &[u8], head: &RequestSpans, fields: &[HeaderSpan]) -> Asked
 fn is_for_us(host: &[u8], target: &[u8]) -> bool
     ensures { result ≡ is_for_us host.now target.now }
 {
-    is_loopback(host) && is_ours(target)
+    is_here(host) && is_ours(target)
 }
 
 // Whether a target names no host, or this one.
@@ -107,8 +108,8 @@ fn is_ours(target: &[u8]) -> bool
         return true;
     };
     match slash_in(rest) {
-        Some(end) => is_loopback(&rest[..end]),
-        None => is_loopback(rest),
+        Some(end) => is_here(&rest[..end]),
+        None => is_here(rest),
     }
 }
 
@@ -250,11 +251,52 @@ fn is_reading(method: &[u8]) -> bool
     method == b"GET".as_slice() || method == b"HEAD".as_slice()
 }
 
-// Whether a host is one of the names that mean this host everywhere, with a port or without.
-fn is_loopback(host: &[u8]) -> bool
-    ensures { result ≡ is_loopback host.now }
+// Whether a host is `localhost` or an address of a host, with a port or without. A page of another host has that host's
+// name as its host, also if the name leads to this host.
+fn is_here(host: &[u8]) -> bool
+    ensures { result ≡ is_here host.now }
 {
-    is_named(host, b"localhost") || is_named(host, b"127.0.0.1")
+    is_named(host, b"localhost") || is_address(host)
+}
+
+// Whether a host is an address of IPv6 in brackets, or of IPv4. The name of a host is neither.
+fn is_address(host: &[u8]) -> bool
+    ensures { result ≡ is_address host.now }
+{
+    match host {
+        [] => false,
+        [first, ..] => *first == b'[' || first.is_ascii_digit() && is_dotted(before_colon(host)),
+    }
+}
+
+// The bytes before the first colon.
+fn before_colon(host: &[u8]) -> &[u8]
+    ensures { result.now ≡ before_colon host.now }
+{
+    match colon_in(host) {
+        Some(end) => &host[..end],
+        None => host,
+    }
+}
+
+// The place of the first colon.
+fn colon_in(bytes: &[u8]) -> Option<usize>
+    ensures { result ≡ colon_in bytes.now }
+{
+    bytes.iter().position(|byte| *byte == b':')
+}
+
+// Whether a text has only digits and dots.
+fn is_dotted(text: &[u8]) -> bool
+    ensures { result ≡ is_dotted text.now }
+{
+    text.iter().all(|byte| is_digit_or_dot(*byte))
+}
+
+fn is_digit_or_dot(byte: u8) -> bool
+    ensures { result ≡ is_digit_or_dot byte }
+{
+    byte.is_ascii_digit() || byte == b'.'
 }
 
 // Whether a host has this name, with a port or without.

@@ -1,10 +1,14 @@
-//! The nodes of two centres.
+//! The nodes of two centres, and the events that they take.
 
 ghost use Rattle.std.specs.Prelude.{◌<◌};
 
+use crate::codec::bytes::bytes_of;
 use crate::line::{A, B, two_centres};
-use rbc_node::Node;
+use rbc_msgs::decode_train;
+use rbc_node::{Node, Open, Share};
+use rbc_world::Event;
 use std::alloc::Global;
+use std::sync::Wait;
 use std::test::*;
 
 /// A node of one of the two centres.
@@ -22,8 +26,17 @@ pub fn both(alloc: Global) -> Result<(Node, Node), Fail> {
     Ok((a, b))
 }
 
-/// A node of A.
-pub fn node_of_a(alloc: Global) -> Result<Node, Fail> {
-    let line = two_centres(alloc)?;
-    Ok(Node::new(alloc, &line, A)?)
+/// The event that the train's message of these digits is.
+pub fn said(alloc: Global, digits: &str) -> Result<Event, Fail> {
+    let bytes = bytes_of(alloc, digits)?;
+    let message = decode_train(alloc, &bytes).ok().ok_or("it is a message")?;
+    Ok(Event::Train(message))
+}
+
+/// The node takes the event.
+pub fn commit<R: Wait>(rt: &R, node: &Node, share: &mut Share, event: Event) -> Result<(), Fail> {
+    node.commit(rt, &Open, share, event)
+        .ok()
+        .ok_or("the centre takes the event")?;
+    Ok(())
 }

@@ -9,4 +9,4 @@ mod run;
 #[cfg(test)]
 mod shown;
 #[cfg(test)]
-mod watched;
+mod wanted;

@@ -1,6 +1,6 @@
 //! A client of the centres: a train or the interlocking.
 
-use std::alloc::Global;
+use std::alloc::{AllocError, Global};
 use std::io::{Error, ErrorKind, Read, Write};
 use std::net::{Net, SocketAddr, TcpStream};
 use std::time::Duration;
@@ -40,6 +40,12 @@ pub enum Missed {
     Memory,
 }
 
+impl From<AllocError> for Missed {
+    fn from(_: AllocError) -> Missed {
+        Missed::Memory
+    }
+}
+
 /// The result of a step of a play.
 pub type Done<T> = Result<T, Missed>;
 
@@ -69,7 +75,7 @@ pub fn say(stream: &TcpStream, bytes: &[u8]) -> Done<()> {
 
 /// The next `count` bytes.
 pub fn heard(alloc: Global, stream: &TcpStream, count: usize) -> Done<Vec<u8>> {
-    let mut bytes = vec![in alloc; 0u8; count].ok().ok_or(Missed::Memory)?;
+    let mut bytes = vec![in alloc; 0u8; count]?;
     let mut input = stream;
     match input.read_exact(&mut bytes) {
         Ok(()) => Ok(bytes),

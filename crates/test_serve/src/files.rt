@@ -19,11 +19,11 @@ const LATE: &str = "44a52c2b 7 > deliver A B 1
 5000362a 8 > train B 9B028000000040000040
 ";
 
-// The name of a file that only this test uses. No file of this name exists.
-fn name_of(rt: &HostRuntime, test: &str) -> Result<String, Fail> {
+/// The name of a file that only this test uses. No file of this name exists.
+pub fn name_of(rt: &HostRuntime, test: &str) -> Result<String, Fail> {
     let folder = env::temp_dir(rt)?;
     let id = process::id(rt.process());
-    let name = format!(in rt.alloc(); "{}/{test}-{id}.journal", folder.as_str())?;
+    let name = format!(in rt.alloc(); "{}/{id}-{test}", folder.as_str())?;
     if fs::exists(rt, name.as_str())? {
         fs::remove_file(rt, name.as_str())?;
     }
@@ -53,22 +53,14 @@ fn late_in(text: &str) -> Option<&str> {
     text.strip_prefix(EARLY)?.strip_suffix("next\n")
 }
 
-#[test]
-fn a_line_that_comes_after_the_lock_is_kept(rt: HostRuntime) -> Result<(), Fail> {
-    let name = name_of(&rt, "late")?;
-    fs::write(&rt, name.as_str(), EARLY)?;
-    let bytes = read_and_added(&rt, name.as_str())?;
-    let text = fs::read_to_string(&rt, name.as_str())?;
-    fs::remove_file(&rt, name.as_str())?;
+// Whether a line that comes after the lock is read, and is kept.
+fn is_late_line_kept(rt: &HostRuntime, name: &str) -> Result<bool, Fail> {
+    fs::write(rt, name, EARLY)?;
+    let bytes = read_and_added(rt, name)?;
+    let text = fs::read_to_string(rt, name)?;
+    fs::remove_file(rt, name)?;
     let read = bytes.as_slice().strip_prefix(EARLY.as_bytes());
-    assert!(rt; (read, late_in(text.as_str())) == (Some(LATE.as_bytes()), Some(LATE)));
-    Ok(())
-}
-
-// Whether no journal of this name can be opened, since there is none.
-fn is_missing(rt: &HostRuntime, name: &str) -> bool {
-    let opened = open_journal(rt, name);
-    matches!(opened, Err(OpenFault::Missing))
+    Ok((read, late_in(text.as_str())) == (Some(LATE.as_bytes()), Some(LATE)))
 }
 
 // Makes a journal, and opens it once more. The result is its mode, and whether it is busy.
@@ -86,24 +78,14 @@ fn opened_and_made(rt: &HostRuntime, name: &str) -> (bool, bool) {
     (opened.is_ok(), matches!(made, Err(OpenFault::Io(_))))
 }
 
-#[test]
-fn a_journal_has_one_writer(rt: HostRuntime) -> Result<(), Fail> {
-    let name = name_of(&rt, "one")?;
-    let is_missing = is_missing(&rt, name.as_str());
-    let during = made_and_opened(&rt, name.as_str())?;
-    let after = opened_and_made(&rt, name.as_str());
-    fs::remove_file(&rt, name.as_str())?;
-    assert!(rt; (is_missing, during, after) == (true, (0o600, true), (true, true)));
-    Ok(())
-}
-
-#[test]
-fn a_journal_is_a_plain_file(rt: HostRuntime) -> Result<(), Fail> {
-    for name in ["/", "/dev/zero", "/dev/full"] {
-        let opened = open_journal(&rt, name);
-        assert!(rt; matches!(opened, Err(OpenFault::NotPlain)), "{name}");
-    }
-    Ok(())
+// Whether a journal has one writer: none of this name can be opened while there is none, it is busy while it is open,
+// and it is not made again.
+fn is_one_writer(rt: &HostRuntime, name: &str) -> Result<bool, Fail> {
+    let is_missing = matches!(open_journal(rt, name), Err(OpenFault::Missing));
+    let during = made_and_opened(rt, name)?;
+    let after = opened_and_made(rt, name);
+    fs::remove_file(rt, name)?;
+    Ok((is_missing, during, after) == (true, (0o600, true), (true, true)))
 }
 
 // A new journal with one line.
@@ -114,33 +96,44 @@ fn begun(rt: &HostRuntime, name: &str) -> Result<JournalFile<SystemFile>, Fail> 
     Ok(journal)
 }
 
-// Whether the journal takes each of two lines more.
-fn takes_two(journal: &mut JournalFile<SystemFile>) -> (bool, bool) {
-    (journal.add(b"d\n").is_ok(), journal.add(b"e\n").is_ok())
+// A new journal is removed, or cut short by another program. The result is whether it takes each of two lines then.
+fn takes_two(rt: &HostRuntime, name: &str, is_cut: bool) -> Result<(bool, bool), Fail> {
+    let mut journal = begun(rt, name)?;
+    if is_cut {
+        fs::write(rt, name, "")?;
+    } else {
+        fs::remove_file(rt, name)?;
+    }
+    Ok((journal.add(b"d\n").is_ok(), journal.add(b"e\n").is_ok()))
+}
+
+// Whether a file that is cut takes nothing more.
+fn is_given_up(rt: &HostRuntime, name: &str) -> Result<bool, Fail> {
+    let takes = takes_two(rt, name, true)?;
+    let text = fs::read_to_string(rt, name)?;
+    fs::remove_file(rt, name)?;
+    Ok((takes, text.as_str()) == ((false, false), "d\n"))
 }
 
 #[test]
-fn a_file_that_is_removed_takes_nothing_more(rt: HostRuntime) -> Result<(), Fail> {
-    let name = name_of(&rt, "removed")?;
-    let mut journal = begun(&rt, name.as_str())?;
-    fs::remove_file(&rt, name.as_str())?;
-    assert!(rt; takes_two(&mut journal) == (false, false));
+fn a_journal_has_one_writer_and_keeps_its_lines(rt: HostRuntime) -> Result<(), Fail> {
+    let name = name_of(&rt, "test.journal")?;
+    let name = name.as_str();
+    let seen = [
+        is_late_line_kept(&rt, name)?,
+        is_one_writer(&rt, name)?,
+        takes_two(&rt, name, false)? == (false, false),
+        is_given_up(&rt, name)?,
+    ];
+    assert!(rt; seen == [true; 4], "{seen:?}");
     Ok(())
 }
 
-// A new journal is cut short by another program. The result is whether it takes each of two lines then.
-fn cut_and_added(rt: &HostRuntime, name: &str) -> Result<(bool, bool), Fail> {
-    let mut journal = begun(rt, name)?;
-    fs::write(rt, name, "")?;
-    Ok(takes_two(&mut journal))
-}
-
 #[test]
-fn a_file_that_is_cut_takes_nothing_more(rt: HostRuntime) -> Result<(), Fail> {
-    let name = name_of(&rt, "cut")?;
-    let takes = cut_and_added(&rt, name.as_str())?;
-    let text = fs::read_to_string(&rt, name.as_str())?;
-    fs::remove_file(&rt, name.as_str())?;
-    assert!(rt; (takes, text.as_str()) == ((false, false), "d\n"));
+fn a_journal_is_a_plain_file(rt: HostRuntime) -> Result<(), Fail> {
+    for name in ["/", "/dev/zero", "/dev/full"] {
+        let opened = open_journal(&rt, name);
+        assert!(rt; matches!(opened, Err(OpenFault::NotPlain)), "{name}");
+    }
     Ok(())
 }

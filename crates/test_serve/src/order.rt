@@ -105,17 +105,12 @@ fn start<R: Net<Stream = TcpStream, Listener = TcpListener> + Clock>(
 // Sends starts of mission with T_TRAIN 4, 8, 12 and so on, or with 2 more than that if the low bits are 80.
 fn say_starts(alloc: Global, stream: &TcpStream, low_bits: &str) -> Done<()> {
     for fourth in 1..=STARTS {
-        say(stream, &start_of(alloc, fourth, low_bits)?)?;
+        let digits = format!(in alloc;
+            "9D068000{fourth:04X}{low_bits}0000500040A0280CA096140050014406400418"
+        )?;
+        say(stream, &bytes_of(alloc, &digits)?)?;
     }
     Ok(())
-}
-
-fn start_of(alloc: Global, fourth: u16, low_bits: &str) -> Done<Vec<u8>> {
-    let digits = format!(in alloc;
-        "9D068000{fourth:04X}{low_bits}0000500040A0280CA096140050014406400418"
-    ).ok()
-        .ok_or(Missed::Memory)?;
-    bytes_of(alloc, &digits)
 }
 
 // Waits for a flag, at most `PATIENCE_S` seconds.
@@ -137,10 +132,7 @@ fn heard_to_the_end(alloc: Global, stream: &TcpStream) -> Done<Vec<u8>> {
     for _ in 0..MOST_READS {
         match input.read(&mut piece) {
             Ok(0) => return Ok(heard),
-            Ok(count) => heard
-                .extend_from_slice(&piece[..count])
-                .ok()
-                .ok_or(Missed::Memory)?,
+            Ok(count) => heard.extend_from_slice(&piece[..count])?,
             Err(error) => return Err(missed_by(&error)),
         }
     }

@@ -84,7 +84,10 @@ fn play_once<R: Threads + Sync + Net<Stream = TcpStream, Listener = TcpListener>
     let mut streams = Vec::new(stage.alloc);
     for (number, act) in steps {
         match endpoint_of(stage.addresses, *act) {
-            Some(endpoint) => come(rt, &mut streams, endpoint)?,
+            Some(endpoint) => streams
+                .push(connect(rt, endpoint)?)
+                .ok()
+                .ok_or(Missed::Memory)?,
             None => match streams.get(*number) {
                 Some(stream) => done(rt, stage, turn, stream, *act)?,
                 None => done_beside(rt, stage, *act)?,
@@ -103,17 +106,6 @@ fn endpoint_of(addresses: Addresses, act: Act<'_>) -> Option<SocketAddr> {
     }
 }
 
-fn come<R: Net<Stream = TcpStream>>(
-    rt: &R,
-    streams: &mut Vec<TcpStream>,
-    endpoint: SocketAddr,
-) -> Done<()> {
-    streams
-        .push(connect(rt, endpoint)?)
-        .ok()
-        .ok_or(Missed::Memory)
-}
-
 fn done<R: Threads + Sync + Net<Stream = TcpStream, Listener = TcpListener> + Clock>(
     rt: &R,
     stage: Stage<'_>,
@@ -127,7 +119,10 @@ fn done<R: Threads + Sync + Net<Stream = TcpStream, Listener = TcpListener> + Cl
         Act::Opens(count) => open_sessions(stage.alloc, stream, turn.saturating_mul(count), count),
         Act::Crosses => ask_until_both_come(rt, stage.alloc, stream),
         Act::Hears(digits) => hear(stage.alloc, stream, digits),
-        Act::Takes(count) => take(stage.alloc, stream, count),
+        Act::Takes(count) => {
+            heard(stage.alloc, stream, count)?;
+            Ok(())
+        }
         Act::Ends if !is_ended(stream) => Err(Missed::StillOpen),
         Act::Ends => Ok(()),
         _ => done_beside(rt, stage, act),
@@ -143,21 +138,16 @@ fn done_beside<R: Threads + Sync + Net<Stream = TcpStream, Listener = TcpListene
     match act {
         Act::StartsOverTwo => start_over_two(rt, stage.alloc, stage.addresses),
         Act::Lasts(least) => lasts(rt, stage.begun, least),
-        Act::Written(entries) => has_entries(stage, entries),
+        Act::Written(entries) => match stage.journal.has(stage.alloc, entries)? {
+            true => Ok(()),
+            false => Err(Missed::Entry),
+        },
         Act::Fills(length) => stage.journal.fills(rt, length),
         Act::HasRoom(room) => {
             stage.journal.allow(room);
             Ok(())
         }
         _ => Err(Missed::Endpoint),
-    }
-}
-
-fn has_entries(stage: Stage<'_>, entries: &[&str]) -> Done<()> {
-    match stage.journal.has(stage.alloc, entries) {
-        Ok(true) => Ok(()),
-        Ok(false) => Err(Missed::Entry),
-        Err(_) => Err(Missed::Memory),
     }
 }
 
@@ -194,9 +184,7 @@ fn open_sessions(alloc: Global, stream: &TcpStream, before: u32, count: u32) -> 
 // The message by which train 1 opens its session, with this T_TRAIN.
 fn opening(alloc: Global, t_train: u32) -> Done<Vec<u8>> {
     let sixty_fourths = t_train.saturating_mul(64);
-    let digits = format!(in alloc; "9B02800000{sixty_fourths:04X}000040")
-        .ok()
-        .ok_or(Missed::Memory)?;
+    let digits = format!(in alloc; "9B02800000{sixty_fourths:04X}000040")?;
     bytes_of(alloc, &digits)
 }
 
@@ -206,10 +194,5 @@ pub fn hear(alloc: Global, stream: &TcpStream, digits: &str) -> Done<()> {
     if heard(alloc, stream, wanted.len())?.as_slice() != wanted.as_slice() {
         return Err(Missed::OtherAnswer);
     }
-    Ok(())
-}
-
-fn take(alloc: Global, stream: &TcpStream, count: usize) -> Done<()> {
-    heard(alloc, stream, count)?;
     Ok(())
 }

@@ -91,13 +91,18 @@ pub const OPENED_FIRST: Seen<'_> = Seen::Begins("> train A 9B028000000040000040\
 #[test]
 fn each_play_ends_as_it_should(rt: HostRuntime) -> Result<(), Fail> {
     let alloc = rt.alloc();
-    end_as_they_should(&rt, alloc, &initiations::PLAYS)?;
-    end_as_they_should(&rt, alloc, &interlocking::PLAYS)?;
-    end_as_they_should(&rt, alloc, &slots::PLAYS)?;
-    end_as_they_should(&rt, alloc, &trains::PLAYS)?;
-    end_as_they_should(&rt, alloc, &sinks::PLAYS)?;
-    end_as_they_should(&rt, alloc, &options::PLAYS)?;
-    end_as_they_should(&rt, alloc, &order::PLAYS)
+    for plays in [
+        &initiations::PLAYS[..],
+        &interlocking::PLAYS[..],
+        &slots::PLAYS[..],
+        &trains::PLAYS[..],
+        &sinks::PLAYS[..],
+        &options::PLAYS[..],
+        &order::PLAYS[..],
+    ] {
+        end_as_they_should(&rt, alloc, plays)?;
+    }
+    Ok(())
 }
 
 #[test]
@@ -123,14 +128,32 @@ fn end_so<R: Threads + Wait + Sync + Net<Stream = TcpStream, Listener = TcpListe
     alloc: Global,
     play: &'static Play<'static>,
 ) -> Done<()> {
-    let of_a = cells(alloc).ok().ok_or(Missed::Memory)?;
-    let of_b = cells(alloc).ok().ok_or(Missed::Memory)?;
-    let (a, b) = rooms_of(play);
+    let of_a = cells(alloc)?;
+    let of_b = cells(alloc)?;
+    let (a, b) = match play.journals {
+        Some(journals) => journals.rooms,
+        None => (0, 0),
+    };
     let (room_a, room_b) = (AtomicUsize::new(a), AtomicUsize::new(b));
     let papers = Papers {
-        a: Paper::new(&of_a, &room_a),
-        b: Paper::new(&of_b, &room_b),
+        a: Paper {
+            cells: &of_a,
+            room: &room_a,
+        },
+        b: Paper {
+            cells: &of_b,
+            room: &room_b,
+        },
     };
+    played_so(rt, alloc, play, papers)
+}
+
+fn played_so<R: Threads + Wait + Sync + Net<Stream = TcpStream, Listener = TcpListener> + Clock>(
+    rt: &R,
+    alloc: Global,
+    play: &'static Play<'static>,
+    papers: Papers<'_>,
+) -> Done<()> {
     let line = two_centres(alloc).ok().ok_or(Missed::Memory)?;
     let scene = Scene {
         alloc,
@@ -140,13 +163,6 @@ fn end_so<R: Threads + Wait + Sync + Net<Stream = TcpStream, Listener = TcpListe
     };
     let (status, printed) = served(rt, scene)?;
     all_seen(scene, status, &printed)
-}
-
-fn rooms_of(play: &Play<'_>) -> (usize, usize) {
-    match play.journals {
-        Some(journals) => journals.rooms,
-        None => (0, 0),
-    }
 }
 
 /// The journals of centres A and B.
@@ -170,11 +186,7 @@ fn all_seen(scene: Scene<'_>, status: u8, printed: &[u8]) -> Done<()> {
         return Err(Missed::Status);
     }
     let printed = std::str::from_utf8(printed).ok().ok_or(Missed::Print)?;
-    each_seen(scene, printed, scene.play.seen)
-}
-
-fn each_seen(scene: Scene<'_>, printed: &str, all: &[Seen<'_>]) -> Done<()> {
-    for seen in all {
+    for seen in scene.play.seen {
         if !is_seen(scene, printed, *seen)? {
             return Err(Missed::Print);
         }
@@ -192,12 +204,8 @@ fn is_seen(scene: Scene<'_>, printed: &str, seen: Seen<'_>) -> Done<bool> {
             Verdict::Equal { events } => Ok(least <= events && events <= most),
             Verdict::Differs { .. } => Ok(false),
         },
-        Seen::OfA(entries) => has_entries(scene, scene.papers.a, entries),
-        Seen::OfB(entries) => has_entries(scene, scene.papers.b, entries),
+        Seen::OfA(entries) => scene.papers.a.has(scene.alloc, entries),
+        Seen::OfB(entries) => scene.papers.b.has(scene.alloc, entries),
         Seen::LengthOfA(length) => Ok(scene.papers.a.length() == length),
     }
-}
-
-fn has_entries(scene: Scene<'_>, paper: Paper<'_>, entries: &[&str]) -> Done<bool> {
-    paper.has(scene.alloc, entries).ok().ok_or(Missed::Memory)
 }

@@ -67,15 +67,11 @@ fn played<R: Threads + Sync + Net<Stream = TcpStream, Listener = TcpListener> + 
         },
     };
     let played = play_rounds(rt, stage, scene.play.rounds);
-    stop(rt, addresses);
-    played
-}
-
-// Sends `stop`. If the centres have ended already, the endpoint is closed, or closes before it takes the line.
-fn stop<R: Net<Stream = TcpStream>>(rt: &R, addresses: Addresses) {
+    // If the centres have ended already, the endpoint is closed, or closes before it takes the line.
     if let Ok(control) = connect(rt, addresses.control) {
         let _ = say(&control, b"stop\n");
     }
+    played
 }
 
 // The exit status of the centres.

@@ -20,17 +20,12 @@ pub fn cells(alloc: Global) -> Result<Vec<AtomicU8>, AllocError> {
 /// A file whose bytes can be read while it is written. A cell after its end is 0.
 #[derive(Clone, Copy)]
 pub struct Paper<'a> {
-    cells: &'a [AtomicU8],
+    pub cells: &'a [AtomicU8],
     /// The bytes for which it has room now.
-    room: &'a AtomicUsize,
+    pub room: &'a AtomicUsize,
 }
 
 impl<'a> Paper<'a> {
-    /// A file in these cells, with room for this many bytes.
-    pub fn new(cells: &'a [AtomicU8], room: &'a AtomicUsize) -> Paper<'a> {
-        Paper { cells, room }
-    }
-
     /// The number of its bytes.
     pub fn length(&self) -> usize {
         self.cells
@@ -40,10 +35,13 @@ impl<'a> Paper<'a> {
     }
 
     /// Whether its lines are those of these entries. An entry is given without checksum and time. Each line has a time.
-    pub fn has(&self, alloc: Global, entries: &[&str]) -> Result<bool, AllocError> {
+    pub fn has(&self, alloc: Global, entries: &[&str]) -> Done<bool> {
         let mut bytes = Vec::new(alloc);
         for cell in self.cells.iter().take(self.length()) {
-            bytes.push(cell.load(Ordering::SeqCst))?;
+            bytes
+                .push(cell.load(Ordering::SeqCst))
+                .ok()
+                .ok_or(Missed::Memory)?;
         }
         let text = std::str::from_utf8(&bytes).unwrap_or("");
         let mut found = 0usize;

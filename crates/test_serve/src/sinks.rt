@@ -117,8 +117,7 @@ fn request(alloc: Global, t_train: u32) -> Done<Vec<u8>> {
     let sixty_fourths = t_train.saturating_mul(64);
     let digits = format!(in alloc;
         "8406800000{sixty_fourths:04X}00004200081405019012C2800A002880C80083"
-    ).ok()
-        .ok_or(Missed::Memory)?;
+    )?;
     bytes_of(alloc, &digits)
 }
 
@@ -127,7 +126,7 @@ fn message(alloc: Global, train: &TcpStream) -> Done<TrackMsg> {
     let mut bytes = heard(alloc, train, 3)?;
     let length = length_in(&bytes)?;
     let rest = heard(alloc, train, length.saturating_sub(3))?;
-    bytes.extend_from_slice(&rest).ok().ok_or(Missed::Memory)?;
+    bytes.extend_from_slice(&rest)?;
     decode_track(&bytes).ok().ok_or(Missed::Digits)
 }
 

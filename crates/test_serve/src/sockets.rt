@@ -1,6 +1,7 @@
 //! The Unix socket of the interlocking: its file, the files that are removed for it, and a run over it.
 
 use crate::client::{Done, Missed};
+use crate::files::name_of;
 use crate::line::two_centres;
 use rbc_line::Line;
 use serve_journal::SystemFile;
@@ -11,43 +12,23 @@ use std::io::{Read, Write};
 use std::net::{IpAddr, Ipv4Addr, Net, SocketAddr, TcpListener, TcpStream};
 use std::os::unix::fs::MetadataExt;
 use std::os::unix::net::UnixStream;
-use std::rt::{Env, Files};
+use std::rt::Files;
 use std::sync::Wait;
 use std::test::*;
 use std::thread::Threads;
 use std::time::{Clock, Duration};
-use std::{env, fs, process, thread};
-
-// Any port of this host.
-fn any_port() -> SocketAddr {
-    SocketAddr::new(IpAddr::V4(Ipv4Addr::LOCALHOST), 0)
-}
+use std::{fs, thread};
 
 // The permission bits of a mode.
 const PERMISSIONS: u32 = 0o777;
 
-// The path of a socket that only this test uses. No file of this path exists.
-fn path_of(rt: &HostRuntime, test: &str) -> Result<String, Fail> {
-    let folder = env::temp_dir(rt)?;
-    let id = process::id(rt.process());
-    let path = format!(in rt.alloc(); "{}/{test}-{id}.socket", folder.as_str())?;
-    if fs::exists(rt, path.as_str())? {
-        fs::remove_file(rt, path.as_str())?;
-    }
-    Ok(path)
-}
-
-#[test]
-fn only_the_owner_may_connect(rt: HostRuntime) -> Result<(), Fail> {
-    let path = path_of(&rt, "owner")?;
-    let listener = listen_at_path(&rt, path.as_str())
-        .ok()
-        .ok_or("the path is free")?;
-    let mode = fs::metadata(&rt, path.as_str())?.mode();
+// Whether only the owner may connect.
+fn is_for_its_owner(rt: &HostRuntime, path: &str) -> Result<bool, Fail> {
+    let listener = listen_at_path(rt, path).ok().ok_or("the path is free")?;
+    let mode = fs::metadata(rt, path)?.mode();
     drop(listener);
-    fs::remove_file(&rt, path.as_str())?;
-    assert!(rt; mode & PERMISSIONS == 0o600);
-    Ok(())
+    fs::remove_file(rt, path)?;
+    Ok(mode & PERMISSIONS == 0o600)
 }
 
 // Listens at the path. The result is whether another listener, and one that would free the path, find it busy.
@@ -70,25 +51,34 @@ fn are_replaced_and_freed(rt: &HostRuntime, path: &str) -> (bool, bool) {
     (is_replaced, free_path(rt, path).is_ok())
 }
 
-#[test]
-fn a_socket_has_one_listener(rt: HostRuntime) -> Result<(), Fail> {
-    let path = path_of(&rt, "one")?;
-    let during = are_busy(&rt, path.as_str())?;
-    let after = are_replaced_and_freed(&rt, path.as_str());
-    let is_there = fs::exists(&rt, path.as_str())?;
-    assert!(rt; (during, after, is_there) == ((true, true), (true, true), false));
-    Ok(())
+// Whether a socket has one listener, and no file is left after it.
+fn is_one_listener(rt: &HostRuntime, path: &str) -> Result<bool, Fail> {
+    let during = are_busy(rt, path)?;
+    let after = are_replaced_and_freed(rt, path);
+    let is_there = fs::exists(rt, path)?;
+    Ok((during, after, is_there) == ((true, true), (true, true), false))
+}
+
+// Whether a file that is not a socket stays.
+fn is_plain_file_kept(rt: &HostRuntime, path: &str) -> Result<bool, Fail> {
+    fs::write(rt, path, "text")?;
+    let refused = listen_at_path(rt, path);
+    let text = fs::read_to_string(rt, path)?;
+    fs::remove_file(rt, path)?;
+    let is_refused = matches!(refused, Err(SocketFault::NotSocket));
+    Ok((is_refused, text.as_str()) == (true, "text"))
 }
 
 #[test]
-fn a_file_that_is_not_a_socket_stays(rt: HostRuntime) -> Result<(), Fail> {
-    let path = path_of(&rt, "plain")?;
-    fs::write(&rt, path.as_str(), "text")?;
-    let refused = listen_at_path(&rt, path.as_str());
-    let text = fs::read_to_string(&rt, path.as_str())?;
-    fs::remove_file(&rt, path.as_str())?;
-    let is_refused = matches!(refused, Err(SocketFault::NotSocket));
-    assert!(rt; (is_refused, text.as_str()) == (true, "text"));
+fn a_socket_has_one_listener_and_is_for_its_owner(rt: HostRuntime) -> Result<(), Fail> {
+    let path = name_of(&rt, "test.socket")?;
+    let path = path.as_str();
+    let seen = [
+        is_for_its_owner(&rt, path)?,
+        is_one_listener(&rt, path)?,
+        is_plain_file_kept(&rt, path)?,
+    ];
+    assert!(rt; seen == [true; 3], "{seen:?}");
     Ok(())
 }
 
@@ -120,7 +110,8 @@ fn release(stream: &mut UnixStream) -> Done<()> {
 fn printed_over_a_socket<
     R: Threads + Wait + Sync + Net<Stream = TcpStream, Listener = TcpListener> + Clock + Files,
 >(rt: &R, alloc: Global, line: &Line, path: &str) -> Done<Vec<u8>> {
-    let endpoints = Endpoints::open_centres(rt, alloc, line, any_port(), &NoNotes)
+    let any_port = SocketAddr::new(IpAddr::V4(Ipv4Addr::LOCALHOST), 0);
+    let endpoints = Endpoints::open_centres(rt, alloc, line, any_port, &NoNotes)
         .ok()
         .ok_or(Missed::Endpoint)?;
     let endpoints = endpoints
@@ -162,11 +153,11 @@ fn printed<R: Threads + Wait + Sync + Clock>(
 
 #[test]
 fn the_interlocking_is_served_over_a_socket(rt: HostRuntime) -> Result<(), Fail> {
-    let path = path_of(&rt, "served")?;
+    let path = name_of(&rt, "served.socket")?;
     let line = two_centres(rt.alloc())?;
     let printed = printed_over_a_socket(&rt, rt.alloc(), &line, path.as_str())?;
     let wanted = "> set A 1\nA 1 Done\nsection 0 A shut\nsection 1 A open\nsection 2 B shut\n";
-    assert!(rt; printed.as_slice() == wanted.as_bytes());
-    assert!(rt; !fs::exists(&rt, path.as_str())?);
+    let is_there = fs::exists(&rt, path.as_str())?;
+    assert!(rt; (printed.as_slice(), is_there) == (wanted.as_bytes(), false));
     Ok(())
 }

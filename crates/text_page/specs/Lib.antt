@@ -1,1 +1,2 @@
 pub mod Health
+pub mod Metrics

@@ -5,6 +5,7 @@
 //! Bodies are free. docs/FORMATS.md fixes the contents of the page.
 #![tactic(auto)]
 
+mod counters;
 mod draw;
 mod follow;
 mod heads;
@@ -24,6 +25,6 @@ pub use metrics::metrics_of;
 pub use page::{line_json, live_page, now_json};
 pub use run::{Changes, Part, RunSheet};
 pub use view::{
-    CentreNow, End, Layout, Limits, LineNow, LinkNow, MissionNow, Phase, Place, Run, SectionNow,
-    SessionNow, TruePlace, Usage,
+    CentreCounts, CentreNow, End, Layout, Limits, LineCounts, LineNow, LinkNow, MissionNow, Phase,
+    Place, Run, SectionNow, SessionNow, TruePlace, Usage,
 };

@@ -1,7 +1,11 @@
 //! The metrics of a running line, in the text format 0.0.4 of Prometheus.
 
+ghost use Rattle.std.specs.Prelude.{◌≡◌, ◌==◌, ◌&&◌, count_by};
+ghost use Rattle.text_page.specs.Metrics.{is_at, is_announced, centre_value, link_value};
+
+use crate::counters::add_counts;
 use crate::sections::word_of;
-use crate::view::{CentreNow, Layout, LineNow, LinkNow, MissionNow};
+use crate::view::{CentreNow, Layout, LineCounts, LineNow, LinkNow, MissionNow};
 use std::alloc::{AllocError, Global};
 
 /// A metric of each centre.
@@ -121,17 +125,31 @@ static OF_LINKS: [(OfLink, &str, &str, &str); 3] = [
 /// The states of a section, in words.
 static STATES: [&str; 4] = ["shut", "open", "kept", "given"];
 
-/// Writes the metrics of the line, of its centres and of their links.
-pub fn metrics_of(alloc: Global, layout: &Layout, now: &LineNow) -> Result<String, AllocError> {
+/// Writes the metrics of the line, of its centres and of their links, and the counts of running centres, if there are
+/// any.
+pub fn metrics_of(
+    alloc: Global,
+    layout: &Layout,
+    now: &LineNow,
+    counts: Option<&LineCounts>,
+) -> Result<String, AllocError> {
     let mut text = String::new(alloc);
     add_line(&mut text, now)?;
     add_centres(&mut text, layout, now)?;
     add_links(&mut text, layout, now)?;
+    if let Some(counts) = counts {
+        add_counts(&mut text, layout, counts)?;
+    }
     Ok(text)
 }
 
-// Begins a metric with its meaning and its type.
-fn begin(text: &mut String, name: &str, kind: &str, help: &str) -> Result<(), AllocError> {
+/// Begins a metric with its meaning and its type.
+pub(crate) fn begin(
+    text: &mut String,
+    name: &str,
+    kind: &str,
+    help: &str,
+) -> Result<(), AllocError> {
     writeln!(text, "# HELP {name} {help}\n# TYPE {name} {kind}")
 }
 
@@ -185,8 +203,8 @@ fn add_links(text: &mut String, layout: &Layout, now: &LineNow) -> Result<(), Al
     Ok(())
 }
 
-// The name of the centre with this number. It has only letters and digits.
-fn label_of(layout: &Layout, number: usize) -> &str {
+/// The name of the centre with this number. It has only letters and digits.
+pub(crate) fn label_of(layout: &Layout, number: usize) -> &str {
     match layout.centres.get(number) {
         Some(name) => name.as_str(),
         None => "",
@@ -195,7 +213,9 @@ fn label_of(layout: &Layout, number: usize) -> &str {
 
 impl OfCentre {
     // The value of the metric, for the centre with this number.
-    fn value_of(self, now: &LineNow, number: usize, centre: &CentreNow) -> u64 {
+    fn value_of(self, now: &LineNow, number: usize, centre: &CentreNow) -> u64
+        ensures { result ≡ centre_value self now.now number centre.now }
+    {
         match self {
             OfCentre::Events => centre.entries,
             OfCentre::EventsLimit => centre.limits.entries,
@@ -214,7 +234,9 @@ impl OfCentre {
 
 impl OfLink {
     // The value of the metric. The limit is that of the centre that sends.
-    fn value_of(self, now: &LineNow, link: &LinkNow) -> u32 {
+    fn value_of(self, now: &LineNow, link: &LinkNow) -> u32
+        ensures { result ≡ link_value self now.now link.now }
+    {
         match self {
             OfLink::Sent => link.sent,
             OfLink::Taken => link.taken,
@@ -226,19 +248,25 @@ impl OfLink {
     }
 }
 
-fn sessions_at(now: &LineNow, number: usize) -> u64 {
+fn sessions_at(now: &LineNow, number: usize) -> u64
+    ensures { result ≡ count_by (λ session. session.centre == number) now.now.sessions.items }
+{
     let sessions = now.sessions.iter();
     sessions
         .filter(|session| session.centre as usize == number)
         .count() as u64
 }
 
-fn missions_at(now: &LineNow, number: usize) -> u64 {
+fn missions_at(now: &LineNow, number: usize) -> u64
+    ensures { result ≡ count_by (λ mission. is_at mission number) now.now.missions.items }
+{
     let missions = now.missions.iter();
     missions.filter(|mission| is_at(mission, number)).count() as u64
 }
 
-fn handovers_at(now: &LineNow, number: usize) -> u64 {
+fn handovers_at(now: &LineNow, number: usize) -> u64
+    ensures { result ≡ count_by (λ mission. is_at mission number && is_announced mission) now.now.missions.items }
+{
     let missions = now.missions.iter();
     missions
         .filter(|mission| is_at(mission, number) && is_announced(mission))
@@ -246,7 +274,9 @@ fn handovers_at(now: &LineNow, number: usize) -> u64 {
 }
 
 // Whether a mission is supervised by the centre with this number.
-fn is_at(mission: &Option<MissionNow>, number: usize) -> bool {
+fn is_at(mission: &Option<MissionNow>, number: usize) -> bool
+    ensures { result ≡ is_at mission.now number }
+{
     match mission {
         Some(mission) => match mission.supervisor {
             Some(centre) => centre as usize == number,
@@ -257,7 +287,9 @@ fn is_at(mission: &Option<MissionNow>, number: usize) -> bool {
 }
 
 // Whether a handover of the mission is announced.
-fn is_announced(mission: &Option<MissionNow>) -> bool {
+fn is_announced(mission: &Option<MissionNow>) -> bool
+    ensures { result ≡ is_announced mission.now }
+{
     match mission {
         Some(mission) => mission.handover.is_some(),
         None => false,

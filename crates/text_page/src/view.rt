@@ -1,7 +1,5 @@
 //! The line and the state of its centres, each seen at its own moment.
 
-ghost use Rattle.std.specs.Prelude.{◌≤◌, ◌<◌, ◌+◌, ◌↔◌, IsTrue};
-
 /// The data that do not change while the centres run.
 #[derive(Drop)]
 pub struct Layout {
@@ -57,14 +55,6 @@ pub struct Run {
 }
 
 impl Run {
-    /// Whether this section is one of them, by its number.
-    pub fn contains(self, section: usize) -> bool
-        ensures { IsTrue result ↔ ((self.first ≤ section) × (section < self.first + self.count)) }
-    {
-        let first = self.first as usize;
-        section >= first && section - first < self.count as usize
-    }
-
     /// The last section, if there is one.
     pub(crate) fn last(self) -> Option<u16> {
         self.first.checked_add(self.count.checked_sub(1)?)
@@ -189,4 +179,37 @@ pub struct LineNow {
     pub true_places: Vec<TruePlace>,
     /// The last events in words, the newest first.
     pub last: Vec<String>,
+}
+
+/// The counts of running centres since they began, and the events that their journals do not have yet. Only the metrics
+/// show them.
+#[derive(Drop)]
+pub struct LineCounts {
+    /// By the centres' numbers.
+    pub centres: Vec<CentreCounts>,
+    /// The refusals that were noted: lines of the interlocking, connections, connections that got no thread, and times
+    /// that the system gave no connection.
+    pub refusals: [u64; 4],
+    /// The notes that were lost.
+    pub lost_notes: u64,
+}
+
+/// The counts of a centre.
+#[derive(Clone, Copy)]
+pub struct CentreCounts {
+    /// The messages of trains that were left without an answer, for each reason at its printed number less 1.
+    pub silent: [u64; 10],
+    /// The events that the journal of the centre does not have yet.
+    pub unwritten: u64,
+    /// The answers that waited for that journal for a second or more.
+    pub late: u64,
+}
+
+impl CentreCounts {
+    /// Nothing was counted yet.
+    pub const NOTHING: CentreCounts = CentreCounts {
+        silent: [0; 10],
+        unwritten: 0,
+        late: 0,
+    };
 }

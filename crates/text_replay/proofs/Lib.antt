@@ -1,1 +1,4 @@
-pub mod Stretches
+pub mod Showing
+pub mod Opened
+pub mod Followed
+pub mod Kept

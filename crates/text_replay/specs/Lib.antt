@@ -1,3 +1,5 @@
 pub mod Stretches
+pub mod Noted
+pub mod Turned
 pub mod Shown
 pub mod Told

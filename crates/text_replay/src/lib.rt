@@ -6,6 +6,7 @@
 //! Bodies are free. docs/FORMATS.md fixes the contents.
 #![tactic(auto)]
 
+mod changes;
 mod contents;
 mod cut;
 mod events;
@@ -16,14 +17,17 @@ mod played;
 mod retelling;
 mod shown;
 mod stretch;
+mod turns;
 mod words;
 
+pub use changes::SectionChanges;
 pub use cut::Cut;
 pub use events::{events_in, train_in};
 pub use handovers::Handovers;
 pub use layout::layout_of;
 pub use page::page_of;
 pub use retelling::Retelling;
-pub use shown::{mission_now, phase_now};
-pub use stretch::{Stretch, stretches_of};
+pub use shown::{mission_now, phase_now, section_now};
+pub use stretch::Stretch;
+pub use turns::{Turn, Turns};
 pub use words::rows_in_words;

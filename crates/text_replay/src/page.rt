@@ -5,10 +5,10 @@ use crate::events::{events_in, train_in};
 use crate::layout::layout_of;
 use crate::played::{Played, play};
 use crate::shown::{phase_now, section_now};
-use crate::stretch::stretches_of;
+use crate::turns::Turn;
 use rbc_line::Line;
 use std::alloc::{AllocError, Global};
-use text_page::{Changes, Layout, LineNow, MissionNow, Part, Phase, RunSheet, SessionNow};
+use text_page::{Changes, Layout, LineNow, Part, RunSheet, SessionNow};
 use text_script::status::Fault;
 use text_script::{LineView, WorldEvent};
 
@@ -121,9 +121,10 @@ fn add_sections(
     before: u64,
     run: &Played,
 ) -> Result<(), AllocError> {
+    let states = run.words.len().saturating_add(1);
     sheet.begin(Changes::Sections)?;
     for section in 0..line.section_count() {
-        for stretch in stretches_of(alloc, &run.views, section)? {
+        for stretch in run.sections.stretches(alloc, section, states)? {
             let event = number(before, stretch.since);
             sheet.add_section(event, section, section_now(stretch.seen))?;
         }
@@ -140,34 +141,21 @@ fn add_missions(
 ) -> Result<(), AllocError> {
     sheet.begin(Changes::Missions)?;
     for train in 0..line.train_count() {
-        add_missions_of(sheet, layout, line, before, run, train)?;
+        for turn in told(run.missions.of(train as usize)) {
+            let event = number(before, turn.since);
+            let nid_engine = nid_engine_of(line, train);
+            sheet.add_mission(layout, event, nid_engine, turn.value.as_ref())?;
+        }
     }
     sheet.end()
 }
 
-// Adds the missions of a train.
-fn add_missions_of(
-    sheet: &mut RunSheet,
-    layout: &Layout,
-    line: &Line,
-    before: u64,
-    run: &Played,
-    train: u8,
-) -> Result<(), AllocError> {
-    let mut was = None;
-    for (e, missions) in run.missions.iter().enumerate() {
-        let now = mission_in(missions, train);
-        if now != was {
-            let event = number(before, e);
-            sheet.add_mission(layout, event, nid_engine_of(line, train), now.as_ref())?;
-            was = now;
-        }
+// The turns that are shown: nothing is shown of a thing before it first is.
+fn told<T>(turns: &[Turn<Option<T>>]) -> &[Turn<Option<T>>] {
+    match turns {
+        [first, rest @ ..] if first.value.is_none() => rest,
+        _ => turns,
     }
-    Ok(())
-}
-
-fn mission_in(missions: &[Option<MissionNow>], train: u8) -> Option<MissionNow> {
-    *missions.get(train as usize)?
 }
 
 fn nid_engine_of(line: &Line, train: u8) -> u32 {
@@ -185,40 +173,18 @@ fn add_sessions(
     run: &Played,
 ) -> Result<(), AllocError> {
     sheet.begin(Changes::Sessions)?;
+    let centres = line.centre_count();
     for train in 0..line.train_count() {
-        for centre in 0..line.centre_count() {
-            add_sessions_at(sheet, layout, line, before, run, (train, centre))?;
+        let first = usize::from(train).saturating_mul(centres.into());
+        for centre in 0..centres {
+            for turn in told(run.phases.of(first.saturating_add(centre.into()))) {
+                let event = number(before, turn.since);
+                let nid_engine = nid_engine_of(line, train);
+                sheet.add_session(layout, event, nid_engine, centre, turn.value)?;
+            }
         }
     }
     sheet.end()
-}
-
-// Adds the sessions of a train at a centre.
-fn add_sessions_at(
-    sheet: &mut RunSheet,
-    layout: &Layout,
-    line: &Line,
-    before: u64,
-    run: &Played,
-    (train, centre): (u8, u8),
-) -> Result<(), AllocError> {
-    let mut was = None;
-    for (e, view) in run.views.iter().enumerate() {
-        let now = phase_in(view, train, centre);
-        if now != was {
-            let event = number(before, e);
-            sheet.add_session(layout, event, nid_engine_of(line, train), centre, now)?;
-            was = now;
-        }
-    }
-    Ok(())
-}
-
-// The phase of the session of a train at a centre, if there is one.
-fn phase_in(view: &LineView, train: u8, centre: u8) -> Option<Phase> {
-    let train = view.trains.get(train as usize)?;
-    let session = train.sessions.get(centre as usize)?;
-    phase_now(session.phase, session.waiting.is_some())
 }
 
 // The line after the last event, with the last events in words.
@@ -239,11 +205,10 @@ fn last_of(alloc: Global, part: Part, run: &Played) -> Result<LineNow, AllocErro
 }
 
 fn add_last(alloc: Global, now: &mut LineNow, first: u64, run: &Played) -> Result<(), AllocError> {
-    if let Some(view) = run.views.last() {
-        add_view(now, view)?;
-    }
-    if let Some(missions) = run.missions.last() {
-        now.missions.extend_from_slice(missions)?;
+    add_view(now, &run.last)?;
+    for train in 0..run.last.trains.len() {
+        let mission = run.missions.at(train, run.words.len());
+        now.missions.push(mission.flatten())?;
     }
     for (e, words) in run.words.iter().enumerate().rev().take(TOLD) {
         let event = number(first, e);

@@ -1,23 +1,29 @@
 //! The line before the first event that is shown, and after each.
 
+use crate::changes::SectionChanges;
 use crate::events::centre_of;
 use crate::handovers::Handovers;
-use crate::shown::mission_now;
+use crate::shown::{mission_now, phase_now};
+use crate::turns::Turns;
 use crate::words::event_in_words;
 use rbc_line::Line;
 use std::alloc::{AllocError, Global};
-use text_page::MissionNow;
+use text_page::{MissionNow, Phase};
 use text_script::status::Fault;
 use text_script::{Answer, LineView, MissionView, SectionRun, Supervisor, World, WorldEvent};
 
-/// A part of a run. In each list except `words`, the first item is the state before the first event.
+/// A part of a run. Except in `words`, event 0 is the state before the first event.
 #[derive(Drop)]
 pub(crate) struct Played {
-    pub views: Vec<LineView>,
+    pub sections: SectionChanges,
     /// By the trains' places in the line file.
-    pub missions: Vec<Vec<Option<MissionNow>>>,
+    pub missions: Turns<Option<MissionNow>>,
+    /// By train, and then by centre.
+    pub phases: Turns<Option<Phase>>,
     /// The events in words.
     pub words: Vec<String>,
+    /// The line after the last event.
+    pub last: LineView,
 }
 
 /// Plays events, and records those from the first shown one on.
@@ -28,11 +34,7 @@ pub(crate) fn play(
     first: usize,
 ) -> Result<Played, Fault<'static>> {
     let mut centres = centres_at(alloc, line, events, first)?;
-    let mut played = Played {
-        views: Vec::new(alloc),
-        missions: Vec::new(alloc),
-        words: Vec::new(alloc),
-    };
+    let mut played = begun(alloc, line, &centres)?;
     tell(alloc, line, events, first, &mut centres, &mut played)?;
     Ok(played)
 }
@@ -75,6 +77,19 @@ fn pass(
         step(line, event, centres)?;
     }
     Ok(())
+}
+
+// The current state of the line, before the first recorded event.
+fn begun(alloc: Global, line: &Line, centres: &Centres) -> Result<Played, AllocError> {
+    let trains = line.train_count() as usize;
+    let sessions = trains.saturating_mul(line.centre_count() as usize);
+    Ok(Played {
+        sections: SectionChanges::new(alloc, line)?,
+        missions: Turns::new(alloc, trains)?,
+        phases: Turns::new(alloc, sessions)?,
+        words: Vec::new(alloc),
+        last: centres.world.view(alloc)?,
+    })
 }
 
 // Plays and records the events from the first one on.
@@ -125,26 +140,45 @@ fn hear(line: &Line, event: &WorldEvent, answer: &Answer, handovers: &mut Handov
 // Records the current state of the line.
 fn look(alloc: Global, centres: &Centres, played: &mut Played) -> Result<(), AllocError> {
     let view = centres.world.view(alloc)?;
-    let missions = missions_in(alloc, &view, &centres.handovers)?;
-    played.missions.push(missions)?;
-    played.views.push(view)?;
+    let event = played.words.len();
+    played.sections.note(event, &view)?;
+    note_missions(&view, &centres.handovers, event, &mut played.missions)?;
+    note_phases(&view, event, &mut played.phases)?;
+    played.last = view;
     Ok(())
 }
 
-// The mission of each train.
-fn missions_in(
-    alloc: Global,
+// Records the mission of each train.
+fn note_missions(
     view: &LineView,
     handovers: &Handovers,
-) -> Result<Vec<Option<MissionNow>>, AllocError> {
-    let mut missions = Vec::new(alloc);
+    event: usize,
+    missions: &mut Turns<Option<MissionNow>>,
+) -> Result<(), AllocError> {
     for (train, seen) in view.trains.iter().enumerate() {
-        missions.push(match seen.mission {
+        let mission = match seen.mission {
             Some(mission) => Some(mission_of(seen.nid_engine, &mission, handovers, train)),
             None => None,
-        })?;
+        };
+        missions.note(train, event, mission)?;
     }
-    Ok(missions)
+    Ok(())
+}
+
+// Records the sessions of each train.
+fn note_phases(
+    view: &LineView,
+    event: usize,
+    phases: &mut Turns<Option<Phase>>,
+) -> Result<(), AllocError> {
+    for (train, seen) in view.trains.iter().enumerate() {
+        let first = train.saturating_mul(seen.sessions.len());
+        for (centre, session) in seen.sessions.iter().enumerate() {
+            let phase = phase_now(session.phase, session.waiting.is_some());
+            phases.note(first.saturating_add(centre), event, phase)?;
+        }
+    }
+    Ok(())
 }
 
 // The mission of a train. It does not separate lent sections from other kept ones.

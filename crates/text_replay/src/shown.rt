@@ -8,7 +8,7 @@ use text_page::{MissionNow, Phase, Run, SectionNow, Usage};
 use text_script::{Mark, MissionFacts, Phase as SessionPhase, SectionRun, SectionView};
 
 /// The view of a section.
-pub(crate) fn section_now(view: SectionView) -> SectionNow
+pub fn section_now(view: SectionView) -> SectionNow
     ensures mark { usage_shown result.usage ≡ mark_shown view.mark }
     ensures wish { result.is_wished ≡ view.is_wished }
 {

@@ -1,6 +1,7 @@
 ghost use Rattle.std.specs.Prelude.{◌≡◌, ◌≤◌, if◌then◌else◌, nat_le, IfSome};
 
 use serve_journal::Kept;
+use std::sync::atomic::{AtomicU64, Ordering};
 use std::sync::{Condvar, Mutex, MutexGuard, Wait};
 use std::thread::Parker;
 use std::time::Duration;
@@ -23,6 +24,8 @@ pub struct Journal {
     reach: Mutex<Reach>,
     /// Notified when the reach changes.
     moved: Condvar,
+    /// The number of events that were written a second or more after the writing thread took them.
+    late: AtomicU64,
 }
 
 /// The reach of a journal.
@@ -30,6 +33,8 @@ pub struct Journal {
 struct Reach {
     /// Shows the events that were written since the start.
     kept: Kept,
+    /// The number of the centre's events in the journal.
+    written: usize,
     /// Whether the journal can't be written now.
     is_stuck: bool,
     /// Whether the journal is closed: nothing more is written.
@@ -45,10 +50,12 @@ impl Journal {
             waker: Parker::new(),
             reach: Mutex::new(Reach {
                 kept: Kept::no_event(),
+                written: begins,
                 is_stuck: false,
                 is_closed: false,
             }),
             moved: Condvar::new(),
+            late: AtomicU64::new(0),
         }
     }
 
@@ -137,10 +144,26 @@ impl Journal {
         self.waker.park_timeout(rt, Duration::from_millis(REST_MS));
     }
 
-    /// Reports that the journal has the events that `kept` shows.
-    pub(crate) fn reached<R: Wait>(&self, rt: &R, kept: Kept) {
+    /// The number of the centre's events in the journal.
+    pub(crate) fn written<R: Wait>(&self, rt: &R) -> usize {
+        self.reach.lock(rt).written
+    }
+
+    /// The number of events that were written a second or more after the writing thread took them.
+    pub(crate) fn late(&self) -> u64 {
+        self.late.load(Ordering::SeqCst)
+    }
+
+    /// Counts events that were written a second or more after the writing thread took them.
+    pub(crate) fn add_late(&self, count: usize) {
+        self.late.fetch_add(count as u64, Ordering::SeqCst);
+    }
+
+    /// Reports that the journal has the events that `kept` shows, which are this many more.
+    pub(crate) fn reached<R: Wait>(&self, rt: &R, kept: Kept, count: usize) {
         let mut reach = self.reach.lock(rt);
         reach.kept = kept;
+        reach.written = reach.written.saturating_add(count);
         reach.is_stuck = false;
         self.tell(reach);
     }

@@ -8,11 +8,14 @@ use std::alloc::Global;
 use std::io::ErrorKind;
 use std::sync::Wait;
 use std::sync::atomic::{AtomicBool, Ordering};
-use std::time::{Clock, Duration};
+use std::time::{Clock, Duration, Instant};
 use std::{io, thread};
 
 /// The rest of the writing thread after a failed write, in milliseconds.
 const STUCK_REST_MS: u64 = 500;
+
+/// The time of a write after which its events are counted as late, in seconds.
+const LATE_S: u64 = 1;
 
 /// The writer of a centre's journal.
 #[derive(Drop)]
@@ -39,15 +42,22 @@ pub fn keep_journal<R: Wait + Clock, N: Notes, F: DurableFile + Drop>(
 ) -> bool {
     let mut written = writer.journal.begins();
     let mut is_stuck = false;
+    let mut taken_at = None;
     for _ in rt.forever() {
         let is_over = writer.is_over.load(Ordering::SeqCst);
+        taken_at = taken_at.or(Instant::now(rt).ok());
         match writer.write_next(rt, file, written) {
             Ok(0) if is_over => return true,
-            Ok(0) => writer.journal.rest(rt),
+            Ok(0) => {
+                writer.journal.rest(rt);
+                taken_at = None;
+            }
             Ok(count) => {
                 written = written.saturating_add(count);
+                writer.count_late(rt, taken_at, count);
                 writer.note_written(is_stuck);
                 is_stuck = false;
+                taken_at = None;
             }
             Err(error) => {
                 writer.note_stuck(rt, is_stuck, &error);
@@ -74,9 +84,19 @@ impl<N: Notes> JournalWriter<'_, N> {
             return Err(io::Error::from(ErrorKind::OutOfMemory));
         };
         if let Some(kept) = file.keep(self.alloc, self.line, &entries)? {
-            self.journal.reached(rt, kept);
+            self.journal.reached(rt, kept, entries.len());
         }
         Ok(entries.len())
+    }
+
+    // Counts written events as late, if they were taken at least `LATE_S` ago.
+    fn count_late<R: Clock>(&self, rt: &R, taken_at: Option<Instant>, count: usize) {
+        let (Some(taken_at), Ok(now)) = (taken_at, Instant::now(rt)) else {
+            return;
+        };
+        if now.duration_since(taken_at) >= Duration::from_secs(LATE_S) {
+            self.journal.add_late(count);
+        }
     }
 
     fn note_written(&self, was_stuck: bool) {

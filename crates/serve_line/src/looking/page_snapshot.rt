@@ -1,13 +1,13 @@
 use crate::looking::news::News;
 use crate::looking::seen::see_centre;
 use crate::looking::sent::Sent;
-use crate::status::LIMITS;
+use crate::status::{LIMITS, Silences, Snapshot};
 use rbc_line::Line;
 use rbc_node::Node;
 use std::alloc::{AllocError, Global};
 use std::sync::Wait;
-use text_page::{CentreNow, Layout, LineNow, LinkNow, MissionNow, SectionNow, Usage};
-use text_replay::layout_of;
+use text_page::{CentreCounts, CentreNow, Layout, LineCounts, LineNow, LinkNow, SectionNow, Usage};
+use text_replay::{layout_of, section_now};
 use text_script::status::Fault;
 
 /// The line as the page shows it.
@@ -15,8 +15,21 @@ use text_script::status::Fault;
 pub struct PageSnapshot {
     pub layout: Layout,
     pub now: LineNow,
+    /// The counts for the metrics.
+    pub counts: LineCounts,
     sent: Sent,
     news: News,
+    // By the centres' numbers.
+    silences: Vec<Silences>,
+}
+
+/// The result of a look at the centres.
+#[derive(Drop)]
+pub struct Found {
+    /// The line. No slot is taken in it, and each journal can be written.
+    now: LineNow,
+    /// For each centre its silent messages, by their reasons.
+    silent: Vec<[u64; 10]>,
 }
 
 impl PageSnapshot {
@@ -25,57 +38,72 @@ impl PageSnapshot {
         Ok(PageSnapshot {
             layout: layout_of(alloc, line, ports)?,
             now: nothing_of(alloc, line)?,
+            counts: no_counts(alloc, line)?,
             sent: Sent::new(alloc, line)?,
             news: News::new(alloc, line)?,
+            silences: vec![in alloc; Silences::new(); line.centre_count() as usize]?,
         })
     }
 
-    /// Reads the centres, one after another. In the result no slot is taken, and each journal can be written. The page
-    /// shows it when it is stored in `now`.
+    /// Reads the centres, one after another.
     pub fn look<R: Wait>(
         &mut self,
         rt: &R,
         alloc: Global,
         line: &Line,
         nodes: &[Node],
-    ) -> Result<LineNow, Fault<'static>> {
+    ) -> Result<Found, Fault<'static>> {
+        let mut silent = Vec::new(alloc);
+        for (node, silences) in nodes.iter().zip(self.silences.iter_mut()) {
+            silences.catch_up(rt, node);
+            silent.push(silences.counts())?;
+        }
         let mut now = nothing_of(alloc, line)?;
+        let mut snapshot = Snapshot::new(alloc, line)?;
         for node in nodes {
             let look = node.look(rt);
             let log = look.log();
             see_centre(line, log, &mut now)?;
+            snapshot.add(line, log);
             self.sent.read_on(line, log.core());
             self.news.read_on(alloc, line, log)?;
         }
         self.sent.add_handovers(&mut now);
-        mark_given(&mut now);
+        see_sections(line, &snapshot, &mut now);
         now.last = self.news.tell(alloc, line)?;
-        Ok(now)
+        Ok(Found { now, silent })
+    }
+
+    /// Shows the result of a look, and returns whether its events are others. The marks of the endpoints and the true
+    /// places of trains stay.
+    pub fn show(&mut self, found: Found) -> bool {
+        let Found { now, silent } = found;
+        let has_changed = now.events != self.now.events;
+        let mut before = std::mem::replace(&mut self.now, now);
+        copy_marks(&mut before, &mut self.now);
+        for (place, counts) in self.counts.centres.iter_mut().zip(silent.iter()) {
+            place.silent = *counts;
+        }
+        has_changed
     }
 }
 
-// Marks as given those kept sections that are in the movement authority of their train.
-fn mark_given(now: &mut LineNow) {
-    for (s, section) in now.sections.iter_mut().enumerate() {
-        if let Usage::Kept { nid_engine } = section.usage {
-            if has_in_hand(&now.missions, nid_engine, s) {
-                section.usage = Usage::Given { nid_engine };
-            }
-        }
+// Takes the marks of the endpoints and the true places of trains from the earlier view.
+fn copy_marks(before: &mut LineNow, now: &mut LineNow) {
+    now.is_stopped = before.is_stopped;
+    std::mem::swap(&mut now.true_places, &mut before.true_places);
+    for (place, old) in now.centres.iter_mut().zip(before.centres.iter()) {
+        place.taken = old.taken;
+        place.seats = old.seats;
+        place.is_stuck = old.is_stuck;
     }
 }
 
-// Whether the train of this engine has the section in its movement authority.
-fn has_in_hand(missions: &[Option<MissionNow>], nid_engine: u32, section: usize) -> bool {
-    for mission in missions {
-        match mission {
-            Some(mission) if mission.nid_engine == nid_engine => {
-                return mission.hand.contains(section);
-            }
-            _ => {}
-        }
+// Shows each section as the centres show it.
+fn see_sections(line: &Line, snapshot: &Snapshot, now: &mut LineNow) {
+    for (place, s) in now.sections.iter_mut().zip(0..line.section_count()) {
+        *place = section_now(snapshot.section(line, s));
     }
-    false
 }
 
 // The line before the first look.
@@ -90,6 +118,15 @@ fn nothing_of(alloc: Global, line: &Line) -> Result<LineNow, AllocError> {
         links: links_of(alloc, line)?,
         true_places: Vec::new(alloc),
         last: Vec::new(alloc),
+    })
+}
+
+// The counts before the first look.
+fn no_counts(alloc: Global, line: &Line) -> Result<LineCounts, AllocError> {
+    Ok(LineCounts {
+        centres: vec![in alloc; CentreCounts::NOTHING; line.centre_count() as usize]?,
+        refusals: [0; 4],
+        lost_notes: 0,
     })
 }
 

@@ -1,15 +1,14 @@
 //! The view of one centre.
 
 use crate::status::end_of;
-use rbc_book::Entry;
 use rbc_line::Line;
 use rbc_log::CentreLog;
 use std::alloc::AllocError;
-use text_page::{LineNow, SectionNow, SessionNow, Usage};
+use text_page::{LineNow, SessionNow};
 use text_replay::{mission_now, phase_now};
 use text_script::{Centre, TrainPage};
 
-/// Adds a centre's sections of its own, its trains, its links, and its usage.
+/// Adds a centre's trains, its links, and its usage.
 pub(crate) fn see_centre(
     line: &Line,
     log: &CentreLog,
@@ -17,7 +16,6 @@ pub(crate) fn see_centre(
 ) -> Result<(), AllocError> {
     let centre = log.core();
     see_life(log, now);
-    see_sections(line, centre, now);
     see_links(centre, now);
     for i in 0..line.train_count() {
         if let Some(train) = line.train(i) {
@@ -39,29 +37,6 @@ fn see_life(log: &CentreLog, now: &mut LineNow) {
             None => 0,
         };
         place.end = end_of(log);
-    }
-}
-
-fn see_sections(line: &Line, centre: &Centre, now: &mut LineNow) {
-    for s in 0..line.section_count() {
-        if line.is_home(centre.number(), s) {
-            if let Some(place) = now.sections.get_mut(s as usize) {
-                let page = centre.page(s);
-                *place = SectionNow {
-                    usage: usage_of(page.entry),
-                    is_wished: page.is_wished,
-                };
-            }
-        }
-    }
-}
-
-// The usage of a section if no movement authority is known.
-fn usage_of(entry: Entry) -> Usage {
-    match entry {
-        Entry::Shut => Usage::Shut,
-        Entry::Open => Usage::Open,
-        Entry::Taken { nid_engine } | Entry::Out { nid_engine } => Usage::Kept { nid_engine },
     }
 }
 

@@ -14,7 +14,7 @@ use std::rt::Files;
 use text_script::print::name_of;
 
 /// The listening ports of the centres, the port or the Unix socket of the interlocking, and the page's port, if there
-/// is one. Those of the interlocking and of the page are of this host only.
+/// is one. That of the interlocking is of this host only.
 #[derive(Drop)]
 pub struct Endpoints {
     ports: Vec<Listening>,
@@ -129,14 +129,15 @@ impl Endpoints {
         }
     }
 
-    /// Listens at this port of this host for browsers too, for the page of the line. If that fails, a note reports it.
+    /// Listens at this address for browsers too, for the page of the line. If that fails, a note reports it.
     pub fn and_page<R: Net<Stream = TcpStream, Listener = TcpListener>, N: Notes>(
         self,
         rt: &R,
-        port: u16,
+        address: SocketAddr,
         notes: &N,
     ) -> Result<Endpoints, ServeFault> {
-        let listening = listen_noted(rt, "page", (LOCALHOST, u32::from(port)), notes)?;
+        let place = (address.ip(), u32::from(address.port()));
+        let listening = listen_noted(rt, "page", place, notes)?;
         Ok(Endpoints {
             page: Some(PagePort {
                 listening,

@@ -1,3 +1,6 @@
+ghost use Rattle.std.specs.Prelude.{◌≡◌};
+ghost use Rattle.serve_line.specs.Notes.{omitted_before, turned, counted, is_written_in};
+
 /// The most notes of a kind that are written in one second. Of further notes only the number is written.
 const EACH_SECOND: u32 = 10;
 
@@ -88,6 +91,8 @@ struct Count {
     second: u64,
     written: u32,
     left_out: u64,
+    // All notes of the kind so far.
+    all: u64,
 }
 
 /// The decision about a note.
@@ -105,28 +110,19 @@ impl Counts {
             second: 0,
             written: 0,
             left_out: 0,
+            all: 0,
         };
         Counts { counts: [count; 7] }
     }
 
     /// Counts a note of this kind in this second, and decides whether it is written.
     pub fn take(&mut self, kind: Kind, second: u64) -> Taken {
-        let Some(count) = self.counts.get_mut(kind as usize) else {
-            return Taken {
+        match self.counts.get_mut(kind as usize) {
+            Some(count) => count.take(second),
+            None => Taken {
                 is_written: true,
                 left_out: 0,
-            };
-        };
-        let left_out = count.turn(second);
-        let is_written = count.written < EACH_SECOND;
-        if is_written {
-            count.written = count.written.saturating_add(1);
-        } else {
-            count.left_out = count.left_out.saturating_add(1);
-        }
-        Taken {
-            is_written,
-            left_out,
+            },
         }
     }
 
@@ -139,9 +135,52 @@ impl Counts {
     }
 }
 
+impl Counts {
+    /// The notes of each kind of refusal so far: lines, connections, threads and devices. Omitted notes count too.
+    pub fn refusals(&self) -> [u64; 4] {
+        [
+            self.all(Kind::Line),
+            self.all(Kind::Refusal),
+            self.all(Kind::Thread),
+            self.all(Kind::Device),
+        ]
+    }
+
+    // All notes of a kind so far.
+    fn all(&self, kind: Kind) -> u64 {
+        match self.counts.get(kind as usize) {
+            Some(count) => count.all,
+            None => 0,
+        }
+    }
+}
+
 impl Count {
+    // Counts a note in this second, and decides whether it is written.
+    fn take(&mut self, second: u64) -> Taken
+        ensures before { result.left_out ≡ omitted_before second self.old }
+        ensures written { result.is_written ≡ is_written_in second self.old }
+        ensures after { self.new ≡ counted (is_written_in second self.old) (turned second self.old) }
+    {
+        let left_out = self.turn(second);
+        let is_written = self.written < EACH_SECOND;
+        if is_written {
+            self.written = self.written.saturating_add(1);
+        } else {
+            self.left_out = self.left_out.saturating_add(1);
+        }
+        self.all = self.all.saturating_add(1);
+        Taken {
+            is_written,
+            left_out,
+        }
+    }
+
     // Begins this second, if it is a new one. The result is the number of notes omitted before.
-    fn turn(&mut self, second: u64) -> u64 {
+    fn turn(&mut self, second: u64) -> u64
+        ensures before { result ≡ omitted_before second self.old }
+        ensures after { self.new ≡ turned second self.old }
+    {
         if self.second == second {
             return 0;
         }
@@ -150,6 +189,7 @@ impl Count {
             second,
             written: 0,
             left_out: 0,
+            all: self.all,
         };
         left_out
     }

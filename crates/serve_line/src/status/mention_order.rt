@@ -1,10 +1,8 @@
+use crate::status::silences::next_piece;
 use rbc_line::Line;
 use rbc_log::{CentreLog, Entry};
 use std::alloc::{AllocError, Global};
 use text_script::Event;
-
-/// The most entries of a log that are read in one piece. The log's centre takes no step meanwhile.
-const PIECE: usize = 4_096;
 
 /// The trains that messages to the centres have named, and the first such message of each.
 #[derive(Drop)]
@@ -37,16 +35,13 @@ impl MentionOrder {
         let Some(looked) = self.looked.get_mut(centre) else {
             return false;
         };
-        let from = *looked;
-        let count = log.entries().len();
-        let to = count.min(from.saturating_add(PIECE));
-        *looked = to;
-        if let Some(entries) = log.entries().get(from..to) {
-            for entry in entries {
-                self.read(line, entry);
-            }
+        let piece = next_piece(log.entries(), *looked);
+        let read = looked.saturating_add(piece.len());
+        *looked = read;
+        for entry in piece {
+            self.read(line, entry);
         }
-        to < count
+        read < log.entries().len()
     }
 
     fn read(&mut self, line: &Line, entry: &Entry) {

@@ -22,6 +22,27 @@ pub trait Notes {
 
     /// Takes one note of a kind that may occur many times.
     fn often<D: Display + Drop>(&self, kind: Kind, text: D);
+
+    /// The counts of notes so far; 0 if nobody counts them.
+    fn counts(&self) -> NoteCounts;
+}
+
+/// The counts of notes.
+#[derive(Clone, Copy)]
+pub struct NoteCounts {
+    /// The refusals: lines of the interlocking, connections, connections that got no thread, and times that the system
+    /// gave no connection.
+    pub refusals: [u64; 4],
+    /// The notes that were lost.
+    pub lost: u64,
+}
+
+impl NoteCounts {
+    /// Nothing is counted.
+    pub const NOTHING: NoteCounts = NoteCounts {
+        refusals: [0; 4],
+        lost: 0,
+    };
 }
 
 /// The form of notes on standard error.
@@ -56,6 +77,10 @@ impl<R: Eprint> Notes for StderrNotes<'_, R> {
     fn often<D: Display + Drop>(&self, kind: Kind, text: D) {
         self.note(kind.level(), text);
     }
+
+    fn counts(&self) -> NoteCounts {
+        NoteCounts::NOTHING
+    }
 }
 
 /// A note that waits to be written.
@@ -68,8 +93,10 @@ pub struct Note {
 /// The state shared by the threads that send notes and the thread that writes them.
 #[derive(Drop)]
 pub struct Backlog {
-    // The number of notes lost since the last report.
+    // The number of notes lost so far.
     lost: AtomicU64,
+    // The number of those that were reported.
+    told: AtomicU64,
     counts: Mutex<Counts>,
 }
 
@@ -78,6 +105,7 @@ impl Backlog {
     pub fn new() -> Backlog {
         Backlog {
             lost: AtomicU64::new(0),
+            told: AtomicU64::new(0),
             counts: Mutex::new(Counts::new()),
         }
     }
@@ -138,6 +166,13 @@ impl<R: Wait + Clock> Notes for QueuedNotes<'_, R> {
             self.note(kind.level(), text);
         }
     }
+
+    fn counts(&self) -> NoteCounts {
+        NoteCounts {
+            refusals: self.backlog.counts.lock(self.rt).refusals(),
+            lost: self.backlog.lost.load(Ordering::SeqCst),
+        }
+    }
 }
 
 // Writes a note after the time, if the clock gives it.
@@ -190,7 +225,8 @@ pub fn write_notes<R: Wait + Clock, N: Notes>(
 }
 
 fn tell_lost<N: Notes>(notes: &N, backlog: &Backlog) {
-    let count = backlog.lost.swap(0, Ordering::SeqCst);
+    let lost = backlog.lost.load(Ordering::SeqCst);
+    let count = lost.saturating_sub(backlog.told.swap(lost, Ordering::SeqCst));
     if count > 0 {
         notes.note(Level::Warning, format_args!("{count} notes were lost"));
     }
@@ -215,4 +251,8 @@ impl Notes for NoNotes {
     fn note<D: Display + Drop>(&self, _level: Level, _text: D) {}
 
     fn often<D: Display + Drop>(&self, _kind: Kind, _text: D) {}
+
+    fn counts(&self) -> NoteCounts {
+        NoteCounts::NOTHING
+    }
 }

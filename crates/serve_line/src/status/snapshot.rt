@@ -1,3 +1,8 @@
+ghost use Rattle.std.specs.Prelude.{◌≡◌, IfOk, length, replicate, slice_set, false, None, Some};
+ghost use Rattle.rbc_book.specs.declared.page.Entry.TheVariants.{Shut};
+ghost use Rattle.text_script.specs.rbc_world.View.{mark_shown, mark_by};
+ghost use Rattle.serve_line.specs.Snapshots.{page_in, mission_in, is_given_in};
+
 use crate::status::mention_order::MentionOrder;
 use rbc_book::{Entry, Page};
 use rbc_line::Line;
@@ -10,9 +15,9 @@ use text_script::print::{print_section, print_train};
 use text_script::status::Fault;
 use text_script::{Mark, SectionRun, SectionView};
 
-/// The line as the centres show it, each at its own moment.
+/// The line as the centres show it, each at its own moment: at the control endpoint, and on the page.
 #[derive(Drop)]
-struct Snapshot {
+pub(crate) struct Snapshot {
     /// Indexed by section number: the page of the section at its home.
     pages: Vec<Page>,
     /// In the order of the trains in the line file: the mission of each, if a centre has one.
@@ -60,15 +65,20 @@ fn catch_up<R: Wait>(rt: &R, line: &Line, node: &Node, mention_order: &mut Menti
 }
 
 impl Snapshot {
-    fn new(alloc: Global, line: &Line) -> Result<Snapshot, AllocError> {
+    /// The line before the first look: each section is shut, and no train has a mission.
+    pub fn new(alloc: Global, line: &Line) -> Result<Snapshot, AllocError>
+        ensures pages { IfOk result (λ v. v.pages.items
+            ≡ replicate (length line.now.sections) (record { entry = Shut; is_wished = false })) }
+        ensures missions { IfOk result (λ v. v.missions.items ≡ replicate (length line.now.trains) None) }
+    {
         Ok(Snapshot {
             pages: vec![in alloc; Page::SHUT; line.section_count() as usize]?,
             missions: vec![in alloc; None; line.train_count() as usize]?,
         })
     }
 
-    // Adds a centre's own sections, and the trains that it supervises.
-    fn add(&mut self, line: &Line, log: &CentreLog) {
+    /// Adds a centre's own sections, and the trains that it supervises.
+    pub fn add(&mut self, line: &Line, log: &CentreLog) {
         for s in 0..line.section_count() {
             self.add_page(line, log, s);
         }
@@ -79,11 +89,17 @@ impl Snapshot {
 
     fn add_page(&mut self, line: &Line, log: &CentreLog, s: u16) {
         let centre = log.core();
-        if !line.is_home(centre.number(), s) {
-            return;
+        if line.is_home(centre.number(), s) {
+            self.set_page(s, centre.page(s));
         }
-        if let Some(page) = self.pages.get_mut(s as usize) {
-            *page = centre.page(s);
+    }
+
+    fn set_page(&mut self, s: u16, page: Page)
+        ensures pages { self.new.pages.items ≡ slice_set self.old.pages.items s page }
+        ensures missions { self.new.missions.items ≡ self.old.missions.items }
+    {
+        if let Some(place) = self.pages.get_mut(s as usize) {
+            *place = page;
         }
     }
 
@@ -94,12 +110,20 @@ impl Snapshot {
         };
         let page = centre.train(train.nid_engine);
         if page.mission.is_some() {
-            if let Some(place) = self.missions.get_mut(i as usize) {
-                *place = Some(Mission {
-                    supervisor: centre.number(),
-                    hand: page.hand,
-                });
-            }
+            let mission = Mission {
+                supervisor: centre.number(),
+                hand: page.hand,
+            };
+            self.set_mission(i, mission);
+        }
+    }
+
+    fn set_mission(&mut self, i: u8, mission: Mission)
+        ensures pages { self.new.pages.items ≡ self.old.pages.items }
+        ensures missions { self.new.missions.items ≡ slice_set self.old.missions.items i (Some mission) }
+    {
+        if let Some(place) = self.missions.get_mut(i as usize) {
+            *place = Some(mission);
         }
     }
 
@@ -118,12 +142,8 @@ impl Snapshot {
     }
 
     fn print_sections(&self, line: &Line, text: &mut Vec<u8>) -> Result<(), Fault<'static>> {
-        for (s, page) in self.pages.iter().enumerate() {
-            let view = SectionView {
-                mark: self.mark(line, s, page.entry),
-                is_wished: page.is_wished,
-            };
-            print_section(text, line, s, &view)?;
+        for s in 0..line.section_count() {
+            print_section(text, line, s as usize, &self.section(line, s))?;
         }
         Ok(())
     }
@@ -141,24 +161,36 @@ impl Snapshot {
         Ok(print_train(text, line, train.nid_engine, supervisor)?)
     }
 
-    // The usage of a section with this entry at its home.
-    fn mark(&self, line: &Line, s: usize, entry: Entry) -> Mark {
+    /// A section as its home shows it. A section in use is given if it is in the movement authority of its train.
+    pub fn section(&self, line: &Line, s: u16) -> SectionView
+        ensures mark { mark_shown result.mark
+            ≡ mark_by (page_in self.now s).entry (is_given_in line.now self.now s) }
+        ensures wish { result.is_wished ≡ (page_in self.now s).is_wished }
+    {
+        let page = self.page(s);
+        SectionView {
+            mark: self.mark(line, s, page.entry),
+            is_wished: page.is_wished,
+        }
+    }
+
+    // The mark of a section with this entry at its home.
+    fn mark(&self, line: &Line, s: u16, entry: Entry) -> Mark
+        ensures { mark_shown result ≡ mark_by entry (is_given_in line.now self.now s) }
+    {
         match entry {
-            Entry::Shut => Mark::Shut,
-            Entry::Open => Mark::Open,
+            Entry::Shut | Entry::Open => Mark::of(entry, false),
             Entry::Taken { nid_engine } | Entry::Out { nid_engine } => {
-                if self.is_given(line, s, nid_engine) {
-                    Mark::Given { nid_engine }
-                } else {
-                    Mark::Kept { nid_engine }
-                }
+                Mark::of(entry, self.is_given(line, s, nid_engine))
             }
         }
     }
 
     // Whether the section is in the movement authority of the train of this engine.
-    fn is_given(&self, line: &Line, s: usize, nid_engine: u32) -> bool {
-        let (Some(i), Ok(s)) = (line.train_number(nid_engine), u16::try_from(s)) else {
+    fn is_given(&self, line: &Line, s: u16, nid_engine: u32) -> bool
+        ensures { result ≡ is_given_in line.now self.now s nid_engine }
+    {
+        let Some(i) = line.train_number(nid_engine) else {
             return false;
         };
         match self.mission(i as usize) {
@@ -167,7 +199,20 @@ impl Snapshot {
         }
     }
 
-    fn mission(&self, i: usize) -> Option<Mission> {
+    // The page of a section at its home.
+    fn page(&self, s: u16) -> Page
+        ensures { result ≡ page_in self.now s }
+    {
+        match self.pages.get(s as usize) {
+            Some(page) => *page,
+            None => Page::SHUT,
+        }
+    }
+
+    // The mission of the train at this place of the line file.
+    fn mission(&self, i: usize) -> Option<Mission>
+        ensures { result ≡ mission_in self.now i }
+    {
         *self.missions.get(i)?
     }
 }

@@ -2,9 +2,8 @@
 
 use crate::codec::bytes::bytes_of;
 use crate::line::{A, B, START, two_centres};
-use crate::nodes::both;
+use crate::nodes::{both, commit, said};
 use rbc_log::{Entry, merge};
-use rbc_msgs::decode_train;
 use rbc_node::{Family, GatherFault, Node, Open, Share, gather};
 use rbc_world::{Answer, Body, Event, Frame, Outputs, World, WorldEvent};
 use std::alloc::Global;
@@ -42,36 +41,25 @@ fn run(alloc: Global, events: &[WorldEvent]) -> Result<Outputs, Fail> {
     )
 }
 
-// Whether the entries are the world's answers to the events.
-fn is_run(alloc: Global, events: &[WorldEvent], entries: &[Entry]) -> Result<bool, Fail> {
-    let outputs = run(alloc, events)?;
-    let answers = outputs.answers.as_slice();
-    Ok(answers.len() == entries.len() && answers.iter().zip(entries).all(|(a, e)| is_answer(a, e)))
-}
-
 /// Whether the entries are the world's answers to the events, and have these centres and stamps.
-pub fn is_run_with(
+pub fn is_run(
     alloc: Global,
     events: &[WorldEvent],
     entries: &[Entry],
     stamps: &[(u8, u32)],
 ) -> Result<bool, Fail> {
-    let seen = stamps_of(alloc, entries)?;
-    Ok(seen.as_slice() == stamps && is_run(alloc, events, entries)?)
+    let outputs = run(alloc, events)?;
+    let answers = outputs.answers.as_slice();
+    let counts = (answers.len(), stamps.len());
+    let mut all = answers.iter().zip(entries).zip(stamps);
+    Ok(counts == (entries.len(), entries.len()) && all.all(|((a, e), s)| is_answer(a, e, *s)))
 }
 
-// The centre and the stamp of each entry.
-fn stamps_of(alloc: Global, entries: &[Entry]) -> Result<Vec<(u8, u32)>, Fail> {
-    let mut stamps = Vec::new(alloc);
-    for entry in entries {
-        stamps.push((entry.centre, entry.outcome.stamp))?;
-    }
-    Ok(stamps)
-}
-
-fn is_answer(answer: &Answer, entry: &Entry) -> bool {
+fn is_answer(answer: &Answer, entry: &Entry, stamp: (u8, u32)) -> bool {
     match answer {
-        Answer::Outcome(outcome) => outcome.is_same(&entry.outcome),
+        Answer::Outcome(outcome) => {
+            (entry.centre, entry.outcome.stamp) == stamp && outcome.is_same(&entry.outcome)
+        }
         Answer::NoCentre | Answer::NotSent | Answer::Fault(_) => false,
     }
 }
@@ -83,12 +71,6 @@ fn start(alloc: Global) -> Result<Vec<Event>, Fail> {
         events.push(said(alloc, text)?)?;
     }
     Ok(events)
-}
-
-fn said(alloc: Global, text: &str) -> Result<Event, Fail> {
-    let bytes = bytes_of(alloc, text)?;
-    let message = decode_train(alloc, &bytes).ok().ok_or("it is a message")?;
-    Ok(Event::Train(message))
 }
 
 // The same start, as the world takes it. The frames that ask for the right and give it follow.
@@ -112,33 +94,10 @@ fn start_in_the_world(alloc: Global) -> Result<Vec<WorldEvent>, Fail> {
     Ok(events)
 }
 
-fn commit_all<R: Wait>(
-    rt: &R,
-    node: &Node,
-    share: &mut Share,
-    events: Vec<Event>,
-) -> Result<(), Fail> {
-    for event in events {
-        commit(rt, node, share, event)?;
-    }
-    Ok(())
-}
-
-fn commit<R: Wait>(rt: &R, node: &Node, share: &mut Share, event: Event) -> Result<(), Fail> {
-    node.commit(rt, &Open, share, event)
-        .ok()
-        .ok_or("the centre takes the event")?;
-    Ok(())
-}
-
 /// The frames to a centre under the numbers 0, 1 and 2.
 type Shown = [Option<Frame>; 3];
 
 const NOTHING: Shown = [None, None, None];
-
-fn first_alone(frame: Frame) -> Shown {
-    [None, Some(frame), None]
-}
 
 // The frames of the node to a centre.
 fn frames_to<R: Wait>(rt: &R, node: &Node, to: u8) -> Shown {
@@ -171,7 +130,9 @@ fn begun<R: Wait>(
 ) -> Result<[Shown; 4], Fail> {
     let (a, of_a) = a;
     let before = frames_to(rt, a, B);
-    commit_all(rt, a, of_a, start(alloc)?)?;
+    for event in start(alloc)? {
+        commit(rt, a, of_a, event)?;
+    }
     let asks = frames_to(rt, a, B);
     let own = frames_to(rt, a, A);
     let (b, of_b) = b;
@@ -196,7 +157,7 @@ fn begun_and_merged<R: Wait>(rt: &R, alloc: Global) -> Result<([Shown; 4], Vec<E
 fn are_the_start(alloc: Global, entries: &[Entry]) -> Result<bool, Fail> {
     let events = start_in_the_world(alloc)?;
     let stamps = [(A, 1), (A, 2), (A, 3), (A, 4), (B, 5), (A, 6)];
-    is_run_with(alloc, &events, entries, &stamps)
+    is_run(alloc, &events, entries, &stamps)
 }
 
 #[test]
@@ -204,13 +165,42 @@ fn a_node_shows_the_frame_that_it_sent(rt: HostRuntime) -> Result<(), Fail> {
     let (frames, entries) = begun_and_merged(&rt, rt.alloc())?;
     let asks = Frame::new(1, 4, Body::AskRight { engine: 2 });
     let gives = Frame::new(1, 5, Body::GiveRight { engine: 2 });
-    assert!(rt; frames == [NOTHING, first_alone(asks), NOTHING, first_alone(gives)]);
-    assert!(rt; are_the_start(rt.alloc(), &entries)?);
+    let shown = [
+        NOTHING,
+        [None, Some(asks), None],
+        NOTHING,
+        [None, Some(gives), None],
+    ];
+    let is_so = are_the_start(rt.alloc(), &entries)?;
+    assert!(rt; (frames, is_so) == (shown, true));
     Ok(())
 }
 
-// The reason why the logs of these nodes do not form a family.
-fn fault_of(alloc: Global, a: Node, b: Node, shares: Vec<Share>) -> Result<GatherFault, Fail> {
+// The shares of two nodes after an event: B takes a frame that A did not send. Or A takes a set, and its share is not
+// there.
+fn shares_after<R: Wait>(
+    rt: &R,
+    alloc: Global,
+    a: &Node,
+    b: &Node,
+    is_frame: bool,
+) -> Result<Vec<Share>, Fail> {
+    let mut shares = Vec::new(alloc);
+    if is_frame {
+        let mut share = b.share();
+        let frame = Frame::new(1, 4, Body::AskRight { engine: 2 });
+        take_frame(rt, (b, &mut share), A, Some(frame))?;
+        shares.push(share)?;
+    } else {
+        commit(rt, a, &mut a.share(), Event::Set(0))?;
+    }
+    Ok(shares)
+}
+
+// The reason why the logs of the nodes and these shares do not form a family.
+fn fault_after<R: Wait>(rt: &R, alloc: Global, is_frame: bool) -> Result<GatherFault, Fail> {
+    let (a, b) = both(alloc)?;
+    let shares = shares_after(rt, alloc, &a, &b, is_frame)?;
     let nodes = vec![in alloc; a, b]?;
     Ok(
         gather(alloc, nodes, shares)
@@ -220,27 +210,9 @@ fn fault_of(alloc: Global, a: Node, b: Node, shares: Vec<Share>) -> Result<Gathe
 }
 
 #[test]
-fn a_family_lacks_a_share(rt: HostRuntime) -> Result<(), Fail> {
-    let (a, b) = both(rt.alloc())?;
-    commit(&rt, &a, &mut a.share(), Event::Set(0))?;
-    let fault = fault_of(rt.alloc(), a, b, Vec::new(rt.alloc()))?;
-    assert!(rt; fault == GatherFault::Shares);
-    Ok(())
-}
-
-// A share of the node, which takes a frame that A did not send.
-fn shared<R: Wait>(rt: &R, node: &Node) -> Result<Share, Fail> {
-    let mut share = node.share();
-    let frame = Frame::new(1, 4, Body::AskRight { engine: 2 });
-    take_frame(rt, (node, &mut share), A, Some(frame))?;
-    Ok(share)
-}
-
-#[test]
-fn a_family_has_a_frame_that_nobody_sent(rt: HostRuntime) -> Result<(), Fail> {
-    let (a, b) = both(rt.alloc())?;
-    let share = shared(&rt, &b)?;
-    let fault = fault_of(rt.alloc(), a, b, vec![in rt.alloc(); share]?)?;
-    assert!(rt; fault == GatherFault::Foreign);
+fn a_family_lacks_a_share_or_has_a_frame_that_nobody_sent(rt: HostRuntime) -> Result<(), Fail> {
+    let lacking = fault_after(&rt, rt.alloc(), false)?;
+    let foreign = fault_after(&rt, rt.alloc(), true)?;
+    assert!(rt; (lacking, foreign) == (GatherFault::Shares, GatherFault::Foreign));
     Ok(())
 }

@@ -1,6 +1,6 @@
 //! The log of a node: each node has its own, under a lock of its own.
 
-use crate::centres::gather::{is_run_with, merged};
+use crate::centres::gather::{is_run, merged};
 use crate::centres::held::Held;
 use crate::line::{A, B};
 use crate::nodes::{both, node_of};
@@ -14,58 +14,38 @@ use std::test::*;
 use std::thread;
 use std::thread::Threads;
 
-// The node takes the set.
-fn take<R: Wait>(rt: &R, node: &Node, share: &mut Share, section: u16) -> Result<(), Fail> {
-    node.commit(rt, &Open, share, Event::Set(section))
-        .ok()
-        .ok_or("the set is taken")?;
-    Ok(())
-}
-
-// The node refuses the set. The result is the fault.
-fn refused<R: Wait>(
-    rt: &R,
-    node: &Node,
-    share: &mut Share,
-    section: u16,
-) -> Result<ShareFault, Fail> {
-    Ok(
-        node.commit(rt, &Open, share, Event::Set(section))
-            .err()
-            .ok_or("the set is refused")?,
-    )
+// The fault of a set at the node, if it is refused.
+fn set<R: Wait>(rt: &R, node: &Node, share: &mut Share, section: u16) -> Option<ShareFault> {
+    node.commit(rt, &Open, share, Event::Set(section)).err()
 }
 
 // A share with a receipt of A is used at a new node of A: before the node has taken anything, and after another set.
-// The result is the two faults, and the count of the share's receipts.
-fn refused_where_a_begins_again<R: Wait>(
-    rt: &R,
-    alloc: Global,
-) -> Result<([ShareFault; 2], usize), Fail> {
-    let a = node_of(alloc, A)?;
-    let begun_again = node_of(alloc, A)?;
-    let mut share = a.share();
-    let faults = refused_again(rt, &a, &begun_again, &mut share)?;
-    Ok((faults, share.receipts().len()))
-}
-
-fn refused_again<R: Wait>(
+// The result is the faults of the four sets, and the count of the share's receipts.
+fn set_where_a_begins_again<R: Wait>(
     rt: &R,
     a: &Node,
     begun_again: &Node,
-    share: &mut Share,
-) -> Result<[ShareFault; 2], Fail> {
-    take(rt, a, share, 0)?;
-    let lacking = refused(rt, begun_again, share, 0)?;
-    take(rt, begun_again, &mut begun_again.share(), 1)?;
-    let differing = refused(rt, begun_again, share, 0)?;
-    Ok([lacking, differing])
+) -> ([Option<ShareFault>; 4], usize) {
+    let mut share = a.share();
+    let faults = [
+        set(rt, a, &mut share, 0),
+        set(rt, begun_again, &mut share, 0),
+        set(rt, begun_again, &mut begun_again.share(), 1),
+        set(rt, begun_again, &mut share, 0),
+    ];
+    (faults, share.receipts().len())
+}
+
+fn stray<R: Wait>(rt: &R, alloc: Global) -> Result<([Option<ShareFault>; 4], usize), Fail> {
+    let a = node_of(alloc, A)?;
+    let begun_again = node_of(alloc, A)?;
+    Ok(set_where_a_begins_again(rt, &a, &begun_again))
 }
 
 #[test]
 fn a_share_is_stray_where_its_last_receipt_is_not(rt: HostRuntime) -> Result<(), Fail> {
-    let seen = refused_where_a_begins_again(&rt, rt.alloc())?;
-    assert!(rt; seen == ([ShareFault::Stray, ShareFault::Stray], 1));
+    let is_stray = Some(ShareFault::Stray);
+    assert!(rt; stray(&rt, rt.alloc())? == ([None, is_stray, None, is_stray], 1));
     Ok(())
 }
 
@@ -109,13 +89,6 @@ fn set_side_by_side<R: Threads + Wait + Sync>(
 /// Whether the gate gave up, and the count of commits that are over.
 type Gated = (bool, u32);
 
-fn gated(gate: &Held) -> Gated {
-    (
-        gate.gave_up.load(Ordering::SeqCst),
-        gate.over.load(Ordering::SeqCst),
-    )
-}
-
 /// The results of the sets, those of the gate, and the merged entries of the nodes.
 type SideBySide = ((Done, (Done, Done)), Gated, Vec<Entry>);
 
@@ -128,23 +101,37 @@ fn side_by_side<R: Threads + Wait + Sync>(rt: &R, alloc: Global) -> Result<SideB
     let sets = set_side_by_side(rt, &gate, (&a, &mut of_a), (&b, &mut of_b), &mut next_of_a);
     let shares = vec![in alloc; of_a, next_of_a, of_b]?;
     let entries = merged(alloc, a, b, shares)?;
-    Ok((sets, gated(&gate), entries))
+    let gated = (
+        gate.gave_up.load(Ordering::SeqCst),
+        gate.over.load(Ordering::SeqCst),
+    );
+    Ok((sets, gated, entries))
 }
 
 // Whether the entries are those of the three sets.
 fn are_the_sets(alloc: Global, entries: &[Entry]) -> Result<bool, Fail> {
-    let mut events = Vec::new(alloc);
-    for (centre, section) in [(A, 0), (B, 2), (A, 1)] {
-        events.push(WorldEvent::Set { centre, section })?;
-    }
-    is_run_with(alloc, &events, entries, &[(A, 1), (B, 1), (A, 2)])
+    let events = [
+        WorldEvent::Set {
+            centre: A,
+            section: 0,
+        },
+        WorldEvent::Set {
+            centre: B,
+            section: 2,
+        },
+        WorldEvent::Set {
+            centre: A,
+            section: 1,
+        },
+    ];
+    is_run(alloc, &events, entries, &[(A, 1), (B, 1), (A, 2)])
 }
 
 #[test]
 fn a_commit_waits_for_the_lock_of_its_centre_alone(rt: HostRuntime) -> Result<(), Fail> {
     let (sets, gate, entries) = side_by_side(&rt, rt.alloc())?;
-    assert!(rt; sets == (Some((1, 0)), (Some((1, 2)), Some((2, 1)))));
-    assert!(rt; gate == (false, 2));
-    assert!(rt; are_the_sets(rt.alloc(), &entries)?);
+    let is_so = are_the_sets(rt.alloc(), &entries)?;
+    let done = (Some((1, 0)), (Some((1, 2)), Some((2, 1))));
+    assert!(rt; (sets, gate, is_so) == (done, (false, 2), true));
     Ok(())
 }

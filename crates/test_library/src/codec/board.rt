@@ -48,58 +48,47 @@ fn a_queue_hands_back_what_it_has_no_room_for_and_gives_what_is_known_again(
     rt: HostRuntime,
 ) -> Result<(), Fail> {
     let (queue, mut sender, mut receiver) = QueueCarrier::new(&rt, rt.alloc())?;
-    assert!(rt; puts_all(&queue, &mut sender, 64));
+    let are_taken = puts_all(&queue, &mut sender, 64);
     let (said, got) = put_past_the_room(&queue, &mut sender, &mut receiver);
-    assert!(rt; said == [Err(numbered(65)), Ok(())]);
-    assert!(rt; got == [Some(numbered(1)), Some(numbered(1))]);
+    let (first, last) = (numbered(1), numbered(65));
+    assert!(rt; (are_taken, said, got) == (true, [Err(last), Ok(())], [Some(first), Some(first)]));
     Ok(())
 }
 
 // The receiver puts a frame. The sender puts one under number 2, and then one under number 1 twice. The result is that
-// of each put.
-fn put_by_each<C: Carrier>(
+// of each put, and the frames that the sender gets under the numbers 2 and 1, and that the receiver gets.
+fn put_and_got_by_each<C: Carrier>(
     carrier: &C,
     sender: &mut C::Seen,
     receiver: &mut C::Seen,
-) -> [Result<(), Frame>; 4]
+) -> ([Result<(), Frame>; 4], [Option<Frame>; 4])
     requires sender { C.is_of carrier.now sender.old }
     requires receiver { C.is_of carrier.now receiver.old }
     ensures sender { C.is_of carrier.now sender.new }
     ensures receiver { C.is_of carrier.now receiver.new }
 {
-    let by_the_receiver = carrier.put(receiver, 1, numbered(1));
-    let under_two = carrier.put(sender, 2, numbered(2));
-    let under_one = carrier.put(sender, 1, numbered(1));
-    let again = carrier.put(sender, 1, numbered(1));
-    [by_the_receiver, under_two, under_one, again]
-}
-
-// The frames that the sender gets under the numbers 2 and 1, and those that the receiver gets.
-fn got_by_each<C: Carrier>(
-    carrier: &C,
-    sender: &mut C::Seen,
-    receiver: &mut C::Seen,
-) -> [Option<Frame>; 4]
-    requires sender { C.is_of carrier.now sender.old }
-    requires receiver { C.is_of carrier.now receiver.old }
-    ensures sender { C.is_of carrier.now sender.new }
-    ensures receiver { C.is_of carrier.now receiver.new }
-{
-    [
+    let said = [
+        carrier.put(receiver, 1, numbered(1)),
+        carrier.put(sender, 2, numbered(2)),
+        carrier.put(sender, 1, numbered(1)),
+        carrier.put(sender, 1, numbered(1)),
+    ];
+    let got = [
         carrier.get(sender, 2),
         carrier.get(sender, 1),
         carrier.get(receiver, 2),
         carrier.get(receiver, 1),
-    ]
+    ];
+    (said, got)
 }
 
 #[test]
 fn only_one_caller_of_a_queue_puts_and_only_the_other_takes(rt: HostRuntime) -> Result<(), Fail> {
     let (queue, mut sender, mut receiver) = QueueCarrier::new(&rt, rt.alloc())?;
-    let said = put_by_each(&queue, &mut sender, &mut receiver);
-    assert!(rt; said == [Err(numbered(1)), Err(numbered(2)), Ok(()), Err(numbered(1))]);
-    let got = got_by_each(&queue, &mut sender, &mut receiver);
-    assert!(rt; got == [None, Some(numbered(1)), None, Some(numbered(1))]);
+    let (said, got) = put_and_got_by_each(&queue, &mut sender, &mut receiver);
     queue.compare(&mut sender, receiver, 1);
+    let (first, second) = (numbered(1), numbered(2));
+    let by_each = [Err(first), Err(second), Ok(()), Err(first)];
+    assert!(rt; (said, got) == (by_each, [None, Some(first), None, Some(first)]));
     Ok(())
 }

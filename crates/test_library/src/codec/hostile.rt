@@ -1,8 +1,8 @@
 //! Pseudo-random bytes in place of a message, as an attacker may send them. Each is a message, or has a fault of the
 //! format.
 
-use crate::codec::bytes::bytes_of;
 use crate::codec::chance::Chance;
+use crate::codec::stream::TRAIN_DATA;
 use rbc_msgs::{MsgFault, Stream, StreamFault, decode_track, decode_train};
 use std::alloc::Global;
 use std::test::*;
@@ -20,14 +20,19 @@ static OF_TRAINS: [u8; 10] = [129, 132, 136, 137, 138, 150, 155, 156, 157, 159];
 
 static OF_CENTRES: [u8; 8] = [3, 8, 9, 24, 32, 39, 40, 41];
 
-// A train's messages, with packets that are kept and packets that are passed over; and a centre's message.
-const TRAIN_DATA: &str = "81070000000100000040010280A03282585001400510190010616015";
+// Two more messages of a train. As in `TRAIN_DATA`, packets are kept or passed over.
+static INITIATION: [u8; 10] = [0x9B, 0x02, 0x80, 0x00, 0x00, 0x00, 0x40, 0x00, 0x00, 0x40];
 
-const INITIATION: &str = "9B028000000040000040";
+static REQUEST: [u8; 26] = [
+    0x84, 0x06, 0x80, 0x00, 0x00, 0x01, 0x40, 0x00, 0x00, 0x42, 0x00, 0x08, 0x14, 0x05, 0x01, 0x94,
+    0x12, 0xC2, 0x80, 0x0A, 0x00, 0x28, 0x80, 0xC8, 0x00, 0x83,
+];
 
-const REQUEST: &str = "8406800000014000004200081405019412C2800A002880C80083";
-
-const AUTHORITY: &str = "03048000000100280CA1E810901FF805DC00";
+// A centre's message.
+static AUTHORITY: [u8; 18] = [
+    0x03, 0x04, 0x80, 0x00, 0x00, 0x01, 0x00, 0x28, 0x0C, 0xA1, 0xE8, 0x10, 0x90, 0x1F, 0xF8, 0x05,
+    0xDC, 0x00,
+];
 
 /// The count of bytes with each fault, by its number, and the count of messages, at 0.
 type Counts = [u32; 9];
@@ -40,11 +45,16 @@ struct Hostile {
 }
 
 impl Hostile {
+    // 70 000 pseudo-random bytes.
     fn new(alloc: Global) -> Result<Hostile, Fail> {
-        Ok(Hostile {
-            pool: bytes_of_any_kind(alloc)?,
-            chance: Chance { seed: SEED },
-        })
+        let mut chance = Chance { seed: SEED };
+        let mut pool = Vec::with_capacity(alloc, 70_000)?;
+        for _ in 0..70_000 {
+            let [_, byte] = chance.below(256).to_be_bytes();
+            pool.push(byte)?;
+        }
+        let chance = Chance { seed: SEED };
+        Ok(Hostile { pool, chance })
     }
 
     // A piece of 0 to 1 100 bytes.
@@ -90,17 +100,6 @@ impl Hostile {
     }
 }
 
-// 70 000 pseudo-random bytes.
-fn bytes_of_any_kind(alloc: Global) -> Result<Vec<u8>, Fail> {
-    let mut chance = Chance { seed: SEED };
-    let mut bytes = Vec::with_capacity(alloc, 70_000)?;
-    for _ in 0..70_000 {
-        let [_, byte] = chance.below(256).to_be_bytes();
-        bytes.push(byte)?;
-    }
-    Ok(bytes)
-}
-
 // Counts the result of reading.
 fn count<T>(counts: &mut Counts, read: &Result<T, MsgFault>) {
     let number = match read {
@@ -112,33 +111,45 @@ fn count<T>(counts: &mut Counts, read: &Result<T, MsgFault>) {
     }
 }
 
-// The results of pieces of each kind at a centre, which reads messages of trains.
-fn read_as_of_trains(alloc: Global) -> Result<Counts, Fail> {
+// The results of pieces of each kind at a centre, which reads messages of trains, or at a train, which reads messages
+// of centres.
+fn read(alloc: Global, are_of_trains: bool) -> Result<Counts, Fail> {
     let mut hostile = Hostile::new(alloc)?;
     let mut counts = [0; 9];
     for _ in 0..TRIES {
-        count(&mut counts, &decode_train(alloc, &hostile.piece(alloc)?));
-        count(
-            &mut counts,
-            &decode_train(alloc, &hostile.headed(alloc, &OF_TRAINS)?),
-        );
-        for digits in [TRAIN_DATA, REQUEST, INITIATION] {
-            read_bent(alloc, &mut hostile, digits, &mut counts)?;
+        if are_of_trains {
+            read_as_of_a_train(alloc, &mut hostile, &mut counts)?;
+        } else {
+            read_as_of_a_centre(alloc, &mut hostile, &mut counts)?;
         }
     }
     Ok(counts)
 }
 
-// The result of a valid message of a train with some bytes changed.
-fn read_bent(
+fn read_as_of_a_train(
     alloc: Global,
     hostile: &mut Hostile,
-    digits: &str,
     counts: &mut Counts,
 ) -> Result<(), Fail> {
-    let message = bytes_of(alloc, digits)?;
-    let bent = hostile.bent(alloc, &message)?;
-    count(counts, &decode_train(alloc, &bent));
+    count(counts, &decode_train(alloc, &hostile.piece(alloc)?));
+    count(
+        counts,
+        &decode_train(alloc, &hostile.headed(alloc, &OF_TRAINS)?),
+    );
+    for message in [&TRAIN_DATA[..], &REQUEST[..], &INITIATION[..]] {
+        count(counts, &decode_train(alloc, &hostile.bent(alloc, message)?));
+    }
+    Ok(())
+}
+
+fn read_as_of_a_centre(
+    alloc: Global,
+    hostile: &mut Hostile,
+    counts: &mut Counts,
+) -> Result<(), Fail> {
+    count(counts, &decode_track(&hostile.piece(alloc)?));
+    count(counts, &decode_track(&hostile.headed(alloc, &OF_CENTRES)?));
+    count(counts, &decode_track(&hostile.bent(alloc, &AUTHORITY)?));
     Ok(())
 }
 
@@ -148,48 +159,22 @@ fn is_expected(number: usize, count: u32) -> bool {
 }
 
 #[test]
-fn bytes_by_chance_are_a_trains_message_or_have_a_fault(rt: HostRuntime) -> Result<(), Fail> {
-    let counts = read_as_of_trains(rt.alloc())?;
+fn bytes_by_chance_are_a_message_or_have_a_fault(rt: HostRuntime) -> Result<(), Fail> {
+    let counts = read(rt.alloc(), true)?;
     for (number, count) in counts.iter().enumerate() {
         assert!(rt; is_expected(number, *count), "{number} came {count} times");
     }
-    Ok(())
-}
-
-// The results of pieces of each kind at a train, which reads messages of centres.
-fn read_as_of_centres(alloc: Global) -> Result<Counts, Fail> {
-    let mut hostile = Hostile::new(alloc)?;
-    let message = bytes_of(alloc, AUTHORITY)?;
-    let mut counts = [0; 9];
-    for _ in 0..TRIES {
-        count(&mut counts, &decode_track(&hostile.piece(alloc)?));
-        count(
-            &mut counts,
-            &decode_track(&hostile.headed(alloc, &OF_CENTRES)?),
-        );
-        count(&mut counts, &decode_track(&hostile.bent(alloc, &message)?));
-    }
-    Ok(counts)
-}
-
-#[test]
-fn bytes_by_chance_are_a_centres_message_or_have_a_fault(rt: HostRuntime) -> Result<(), Fail> {
-    let counts = read_as_of_centres(rt.alloc())?;
-    assert!(rt; is_expected(0, counts[0]));
-    assert!(rt; is_expected(8, counts[8]));
+    let counts = read(rt.alloc(), false)?;
+    assert!(rt; (is_expected(0, counts[0]), is_expected(8, counts[8])) == (true, true));
     Ok(())
 }
 
 // Feeds a stream with a whole message, and then with a piece of each kind. The result is the count of messages, and the
 // fault.
-fn fed(
-    alloc: Global,
-    hostile: &mut Hostile,
-    message: &[u8],
-) -> Result<(usize, Result<(), StreamFault>), Fail> {
+fn fed(alloc: Global, hostile: &mut Hostile) -> Result<(usize, Result<(), StreamFault>), Fail> {
     let mut stream = Stream::new(alloc);
     let mut messages = Vec::new(alloc);
-    let mut fed = stream.feed(message, &mut messages);
+    let mut fed = stream.feed(&REQUEST, &mut messages);
     for piece in [hostile.headed(alloc, &OF_TRAINS)?, hostile.piece(alloc)?] {
         let was = fed;
         fed = stream.feed(&piece, &mut messages);
@@ -203,14 +188,10 @@ fn fed(
 #[test]
 fn a_stream_gives_what_is_whole_in_front_of_bytes_by_chance(rt: HostRuntime) -> Result<(), Fail> {
     let mut hostile = Hostile::new(rt.alloc())?;
-    let message = bytes_of(rt.alloc(), REQUEST)?;
     for turn in 0..TRIES {
-        let (count, fed) = fed(rt.alloc(), &mut hostile, &message)?;
-        assert!(rt; count >= 1, "turn {turn}");
-        assert!(rt;
-            fed != Err(StreamFault::Message(MsgFault::Memory)),
-            "turn {turn}"
-        );
+        let (count, fed) = fed(rt.alloc(), &mut hostile)?;
+        let is_memory = fed == Err(StreamFault::Message(MsgFault::Memory));
+        assert!(rt; (count >= 1, is_memory) == (true, false), "turn {turn}");
     }
     Ok(())
 }

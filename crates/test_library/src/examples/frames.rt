@@ -5,16 +5,16 @@ use rbc_linkmsg::{Body, Frame, FrameFault, decode_frame, encode_frame};
 use std::alloc::Global;
 use std::test::*;
 
-// The frame that is read from the bytes of another one.
-fn read_again(alloc: Global) -> Result<Result<Frame, FrameFault>, Fail> {
+/// The frame that is read from the bytes of another one.
+pub fn read_again(alloc: Global) -> Result<Result<Frame, FrameFault>, Fail> {
     let frame = Frame::new(1, 4, Body::AskRight { engine: 2 });
     let bytes = encode_frame(alloc, &frame)?;
     let read = decode_frame(&bytes);
     Ok(read)
 }
 
-// The frame that one centre gets before another has put it, and after that.
-fn carried(alloc: Global) -> Result<[Option<Frame>; 2], Fail> {
+/// The frame that one centre gets before another has put it, and after that.
+pub fn carried(alloc: Global) -> Result<[Option<Frame>; 2], Fail> {
     let frame = Frame::new(1, 4, Body::AskRight { engine: 2 });
     let board = CellBoard::new(alloc, 65_536)?;
     let mut sender = board.seen()?;
@@ -26,12 +26,4 @@ fn carried(alloc: Global) -> Result<[Option<Frame>; 2], Fail> {
         .ok_or("the frame is put")?;
     let after = board.get(&mut receiver, 1);
     Ok([before, after])
-}
-
-#[test]
-fn a_frame_is_written_read_and_carried(rt: HostRuntime) -> Result<(), Fail> {
-    let frame = Frame::new(1, 4, Body::AskRight { engine: 2 });
-    assert!(rt; read_again(rt.alloc())? == Ok(frame));
-    assert!(rt; carried(rt.alloc())? == [None, Some(frame)]);
-    Ok(())
 }

@@ -6,8 +6,8 @@ use rbc_world::Event;
 use std::alloc::Global;
 use std::test::*;
 
-// The stamp of the first event, the entries of its log, and those of both logs.
-fn merged(alloc: Global) -> Result<(u32, usize, usize), Fail> {
+/// The stamp of the first event, the entries of its log, and those of both logs.
+pub fn merged(alloc: Global) -> Result<(u32, usize, usize), Fail> {
     let line = two_centres(alloc)?;
     let mut log = CentreLog::new(alloc, &line, 0)?;
     let mut other = CentreLog::new(alloc, &line, 1)?;
@@ -15,10 +15,4 @@ fn merged(alloc: Global) -> Result<(u32, usize, usize), Fail> {
     other.commit(Event::Set(2))?;
     let run = merge(alloc, &[&log, &other])?;
     Ok((outcome.stamp, log.entries().len(), run.len()))
-}
-
-#[test]
-fn two_logs_are_merged(rt: HostRuntime) -> Result<(), Fail> {
-    assert!(rt; merged(rt.alloc())? == (1, 1, 2));
-    Ok(())
 }

@@ -7,18 +7,12 @@ use std::alloc::Global;
 use std::sync::Wait;
 use std::test::*;
 
-// The stamp of an event, the entries of the log after it, and the receipts of the thread.
-fn committed<R: Wait>(rt: &R, alloc: Global) -> Result<(u32, usize, usize), Fail> {
+/// The stamp of an event, the entries of the log after it, and the receipts of the thread.
+pub fn committed<R: Wait>(rt: &R, alloc: Global) -> Result<(u32, usize, usize), Fail> {
     let line = two_centres(alloc)?;
     let node = Node::new(alloc, &line, 0)?;
     let mut share = node.share();
     let outcome = node.commit(rt, &Open, &mut share, Event::Set(1))?;
     let entries = node.look(rt).log().entries().len();
     Ok((outcome.stamp, entries, share.receipts().len()))
-}
-
-#[test]
-fn an_event_is_committed(rt: HostRuntime) -> Result<(), Fail> {
-    assert!(rt; committed(&rt, rt.alloc())? == (1, 1, 1));
-    Ok(())
 }

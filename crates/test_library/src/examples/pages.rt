@@ -3,7 +3,6 @@
 use crate::page::line::{layout, now};
 use serve_page::{answer, asked_of};
 use std::alloc::{AllocError, Global};
-use std::test::*;
 use text_page::Layout;
 
 // The answer to the bytes of a request. The line is shown in version 1.
@@ -14,16 +13,14 @@ fn answered(alloc: Global, layout: &Layout, bytes: &[u8]) -> Result<String, Allo
     Ok(text)
 }
 
-#[test]
-fn a_request_is_read_and_answered(rt: HostRuntime) -> Result<(), Fail> {
-    let layout = layout(rt.alloc())?;
+/// Whether a request is answered, and whether a part of it is not.
+pub fn are_answered(alloc: Global) -> Result<(bool, bool), AllocError> {
+    let layout = layout(alloc)?;
     let whole = answered(
-        rt.alloc(),
+        alloc,
         &layout,
         b"GET /now HTTP/1.1\r\nHost: localhost\r\n\r\n",
     )?;
-    assert!(rt; whole.as_str().starts_with("HTTP/1.1 200 OK\r\n"));
-    let half = answered(rt.alloc(), &layout, b"GET /now HTTP/1.1\r\n")?;
-    assert!(rt; half.is_empty());
-    Ok(())
+    let half = answered(alloc, &layout, b"GET /now HTTP/1.1\r\n")?;
+    Ok((whole.starts_with("HTTP/1.1 200 OK\r\n"), half.is_empty()))
 }

@@ -1,14 +1,15 @@
 //! The example of `rbc_world`: the centres of a line take two events.
 
 use crate::codec::bytes::bytes_of;
-use crate::line::{INITIATION, TWO_CENTRES};
+use crate::line::INITIATION;
 use rbc_line::Line;
 use rbc_world::{Answer, World, WorldEvent};
 use std::alloc::Global;
 use std::test::*;
 
-// The messages to trains after a message, and the sections of the line.
-fn answered(alloc: Global, text: &str, bytes: Vec<u8>) -> Result<(usize, usize), Fail> {
+/// The messages to trains after a message that opens a session, and the sections of the line of this file.
+pub fn answered(alloc: Global, text: &str) -> Result<(usize, usize), Fail> {
+    let bytes = bytes_of(alloc, INITIATION)?;
     let line = Line::from_toml(alloc, text)?;
     let mut world = World::new(alloc, &line)?;
     let mut answer = Answer::nothing();
@@ -26,11 +27,4 @@ fn answered(alloc: Global, text: &str, bytes: Vec<u8>) -> Result<(usize, usize),
     };
     let view = world.view(alloc)?;
     Ok((messages, view.sections.len()))
-}
-
-#[test]
-fn a_message_is_answered(rt: HostRuntime) -> Result<(), Fail> {
-    let bytes = bytes_of(rt.alloc(), INITIATION)?;
-    assert!(rt; answered(rt.alloc(), TWO_CENTRES, bytes)? == (1, 3));
-    Ok(())
 }

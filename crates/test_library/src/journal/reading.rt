@@ -5,14 +5,24 @@ use std::alloc::Global;
 use std::test::*;
 use text_journal::{JournalFault, read_journal};
 
-// The number of the damaged line of a journal of B with this first line and these others, or 0 if it is foreign.
-fn damaged(alloc: Global, first: &str, others: &str) -> Result<usize, Fail> {
-    let line = two_centres(alloc)?;
+/// The times of the two entries of a journal, the number of its damaged line, or 0 if it is foreign.
+type Read = Result<(Option<u64>, Option<u64>), usize>;
+
+// Reads a journal of B with this first line and these others.
+fn read(alloc: Global, first: &str, others: &str) -> Result<Read, Fail> {
     let text = format!(in alloc; "{first}{others}")?;
-    match read_journal(alloc, &line, B, FILE, text.as_str()) {
-        Ok(_) => Err("it is damaged".into()),
-        Err(JournalFault::Damaged(line)) => Ok(line),
-        Err(JournalFault::Foreign) => Ok(0),
+    read_text(alloc, text.as_str())
+}
+
+fn read_text(alloc: Global, text: &str) -> Result<Read, Fail> {
+    let line = two_centres(alloc)?;
+    match read_journal(alloc, &line, B, FILE, text) {
+        Ok(entries) => match entries.as_slice() {
+            [first, second] => Ok(Ok((first.time_ms, second.time_ms))),
+            _ => Err("it has two entries".into()),
+        },
+        Err(JournalFault::Damaged(line)) => Ok(Err(line)),
+        Err(JournalFault::Foreign) => Ok(Err(0)),
         Err(JournalFault::Memory) => Err("there is memory".into()),
     }
 }
@@ -36,99 +46,76 @@ static DAMAGED: [(&str, usize); 15] = [
     ("\ne49036bc 1 5 5 > set B 1\n", 2),
 ];
 
-#[test]
-fn the_first_damaged_line_is_told(rt: HostRuntime) -> Result<(), Fail> {
-    for (others, line) in &DAMAGED {
-        assert!(rt; damaged(rt.alloc(), FIRST, others)? == *line, "{others}");
-        assert!(rt;
-            damaged(rt.alloc(), OLD_FIRST, others)? == *line,
-            "{others}"
-        );
-    }
-    Ok(())
-}
-
-// The first line of a journal, and the lines after it.
-static FOREIGN: [(&str, &str); 13] = [
+// The first line of a journal, the lines after it, and the result.
+static READ: [(&str, &str, Read); 16] = [
     (
         "journal 3 B ba35c55526b8ee737edcb0f3cc29d5304c156d9964d7e8ca30cc4d3f91642eea",
         ENTRIES,
+        Err(0),
     ),
     (
         "journal 1 A ba35c55526b8ee737edcb0f3cc29d5304c156d9964d7e8ca30cc4d3f91642eea",
         ENTRIES,
+        Err(0),
     ),
     (
         "journal 2 A c8c7010c54c6bcdebb164494cef02f19a321e54b556d9660c7b49c71216f517b",
         ENTRIES,
+        Err(0),
     ),
     (
         "journal 1 B ba35c55526b8ee737edcb0f3cc29d5304c156d9964d7e8ca30cc4d3f91642eeb",
         ENTRIES,
+        Err(0),
     ),
     (
         "journal 2 B ba35c55526b8ee737edcb0f3cc29d5304c156d9964d7e8ca30cc4d3f91642eea",
         ENTRIES,
+        Err(0),
     ),
     (
         "journal 1 B c8c7010c54c6bcdebb164494cef02f19a321e54b556d9660c7b49c71216f517b",
         ENTRIES,
+        Err(0),
     ),
-    ("journal 1 B", ENTRIES),
-    ("journal 2 B", ENTRIES),
-    ("", ENTRIES),
-    ("journal 1 A", ""),
-    ("journal 2 A", ""),
-    ("journal 3", ""),
-    ("3a1cc061 1 > set B 1", ""),
-];
-
-#[test]
-fn a_journal_of_another_first_line_is_foreign(rt: HostRuntime) -> Result<(), Fail> {
-    for (first, others) in &FOREIGN {
-        assert!(rt; damaged(rt.alloc(), first, others)? == 0, "{first}");
-    }
-    Ok(())
-}
-
-// The times of the entries of a journal of B with this first line and these others.
-fn times(alloc: Global, first: &str, others: &str) -> Result<Vec<Option<u64>>, Fail> {
-    let line = two_centres(alloc)?;
-    let text = format!(in alloc; "{first}{others}")?;
-    let Ok(entries) = read_journal(alloc, &line, B, FILE, text.as_str()) else {
-        return Err("it is a journal".into());
-    };
-    let mut times = Vec::new(alloc);
-    for entry in &entries {
-        times.push(entry.time_ms)?;
-    }
-    Ok(times)
-}
-
-// The first line of a journal, two lines after it, and their times.
-static TIMED: [(&str, &str, [Option<u64>; 2]); 3] = [
+    ("journal 1 B", ENTRIES, Err(0)),
+    ("journal 2 B", ENTRIES, Err(0)),
+    ("", ENTRIES, Err(0)),
+    ("journal 1 A", "", Err(0)),
+    ("journal 2 A", "", Err(0)),
+    ("journal 3", "", Err(0)),
+    ("3a1cc061 1 > set B 1", "", Err(0)),
     (
         OLD_FIRST,
         "\n3a1cc061 1 > set B 1\n44a52c2b 7 > deliver A B 1\n",
-        [None, None],
+        Ok((None, None)),
     ),
     (
         OLD_FIRST,
         "\n3a1cc061 1 > set B 1\n41e121de 7 1767225599999 > deliver A B 1\n",
-        [None, Some(1_767_225_599_999)],
+        Ok((None, Some(1_767_225_599_999))),
     ),
     (
         FIRST,
         "\n2ff64715 1 0 > set B 1\n93783a6b 7 18446744073709551615 > deliver A B 1\n",
-        [Some(0), Some(u64::MAX)],
+        Ok((Some(0), Some(u64::MAX))),
     ),
 ];
 
 #[test]
-fn a_time_is_read_as_it_was_written(rt: HostRuntime) -> Result<(), Fail> {
-    for (first, others, expected) in &TIMED {
-        let read = times(rt.alloc(), first, others)?;
-        assert!(rt; read.as_slice() == expected.as_slice(), "{others}");
+fn each_journal_is_read_damaged_or_foreign(rt: HostRuntime) -> Result<(), Fail> {
+    for (others, line) in &DAMAGED {
+        let read = [
+            read(rt.alloc(), FIRST, others)?,
+            read(rt.alloc(), OLD_FIRST, others)?,
+        ];
+        assert!(rt; read == [Err(*line), Err(*line)], "{others}");
+    }
+    for (first, others, wanted) in &READ {
+        assert!(rt;
+            read(rt.alloc(), first, others)? == *wanted,
+            "{first}{others}"
+        );
     }
     Ok(())
 }

@@ -1,6 +1,8 @@
 //! The writing of a journal.
 
+use crate::codec::bytes::bytes_of;
 use crate::journal::line::{B, ENTRIES, FIRST, two_centres};
+use crate::line::INITIATION;
 use rbc_world::WorldEvent;
 use std::alloc::Global;
 use std::test::*;
@@ -10,11 +12,6 @@ use text_journal::{Entry, add_entry, first_line};
 const NEW_YEAR: Option<u64> = Some(1_767_225_600_000);
 
 const BEFORE: Option<u64> = Some(1_767_225_599_999);
-
-// The bytes of a message that opens a session.
-fn initiation(alloc: Global) -> Result<Vec<u8>, Fail> {
-    Ok(vec![in alloc; 0x9B, 0x02, 0x80, 0, 0, 0, 0x40, 0, 0, 0x40]?)
-}
 
 // The journal of B with a section released, a frame and a message.
 fn written(alloc: Global) -> Result<Vec<u8>, Fail> {
@@ -33,7 +30,7 @@ fn written(alloc: Global) -> Result<Vec<u8>, Fail> {
     };
     let train = WorldEvent::Train {
         centre: B,
-        bytes: initiation(alloc)?,
+        bytes: bytes_of(alloc, INITIATION)?,
     };
     for (stamp, time_ms, event) in [(1, NEW_YEAR, set), (7, BEFORE, frame), (8, None, train)] {
         let entry = Entry {

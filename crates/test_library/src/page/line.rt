@@ -6,6 +6,34 @@ use text_page::{
     SessionNow, TruePlace, Usage,
 };
 
+// Its sections: two of 100 m with home A, and two with home B.
+static PLACES: [Place; 4] = [
+    Place {
+        track: 0,
+        home: 0,
+        start: 0,
+        metres: 100,
+    },
+    Place {
+        track: 0,
+        home: 0,
+        start: 100,
+        metres: 100,
+    },
+    Place {
+        track: 0,
+        home: 1,
+        start: 200,
+        metres: 100,
+    },
+    Place {
+        track: 0,
+        home: 1,
+        start: 300,
+        metres: 100,
+    },
+];
+
 /// The layout of its sections: two of 100 m with home A, and two with home B.
 pub fn layout(alloc: Global) -> Result<Layout, AllocError> {
     Ok(Layout {
@@ -13,7 +41,7 @@ pub fn layout(alloc: Global) -> Result<Layout, AllocError> {
         centres: names(alloc, &["A", "B"])?,
         ports: Vec::from_slice(alloc, &[21_000, 21_001])?,
         tracks: names(alloc, &["main"])?,
-        sections: places(alloc)?,
+        sections: Vec::from_slice(alloc, &PLACES)?,
     })
 }
 
@@ -25,18 +53,88 @@ fn names(alloc: Global, given: &[&str]) -> Result<Vec<String>, AllocError> {
     Ok(names)
 }
 
-fn places(alloc: Global) -> Result<Vec<Place>, AllocError> {
-    let mut places = Vec::new(alloc);
-    for (home, start) in [(0u8, 0u32), (0, 100), (1, 200), (1, 300)] {
-        places.push(Place {
-            track: 0,
-            home,
-            start,
-            metres: 100,
-        })?;
-    }
-    Ok(places)
-}
+// Train 19 is in sections 0 and 1, section 2 is kept for it, and section 3 is not released.
+static SECTIONS: [SectionNow; 4] = [
+    SectionNow {
+        usage: Usage::Given { nid_engine: 19 },
+        is_wished: false,
+    },
+    SectionNow {
+        usage: Usage::Given { nid_engine: 19 },
+        is_wished: false,
+    },
+    SectionNow {
+        usage: Usage::Kept { nid_engine: 19 },
+        is_wished: false,
+    },
+    SectionNow {
+        usage: Usage::Shut,
+        is_wished: false,
+    },
+];
+
+// The mission of train 19, with sections 0 and 1 in its authority, which is announced to B.
+static MISSIONS: [Option<MissionNow>; 1] = [Some(MissionNow {
+    nid_engine: 19,
+    supervisor: Some(0),
+    handover: Some(1),
+    track: 0,
+    front: 1_234,
+    rear: None,
+    hand: Run { first: 0, count: 2 },
+    pool: Run { first: 2, count: 0 },
+    asked: None,
+    is_ended: false,
+})];
+
+static SESSIONS: [SessionNow; 1] = [SessionNow {
+    nid_engine: 19,
+    centre: 0,
+    phase: Phase::Up,
+}];
+
+const LIMITS: Limits = Limits {
+    entries: 10,
+    clock: 20,
+    frames: 30,
+};
+
+static CENTRES: [CentreNow; 2] = [
+    CentreNow {
+        entries: 4,
+        clock: 4,
+        taken: 1,
+        seats: 9,
+        is_stuck: false,
+        end: None,
+        limits: LIMITS,
+    },
+    CentreNow {
+        entries: 1,
+        clock: 4,
+        taken: 1,
+        seats: 9,
+        is_stuck: true,
+        end: None,
+        limits: LIMITS,
+    },
+];
+
+static LINKS: [LinkNow; 1] = [LinkNow {
+    from: 0,
+    to: 1,
+    sent: 3,
+    taken: 2,
+}];
+
+static TRUE_PLACES: [TruePlace; 1] = [TruePlace {
+    nid_engine: 19,
+    track: 0,
+    rear: 200,
+    front: 1_100,
+}];
+
+static LAST: [&str; 1] = ["4 · <b>\"A\\B\"</b> & more"];
 
 /// The state of the line after five events. Train 19 is in section 0, section 2 is kept for it, and section 3 is not
 /// released.
@@ -52,83 +150,17 @@ pub fn now(alloc: Global) -> Result<LineNow, AllocError> {
         true_places: Vec::new(alloc),
         last: Vec::new(alloc),
     };
-    add_all(alloc, &mut now)?;
+    fill(alloc, &mut now)?;
     Ok(now)
 }
 
-fn add_all(alloc: Global, now: &mut LineNow) -> Result<(), AllocError> {
-    add_train(now)?;
-    add_lives(now)?;
-    add_last(alloc, now)
-}
-
-fn add_train(now: &mut LineNow) -> Result<(), AllocError> {
-    let given = Usage::Given { nid_engine: 19 };
-    let kept = Usage::Kept { nid_engine: 19 };
-    for usage in [given, given, kept, Usage::Shut] {
-        now.sections.push(SectionNow {
-            usage,
-            is_wished: false,
-        })?;
-    }
-    now.missions.push(Some(mission()))?;
-    now.true_places.push(TruePlace {
-        nid_engine: 19,
-        track: 0,
-        rear: 200,
-        front: 1_100,
-    })?;
-    now.sessions.push(SessionNow {
-        nid_engine: 19,
-        centre: 0,
-        phase: Phase::Up,
-    })?;
-    Ok(())
-}
-
-fn add_last(alloc: Global, now: &mut LineNow) -> Result<(), AllocError> {
-    now.last
-        .push(String::from_str(alloc, "4 · <b>\"A\\B\"</b> & more")?)?;
-    Ok(())
-}
-
-// The mission of train 19, with sections 0 and 1 in its authority, which is announced to B.
-fn mission() -> MissionNow {
-    MissionNow {
-        nid_engine: 19,
-        supervisor: Some(0),
-        handover: Some(1),
-        track: 0,
-        front: 1_234,
-        rear: None,
-        hand: Run { first: 0, count: 2 },
-        pool: Run { first: 2, count: 0 },
-        asked: None,
-        is_ended: false,
-    }
-}
-
-fn add_lives(now: &mut LineNow) -> Result<(), AllocError> {
-    for entries in [4u64, 1] {
-        now.centres.push(CentreNow {
-            entries,
-            clock: 4,
-            taken: 1,
-            seats: 9,
-            is_stuck: entries == 1,
-            end: None,
-            limits: Limits {
-                entries: 10,
-                clock: 20,
-                frames: 30,
-            },
-        })?;
-    }
-    now.links.push(LinkNow {
-        from: 0,
-        to: 1,
-        sent: 3,
-        taken: 2,
-    })?;
+fn fill(alloc: Global, now: &mut LineNow) -> Result<(), AllocError> {
+    now.sections.extend_from_slice(&SECTIONS)?;
+    now.missions.extend_from_slice(&MISSIONS)?;
+    now.sessions.extend_from_slice(&SESSIONS)?;
+    now.centres.extend_from_slice(&CENTRES)?;
+    now.links.extend_from_slice(&LINKS)?;
+    now.true_places.extend_from_slice(&TRUE_PLACES)?;
+    now.last = names(alloc, &LAST)?;
     Ok(())
 }

@@ -1,7 +1,7 @@
 //! The contents of the page of a print.
 
 use crate::page::line::{layout, now};
-use crate::page::shown::lacking;
+use crate::page::wanted::{Want, unmet};
 use std::alloc::{AllocError, Global};
 use std::test::*;
 use text_page::{Changes, Layout, LineNow, Part, RunSheet, SectionNow, Usage};
@@ -10,12 +10,8 @@ use text_page::{Changes, Layout, LineNow, Part, RunSheet, SectionNow, Usage};
 // on, and is wished back. The mission of train 19 and its session with A end with event 7.
 fn page(alloc: Global) -> Result<String, AllocError> {
     let layout = layout(alloc)?;
-    page_on(alloc, &layout)
-}
-
-fn page_on(alloc: Global, layout: &Layout) -> Result<String, AllocError> {
     let now = now(alloc)?;
-    page_of(alloc, layout, &now)
+    page_of(alloc, &layout, &now)
 }
 
 fn page_of(alloc: Global, layout: &Layout, now: &LineNow) -> Result<String, AllocError> {
@@ -51,19 +47,18 @@ fn add_ends(sheet: &mut RunSheet, layout: &Layout) -> Result<(), AllocError> {
     sheet.end()
 }
 
-static ROWS: [&str; 5] = [
-    "{\"nid_c\":7,\"first\":6,\"last\":7,\"of\":7,\"train\":19,\n",
-    "[6,\"\\u003c/script>\\u003cb> A \\u003c/b>\"]",
-    "[6,2,\"kept\",19,1]",
-    "[7,19,null,null,null,null,null,null,null,null,null,null,null]",
-    "[7,19,\"A\",null]",
+static ROWS: [Want<'_>; 6] = [
+    Want::Has("{\"nid_c\":7,\"first\":6,\"last\":7,\"of\":7,\"train\":19,\n"),
+    Want::Has("[6,\"\\u003c/script>\\u003cb> A \\u003c/b>\"]"),
+    Want::Has("[6,2,\"kept\",19,1]"),
+    Want::Has("[7,19,null,null,null,null,null,null,null,null,null,null,null]"),
+    Want::Has("[7,19,\"A\",null]"),
+    Want::Parts("</script>", 3),
 ];
 
 #[test]
 fn each_change_is_a_row_and_no_event_ends_its_element(rt: HostRuntime) -> Result<(), Fail> {
     let text = page(rt.alloc())?;
-    let text = text.as_str();
-    assert!(rt; lacking(text, &ROWS) == None);
-    assert!(rt; text.split("</script>").count() == 3);
+    assert!(rt; unmet(text.as_str(), &ROWS)? == None);
     Ok(())
 }

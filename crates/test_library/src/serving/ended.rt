@@ -1,12 +1,11 @@
 //! An initiation that came over a connection before its centre ended it. The connection serves no train again.
 
 use crate::codec::bytes::bytes_of;
-use crate::line::{INITIATION, VERSION, two_centres};
-use crate::nodes::node_of_a;
+use crate::line::{A, INITIATION, VERSION, two_centres};
+use crate::nodes::{node_of, said};
 use crossbeam_channel::{Receiver, bounded};
-use rbc_msgs::decode_train;
-use rbc_node::Open;
-use rbc_world::{Event, Outcome};
+use rbc_node::{Node, Open};
+use rbc_world::Outcome;
 use serve_workers::AnswerSink;
 use serve_workers::connections::{Connection, ConnectionSink, Shared, TrainConnections};
 use serve_workers::writing::{Reply, SharedWriter, run_writer};
@@ -38,13 +37,15 @@ struct Ends {
 
 // The answers of centre A to the three initiations.
 fn answers<R: Wait>(rt: &R, alloc: Global) -> Result<Vec<Outcome>, Fail> {
-    let node = node_of_a(alloc)?;
+    let node = node_of(alloc, A)?;
+    answers_of(rt, alloc, &node)
+}
+
+fn answers_of<R: Wait>(rt: &R, alloc: Global, node: &Node) -> Result<Vec<Outcome>, Fail> {
     let mut share = node.share();
     let mut outcomes = Vec::new(alloc);
     for digits in [INITIATION, SECOND_INITIATION, THIRD_INITIATION] {
-        let bytes = bytes_of(alloc, digits)?;
-        let message = decode_train(alloc, &bytes).ok().ok_or("it is a message")?;
-        let taken = node.commit(rt, &Open, &mut share, Event::Train(message));
+        let taken = node.commit(rt, &Open, &mut share, said(alloc, digits)?);
         outcomes.push(taken.ok().ok_or("the message is taken")?)?;
     }
     Ok(outcomes)
@@ -103,16 +104,13 @@ fn brought<R: Wait>(
 // The connections submit the answers, in order.
 fn hand_in<R: Wait>(rt: &R, connections: &TrainConnections<'_>, outcomes: &[Outcome]) {
     for (outcome, number) in outcomes.iter().zip(SUBMITTED_BY.iter()) {
-        submit(rt, connections, *number, outcome);
+        let number = *number;
+        let sink = ConnectionSink {
+            connections: &*connections,
+            number,
+        };
+        sink.answered(rt, outcome);
     }
-}
-
-fn submit<R: Wait>(rt: &R, connections: &TrainConnections<'_>, number: usize, outcome: &Outcome) {
-    ConnectionSink {
-        connections,
-        number,
-    }
-    .answered(rt, outcome);
 }
 
 // The bytes of both connections after the answers were submitted.
@@ -130,16 +128,22 @@ fn brought_by_two<R: Net<Stream = TcpStream, Listener = TcpListener> + Wait>(
     Ok((first, second))
 }
 
-#[test]
-fn a_connection_that_was_ended_serves_no_train_again(rt: HostRuntime) -> Result<(), Fail> {
-    let alloc = rt.alloc();
-    let outcomes = answers(&rt, alloc)?;
+fn brought_after_answers<R: Net<Stream = TcpStream, Listener = TcpListener> + Wait>(
+    rt: &R,
+    alloc: Global,
+    outcomes: &[Outcome],
+) -> Result<(Vec<u8>, Vec<u8>), Fail> {
     let line = two_centres(alloc)?;
     let connections = TrainConnections::new(alloc, &line, 2, &[])?;
-    let (first, second) = brought_by_two(&rt, alloc, &connections, &outcomes)?;
-    let wanted = (bytes_of(alloc, VERSION)?, bytes_of(alloc, LATER_VERSIONS)?);
-    assert!(rt;
-        (first.as_slice(), second.as_slice()) == (wanted.0.as_slice(), wanted.1.as_slice())
-    );
+    brought_by_two(rt, alloc, &connections, outcomes)
+}
+
+#[test]
+fn a_connection_that_was_ended_serves_no_train_again(rt: HostRuntime) -> Result<(), Fail> {
+    let outcomes = answers(&rt, rt.alloc())?;
+    let (first, second) = brought_after_answers(&rt, rt.alloc(), &outcomes)?;
+    let version = bytes_of(rt.alloc(), VERSION)?;
+    let later = bytes_of(rt.alloc(), LATER_VERSIONS)?;
+    assert!(rt; (first.as_slice(), second.as_slice()) == (version.as_slice(), later.as_slice()));
     Ok(())
 }

@@ -2,7 +2,7 @@
 
 use crate::codec::bytes::bytes_of;
 use crate::line::{ACCEPTED, VERSION};
-use crossbeam_channel::{Receiver, Sender, bounded};
+use crossbeam_channel::bounded;
 use rbc_msgs::decode_track;
 use serve_workers::writing::{Reply, SharedWriter, WriteFailed, run_writer};
 use std::alloc::Global;
@@ -10,6 +10,9 @@ use std::io;
 use std::io::{ErrorKind, Write};
 use std::sync::{Mutex, Wait};
 use std::test::*;
+
+// The bytes of `ACCEPTED`, and after them those of `VERSION`.
+const BOTH: &str = "2902800000009FFFFFE02002C00000005FFFFFE800";
 
 /// Keeps what is written, five bytes a time. Where it is faulty, its second write fails, and no other.
 #[derive(Drop)]
@@ -39,46 +42,30 @@ impl Write for Tape<'_> {
     }
 }
 
-fn pipe_over(kept: &Mutex<Vec<u8>>, is_faulty: bool) -> SharedWriter<Tape<'_>> {
-    SharedWriter::new(Tape { kept, is_faulty })
-}
-
 fn reply_of(alloc: Global, digits: &str) -> Result<Reply, Fail> {
     let bytes = bytes_of(alloc, digits)?;
     let message = decode_track(&bytes).ok().ok_or("it is a message")?;
     Ok(Reply::new(alloc, message).ok().ok_or("there is memory")?)
 }
 
-// The bytes of one message after another.
-fn row_of(alloc: Global, first: &str, second: &str) -> Result<Vec<u8>, Fail> {
-    let mut row = bytes_of(alloc, first)?;
-    let after = bytes_of(alloc, second)?;
-    row.extend_from_slice(&after)?;
-    Ok(row)
-}
-
-// A queue in which the reply stands.
-fn queued<R: Wait>(
-    rt: &R,
-    alloc: Global,
-    reply: Reply,
-) -> Result<(Sender<Reply>, Receiver<Reply>), Fail> {
-    let (sender, replies) = bounded(alloc, 1)?;
-    if sender.try_send(rt, reply).is_err() {
-        return Err("there is room for the reply".into());
-    }
-    Ok((sender, replies))
-}
-
-// The writer writes the reply, and ends with the queue.
+// The writer writes the reply, while the queue stays open or after it ended.
 fn written<R: Wait>(
     rt: &R,
     alloc: Global,
     shared_writer: &SharedWriter<Tape<'_>>,
     reply: Reply,
+    is_open: bool,
 ) -> Result<Result<(), WriteFailed>, Fail> {
-    let (sender, replies) = queued(rt, alloc, reply)?;
-    drop(sender);
+    let (sender, replies) = bounded(alloc, 1)?;
+    if sender.try_send(rt, reply).is_err() {
+        return Err("there is room for the reply".into());
+    }
+    let _sender = if is_open {
+        Some(sender)
+    } else {
+        drop(sender);
+        None
+    };
     Ok(run_writer(rt, &replies, &mut shared_writer.end(rt)))
 }
 
@@ -92,11 +79,16 @@ fn written_now(shared_writer: &SharedWriter<Tape<'_>>, reply: &Reply) -> Answer 
 
 #[test]
 fn no_reply_overtakes_one_that_waits(rt: HostRuntime) -> Result<(), Fail> {
-    let wanted = row_of(rt.alloc(), ACCEPTED, VERSION)?;
+    let wanted = bytes_of(rt.alloc(), BOTH)?;
     let kept = Mutex::new(Vec::new(rt.alloc()));
-    let now = overtaken(&rt, rt.alloc(), &pipe_over(&kept, false), &kept)?;
-    assert!(rt; now == (None, true, Ok(()), Some(Ok(()))));
-    assert!(rt; kept.lock(&rt).as_slice() == wanted.as_slice());
+    let shared_writer = SharedWriter::new(Tape {
+        kept: &kept,
+        is_faulty: false,
+    });
+    let now = overtaken(&rt, rt.alloc(), &shared_writer, &kept)?;
+    let kept = kept.lock(&rt);
+    let answered = (None, true, Ok(()), Some(Ok(())));
+    assert!(rt; (now, kept.as_slice()) == (answered, wanted.as_slice()));
     Ok(())
 }
 
@@ -113,7 +105,7 @@ fn overtaken<R: Wait>(
     shared_writer.expect(&accepted);
     let first = written_now(shared_writer, &version);
     let is_empty = kept.lock(rt).is_empty();
-    let waiting = written(rt, alloc, shared_writer, accepted)?;
+    let waiting = written(rt, alloc, shared_writer, accepted, false)?;
     let second = written_now(shared_writer, &version);
     Ok((first, is_empty, waiting, second))
 }
@@ -121,9 +113,14 @@ fn overtaken<R: Wait>(
 #[test]
 fn nothing_is_written_after_a_failed_write(rt: HostRuntime) -> Result<(), Fail> {
     let kept = Mutex::new(Vec::new(rt.alloc()));
-    let (now, waiting) = failed(&rt, rt.alloc(), &pipe_over(&kept, true))?;
-    assert!(rt; now == [Some(Err(WriteFailed)), Some(Err(WriteFailed))]);
-    assert!(rt; (waiting, kept.lock(&rt).len()) == (Err(WriteFailed), 5));
+    let shared_writer = SharedWriter::new(Tape {
+        kept: &kept,
+        is_faulty: true,
+    });
+    let (now, waiting) = failed(&rt, rt.alloc(), &shared_writer)?;
+    let count = kept.lock(&rt).len();
+    let failed = Err(WriteFailed);
+    assert!(rt; (now, waiting, count) == ([Some(failed), Some(failed)], failed, 5));
     Ok(())
 }
 
@@ -140,6 +137,5 @@ fn failed<R: Wait>(
         written_now(shared_writer, &version),
     ];
     shared_writer.expect(&version);
-    let (_sender, replies) = queued(rt, alloc, version)?;
-    Ok((now, run_writer(rt, &replies, &mut shared_writer.end(rt))))
+    Ok((now, written(rt, alloc, shared_writer, version, true)?))
 }

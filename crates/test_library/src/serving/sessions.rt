@@ -1,8 +1,8 @@
 //! The session of a connection, over bytes in memory.
 
 use crate::codec::bytes::bytes_of;
-use crate::line::INITIATION;
-use crate::nodes::node_of_a;
+use crate::line::{A, INITIATION};
+use crate::nodes::node_of;
 use rbc_node::Open;
 use serve_workers::reading::Reads;
 use serve_workers::{NoSink, SessionEnd, run_session};
@@ -33,7 +33,7 @@ type Ended = (SessionEnd, usize, usize);
 
 // A session over these bytes at a new node of centre A.
 fn ended<R: Wait>(rt: &R, alloc: Global, reader: Ending<'_>) -> Result<Ended, Fail> {
-    let node = node_of_a(alloc)?;
+    let node = node_of(alloc, A)?;
     let mut share = node.share();
     let mut source = Reads::new(reader);
     let end = run_session(rt, alloc, &node, &Open, &mut share, &mut source, &NoSink);

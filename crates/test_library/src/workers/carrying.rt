@@ -1,7 +1,7 @@
 //! The two workers of a link. B has lent a section to A, and has a frame for A each time that it asks for it back.
 
 use crate::line::{A, B};
-use crate::nodes::{node_of, node_of_a};
+use crate::nodes::{both, commit, node_of};
 use crate::workers::narrow::Narrow;
 use crate::workers::unruly::{ASKED, Unruly};
 use rbc_board::{Carrier, QueueCarrier};
@@ -18,35 +18,19 @@ use std::thread::{Parker, Threads};
 // The section of B.
 const OF_B: u16 = 2;
 
-// The node takes the event.
-fn take<R: Wait>(rt: &R, node: &Node, share: &mut Share, event: Event) -> Result<(), Fail> {
-    node.commit(rt, &Open, share, event)
-        .ok()
-        .ok_or("the centre takes the event")?;
-    Ok(())
-}
-
-// A node of B, which has lent its section to A, and has asked for it back this many times. So it has one frame more for
-// A.
-fn withdrawing<R: Wait>(rt: &R, alloc: Global, count: u32) -> Result<Node, Fail> {
-    let b = node_of(alloc, B)?;
-    withdraw(rt, &b, count)?;
-    Ok(b)
-}
-
-fn withdraw<R: Wait>(rt: &R, b: &Node, count: u32) -> Result<(), Fail> {
-    let mut share = b.share();
+// B lends its section to A, and asks for it back this many times. So it has one frame more for A.
+fn withdraw<R: Wait>(rt: &R, b: &Node, share: &mut Share, count: u32) -> Result<(), Fail> {
     let body = Body::RouteAsk {
         engine: 1,
         first: OF_B,
         most: 1,
     };
     let frame = Frame::new(1, 1, body);
-    take(rt, b, &mut share, Event::Set(OF_B))?;
-    take(rt, b, &mut share, Event::Deliver { from: A, frame })?;
+    commit(rt, b, share, Event::Set(OF_B))?;
+    commit(rt, b, share, Event::Deliver { from: A, frame })?;
     for _ in 0..count {
-        take(rt, b, &mut share, Event::Unset(OF_B))?;
-        take(rt, b, &mut share, Event::Set(OF_B))?;
+        commit(rt, b, share, Event::Unset(OF_B))?;
+        commit(rt, b, share, Event::Set(OF_B))?;
     }
     Ok(())
 }
@@ -62,21 +46,21 @@ fn answers_of(alloc: Global, share: &Share) -> Result<Vec<Option<LinkAnswer>>, F
     Ok(answers)
 }
 
-// B puts all its frames for A, and A gets them under these numbers. The result is the count of frames that B put.
+// B puts its three frames for A, and after that A gets them under these numbers. The result is the count of frames that
+// B put.
 fn put_and_get<R: Wait>(
     rt: &R,
     alloc: Global,
     b: &Node,
-    a: (&Node, &mut Share),
-    numbers: [u32; ASKED],
+    a: &Node,
+    of_a: &mut Share,
 ) -> Result<u32, Fail> {
-    let (a, of_a) = a;
     let (queue, writer, reader) = QueueCarrier::new(rt, alloc)?;
     let (ends, waker) = (LinkEnds::new(), Parker::new());
     let is_said = AtomicBool::new(true);
     let sent = send_frames(rt, b, A, &queue, writer, ends.of_sender(&waker, &is_said));
     let is_over = AtomicBool::new(false);
-    let mut order = Unruly::new(numbers, &is_over);
+    let mut order = Unruly::new([2, 1, 1, 3, 9, 2, 3, 1], &is_over);
     let committer = Committer {
         node: a,
         gate: &Open,
@@ -87,19 +71,17 @@ fn put_and_get<R: Wait>(
     Ok(sent.frames)
 }
 
-// A gets the three frames of B under these numbers, after B has put them all. The result is the count of frames that B
-// put, and the answers of A's link.
-fn got_under<R: Wait>(
+// The same, with the answers of A's link.
+fn got<R: Wait>(
     rt: &R,
     alloc: Global,
-    numbers: [u32; ASKED],
+    b: &Node,
+    a: &Node,
 ) -> Result<(u32, Vec<Option<LinkAnswer>>), Fail> {
-    let a = node_of_a(alloc)?;
-    let b = withdrawing(rt, alloc, 2)?;
+    withdraw(rt, b, &mut b.share(), 2)?;
     let mut of_a = a.share();
-    let frames = put_and_get(rt, alloc, &b, (&a, &mut of_a), numbers)?;
-    let answers = answers_of(alloc, &of_a)?;
-    Ok((frames, answers))
+    let frames = put_and_get(rt, alloc, b, a, &mut of_a)?;
+    Ok((frames, answers_of(alloc, &of_a)?))
 }
 
 static ANSWERS: [Option<LinkAnswer>; 7] = [
@@ -112,14 +94,11 @@ static ANSWERS: [Option<LinkAnswer>; 7] = [
     Some(LinkAnswer::Old),
 ];
 
-#[test]
-fn each_frame_that_comes_is_committed_whatever_number_was_asked_for(
-    rt: HostRuntime,
-) -> Result<(), Fail> {
-    let (frames, answers) = got_under(&rt, rt.alloc(), [2, 1, 1, 3, 9, 2, 3, 1])?;
-    assert!(rt; frames == 3);
-    assert!(rt; answers.as_slice() == ANSWERS.as_slice());
-    Ok(())
+// Whether B puts three frames, and the answers of A are these.
+fn are_got<R: Wait>(rt: &R, alloc: Global) -> Result<bool, Fail> {
+    let (a, b) = both(alloc)?;
+    let (frames, answers) = got(rt, alloc, &b, &a)?;
+    Ok((frames, answers.as_slice()) == (3, ANSWERS.as_slice()))
 }
 
 // A node gets the frames of another over a carrier while that puts them, though no session is left from the first. The
@@ -164,30 +143,26 @@ fn carried_at_the_end<R: Threads + Wait + Sync, C: Carrier + Sync>(
     answers_of(alloc, &of_to)
 }
 
-// The same over a queue that is full with one frame.
+// The same over a queue that is full with one frame, after B asked 200 times for its section.
 fn carried_by_a_narrow_queue<R: Threads + Wait + Sync>(
     rt: &R,
     alloc: Global,
-    from: &Node,
-    to: &Node,
+    b: &Node,
+    a: &Node,
 ) -> Result<Vec<Option<LinkAnswer>>, Fail> {
+    withdraw(rt, b, &mut b.share(), 200)?;
     let (queue, writer, reader) = QueueCarrier::new(rt, alloc)?;
     let narrow = Narrow::new(queue);
-    carried_at_the_end(rt, alloc, from, to, &narrow, writer, reader)
+    carried_at_the_end(rt, alloc, b, a, &narrow, writer, reader)
 }
 
 // How many frames B has for A there.
 const MANY: usize = 201;
 
-#[test]
-fn hundreds_of_frames_are_delivered_at_the_end_though_the_link_is_full(
-    rt: HostRuntime,
-) -> Result<(), Fail> {
-    let a = node_of_a(rt.alloc())?;
-    let b = withdrawing(&rt, rt.alloc(), 200)?;
-    let answers = carried_by_a_narrow_queue(&rt, rt.alloc(), &b, &a)?;
-    assert!(rt; answers.as_slice() == [Some(LinkAnswer::Next); MANY].as_slice());
-    Ok(())
+fn are_all_next<R: Threads + Wait + Sync>(rt: &R, alloc: Global) -> Result<bool, Fail> {
+    let (a, b) = both(alloc)?;
+    let answers = carried_by_a_narrow_queue(rt, alloc, &b, &a)?;
+    Ok(answers.as_slice() == [Some(LinkAnswer::Next); MANY].as_slice())
 }
 
 // A frame comes to A whose stamp leaves no further one, and is asked for in each turn. The result is the number of
@@ -218,14 +193,19 @@ fn asked_for<R: Wait>(
 
 // The same, with the count of commits.
 fn refused<R: Wait>(rt: &R, alloc: Global) -> Result<(usize, bool, usize), Fail> {
-    let a = node_of_a(alloc)?;
+    let a = node_of(alloc, A)?;
     let mut of_a = a.share();
     let (turns, is_there) = asked_for(rt, alloc, &a, &mut of_a)?;
     Ok((turns, is_there, of_a.receipts().len()))
 }
 
 #[test]
-fn a_frame_whose_commit_is_refused_stays_on_its_link(rt: HostRuntime) -> Result<(), Fail> {
-    assert!(rt; refused(&rt, rt.alloc())? == (ASKED, true, 0));
+fn frames_are_committed_whatever_is_asked_for_and_one_that_is_refused_stays(
+    rt: HostRuntime,
+) -> Result<(), Fail> {
+    let are_got = are_got(&rt, rt.alloc())?;
+    let are_all_next = are_all_next(&rt, rt.alloc())?;
+    let refused = refused(&rt, rt.alloc())?;
+    assert!(rt; (are_got, are_all_next, refused) == (true, true, (ASKED, true, 0)));
     Ok(())
 }

@@ -1,0 +1,37 @@
+-- The counts of notes and of silent messages.
+use Rattle.std.specs.Prelude.{◌+◌, ◌-◌, ◌==◌, ◌^◌, Bool, if◌then◌else◌, min, nat_lt, ℕ}
+use Rattle.rbc_log.specs.declared.entry.Entry.{Entry}
+use Rattle.text_script.specs.rbc_centre.rbc_train.Reasons.{number_of_reason}
+use Rattle.rbc_spec.specs.Maps.{has}
+use Rattle.serve_line.specs.declared.status.kinds.Count.{Count}
+
+-- the event is a message that is silent for the reason with this printed number
+abbrev pub is_silent_for : ℕ → Entry → Bool
+is_silent_for number e = has (λ reason. number_of_reason reason == number) e.outcome.silence
+
+-- the notes of a kind that were omitted in a second before this one
+abbrev pub omitted_before : ℕ → Count → ℕ
+omitted_before second c = if c.second == second then 0 else c.left_out
+
+-- the counts of a kind in this second
+abbrev pub turned : ℕ → Count → Count
+turned second c =
+    if c.second == second then c else record { second = second; written = 0; left_out = 0; all = c.all }
+
+-- one more, up to the greatest number of 64 bits
+abbrev pub one_more : ℕ → ℕ
+one_more n = min (n + 1) (2 ^ 64 - 1)
+
+-- the counts after a further note in the same second: it is written, or only counted
+abbrev pub counted : Bool → Count → Count
+counted is_written c =
+    record {
+      second = c.second;
+      written = if is_written then min (c.written + 1) (2 ^ 32 - 1) else c.written;
+      left_out = if is_written then c.left_out else one_more c.left_out;
+      all = one_more c.all;
+    }
+
+-- a note is written if it is one of the first 10 of its kind in this second
+abbrev pub is_written_in : ℕ → Count → Bool
+is_written_in second c = nat_lt (turned second c).written 10
