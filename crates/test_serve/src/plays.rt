@@ -186,7 +186,11 @@ fn all_seen(scene: Scene<'_>, status: u8, printed: &[u8]) -> Done<()> {
         return Err(Missed::Status);
     }
     let printed = std::str::from_utf8(printed).ok().ok_or(Missed::Print)?;
-    for seen in scene.play.seen {
+    each_seen(scene, printed, scene.play.seen)
+}
+
+fn each_seen(scene: Scene<'_>, printed: &str, all: &[Seen<'_>]) -> Done<()> {
+    for seen in all {
         if !is_seen(scene, printed, *seen)? {
             return Err(Missed::Print);
         }
