@@ -1,7 +1,8 @@
 //! The commands of `rbcline`, and the arguments of each besides its options.
 
 use crate::numbers::bounded;
-use crate::options::{flag, flags_of, journals, part, parts_of, shown};
+use crate::options::{flag, flags_of, part, parts_of, shown};
+use crate::serve_options::journals;
 use clap::{Arg, ArgGroup, Command};
 use std::alloc::{AllocError, Global};
 

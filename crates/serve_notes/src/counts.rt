@@ -1,88 +1,15 @@
 ghost use Rattle.std.specs.Prelude.{◌≡◌};
-ghost use Rattle.serve_line.specs.Notes.{omitted_before, turned, counted, is_written_in};
+ghost use Rattle.serve_notes.specs.Counts.{omitted_before, turned, counted, is_written_in};
+
+use crate::kinds::{FREQUENT, Kind};
 
 /// The most notes of a kind that are written in one second. Of further notes only the number is written.
 const EACH_SECOND: u32 = 10;
 
-/// How serious a note is.
-#[derive(Clone, Copy)]
-pub enum Level {
-    /// A start is refused, or a centre answers nothing.
-    Error,
-    /// A peer is refused, or a centre will answer nothing if nobody acts.
-    Warning,
-    /// All else.
-    Info,
-}
-
-impl Level {
-    /// The level at the beginning of a line, in the form of systemd's journal.
-    pub(crate) fn prefix(self) -> &'static str {
-        match self {
-            Level::Error => "<3>",
-            Level::Warning => "<4>",
-            Level::Info => "<6>",
-        }
-    }
-}
-
-/// A kind of note that may occur many times in a short time.
-#[derive(Clone, Copy, Debug, PartialEq, Eq)]
-pub enum Kind {
-    /// A connection begins.
-    Begin,
-    /// A connection ends.
-    End,
-    /// A train opens its session.
-    Session,
-    /// A line of the interlocking is refused.
-    Line,
-    /// A connection is refused.
-    Refusal,
-    /// A connection gets no thread.
-    Thread,
-    /// The system gives no connection.
-    Device,
-}
-
-/// All kinds.
-pub(crate) const KINDS: [Kind; 7] = [
-    Kind::Begin,
-    Kind::End,
-    Kind::Session,
-    Kind::Line,
-    Kind::Refusal,
-    Kind::Thread,
-    Kind::Device,
-];
-
-impl Kind {
-    /// How serious a note of this kind is.
-    pub(crate) fn level(self) -> Level {
-        match self {
-            Kind::Begin | Kind::End | Kind::Session => Level::Info,
-            Kind::Line | Kind::Refusal | Kind::Thread | Kind::Device => Level::Warning,
-        }
-    }
-
-    /// The text after the number of omitted notes.
-    pub(crate) fn words(self) -> &'static str {
-        match self {
-            Kind::Begin => "connections begin",
-            Kind::End => "connections end",
-            Kind::Session => "sessions are opened",
-            Kind::Line => "lines are refused",
-            Kind::Refusal => "connections are refused",
-            Kind::Thread => "connections are ended, no thread could be made",
-            Kind::Device => "times no connection can be taken",
-        }
-    }
-}
-
 /// For each kind, the notes written in its last second, and the notes omitted.
 #[derive(Drop)]
 pub(crate) struct Counts {
-    counts: [Count; 7],
+    counts: [Count; FREQUENT],
 }
 
 #[derive(Clone, Copy)]
@@ -112,7 +39,9 @@ impl Counts {
             left_out: 0,
             all: 0,
         };
-        Counts { counts: [count; 7] }
+        Counts {
+            counts: [count; FREQUENT],
+        }
     }
 
     /// Counts a note of this kind in this second, and decides whether it is written.

@@ -1,13 +1,6 @@
--- The counts of notes and of silent messages.
+-- The counts of the notes of a kind.
 use Rattle.std.specs.Prelude.{◌+◌, ◌-◌, ◌==◌, ◌^◌, Bool, if◌then◌else◌, min, nat_lt, ℕ}
-use Rattle.rbc_log.specs.declared.entry.Entry.{Entry}
-use Rattle.text_script.specs.rbc_centre.rbc_train.Reasons.{number_of_reason}
-use Rattle.rbc_spec.specs.Maps.{has}
-use Rattle.serve_line.specs.declared.status.kinds.Count.{Count}
-
--- the event is a message that is silent for the reason with this printed number
-abbrev pub is_silent_for : ℕ → Entry → Bool
-is_silent_for number e = has (λ reason. number_of_reason reason == number) e.outcome.silence
+use Rattle.serve_notes.specs.declared.counts.Count.{Count}
 
 -- the notes of a kind that were omitted in a second before this one
 abbrev pub omitted_before : ℕ → Count → ℕ

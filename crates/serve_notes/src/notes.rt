@@ -1,9 +1,12 @@
-use crate::status::kinds::{Counts, KINDS, Kind, Level};
+use crate::about::About;
+use crate::counts::Counts;
+use crate::form::NoteForm;
+use crate::kinds::{KINDS, Kind};
 use crossbeam_channel::{Receiver, RecvTimeoutError, Sender, TrySendError};
 use jiff::Timestamp;
-use std::alloc::Global;
+use std::alloc::{AllocError, Global};
 use std::fmt::Display;
-use std::io::{Eprint, Write};
+use std::io::Eprint;
 use std::sync::atomic::{AtomicU64, Ordering};
 use std::sync::{Mutex, Wait};
 use std::thread;
@@ -17,11 +20,15 @@ const REST_S: u64 = 1;
 
 /// Receives notes of the running centres.
 pub trait Notes {
-    /// Takes one note: a line without the line feed that ends it.
-    fn note<D: Display + Drop>(&self, level: Level, text: D);
+    /// Takes one note: a text without a line feed. Of a kind that may occur many times, further notes of a second are
+    /// only counted.
+    fn note<D: Display + Drop>(&self, about: About<'_>, text: D);
 
-    /// Takes one note of a kind that may occur many times.
-    fn often<D: Display + Drop>(&self, kind: Kind, text: D);
+    /// Takes a note that has its form: a line without the line feed that ends it.
+    fn line(&self, line: String);
+
+    /// Counts notes that could not be made.
+    fn lose(&self, count: u64);
 
     /// The counts of notes so far; 0 if nobody counts them.
     fn counts(&self) -> NoteCounts;
@@ -45,54 +52,44 @@ impl NoteCounts {
     };
 }
 
-/// The form of notes on standard error.
-#[derive(Clone, Copy, PartialEq, Eq)]
-pub enum NoteForm {
-    /// The time in UTC, and the text.
-    Timed,
-    /// The level in the form of systemd's journal (`<4>`), and the text. That journal has its own time.
-    Journald,
-}
-
 /// Writes each note as a line on standard error. A note that can't be written is lost.
 #[derive(Clone, Copy)]
 pub struct StderrNotes<'a, R> {
     /// The handle by which it writes.
     pub rt: &'a R,
-    /// The form of each line.
+    /// The form of each line. A note has a time only as JSON.
     pub form: NoteForm,
 }
 
-impl<R: Eprint> Notes for StderrNotes<'_, R> {
-    fn note<D: Display + Drop>(&self, level: Level, text: D) {
-        let _ = match self.form {
-            NoteForm::Timed => self.rt.eprintln(text),
-            NoteForm::Journald => {
-                let prefix = level.prefix();
-                self.rt.eprintln(format_args!("{prefix}{text}"))
-            }
+impl<R: Eprint + Clock + AllocGlobal> Notes for StderrNotes<'_, R> {
+    fn note<D: Display + Drop>(&self, about: About<'_>, text: D) {
+        let alloc = self.rt.alloc();
+        let time = if self.form.is_json {
+            utc(self.rt, alloc)
+        } else {
+            None
         };
+        if let Ok(line) = line_of(self.form, alloc, time, about, text) {
+            self.line(line);
+        }
     }
 
-    fn often<D: Display + Drop>(&self, kind: Kind, text: D) {
-        self.note(kind.level(), text);
+    fn line(&self, line: String) {
+        let _ = self.rt.eprintln(line.as_str());
     }
+
+    fn lose(&self, _count: u64) {}
 
     fn counts(&self) -> NoteCounts {
         NoteCounts::NOTHING
     }
 }
 
-/// A note that waits to be written.
-#[derive(Drop)]
-pub struct Note {
-    level: Level,
-    text: Vec<u8>,
-}
-
 /// The state shared by the threads that send notes and the thread that writes them.
 #[derive(Drop)]
 pub struct Backlog {
+    alloc: Global,
+    form: NoteForm,
     // The number of notes lost so far.
     lost: AtomicU64,
     // The number of those that were reported.
@@ -101,13 +98,25 @@ pub struct Backlog {
 }
 
 impl Backlog {
-    /// A backlog before the first note.
-    pub fn new() -> Backlog {
+    /// A backlog before the first note. Notes have this form.
+    pub fn new(alloc: Global, form: NoteForm) -> Backlog {
         Backlog {
+            alloc,
+            form,
             lost: AtomicU64::new(0),
             told: AtomicU64::new(0),
             counts: Mutex::new(Counts::new()),
         }
+    }
+
+    // The line of a note at the time of the clock.
+    fn line<T: Clock, D: Display + Drop>(
+        &self,
+        clock: &T,
+        about: About<'_>,
+        text: D,
+    ) -> Result<String, AllocError> {
+        line_of(self.form, self.alloc, utc(clock, self.alloc), about, text)
     }
 }
 
@@ -117,20 +126,24 @@ impl Backlog {
 pub struct QueuedNotes<'a, R> {
     /// The handle by which it may wait.
     pub rt: &'a R,
-    /// The allocator for notes.
-    pub alloc: Global,
-    /// The queue of notes to be written.
-    pub queue: Sender<Note>,
+    /// The queue of lines to be written.
+    pub queue: Sender<String>,
     /// The state shared with the writing thread.
     pub backlog: &'a Backlog,
-    /// The form of the notes.
-    pub form: NoteForm,
 }
 
-impl<R: Wait> QueuedNotes<'_, R> {
-    // Offers a note to the writing thread, and returns whether it was taken.
-    fn offer(&self, note: Note) -> bool {
-        let mut left = note;
+impl<R: Wait + Clock> QueuedNotes<'_, R> {
+    // Sends a note, or counts it as lost.
+    fn send<D: Display + Drop>(&self, about: About<'_>, text: D) {
+        match self.backlog.line(self.rt, about, text) {
+            Ok(line) => self.line(line),
+            Err(_) => self.lose(1),
+        }
+    }
+
+    // Offers a line to the writing thread, and returns whether it was taken.
+    fn offer(&self, line: String) -> bool {
+        let mut left = line;
         for _ in 0..OFFERS {
             match self.queue.try_send(self.rt, left) {
                 Ok(()) => return true,
@@ -144,27 +157,26 @@ impl<R: Wait> QueuedNotes<'_, R> {
 }
 
 impl<R: Wait + Clock> Notes for QueuedNotes<'_, R> {
-    fn note<D: Display + Drop>(&self, level: Level, text: D) {
-        let mut line = Vec::new(self.alloc);
-        let written = match self.form {
-            NoteForm::Timed => write_timed(self.rt, &mut line, text),
-            NoteForm::Journald => write!(line, "{text}").ok(),
-        };
-        if written.is_none() || !self.offer(Note { level, text: line }) {
-            self.backlog.lost.fetch_add(1, Ordering::SeqCst);
+    fn note<D: Display + Drop>(&self, about: About<'_>, text: D) {
+        let second = second_of(self.rt);
+        let taken = self.backlog.counts.lock(self.rt).take(about.kind, second);
+        if taken.left_out > 0 {
+            let (count, words) = (taken.left_out, about.kind.words());
+            self.send(About::of(about.kind), format_args!("{count} more {words}"));
+        }
+        if taken.is_written {
+            self.send(about, text);
         }
     }
 
-    fn often<D: Display + Drop>(&self, kind: Kind, text: D) {
-        let second = second_of(self.rt);
-        let taken = self.backlog.counts.lock(self.rt).take(kind, second);
-        if taken.left_out > 0 {
-            let (count, words) = (taken.left_out, kind.words());
-            self.note(kind.level(), format_args!("{count} more {words}"));
+    fn line(&self, line: String) {
+        if !self.offer(line) {
+            self.lose(1);
         }
-        if taken.is_written {
-            self.note(kind.level(), text);
-        }
+    }
+
+    fn lose(&self, count: u64) {
+        self.backlog.lost.fetch_add(count, Ordering::SeqCst);
     }
 
     fn counts(&self) -> NoteCounts {
@@ -175,18 +187,23 @@ impl<R: Wait + Clock> Notes for QueuedNotes<'_, R> {
     }
 }
 
-// Writes a note after the time, if the clock gives it.
-fn write_timed<T: Clock, D: Display + Drop>(clock: &T, note: &mut Vec<u8>, text: D) -> Option<()> {
-    match utc(clock) {
-        Some(time) => write!(note, "{time} {text}").ok(),
-        None => write!(note, "{text}").ok(),
-    }
+// The line of a note at this time.
+fn line_of<D: Display + Drop>(
+    form: NoteForm,
+    alloc: Global,
+    time: Option<String>,
+    about: About<'_>,
+    text: D,
+) -> Result<String, AllocError> {
+    let time = time.as_ref().map(|time| time.as_str());
+    form.line(alloc, time, about, text)
 }
 
-// The time in whole seconds.
-fn utc<T: Clock>(clock: &T) -> Option<Timestamp> {
+// The time in whole seconds; `None` if the clock fails.
+fn utc<T: Clock>(clock: &T, alloc: Global) -> Option<String> {
     let now = Timestamp::now(clock).ok()?;
-    Timestamp::from_second(now.as_second()).ok()
+    let time = Timestamp::from_second(now.as_second()).ok()?;
+    format!(in alloc; "{time}").ok()
 }
 
 // The second by the monotonic clock; 0 if the clock fails.
@@ -202,43 +219,46 @@ fn second_of<T: Clock>(clock: &T) -> u64 {
 pub fn write_notes<R: Wait + Clock, N: Notes>(
     rt: &R,
     notes: &N,
-    queue: &Receiver<Note>,
+    queue: &Receiver<String>,
     backlog: &Backlog,
 ) {
     for _ in rt.forever() {
         match queue.recv_timeout(rt, Duration::from_secs(REST_S)) {
-            Ok(note) => {
-                tell_lost(notes, backlog);
-                if let Ok(text) = std::str::from_utf8(note.text.as_slice()) {
-                    notes.note(note.level, text);
-                }
+            Ok(line) => {
+                tell_lost(rt, notes, backlog);
+                notes.line(line);
             }
             Err(RecvTimeoutError::Timeout) => {
-                tell_lost(notes, backlog);
+                tell_lost(rt, notes, backlog);
                 tell_left_out(rt, notes, backlog, second_of(rt));
             }
             Err(RecvTimeoutError::Disconnected) => break,
         }
     }
-    tell_lost(notes, backlog);
+    tell_lost(rt, notes, backlog);
     tell_left_out(rt, notes, backlog, second_of(rt).saturating_add(1));
 }
 
-fn tell_lost<N: Notes>(notes: &N, backlog: &Backlog) {
+fn tell_lost<R: Clock, N: Notes>(rt: &R, notes: &N, backlog: &Backlog) {
     let lost = backlog.lost.load(Ordering::SeqCst);
     let count = lost.saturating_sub(backlog.told.swap(lost, Ordering::SeqCst));
     if count > 0 {
-        notes.note(Level::Warning, format_args!("{count} notes were lost"));
+        let about = About::of(Kind::Lost);
+        if let Ok(line) = backlog.line(rt, about, format_args!("{count} notes were lost")) {
+            notes.line(line);
+        }
     }
 }
 
 // Reports the notes of each kind that were omitted before this second.
-fn tell_left_out<R: Wait, N: Notes>(rt: &R, notes: &N, backlog: &Backlog, second: u64) {
+fn tell_left_out<R: Wait + Clock, N: Notes>(rt: &R, notes: &N, backlog: &Backlog, second: u64) {
     for kind in KINDS {
         let count = backlog.counts.lock(rt).left_out(kind, second);
         if count > 0 {
-            let words = kind.words();
-            notes.note(kind.level(), format_args!("{count} more {words}"));
+            let (about, words) = (About::of(kind), kind.words());
+            if let Ok(line) = backlog.line(rt, about, format_args!("{count} more {words}")) {
+                notes.line(line);
+            }
         }
     }
 }
@@ -248,9 +268,11 @@ fn tell_left_out<R: Wait, N: Notes>(rt: &R, notes: &N, backlog: &Backlog, second
 pub struct NoNotes;
 
 impl Notes for NoNotes {
-    fn note<D: Display + Drop>(&self, _level: Level, _text: D) {}
+    fn note<D: Display + Drop>(&self, _about: About<'_>, _text: D) {}
 
-    fn often<D: Display + Drop>(&self, _kind: Kind, _text: D) {}
+    fn line(&self, _line: String) {}
+
+    fn lose(&self, _count: u64) {}
 
     fn counts(&self) -> NoteCounts {
         NoteCounts::NOTHING
