@@ -1,7 +1,7 @@
 """contrib/rbcline.1 and contrib/rbcline.bash: the man page and the completion of rbcline.
 
-Both are made from the tables of forms.rt and options.rt in crates/cli_commands/src, from which the program has its
-help: each command, its arguments and options, and their meaning. Each table has to have as many entries as its type names, and each command
+Both are made from the tables of forms.rt, options.rt and serve_options.rt in crates/cli_commands/src, from which the
+program has its help: each command, its arguments and options, and their meaning. Each table has to have as many entries as its type names, and each command
 and option of the file has to be in both. If forms.rt gets another form, this stops.
 """
 
@@ -14,7 +14,7 @@ import tables
 from tables import read
 
 FORMS = "crates/cli_commands/src/forms.rt"
-OPTIONS = "crates/cli_commands/src/options.rt"
+OPTIONS = ("crates/cli_commands/src/options.rt", "crates/cli_commands/src/serve_options.rt")
 MAN, BASH = "contrib/rbcline.1", "contrib/rbcline.bash"
 TEXT = r'"((?:[^"\\]|\\.)*)"'
 PAIR = re.compile(rf"\(\s*{TEXT},\s*{TEXT},?\s*\)|\b([A-Z]+)\b")
@@ -59,6 +59,11 @@ class Form:
         self.name, self.about, self.words, self.options, self.optional = name, about, words, [], set()
 
 
+def sources():
+    """The files with the tables, as one text."""
+    return "".join(map(read, (FORMS, *OPTIONS)))
+
+
 def unescaped(text):
     return re.sub(r"\\\n\s*", "", text).replace('\\"', '"').replace("\\\\", "\\")
 
@@ -69,9 +74,11 @@ def function(text, name):
 
 
 def static_tables(text):
-    """The tables of options by name. Each has as many entries as its type names."""
+    """The tables of options and of commands by name. Each has as many entries as its type names."""
     found = {}
     for name, kind, count, body in TABLE.findall(text):
+        if not kind.startswith(("(", "Form")):
+            continue
         entries = ENTRY.findall(body) if kind.startswith("(") else FORM.findall(body)
         if len(entries) != int(count):
             sys.exit(f"{FORMS}: {name} has {count} entries, and {len(entries)} are read")
@@ -100,7 +107,7 @@ def single(text, command, form):
 
 def forms():
     """The commands of forms.rt, and the program's purpose and version."""
-    text = read(FORMS) + read(OPTIONS)
+    text = sources()
     made = static_tables(text)
     shared = {name: (it, about) for name, it, about in re.findall(
         rf"const (\w+): \(&str, &str\) = \(\s*{TEXT},\s*{TEXT},?\s*\);", text)}
@@ -250,7 +257,7 @@ def faults():
     cited = re.search(r'(?m)^version: "(.*)"$', read("CITATION.cff"))
     if {newest[1], cited[1]} != {version}:
         yield f"the version: {FORMS} has {version}, CHANGELOG.md {newest[1]}, CITATION.cff {cited[1]}"
-    options = {of.name for it in commands for of in it.options} | set(re.findall(rf"\.long\({TEXT}\)", read(FORMS) + read(OPTIONS)))
+    options = {of.name for it in commands for of in it.options} | set(re.findall(rf"\.long\({TEXT}\)", sources()))
     man, bash = man_page().replace("\\-", "-"), completion()
     for it in sorted(options):
         if f"Fl -{it}" not in man or not re.search(rf"--{it}\b", bash):

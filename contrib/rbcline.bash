@@ -12,19 +12,19 @@ _rbcline() {
         mapfile -t COMPREPLY < <(compgen -d -- "$word")
         return
         ;;
-    --trains | --loss | --seed | --events | --page | --page | --page-address | --address | --rate | --burst | --timeout | --trains | --loss | --late | --seed | --seconds | --timeout | --message | --since | --until | --from | --to | --train | --port) return ;;
+    --trains | --loss | --seed | --events | --page | --page | --page-address | --address | --notes | --rate | --burst | --timeout | --trains | --loss | --late | --seed | --seconds | --timeout | --message | --since | --until | --from | --to | --since | --until | --train | --port) return ;;
     esac
     if [[ "$word" == --* ]]; then
         case "${COMP_WORDS[1]}" in
         demo) options+=" --script --trains --loss --seed --events --page" ;;
-        serve) options+=" --quiet --journald --tell --life --bind --no-sync --no-print --page --page-address --address --control --rate --burst --journal --resume --keep" ;;
+        serve) options+=" --quiet --journald --tell --life --bind --no-sync --no-print --page --page-address --address --control --notes --rate --burst --journal --resume --keep" ;;
         drive) options+=" --timeout" ;;
         trains) options+=" --no-release --trains --loss --late --seed --seconds" ;;
         tell) options+=" --timeout" ;;
         words) options+=" --message --numbers --times --since --until" ;;
         decode) options+=" --frame --json" ;;
         encode) options+=" --frame" ;;
-        picture) options+=" --html --from --to --train" ;;
+        picture) options+=" --html --time --from --to --since --until --train" ;;
         pcap) options+=" --port" ;;
         esac
         mapfile -t COMPREPLY < <(compgen -W "$options" -- "$word")

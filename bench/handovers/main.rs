@@ -3,7 +3,7 @@
 // `handovers write FOLDER EVENTS` writes line.toml, script and plain.txt (the answers), and prints how many missions were handed over;
 // `handovers storm FOLDER EVENTS SEED` the same of events in any order on a small line; `handovers time EVENTS TURNS` plays the script so
 // often, and prints how many events a second the fastest turn took and the bytes of its messages to trains; `commits` does the same
-// with commits to the logs of the centres.
+// with commits to the logs of the centres; `lines` makes the lines of their journals.
 
 #[path = "../peer/mod.rs"]
 mod peer;
@@ -11,6 +11,7 @@ mod storm;
 mod traffic;
 
 use peer::draw::Draw;
+use peer::journal;
 use peer::log;
 use peer::run::run;
 use peer::script;
@@ -39,8 +40,16 @@ fn main() {
             let line = traffic::line_of(&mut draw);
             log::time(&line, &traffic::runs(&line, number(events), &mut draw), number(turns));
         }
+        ["lines", events, turns] => {
+            let mut draw = Draw::new(1);
+            let line = traffic::line_of(&mut draw);
+            journal::time(&line, &traffic::runs(&line, number(events), &mut draw), number(turns));
+        }
         ["run", path] => run(&traffic::line_of(&mut Draw::new(1)), path),
-        _ => panic!("write FOLDER EVENTS, storm FOLDER EVENTS SEED, time EVENTS TURNS, commits EVENTS TURNS, run SCRIPT"),
+        _ => panic!(
+            "write FOLDER EVENTS, storm FOLDER EVENTS SEED, time EVENTS TURNS, commits EVENTS TURNS, lines EVENTS TURNS, \
+             run SCRIPT"
+        ),
     }
 }
 

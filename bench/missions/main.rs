@@ -3,8 +3,8 @@
 // `missions write FOLDER TRAINS SECTIONS EVENTS` writes line.toml, script and plain.txt (the answers); `missions storm FOLDER EVENTS
 // SEED` the same of events in any order on a small line; `missions run TRAINS SECTIONS SCRIPT` prints a run of such a script, as `rbcline
 // run` does; `missions time TRAINS SECTIONS EVENTS TURNS` plays the script so often, and prints how many events a second the fastest turn
-// took and the bytes of its messages to trains; `commits` does the same with commits to the logs of the centres. In place of the number of
-// sections stands `alternating` for 512 sections of which each second one that no train runs over is open.
+// took and the bytes of its messages to trains; `commits` does the same with commits to the logs of the centres; `lines` makes the lines of
+// their journals. `alternating` in place of the number of sections is 512 sections, of which each second one that no train runs over is open.
 
 #[path = "../peer/mod.rs"]
 mod peer;
@@ -12,6 +12,7 @@ mod storm;
 mod traffic;
 
 use peer::draw::Draw;
+use peer::journal;
 use peer::line::Line;
 use peer::log;
 use peer::run::run;
@@ -41,10 +42,14 @@ fn main() {
             let (line, events) = traffic_of(number(trains), sections, number(events));
             log::time(&line, &only_events(events), number(turns) as usize);
         }
+        ["lines", trains, sections, events, turns] => {
+            let (line, events) = traffic_of(number(trains), sections, number(events));
+            journal::time(&line, &only_events(events), number(turns) as usize);
+        }
         ["run", trains, sections, path] => run(&traffic_of(number(trains), sections, 1).0, path),
         _ => panic!(
             "write FOLDER TRAINS SECTIONS EVENTS, storm FOLDER EVENTS SEED, time TRAINS SECTIONS EVENTS TURNS, \
-             commits TRAINS SECTIONS EVENTS TURNS, run TRAINS SECTIONS SCRIPT"
+             commits TRAINS SECTIONS EVENTS TURNS, lines TRAINS SECTIONS EVENTS TURNS, run TRAINS SECTIONS SCRIPT"
         ),
     }
 }

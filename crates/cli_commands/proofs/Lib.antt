@@ -1,3 +1,4 @@
 mod Refusals
 pub mod RunningLemmas
 pub mod RerunningLemmas
+pub mod ComparingLemmas

@@ -1,12 +1,12 @@
 //! The audit of a print of `run` or `serve`, or of journals.
 
 use crate::auditing::Audit;
+use crate::comparing::Verdict;
 use crate::files::{Files, Rows};
 use crate::journal::{Events, Part, journals_in};
 use crate::line_file::LineFile;
 use crate::output::tell;
 use crate::rerunning::first_unfit;
-use cli_compare::Verdict;
 use rbc_line::Line;
 use std::alloc::Global;
 use std::io::Write;

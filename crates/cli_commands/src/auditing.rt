@@ -5,5 +5,5 @@
 mod audit;
 mod played;
 
+pub use crate::comparing::Verdict;
 pub use audit::Audit;
-pub use cli_compare::Verdict;

@@ -3,7 +3,9 @@
 use crate::files::Files;
 use crate::line_file::LineFile;
 use crate::output::write_whole;
+use crate::over_time::drawn_over_time;
 use crate::printed::{has_event, printed_in};
+use crate::requests::TimeRange;
 use cli_picture::picture;
 use rbc_line::Line;
 use std::alloc::Global;
@@ -18,11 +20,14 @@ pub struct Drawing<'a> {
     pub printed: &'a str,
     /// The part of the run that is drawn.
     pub cut: Cut,
+    /// The range of time that is drawn, if time is the axis.
+    pub axis: Option<TimeRange>,
     pub is_html: bool,
 }
 
 /// Draws a part of a run, from a print of `run` or `serve` or from journals. It writes the time-distance diagram as an
-/// SVG document, or an HTML page with the line after each event. Returns whether an event is in the print.
+/// SVG document, over events or over time, or an HTML page with the line after each event. Returns whether an event is
+/// in the print.
 pub fn draw_printed<'a, F: Files, O: Write>(
     alloc: Global,
     given: &LineFile,
@@ -30,8 +35,17 @@ pub fn draw_printed<'a, F: Files, O: Write>(
     files: &F,
     out: &mut O,
 ) -> Result<bool, Fault<'a>> {
-    let text = printed_in(alloc, given, drawing.printed, files)?;
-    draw(alloc, &given.line, text.as_str(), drawing, out)
+    match drawing.axis {
+        Some(range) => {
+            let svg = drawn_over_time(alloc, given, drawing, range, files)?;
+            write_whole(out, svg.as_bytes())?;
+            Ok(true)
+        }
+        None => {
+            let text = printed_in(alloc, given, drawing.printed, files)?;
+            draw(alloc, &given.line, text.as_str(), drawing, out)
+        }
+    }
 }
 
 fn draw<O: Write>(

@@ -1,7 +1,8 @@
 //! The commands of `rbcline`, and the arguments of each besides its options.
 
 use crate::numbers::bounded;
-use crate::options::{flag, flags_of, journals, part, parts_of, shown};
+use crate::options::{flag, flags_of, part, parts_of, shown};
+use crate::serve_options::journals;
 use clap::{Arg, ArgGroup, Command};
 use std::alloc::{AllocError, Global};
 
@@ -171,7 +172,7 @@ fn commands<'a>(alloc: Global) -> Result<Vec<Command<'a>>, AllocError> {
 }
 
 /// The version of the program.
-pub(crate) const VERSION: &str = "0.9.0";
+pub(crate) const VERSION: &str = "0.10.0";
 
 // The exit statuses, and a first command to try.
 const ENDS: &str =

@@ -1,6 +1,4 @@
 //! The commands of `rbcline`. Each is a function from its arguments and files to a print and an exit status.
-//! [`command`] reads the arguments and chooses one. Their parts are `running` and `rerunning` (scripts and journals),
-//! `auditing` (prints), `inspecting` and `explaining` (line files).
 //!
 //! Bodies are free. docs/FORMATS.md fixes the printed text and each exit status.
 #![tactic(auto)]
@@ -8,6 +6,7 @@
 mod audit;
 pub mod auditing;
 pub mod command;
+pub mod comparing;
 mod decode;
 pub mod demo;
 mod diagram;
@@ -27,6 +26,7 @@ mod nearest;
 mod numbers;
 mod options;
 mod output;
+mod over_time;
 mod pcap;
 mod picture;
 mod printed;
@@ -36,6 +36,8 @@ pub mod run;
 pub mod running;
 mod scenarios;
 mod script_faults;
+mod serve_options;
 mod storm;
+mod time_range;
 mod watch;
 pub mod words;

@@ -32,7 +32,8 @@ fn test_values(alloc: Global, matches: &ArgMatches<'_>) -> Result<(), Error> {
     }
 }
 
-fn refusal(alloc: Global, reason: &str) -> Result<Error, AllocError> {
+/// The refusal of arguments for this reason.
+pub(crate) fn refusal(alloc: Global, reason: &str) -> Result<Error, AllocError> {
     rbcline(alloc)?.error(ErrorKind::ValueValidation, reason)
 }
 

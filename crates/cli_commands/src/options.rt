@@ -1,30 +1,35 @@
 //! The options of the commands.
 
 use crate::numbers::bounded;
+use crate::serve_options::{DOORS, JOURNALS, NOTES, SERVE};
+use clap::builder::ValueParser;
 use clap::{Arg, ArgAction, ArgGroup};
 use std::alloc::{AllocError, Global};
 
-/// The name of the three options for the folder of the journals. At most one of them is given.
-const JOURNALS: &str = "journals";
-
-/// The options for the folder of the journals.
-pub fn journals<'a>(alloc: Global) -> Result<ArgGroup<'a>, AllocError> {
-    ArgGroup::new(alloc, JOURNALS)
-        .arg("journal")?
-        .arg("resume")?
-        .arg("keep")
-}
-
-// The options of `picture`: the part of the run that is drawn.
-static CUT: [(&str, &str, &str); 3] = [
+// The options of `picture` with a value: the part of the run that is drawn.
+static CUT: [(&str, &str, &str); 5] = [
     ("from", "N", "The first event that is drawn, from 1"),
     ("to", "N", "The last event that is drawn"),
+    (
+        "since",
+        "TIME",
+        "Draw journals over time, from this time on, such as 2026-11-29T08:00:00Z",
+    ),
+    ("until", "TIME", "Draw journals over time, before this time"),
     (
         "train",
         "ENGINE",
         "The one train that is drawn, by its NID_ENGINE",
     ),
 ];
+
+// The argument, which excludes the options of `picture` over time.
+fn without_time<'a>(argument: Arg<'a>) -> Result<Arg<'a>, AllocError> {
+    argument
+        .conflicts_with("time")?
+        .conflicts_with("since")?
+        .conflicts_with("until")
+}
 
 /// An option with a value.
 pub fn part<'a>(
@@ -37,60 +42,13 @@ pub fn part<'a>(
         .long(name)
         .value_name(value)
         .help(help);
-    if name == "page-address" {
-        return part.requires_arg("page");
+    match name {
+        "page-address" => part.requires_arg("page"),
+        "notes" => Ok(part.value_parser(ValueParser::Names(&NOTES))),
+        "from" | "to" => without_time(bounded(part, name)),
+        _ => Ok(bounded(part, name)),
     }
-    Ok(bounded(part, name))
 }
-
-// The options of `serve` with a value.
-static DOORS: [(&str, &str, &str); 9] = [
-    (
-        "page",
-        "PORT",
-        "Show the line to browsers, at http://127.0.0.1:PORT/",
-    ),
-    (
-        "page-address",
-        "ADDRESS",
-        "Show it at this address of the host, also to other hosts [default: 127.0.0.1]",
-    ),
-    (
-        "address",
-        "ADDRESS",
-        "Let trains connect at this address of the host, also from other hosts [default: 127.0.0.1]",
-    ),
-    (
-        "control",
-        "PATH",
-        "Let the interlocking connect to a Unix socket at PATH, in place of a port; only its owner may [mode 0600]",
-    ),
-    (
-        "rate",
-        "N",
-        "How many messages of a train each centre takes in a second [default: 50]",
-    ),
-    (
-        "burst",
-        "N",
-        "How many of them it takes at once [default: 100]",
-    ),
-    (
-        "journal",
-        "FOLDER",
-        "Begin a journal of each centre in this folder",
-    ),
-    (
-        "resume",
-        "FOLDER",
-        "Continue from the journals in this folder",
-    ),
-    (
-        "keep",
-        "FOLDER",
-        "Continue from the journals in this folder if each centre has one, and begin them otherwise",
-    ),
-];
 
 // The options of `print` and `words` with a value.
 static TIMES: [(&str, &str, &str); 2] = [
@@ -217,10 +175,16 @@ static LISTED: [(&str, &str); 2] = [
     ("times", "Print the UTC time of each event of journals"),
 ];
 
-static PICTURE: [(&str, &str); 1] = [(
-    "html",
-    "Draw it in an HTML page with a slider over the events",
-)];
+static PICTURE: [(&str, &str); 2] = [
+    (
+        "html",
+        "Draw it in an HTML page with a slider over the events",
+    ),
+    (
+        "time",
+        "Draw journals over time: UTC time is an axis, in place of the number of the event; not with --html, --from or --to",
+    ),
+];
 
 static LIVING: [(&str, &str); 1] = [(
     "script",
@@ -238,34 +202,6 @@ static DECODE: [(&str, &str); 2] = [
 ];
 
 static ENCODE: [(&str, &str); 1] = [("frame", "The fields are those of a frame between centres")];
-
-static SERVE: [(&str, &str); 7] = [
-    ("quiet", "Write no notes on standard error"),
-    (
-        "journald",
-        "Begin each note with its level, as systemd's journal reads it, in place of the time",
-    ),
-    (
-        "tell",
-        "Notify the interlocking when a section that it asked back is shut",
-    ),
-    (
-        "life",
-        "Print the used part of each log, clock and link, after the lines of `show`",
-    ),
-    (
-        "bind",
-        "Take a train's messages only over the connection that opened its session last; others end their connection",
-    ),
-    (
-        "no-sync",
-        "Do not wait until the disk has each write of a journal",
-    ),
-    (
-        "no-print",
-        "Print no events at the end: the journals have them",
-    ),
-];
 
 /// The options of a command without a value: the name, and the meaning.
 pub fn flags_of(command: &str) -> &'static [(&'static str, &'static str)] {
@@ -291,8 +227,9 @@ pub fn flag<'a>(
         .long(name)
         .action(ArgAction::SetTrue)
         .help(help);
-    if name == "no-sync" || name == "no-print" {
-        return flag.requires_arg(JOURNALS);
+    match name {
+        "no-sync" | "no-print" => flag.requires_arg(JOURNALS),
+        "html" => without_time(flag),
+        _ => Ok(flag),
     }
-    Ok(flag)
 }

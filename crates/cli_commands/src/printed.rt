@@ -12,7 +12,7 @@ use std::alloc::{AllocError, Global};
 use std::io;
 use std::io::Write;
 use std::str::from_utf8;
-use text_journal::Entry;
+use text_journal::{Entry, in_time_order};
 use text_script::status::Fault;
 
 /// Prints the run of a line whose journals are in a folder. If these are not a run of the line, nothing is printed.
@@ -82,6 +82,28 @@ pub(crate) fn timed_print_in<'a, F: Files>(
     match text {
         Some(text) => Ok(Printed { text, times_ms }),
         None => Err(Fault::CannotRead(printed)),
+    }
+}
+
+/// The print of the journals in a folder, with its events in the order of their times. None if the events in this
+/// order are not a run of the line.
+pub(crate) fn print_by_time<'a, F: Files>(
+    alloc: Global,
+    given: &LineFile,
+    folder: &'a str,
+    files: &F,
+) -> Result<Option<Printed>, Fault<'a>> {
+    let events = journals_in(alloc, given, folder, files)?;
+    let entries = in_time_order(events.entries)?;
+    let times_ms = times_of(alloc, &entries)?;
+    let mut text = Vec::new(alloc);
+    match print_rerun(alloc, &given.line, entries, &mut text) {
+        Ok(()) => match String::from_utf8(text).ok() {
+            Some(text) => Ok(Some(Printed { text, times_ms })),
+            None => Err(Fault::CannotRead(folder)),
+        },
+        Err(RerunFault::Unfit(_)) => Ok(None),
+        Err(fault) => Err(fault_of(alloc, &given.line, fault)),
     }
 }
 

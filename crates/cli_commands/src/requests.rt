@@ -132,7 +132,7 @@ impl Listing<'_> {
 
     /// Whether the times of events are needed.
     pub(crate) fn needs_times(&self) -> bool {
-        self.is_timed || self.range.since_ms.is_some() || self.range.until_ms.is_some()
+        self.is_timed || self.range.is_bounded()
     }
 }
 
@@ -146,6 +146,11 @@ pub struct TimeRange {
 }
 
 impl TimeRange {
+    /// Whether it has a beginning or an end.
+    pub(crate) fn is_bounded(self) -> bool {
+        self.since_ms.is_some() || self.until_ms.is_some()
+    }
+
     /// Whether an event of this time is within the range. An event whose time is not known is only within the range
     /// that has neither a beginning nor an end.
     pub fn contains(self, time_ms: Option<u64>) -> bool
@@ -173,6 +178,8 @@ pub struct ServeWords<'a> {
     pub is_quiet: bool,
     /// Notes begin with their level, in the form of systemd's journal.
     pub is_for_journald: bool,
+    /// Each note is a JSON object. With `is_for_journald` its level is before the object.
+    pub notes_as_json: bool,
     /// The port at which browsers see the line, if there is one.
     pub page: Option<u16>,
     /// The address at which browsers connect, if it is not 127.0.0.1.

@@ -5,10 +5,10 @@ pub use crate::requests::{
     JournalStart, JournalWords, Listing, Request, ServeWords, Task, TellWords, TimeRange,
     TrainsWords,
 };
+use crate::time_range::{axis_of, range_of};
 use clap::error::ErrorKind;
 use clap::{ArgMatches, Error};
 use cli_demo::Settings;
-use jiff::Timestamp;
 use std::alloc::{AllocError, Global};
 use std::convert::AsStr;
 use std::net::{AddrParseError, IpAddr};
@@ -113,6 +113,7 @@ fn task_on_print<'a>(command: &str, words: &ArgMatches<'a>) -> Option<Task<'a>> 
         "picture" => Some(Task::Picture(Drawing {
             printed,
             cut: cut_of(words),
+            axis: axis_of(words),
             is_html: words.get_flag("html"),
         })),
         "pcap" => Some(Task::Capture {
@@ -128,17 +129,8 @@ fn listing_of<'a>(words: &ArgMatches<'a>, name: &str) -> Option<Listing<'a>> {
         name: words.get_str(name)?,
         is_numbered: words.get_flag("numbers"),
         is_timed: words.get_flag("times"),
-        range: TimeRange {
-            since_ms: time_of(words, "since"),
-            until_ms: time_of(words, "until"),
-        },
+        range: range_of(words),
     })
-}
-
-// The time of the option of this name, in milliseconds since 1970. It is 0 for an earlier time.
-fn time_of(words: &ArgMatches<'_>, name: &str) -> Option<u64> {
-    let time: Timestamp = words.get_str(name)?.parse().ok()?;
-    Some(u64::try_from(time.as_millisecond()).unwrap_or(0))
 }
 
 fn named_decode<'a>(words: &ArgMatches<'a>) -> Request<'a> {
@@ -170,6 +162,7 @@ fn serve_words<'a>(words: &ArgMatches<'a>) -> Option<ServeWords<'a>> {
     Some(ServeWords {
         is_quiet: words.get_flag("quiet"),
         is_for_journald: words.get_flag("journald"),
+        notes_as_json: is_json(words),
         page: words.get_one("page"),
         page_address,
         address,
@@ -182,6 +175,14 @@ fn serve_words<'a>(words: &ArgMatches<'a>) -> Option<ServeWords<'a>> {
         is_unprinted: words.get_flag("no-print"),
         journal: journal_words(words),
     })
+}
+
+// Whether notes are JSON objects.
+fn is_json(words: &ArgMatches<'_>) -> bool {
+    match words.get_str("notes") {
+        Some(form) => form == "json",
+        None => false,
+    }
 }
 
 // The value of the option of this name, if it is given.

@@ -3,8 +3,10 @@
 use crate::run::{Run, nid_engine_of, track_of};
 use crate::scale::Scale;
 use crate::style::{colour_of, dashes_of};
+use crate::time::TimeAxis;
 use rbc_place::{section_end, section_start};
 use std::alloc::{AllocError, Global};
+use text_page::Utc;
 use text_replay::Stretch;
 use text_script::Mark;
 
@@ -58,7 +60,7 @@ fn draw_stretch(
             write!(svg, "<rect class=\"bar{look}{wish} c{colour} d{dashes}\"")?;
             draw_box(svg, scale, section, stretch)?;
             write!(svg, "<title>{words}train {nid_engine}, section {section}")?;
-            draw_events(svg, run, stretch)?;
+            draw_ends(svg, run, stretch)?;
             writeln!(svg, "</title></rect>")
         }
         _ => Ok(()),
@@ -83,11 +85,33 @@ fn draw_box(
     )
 }
 
-/// Writes the events in which a stretch begins and ends.
-fn draw_events(svg: &mut String, run: &Run<'_>, stretch: &Stretch) -> Result<(), AllocError> {
+/// Writes whether a section is wished back, and the events in which the stretch begins and ends, or their times.
+fn draw_ends(svg: &mut String, run: &Run<'_>, stretch: &Stretch) -> Result<(), AllocError> {
     if stretch.seen.is_wished {
         svg.push_str(", wished back")?;
     }
+    match &run.axis {
+        Some(axis) => draw_times(svg, run, axis, stretch),
+        None => draw_numbers(svg, run, stretch),
+    }
+}
+
+fn draw_times(
+    svg: &mut String,
+    run: &Run<'_>,
+    axis: &TimeAxis<'_>,
+    stretch: &Stretch,
+) -> Result<(), AllocError> {
+    let since = Utc(axis.time_ms(stretch.since));
+    write!(svg, ", from {since}")?;
+    if stretch.until < run.events.len() {
+        let until = Utc(axis.time_ms(stretch.until));
+        write!(svg, " to {until}")?;
+    }
+    Ok(())
+}
+
+fn draw_numbers(svg: &mut String, run: &Run<'_>, stretch: &Stretch) -> Result<(), AllocError> {
     let since = run.number(stretch.since);
     write!(svg, ", from event {since}")?;
     if stretch.until < run.events.len() {

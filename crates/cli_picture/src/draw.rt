@@ -11,6 +11,7 @@ use crate::scale::{Scale, WIDTH};
 use crate::seats::draw_seats;
 use crate::style::STYLE;
 use std::alloc::{AllocError, Global};
+use text_page::Utc;
 
 // The upper edge of the legend, the height of one of its lines, and the height of the axis between it and the events.
 const LEGEND: u64 = 72;
@@ -30,13 +31,14 @@ pub fn draw(alloc: Global, run: &Run<'_>) -> Result<String, AllocError> {
         line: run.line,
         top: axis.saturating_add(AXIS),
         event_count: run.events.len(),
+        axis: run.axis,
     };
     let mut svg = String::new(alloc);
     begin(&mut svg, &scale)?;
     draw_title(&mut svg, run)?;
     draw_legend(&mut svg, run, LEGEND, ROW)?;
     draw_homes(&mut svg, &scale, axis)?;
-    draw_events(&mut svg, &scale, run)?;
+    draw_events(alloc, &mut svg, &scale, run)?;
     draw_grid(&mut svg, &scale, axis)?;
     draw_trains(alloc, &mut svg, &scale, run)?;
     svg.push_str("</svg>\n")?;
@@ -74,21 +76,40 @@ fn draw_title(svg: &mut String, run: &Run<'_>) -> Result<(), AllocError> {
         svg,
         "<text x=\"20\" y=\"28\" font-size=\"18\" font-weight=\"bold\">Run on the line of NID_C {nid_c}: "
     )?;
-    let drawn = run.events.len();
-    if drawn < run.event_count {
+    draw_count(svg, run)?;
+    svg.push_str("</text>\n<text x=\"20\" y=\"48\" class=\"small\">")?;
+    draw_axes(svg, run)?;
+    svg.push_str("</text>\n")
+}
+
+/// Writes which events are drawn. Over time they have no numbers.
+fn draw_count(svg: &mut String, run: &Run<'_>) -> Result<(), AllocError> {
+    let drawn = run.drawn();
+    let all = run.event_count;
+    if drawn >= all {
+        write!(svg, "{drawn} events")
+    } else if run.axis.is_some() {
+        write!(svg, "{drawn} of {all} events")
+    } else {
         let first = run.number(0);
         let last = run.skipped.saturating_add(drawn);
-        write!(svg, "events {first} to {last} of {}", run.event_count)?;
-    } else {
-        write!(svg, "{drawn} events")?;
+        write!(svg, "events {first} to {last} of {all}")
     }
-    let below = if run.event_count == 0 {
-        NO_EVENT
-    } else {
-        "Distance to the right, events downward"
+}
+
+/// Writes the meaning of the two axes.
+fn draw_axes(svg: &mut String, run: &Run<'_>) -> Result<(), AllocError> {
+    let Some(axis) = &run.axis else {
+        return svg.push_str(if run.event_count == 0 {
+            NO_EVENT
+        } else {
+            "Distance to the right, events downward"
+        });
     };
-    writeln!(
+    let from = Utc(axis.from_ms);
+    let to = Utc(axis.to_ms);
+    write!(
         svg,
-        "</text>\n<text x=\"20\" y=\"48\" class=\"small\">{below}</text>"
+        "Distance to the right, time downward, from {from} to {to}"
     )
 }

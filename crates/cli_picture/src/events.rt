@@ -2,14 +2,32 @@
 
 use crate::run::{Event, Kind, Run};
 use crate::scale::{LEFT, RIGHT, Scale};
+use crate::ticks::draw_time;
 use rbc_line::Line;
-use std::alloc::AllocError;
+use std::alloc::{AllocError, Global};
 use text_words::name_of_number;
 
 // The most letters of centres' names beside an event.
 const MOST_NAMES: usize = 10;
 
-pub fn draw_events(svg: &mut String, scale: &Scale<'_>, run: &Run<'_>) -> Result<(), AllocError> {
+// The left end of descriptions beside numbers, and beside times.
+const WORDS: u64 = 52;
+
+const WORDS_OF_TIME: u64 = 64;
+
+pub fn draw_events(
+    alloc: Global,
+    svg: &mut String,
+    scale: &Scale<'_>,
+    run: &Run<'_>,
+) -> Result<(), AllocError> {
+    match &run.axis {
+        Some(axis) => draw_time(alloc, svg, scale, run, axis),
+        None => draw_numbered(svg, scale, run),
+    }
+}
+
+fn draw_numbered(svg: &mut String, scale: &Scale<'_>, run: &Run<'_>) -> Result<(), AllocError> {
     let stride = scale.stride();
     for (e, event) in run.events.iter().enumerate() {
         let number = run.number(e);
@@ -38,19 +56,24 @@ fn draw_number(
 }
 
 /// Draws the description of an event. It is pale if the event has no answer.
-fn draw_words(
+pub fn draw_words(
     svg: &mut String,
     scale: &Scale<'_>,
     e: usize,
     event: &Event,
 ) -> Result<(), AllocError> {
+    let x = if scale.axis.is_some() {
+        WORDS_OF_TIME
+    } else {
+        WORDS
+    };
     let y = scale.y(e).saturating_add(4);
     let class = if event.is_silent {
         "small silent"
     } else {
         "small"
     };
-    write!(svg, "<text x=\"52\" y=\"{y}\" class=\"{class}\">")?;
+    write!(svg, "<text x=\"{x}\" y=\"{y}\" class=\"{class}\">")?;
     draw_kind(svg, scale.line, event.kind)?;
     writeln!(svg, "</text>")
 }
@@ -65,6 +88,7 @@ fn draw_kind(svg: &mut String, line: &Line, kind: Kind) -> Result<(), AllocError
             let name = name_of_number(number);
             write!(svg, "{number} of train {nid_engine}<title>{name}</title>")
         }
+        Kind::Beginning => Ok(()),
     }
 }
 

@@ -1,6 +1,7 @@
 //! The data of a run in a diagram. Events are numbered from 0, from the first drawn one. Sections and tracks have the
 //! numbers of the line, and trains their place in the line file.
 
+use crate::time::TimeAxis;
 use rbc_line::Line;
 use rbc_place::Place;
 use text_replay::{SectionChanges, Turn, Turns};
@@ -17,6 +18,8 @@ pub enum Kind {
     NoMessage,
     /// A frame of a centre reaches another one.
     Delivery { from: u8, to: u8, number: u32 },
+    /// The beginning of an axis of time. It is not an event of the run.
+    Beginning,
 }
 
 /// A train at a place that it has reported.
@@ -54,8 +57,10 @@ pub struct Run<'a> {
     /// The number of events of the run, and the number of events before the drawn ones.
     pub event_count: usize,
     pub skipped: usize,
-    /// The only drawn train, if the cut names one.
+    /// The only drawn train, if one is named.
     pub only: Option<u8>,
+    /// The axis, if it is time. Event 0 is then its beginning.
+    pub axis: Option<TimeAxis<'a>>,
     pub events: Vec<Event>,
     /// The line before the first drawn event.
     pub before: LineView,
@@ -73,6 +78,14 @@ impl Run<'_> {
         match self.only {
             Some(only) => only == train,
             None => true,
+        }
+    }
+
+    /// The number of events of the run that are drawn.
+    pub fn drawn(&self) -> usize {
+        match self.axis {
+            Some(_) => self.events.len().saturating_sub(1),
+            None => self.events.len(),
         }
     }
 

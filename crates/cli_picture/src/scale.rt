@@ -1,7 +1,8 @@
-//! Maps metres and events to places on the page, in pixels from its left and its upper edge.
+//! Maps metres, events and times to places on the page, in pixels from its left and its upper edge.
 
 ghost use Rattle.std.specs.Prelude.{◌≤◌};
 
+use crate::time::TimeAxis;
 use rbc_line::Line;
 use rbc_place::{Place, track_end};
 
@@ -18,6 +19,9 @@ const ROW: u64 = 24;
 
 const MOST_HEIGHT: u64 = 3400;
 
+/// The least height of an axis of time: it has room for its ticks.
+const LEAST_OF_TIME: u64 = 400;
+
 /// The place of each metre and each event.
 #[derive(Clone, Copy)]
 pub struct Scale<'a> {
@@ -25,6 +29,8 @@ pub struct Scale<'a> {
     /// The upper edge of the events.
     pub top: u64,
     pub event_count: usize,
+    /// The axis, if it is time.
+    pub axis: Option<TimeAxis<'a>>,
 }
 
 impl<'a> Scale<'a> {
@@ -72,7 +78,12 @@ impl<'a> Scale<'a> {
         ensures { result ≤ 3400 }
     {
         let count = self.event_count as u64;
-        count.saturating_mul(ROW).max(ROW).min(MOST_HEIGHT)
+        let least = if self.axis.is_some() {
+            LEAST_OF_TIME
+        } else {
+            ROW
+        };
+        count.saturating_mul(ROW).max(least).min(MOST_HEIGHT)
     }
 
     /// The lower edge of the events.
@@ -80,8 +91,21 @@ impl<'a> Scale<'a> {
         self.top.saturating_add(self.height())
     }
 
-    /// The middle of an event. An event past the last is at the lower edge.
+    /// The place of an event: that of its time, or the middle of its line.
     pub fn y(&self, event: usize) -> u64 {
+        match &self.axis {
+            Some(axis) => self.at(axis, axis.time_ms(event)),
+            None => self.middle(event),
+        }
+    }
+
+    /// The place of a time.
+    pub fn at(&self, axis: &TimeAxis<'_>, time_ms: u64) -> u64 {
+        self.top.saturating_add(axis.place(time_ms, self.height()))
+    }
+
+    /// The middle of an event's line. An event past the last is at the lower edge.
+    fn middle(&self, event: usize) -> u64 {
         let halves = (event as u64).saturating_mul(2).saturating_add(1);
         let whole = (self.event_count as u64).saturating_mul(2);
         let place = share(self.height(), halves, whole).min(self.height());

@@ -1,4 +1,4 @@
-ghost use Rattle.std.specs.Prelude.{◌≡◌, ◌+◌, ◌^◌, ◌<◌, ◌≤◌, []};
+ghost use Rattle.std.specs.Prelude.{◌≡◌, ◌+◌, ◌^◌, ◌<◌, ◌≤◌, [], IsTrue};
 ghost use Rattle.rbc_allocation.specs.Marks.{marked};
 
 use arrayvec::ArrayVec;
@@ -62,6 +62,15 @@ impl Told {
             count: self.count,
             marks: self.marks,
         }
+    }
+
+    /// Whether the other ones are the same, marked in the same way. A copy is. Sections that are marked in two ways
+    /// may be the same, too.
+    #[inline(always)]
+    pub fn is_alike(&self, other: &Told) -> bool
+        ensures { IsTrue result → self.now ≡ other.now }
+    {
+        self.first == other.first && self.count == other.count && self.marks == other.marks
     }
 
     /// The sections.

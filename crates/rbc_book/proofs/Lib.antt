@@ -2,6 +2,7 @@ pub mod Pages
 pub mod Rows
 pub mod Splits
 pub mod Joins
+mod Moves
 pub mod Writes
 pub mod Neighbours
 pub mod Appends

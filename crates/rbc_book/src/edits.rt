@@ -1,6 +1,6 @@
 //! Changes of a list of runs, in the order of their first sections. None of them takes memory while there is room.
 ghost use Rattle.std.specs.Prelude.{◌≡◌, ◌+◌, ◌<◌, ◌≤◌, length, vec_capacity, OnOk, IfSome, None, slice_get};
-ghost use Rattle.std.specs.List.{insert};
+ghost use Rattle.std.specs.List.{insert, remove};
 ghost use Rattle.rbc_book.specs.Runs.{most, At, AreInOrder, AreApart, sections_in};
 ghost use Rattle.rbc_book.specs.Edits.{changed_at, resized, Has, IsJoined, IsWritten, AreBefore, IsAppended};
 
@@ -29,15 +29,30 @@ pub(crate) fn resize(runs: &mut Vec<Run>, i: usize, first: u16, count: u16)
     run.count = count;
 }
 
-// Inserts a run at a position of the list, which has room.
+// Inserts a run at a position of the list, which has room. A copy within the list moves a run in half of the
+// instructions of `Vec::insert`.
 pub(crate) fn put(runs: &mut Vec<Run>, i: usize, run: Run)
     requires within { i ≤ length runs.old.items }
     requires room { length runs.old.items < vec_capacity runs.old }
     ensures items { runs.new.items ≡ insert runs.old.items i run }
     ensures capacity { vec_capacity runs.old ≤ vec_capacity runs.new }
 {
-    let inserted = runs.insert(i, run);
-    prove!(inserted.is_ok());
+    let count = runs.len();
+    let pushed = runs.push(run);
+    prove!(pushed.is_ok());
+    runs.copy_within(i..count, i + 1);
+    runs[i] = run;
+}
+
+// Takes the run at a position out of the list.
+fn remove(runs: &mut Vec<Run>, i: usize)
+    requires { i < length runs.old.items }
+    ensures items { runs.new.items ≡ remove runs.old.items i }
+    ensures capacity { vec_capacity runs.old ≤ vec_capacity runs.new }
+{
+    let count = runs.len();
+    runs.copy_within(i + 1..count, i);
+    runs.truncate(count - 1);
 }
 
 // Joins a run and the next one, if the next one continues it.
@@ -57,7 +72,7 @@ pub(crate) fn join(runs: &mut Vec<Run>, i: usize)
         return;
     }
     resize(runs, i, run.first, run.count + next.count);
-    runs.remove(i + 1);
+    remove(runs, i + 1);
 }
 
 // Writes the page of `size` sections from s on, which the run at a position has. They stay in that run, move into the

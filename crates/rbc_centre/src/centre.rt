@@ -1,4 +1,4 @@
-ghost use Rattle.std.specs.Prelude.{◌≡◌, ◌+◌, true, length, IfOk, IfErr, OnOk, OnErr, Some, None, option_map};
+ghost use Rattle.std.specs.Prelude.{◌≡◌, ◌+◌, true, length, IfOk, IfErr, Ok, OnOk, OnErr, Some, None, option_map};
 ghost use Rattle.std.specs.Option.{option_map_or};
 ghost use Rattle.rbc_spec.specs.Line.{is_centre};
 ghost use Rattle.rbc_spec.specs.SectionRuns.{no_run};
@@ -10,7 +10,7 @@ ghost use Rattle.rbc_line.specs.SectionRuns.{run_of};
 ghost use Rattle.rbc_train.specs.rbc_place.Places.{place_of};
 ghost use Rattle.rbc_train.specs.Desks.{mission_by};
 ghost use Rattle.rbc_session.specs.SessionStates.{phase_of};
-ghost use Rattle.rbc_centre.specs.Answer.{Steps, IsWantedBy, IsRefusalOf};
+ghost use Rattle.rbc_centre.specs.Answer.{Steps, IsWantedBy, IsRefusalOf, TakesMemory};
 ghost use Rattle.rbc_centre.specs.Kept.{IsCentre};
 ghost use Rattle.rbc_centre.specs.Views.{event_of, outcome_of, frame_number, handing_at};
 
@@ -28,7 +28,7 @@ use rbc_link::Links;
 use rbc_linkmsg::{Body, Frame};
 use rbc_right::Registrar;
 use rbc_session::{Phase, Sessions};
-use rbc_train::{TrainPage, TrainState};
+use rbc_train::{Heard, TrainPage, TrainState};
 use std::alloc::{AllocError, Global};
 use std::cmp::max;
 
@@ -62,6 +62,8 @@ pub struct Centre {
     pub(crate) links: Links<Body>,
     /// Room for the frames of one step.
     pub(crate) room: FrameRoom,
+    /// The effect of a message or a frame. Each that a train takes is written over the one before.
+    pub(crate) heard: Heard,
     /// The state of each train, in the order of the line file.
     pub(crate) trains: Vec<TrainState>,
     ghost rules: { IsCentre line number clock book desk sessions links trains.items },
@@ -79,6 +81,7 @@ impl Drop for Centre {
             mut sessions,
             links: _,
             room: _,
+            heard: _,
             trains,
         } = self;
         end_trains(trains, &mut sessions, &mut book);
@@ -87,7 +90,7 @@ impl Drop for Centre {
 
 impl Centre {
     ghost use Rattle.rbc_centre.specs.States.{line_of, number_of, state_of, IsSame};
-    ghost use Rattle.rbc_centre.specs.Taken.{HasRoomToSend};
+    ghost use Rattle.rbc_centre.specs.Taken.{HasRoomToSend, MayTake};
 
     /// A centre of the line in its initial state. It keeps a copy of the line.
     pub fn new(alloc: Global, line: &Line, number: u8) -> Result<Centre, AllocError>
@@ -115,6 +118,7 @@ impl Centre {
             sessions,
             links,
             room: FrameRoom::new(alloc),
+            heard: Heard::nothing(),
             trains,
         })
     }
@@ -155,6 +159,7 @@ impl Centre {
 
     /// The frame of this number that was sent to a centre. It is `None` if and only if the number is 0 or was not sent
     /// yet.
+    #[inline(always)]
     pub fn frame(&self, to: u8, number: u32) -> Option<Frame>
         ensures { result ≡ frame_number ((state_of self.now).sent to) number }
     {
@@ -249,6 +254,22 @@ impl Centre {
         ensures err { OnErr result (state_of self.new ≡ state_of self.old) }
     {
         self.may_step(event)?;
+        self.step_allowed(event, out)?;
+        Ok(())
+    }
+
+    /// The same step, of an event that may be taken (`may_step`), so that it is refused only if memory runs out.
+    #[inline(always)]
+    pub fn step_allowed(&mut self, event: &Event, out: &mut Outcome) -> Result<(), AllocError>
+        requires allowed { MayTake self.old (event_of event.now) }
+        ensures line { line_of self.new ≡ line_of self.old }
+        ensures number { number_of self.new ≡ number_of self.old }
+        ensures exact { OnOk result
+            (spec.step (line_of self.old) (number_of self.old) (event_of event.now) (state_of self.old)
+            ≡ Ok (outcome_of out.new, state_of self.new)) }
+        ensures memory { OnErr result (TakesMemory (state_of self.old) (event_of event.now)) }
+        ensures err { OnErr result (state_of self.new ≡ state_of self.old) }
+    {
         match event {
             Event::Train(message) => self.take(message, out)?,
             Event::Set(s) => self.set(*s, out),

@@ -12,7 +12,6 @@ use crate::outcome::Outcome;
 use crate::posted::Dispatch;
 use rbc_link::LinkAnswer;
 use rbc_linkmsg::Frame;
-use rbc_train::Heard;
 use std::alloc::AllocError;
 use std::cmp::max;
 
@@ -69,7 +68,6 @@ impl Centre {
             return;
         };
         let train = &mut self.trains[i as usize];
-        let mut heard = Heard::nothing();
         train.receive(
             &self.line,
             self.number,
@@ -77,7 +75,7 @@ impl Centre {
             &mut self.desk.registrar,
             from,
             body,
-            &mut heard,
+            &mut self.heard,
         );
         let dispatch = Dispatch {
             line: &self.line,
@@ -85,9 +83,9 @@ impl Centre {
             nid_engine: body.engine(),
             stamp: self.clock,
             expectations: &train.expectations,
-            mail: &heard.mail,
+            mail: &self.heard.mail,
         };
         dispatch.post(&mut self.links, &mut self.room, &mut out.frames);
-        out.write_heard(self.clock, Some(answer), &heard);
+        out.write_heard(self.clock, Some(answer), &self.heard);
     }
 }

@@ -89,7 +89,8 @@ impl Frames {
         self.is_same_to_each(other)
     }
 
-    // Compares the frames to each centre.
+    // Compares the frames to each centre. A function of its own keeps their lists out of outcomes without a frame.
+    #[inline(never)]
     fn is_same_to_each(&self, other: &Frames) -> bool
         ensures { IsTrue result ↔ (frames_to self.now ≡ frames_to other.now) }
     {

@@ -20,7 +20,7 @@ use crate::outcome::Outcome;
 use crate::posted::Dispatch;
 use crate::ranges::look_at_ranges;
 use rbc_msgs::{TrainBody, TrainMsg};
-use rbc_train::{Heard, Reason, tells_others};
+use rbc_train::{Reason, tells_others};
 use std::alloc::AllocError;
 
 impl Centre {
@@ -99,7 +99,6 @@ impl Centre {
     {
         self.clock += 1;
         let train = &mut self.trains[i];
-        let mut heard = Heard::nothing();
         let taken = train.take(
             &self.line,
             self.number,
@@ -108,7 +107,7 @@ impl Centre {
             &mut self.desk.handovers,
             &mut self.sessions,
             message,
-            &mut heard,
+            &mut self.heard,
         );
         match taken {
             Ok(()) => {
@@ -118,10 +117,10 @@ impl Centre {
                     nid_engine: message.nid_engine(),
                     stamp: self.clock,
                     expectations: &train.expectations,
-                    mail: &heard.mail,
+                    mail: &self.heard.mail,
                 };
                 dispatch.post(&mut self.links, &mut self.room, &mut out.frames);
-                out.write_heard(self.clock, None, &heard);
+                out.write_heard(self.clock, None, &self.heard);
             }
             Err(why) => out.write_nothing(self.clock, None, Some(why)),
         }

@@ -75,10 +75,20 @@ fn same_words(words: &[Word], others: &[Word]) -> bool
 fn same_replies(one: &Outcome, other: &Outcome) -> bool
     ensures { IsTrue result ↔ ((outcome_of one.now).words ≡ (outcome_of other.now).words) }
 {
-    if one.word == other.word && one.told.sections() == other.told.sections() {
+    if one.word == other.word && one.told.is_alike(&other.told) {
         return true;
     }
-    same_words(one.words().as_slice(), other.words().as_slice())
+    same_lists(one, other)
+}
+
+// Compares the lists of the replies. A function of its own keeps them out of outcomes that are the same.
+#[inline(never)]
+fn same_lists(one: &Outcome, other: &Outcome) -> bool
+    ensures { IsTrue result ↔ ((outcome_of one.now).words ≡ (outcome_of other.now).words) }
+{
+    let words = one.words();
+    let others = other.words();
+    same_words(words.as_slice(), others.as_slice())
 }
 
 // Whether the answer of the link is the same.

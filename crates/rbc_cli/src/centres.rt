@@ -1,12 +1,14 @@
 //! Runs the centres of a line.
 
+ghost use Rattle.std.specs.Prelude.{◌≡◌};
+
 use crate::record::lock_journals;
 use cli_commands::disk::Disk;
 use cli_commands::line_file::{LineFile, line_file_in};
 use cli_commands::words::ServeWords;
 use serve_line::{
-    Endpoints, Level, NoNotes, NoteForm, Notes, Record, ServeFault, ServeOptions, SocketFault,
-    StderrNotes, free_path, serve,
+    About, Endpoints, Kind, NoNotes, NoteForm, Notes, Record, ServeFault, ServeOptions,
+    SocketFault, StderrNotes, free_path, serve,
 };
 use std::fs::File;
 use std::io::{Eprint, Write};
@@ -81,7 +83,7 @@ fn run_noted<
         // Another program may have its own file there by now.
         if let Err(SocketFault::Io(error)) = free_path(rt, path) {
             notes.note(
-                Level::Warning,
+                About::of(Kind::SocketLeft),
                 format_args!("control: {path} can't be removed: {error}"),
             );
         }
@@ -170,11 +172,13 @@ fn notes_of<'a, R>(rt: &'a R, words: &ServeWords<'_>) -> StderrNotes<'a, R> {
     }
 }
 
-fn form_of(words: &ServeWords<'_>) -> NoteForm {
-    if words.is_for_journald {
-        NoteForm::Journald
-    } else {
-        NoteForm::Timed
+// The form of notes that the arguments ask for.
+fn form_of(words: &ServeWords<'_>) -> NoteForm
+    ensures { result ≡ record { has_level = words.now.is_for_journald; is_json = words.now.notes_as_json } }
+{
+    NoteForm {
+        has_level: words.is_for_journald,
+        is_json: words.notes_as_json,
     }
 }
 

@@ -44,6 +44,7 @@ const fn served_at(page: u16) -> ServeWords<'static> {
         burst: None,
         is_unprinted: true,
         is_for_journald: false,
+        notes_as_json: false,
         journal: None,
     }
 }
@@ -70,7 +71,7 @@ pub fn run_live_page<
     let port = page.saturating_add(1);
     let notes = StderrNotes {
         rt,
-        form: NoteForm::Timed,
+        form: NoteForm::TEXT,
     };
     let endpoints = match opened(rt, &given, port, &served_at(page), &notes) {
         Ok(endpoints) => endpoints,

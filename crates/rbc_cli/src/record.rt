@@ -4,7 +4,7 @@ use cli_commands::journal::{Journal, journal_name, journal_of};
 use cli_commands::line_file::LineFile;
 use cli_commands::words::{JournalStart, JournalWords};
 use serve_journal::{JournalFile, OpenFault, SystemFile, make_journal, open_journal, read_whole};
-use serve_line::{Level, Notes, Record, ServeFault};
+use serve_line::{About, Kind, Notes, Record, ServeFault};
 use std::alloc::AllocError;
 use std::fs;
 use std::fs::File;
@@ -107,7 +107,7 @@ fn place_of<R: Files<File = File> + Clock, N: Notes>(
         Err(OpenFault::Missing) => None,
         Err(fault) => {
             notes.note(
-                Level::Error,
+                About::of(Kind::Refused),
                 format_args!("{name} can't be opened: {fault}"),
             );
             return Err(ServeFault::Journal);
@@ -156,14 +156,14 @@ fn note_old<N: Notes>(places: &[Place], number: usize, start: JournalStart, note
         Some(missing) if start == JournalStart::Keep => {
             let missing = &missing.name;
             notes.note(
-                Level::Error,
+                About::of(Kind::Refused),
                 format_args!(
                     "{name} has events, and {missing} does not exist: copy it back, or name another folder"
                 ),
             );
         }
         _ => notes.note(
-            Level::Error,
+            About::of(Kind::Refused),
             format_args!("{name} has events: go on from it by --resume, or name another folder"),
         ),
     }
@@ -183,7 +183,10 @@ fn bytes_of<R: AllocGlobal, N: Notes>(
         Err(error) if error.kind() == ErrorKind::OutOfMemory => Err(AllocError.into()),
         Err(error) => {
             let name = &place.name;
-            notes.note(Level::Error, format_args!("{name} can't be read: {error}"));
+            notes.note(
+                About::of(Kind::Refused),
+                format_args!("{name} can't be read: {error}"),
+            );
             Err(ServeFault::Journal)
         }
     }
@@ -193,7 +196,7 @@ fn note_torn<N: Notes>(place: &Place, count: usize, notes: &N) {
     if count > 0 {
         let name = &place.name;
         notes.note(
-            Level::Warning,
+            About::of(Kind::JournalCut),
             format_args!("{name}: {count} bytes after the last whole line are taken off"),
         );
     }
@@ -212,7 +215,7 @@ fn make_folder<R: Files<File = File>, N: Notes>(
         Err(error) if error.kind() == ErrorKind::AlreadyExists => Ok(()),
         Err(error) => {
             notes.note(
-                Level::Error,
+                About::of(Kind::Refused),
                 format_args!("{folder} can't be made: {error}"),
             );
             Err(ServeFault::Journal)
@@ -241,7 +244,7 @@ fn sync<R: Files<File = File>, N: Notes>(
     };
     done.map_err(|error| {
         notes.note(
-            Level::Error,
+            About::of(Kind::Refused),
             format_args!("{folder} can't be synced: {error}"),
         );
         ServeFault::Journal
@@ -261,7 +264,10 @@ fn begun_one<R: Files<File = File> + Clock, N: Notes>(
         Ok(journal) => Ok(journal),
         Err(fault) => {
             let name = &place.name;
-            notes.note(Level::Error, format_args!("{name} can't be begun: {fault}"));
+            notes.note(
+                About::of(Kind::Refused),
+                format_args!("{name} can't be begun: {fault}"),
+            );
             Err(ServeFault::Journal)
         }
     }

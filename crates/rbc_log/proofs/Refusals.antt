@@ -6,7 +6,7 @@ use Rattle.rbc_centre.specs.declared.fault.StepFault.{StepFault}
 use Rattle.rbc_centre.specs.declared.fault.StepFault.TheVariants.{Memory}
 use Rattle.rbc_centre.specs.States.{line_of, number_of, state_of}
 use Rattle.rbc_log.specs.declared.fault.CommitFault.TheVariants.{Step}
-use Rattle.rbc_log.specs.Log.{IsRefusal, LogValue, most_entries}
+use Rattle.rbc_log.specs.Log.{IsRefusal, LogValue, MayCommit, most_entries}
 use Rattle.rbc_spec.specs.Step.{Event, refusal}
 
 -- if the centre refuses the event, the fault of the log is that refusal
@@ -20,3 +20,7 @@ pub no_memory : (l : LogValue) (event : Event) → length l.entries < most_entri
     → refusal (line_of l.core) (number_of l.core) (state_of l.core) event ≡ None → IsRefusal l event (Step Memory)
 no_memory l event room none =
     (room, rw (taken_step (line_of l.core) (number_of l.core) (state_of l.core) event none) refl)
+
+-- the same, by the test of the log
+pub lacks_memory : (l : LogValue) (event : Event) → MayCommit l event → IsRefusal l event (Step Memory)
+lacks_memory l event may = no_memory l event may.room may.allowed

@@ -5,6 +5,7 @@ use Rattle.rbc_spec.specs.Centre.{beginning}
 use Rattle.rbc_spec.specs.Step.{Event, step}
 use Rattle.rbc_centre.specs.Answer.{IsRefusal as IsStepRefusal}
 use Rattle.rbc_centre.specs.States.{line_of, number_of, state_of}
+use Rattle.rbc_centre.specs.Taken.{MayTake}
 use Rattle.rbc_centre.specs.Views.{event_of}
 use Rattle.rbc_centre.specs.declared.centre.Centre.{Centre}
 use Rattle.rbc_centre.specs.declared.event.Event.{Event as EventInMemory}
@@ -47,6 +48,11 @@ pub record IsUnchanged (old new : LogValue) : Type 0 where
   pub core : state_of new.core ≡ state_of old.core
   pub line : line_of new.core ≡ line_of old.core
   pub number : number_of new.core ≡ number_of old.core
+
+-- the log is not full, and its centre does not refuse the event
+pub record MayCommit (l : LogValue) (event : Event) : Type 0 where
+  pub room : length l.entries < most_entries
+  pub allowed : MayTake l.core event
 
 -- When each fault is returned. `LogFull`: if and only if the log is full. Else the refusal of the step, whose `Memory`
 -- is returned only if the rules do not refuse the step.

@@ -1,10 +1,10 @@
-ghost use Rattle.std.specs.Prelude.{◌≡◌, ◌↔◌, true, [], map, IsTrue, IfOk, IfErr, OnErr};
+ghost use Rattle.std.specs.Prelude.{◌≡◌, ◌↔◌, true, [], map, IsTrue, IfOk, IfErr, OnOk, OnErr};
 ghost use Rattle.rbc_spec.specs.Line.{is_centre};
 ghost use Rattle.rbc_centre.specs.States.{line_of, number_of};
 ghost use Rattle.rbc_centre.specs.Views.{event_of, outcome_of, frame_number};
 ghost use Rattle.law_logs.specs.Logs.{sent_to};
 ghost use Rattle.rbc_log.specs.Entries.{entry_of};
-ghost use Rattle.rbc_log.specs.Log.{IsReplaying, Appends, IsUnchanged, IsRefusal};
+ghost use Rattle.rbc_log.specs.Log.{IsReplaying, Appends, IsUnchanged, MayCommit, IsRefusal};
 
 use crate::entry::Entry;
 use crate::fault::CommitFault;
@@ -104,6 +104,20 @@ impl CentreLog {
         self.core.frame(to, number)
     }
 
+    /// Whether an event may be committed. It is refused as `LogFull` if the log is full, and else as the centre refuses
+    /// it.
+    pub fn may_commit(&self, event: &Event) -> Result<(), CommitFault>
+        ensures ok { OnOk result (MayCommit self.now (event_of event.now)) }
+        ensures refused { IfErr result (IsRefusal self.now (event_of event.now)) }
+        ensures replays { IsReplaying self.now }
+    {
+        if self.entries.len() >= MOST_ENTRIES {
+            return Err(CommitFault::LogFull);
+        }
+        self.core.may_step(event)?;
+        Ok(())
+    }
+
     /// The centre takes the event, and the log gets it with its outcome. Room for the entry is made first.
     pub fn commit(&mut self, event: Event) -> Result<Outcome, CommitFault>
         ensures appends { IfOk result (λ o. Appends self.old self.new event (outcome_of o)) }
@@ -111,20 +125,29 @@ impl CentreLog {
         ensures err { OnErr result (IsUnchanged self.old self.new) }
         ensures replays { IsReplaying self.new }
     {
-        if self.entries.len() >= MOST_ENTRIES {
-            return Err(CommitFault::LogFull);
-        }
-        self.core.may_step(&event)?;
+        self.may_commit(&event)?;
+        let mut outcome = Outcome::nothing();
+        self.commit_allowed(event, &mut outcome)?;
+        Ok(outcome)
+    }
+
+    /// The same commit, of an event that may be committed (`may_commit`), so that it is refused only if memory runs
+    /// out. The outcome is written over `out`. If it is refused, `out` has no meaning.
+    pub fn commit_allowed(&mut self, event: Event, out: &mut Outcome) -> Result<(), AllocError>
+        requires { MayCommit self.old (event_of event) }
+        ensures appends { OnOk result (Appends self.old self.new event (outcome_of out.new)) }
+        ensures err { OnErr result (IsUnchanged self.old self.new) }
+        ensures replays { IsReplaying self.new }
+    {
         self.entries.reserve(1)?;
         self.room.reserve()?;
-        let mut outcome = Outcome::nothing();
-        self.core.step_to(&event, &mut outcome)?;
+        self.core.step_allowed(&event, out)?;
         let entry = Entry {
             centre: self.core.number(),
             event,
-            outcome: outcome.copied(&mut self.room),
+            outcome: out.copied(&mut self.room),
         };
         self.entries.push_reserved(entry);
-        Ok(outcome)
+        Ok(())
     }
 }

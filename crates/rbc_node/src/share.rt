@@ -6,7 +6,7 @@ ghost use Rattle.rbc_node.specs.Commit.{Fits, Commits, Refuses};
 use crate::fault::ShareFault;
 use crate::receipt::Receipt;
 use rbc_centre::{Event, FrameRoom, Outcome};
-use rbc_log::{CentreLog, CommitFault, MOST_ENTRIES};
+use rbc_log::CentreLog;
 use std::alloc::Global;
 use std::marker::Model;
 
@@ -80,17 +80,13 @@ impl Share {
         if !self.fits(log) {
             return Err(ShareFault::Stray);
         }
-        let place = log.entries().len();
-        if place >= MOST_ENTRIES {
-            return Err(ShareFault::Commit(CommitFault::LogFull));
-        }
-        if let Err(fault) = log.core().may_step(&event) {
-            return Err(ShareFault::from(CommitFault::from(fault)));
-        }
+        log.may_commit(&event)?;
         self.receipts.reserve(1)?;
         self.room.reserve()?;
         let given = event.copied(*self.receipts.allocator())?;
-        let outcome = log.commit(event)?;
+        let place = log.entries().len();
+        let mut outcome = Outcome::nothing();
+        log.commit_allowed(event, &mut outcome)?;
         let receipt = Receipt {
             event: given,
             outcome: outcome.copied(&mut self.room),

@@ -48,9 +48,17 @@ impl Answer {
     {
         match self {
             Answer::Outcome(_) => {}
-            Answer::NoCentre | Answer::NotSent | Answer::Fault(_) => {
-                *self = Answer::Outcome(Outcome::nothing());
-            }
+            Answer::NoCentre | Answer::NotSent | Answer::Fault(_) => self.clear(),
         }
+    }
+
+    /// Becomes the empty outcome. Few steps call it, and a function of its own keeps its values out of theirs.
+    #[cold]
+    #[inline(never)]
+    pub(crate) fn clear(&mut self)
+        ensures nothing { answer_of self.new ≡ nothing_answered }
+        ensures outcome { (o : Outcome) × (self.new ≡ answer.Outcome o) }
+    {
+        *self = Answer::Outcome(Outcome::nothing());
     }
 }

@@ -116,7 +116,7 @@ impl World {
         match self.take(event, answer) {
             Ok(()) => Ok(()),
             Err(fault) => {
-                *answer = Answer::nothing();
+                answer.clear();
                 Err(fault)
             }
         }
@@ -194,6 +194,7 @@ impl World {
     }
 
     // The frame that one centre sent to another under this number. Frames are sent only to centres of the line.
+    #[inline(always)]
     pub(crate) fn frame_sent(&self, from: u8, to: u8, number: u32) -> Option<Frame>
         ensures value { result ≡ frame_sent (state_of self.now) from to number }
         ensures receiver { IfSome result (λ f. is_centre (line_of self.now) to ≡ true) }

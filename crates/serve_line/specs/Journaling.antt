@@ -1,3 +1,4 @@
 pub mod Noting
 pub mod Resuming
+pub mod Times
 pub mod Waiting

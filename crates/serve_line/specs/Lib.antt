@@ -1,3 +1,4 @@
+pub mod Facts
 pub mod Journaling
-pub mod Notes
+pub mod Silences
 pub mod Snapshots

@@ -1,7 +1,7 @@
 //! The counts of running centres, for the metrics.
 
 use crate::state::Server;
-use crate::status::{NoteCounts, Notes};
+use serve_notes::{NoteCounts, Notes};
 use std::sync::Wait;
 use text_page::LineCounts;
 

@@ -8,8 +8,11 @@ mod held;
 mod journal;
 mod keeping;
 mod resuming;
+mod write_times;
 
+pub(crate) use batch::next_of;
 pub use held::Journaled;
 pub use journal::Journal;
 pub use keeping::{JournalWriter, keep_journal};
 pub use resuming::{ResumeFault, resume};
+pub use write_times::{TimedWrite, WriteTimes, times_of};

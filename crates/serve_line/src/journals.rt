@@ -1,10 +1,10 @@
 use crate::journaling::{JournalWriter, ResumeFault, keep_journal, resume};
 use crate::state::Server;
-use crate::status::{Level, Notes};
 use rbc_line::Line;
 use rbc_node::{Node, Share};
 use serve_control::ServeFault;
 use serve_journal::{DurableFile, JournalFile};
+use serve_notes::{About, Kind, Notes};
 use std::alloc::{AllocError, Global};
 use std::sync::Wait;
 use std::time::Clock;
@@ -46,7 +46,7 @@ pub(crate) fn resume_noted<R: Wait, N: Notes>(
                 if count > 0 {
                     let name = name_of(line, share.centre());
                     notes.note(
-                        Level::Info,
+                        About::centre(Kind::Resumed, name),
                         format_args!("{name}: goes on after {count} events"),
                     );
                 }
@@ -57,7 +57,7 @@ pub(crate) fn resume_noted<R: Wait, N: Notes>(
         Err(ResumeFault::Unfit(centre, row)) => {
             let name = name_of(line, centre);
             notes.note(
-                Level::Error,
+                About::centre(Kind::Refused, name),
                 format_args!("{name}: line {row} of the journal does not fit"),
             );
             Err(ServeFault::Journal)

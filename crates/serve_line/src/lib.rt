@@ -1,5 +1,5 @@
 //! A running line of centres: its threads (here) and their shared state (`state`). Its parts are the clients of its
-//! endpoints (`clients`), its status and notes (`status`), the page's view of its centres (`looking`), and its journals
+//! endpoints (`clients`), its status and the facts of notes (`status`), the page's view (`looking`), and its journals
 //! (`journaling`).
 //!
 //! Bodies are free. docs/FORMATS.md fixes the bytes of each connection.
@@ -8,11 +8,13 @@
 mod browsers;
 pub mod clients;
 mod counting;
+mod fact_notes;
 pub mod journaling;
 mod journals;
 mod links;
 pub mod looking;
 mod pages;
+mod printing;
 mod running;
 pub mod state;
 pub mod status;
@@ -20,9 +22,9 @@ mod tally;
 mod true_places;
 
 pub use crate::state::{Endpoints, ServeOptions, SocketFault, free_path};
-pub use crate::status::{Kind, Level, NoNotes, NoteForm, Notes, StderrNotes};
 pub use journals::Record;
 pub use running::serve;
 pub use serve_control::ServeFault;
+pub use serve_notes::{About, Kind, NoNotes, NoteForm, Notes, StderrNotes};
 pub use text_page::TruePlace;
 pub use true_places::TruePlaces;

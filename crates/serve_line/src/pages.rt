@@ -3,7 +3,7 @@ use crate::clients::is_idle;
 use crate::counting::mark_counts;
 use crate::looking::PageSnapshot;
 use crate::state::{Endpoint, Peer, Server};
-use crate::status::{Level, Notes};
+use serve_notes::{About, Kind, Notes};
 use serve_page::{Asked, LineNow, Refusal, answer, answer_metrics, asked_of, refusal};
 use std::alloc::Global;
 use std::io::{ErrorKind, Read, Write};
@@ -33,7 +33,7 @@ pub(crate) fn run_pages<R: Threads + Wait + Sync + Clock, N: Notes + Sync>(
     endpoint: &PageEndpoint,
 ) {
     notes.note(
-        Level::Info,
+        About::of(Kind::Port),
         format_args!("page: http://{}/", endpoint.address),
     );
     thread::scope(thread::scope_env(), rt, |scope| {
@@ -203,6 +203,7 @@ fn refresh<R: Wait + Clock>(
     let mut has_changed = false;
     if let Some(opened) = server.open_kept(rt, found) {
         has_changed = seen.page_snapshot.show(opened.into_inner());
+        has_changed = seen.page_snapshot.add_times(rt, server.journals) || has_changed;
     }
     let shown = &mut seen.page_snapshot.now;
     if let Some(places) = &endpoint.true_places {

@@ -1,19 +1,22 @@
 use crate::browsers::PageEndpoint;
 use crate::clients::run_endpoint;
+use crate::fact_notes::note_facts;
+use crate::journaling::{WriteTimes, times_of};
 use crate::journals::{Record, keep, resume_noted};
 use crate::links::carry;
 use crate::pages::run_pages;
+use crate::printing::print_noted;
 use crate::state::{
     DirectedLink, Endpoint, Endpoints, ServeOptions, Server, Slot, State, connections_of,
     endpoints_of, journals_of, links_of, nodes_of, sinks_of, wakers_of,
 };
-use crate::status::{Backlog, Level, MentionOrder, Notes, QueuedNotes, write_notes};
-use crate::tally::Tally;
+use crate::status::MentionOrder;
 use crossbeam_channel::bounded;
 use rbc_line::Line;
-use rbc_node::{Family, Node, Share, gather};
-use serve_control::{ServeFault, print_family};
+use rbc_node::{Node, Share, gather};
+use serve_control::ServeFault;
 use serve_journal::{DurableFile, JournalFile};
+use serve_notes::{About, Backlog, Kind, Notes, QueuedNotes, write_notes};
 use std::alloc::{AllocError, Global};
 use std::io::Write;
 use std::sync::{Mutex, Wait};
@@ -26,7 +29,8 @@ const NOTES: usize = 1_024;
 
 /// Runs the centres of the line until the interlocking sends `stop` and all sessions have ended. Then it gathers and
 /// merges their logs. It prints all events with their effects, and the line, as a run does, unless the options forbid
-/// it. One thread writes the notes, and one thread for each journal writes the events of its centre.
+/// it. One thread writes the notes, and one reads the logs for them. One thread for each journal writes the events of
+/// its centre.
 pub fn serve<
     R: Threads + Wait + Sync + Clock,
     N: Notes + Sync,
@@ -43,7 +47,7 @@ pub fn serve<
     out: &mut O,
 ) -> Result<(), ServeFault> {
     let (queue, waiting) = bounded(alloc, NOTES)?;
-    let backlog = Backlog::new();
+    let backlog = Backlog::new(alloc, options.note_form);
     thread::scope(thread::scope_env(), rt, |scope| {
         let backlog = &backlog;
         if scope
@@ -52,13 +56,7 @@ pub fn serve<
         {
             return Err(ServeFault::from(AllocError));
         }
-        let queued = QueuedNotes {
-            rt,
-            alloc,
-            queue,
-            backlog,
-            form: options.note_form,
-        };
+        let queued = QueuedNotes { rt, queue, backlog };
         serve_noted(rt, alloc, line, endpoints, record, options, &queued, out)
     })
 }
@@ -81,6 +79,7 @@ fn serve_noted<
 ) -> Result<(), ServeFault> {
     let nodes = nodes_of(alloc, line)?;
     let Record { files, entries } = record;
+    let times = times_of(alloc, line.centre_count(), &entries)?;
     let resumed = resume_noted(rt, alloc, line, &nodes, entries, notes)?;
     let (listening, socket, page) = endpoints.all();
     let endpoints = endpoints_of(alloc, line, &nodes, listening, socket)?;
@@ -97,12 +96,12 @@ fn serve_noted<
         &endpoints,
         &links,
         page.as_ref(),
-        files,
+        (files, times),
         options,
         notes,
     )?;
     let shares = shares_of(resumed, endpoints, links)?;
-    notes.note(Level::Info, "all sessions have ended");
+    notes.note(About::of(Kind::Stop), "all sessions have ended");
     let family = gather(alloc, nodes, shares)?;
     if options.prints_events {
         print_noted(alloc, line, &family, notes, out)?;
@@ -114,32 +113,6 @@ fn serve_noted<
     }
 }
 
-// Prints all events. If a write fails, a note reports the number of missing events.
-fn print_noted<N: Notes, O: Write>(
-    alloc: Global,
-    line: &Line,
-    family: &Family,
-    notes: &N,
-    out: &mut O,
-) -> Result<(), ServeFault> {
-    let mut tally = Tally::new(out);
-    let done = print_family(alloc, line, family, &mut tally);
-    if done.is_err() {
-        let mut all = 0u64;
-        for log in family.logs() {
-            all = all.saturating_add(log.entries().len() as u64);
-        }
-        let printed = tally.events();
-        notes.note(
-            Level::Error,
-            format_args!(
-                "the print ends early: {printed} of {all} events are in it, the last perhaps in part"
-            ),
-        );
-    }
-    done
-}
-
 // Runs all workers to their ends. The result is whether the journals have all committed events.
 fn run_centres<R: Threads + Wait + Sync + Clock, N: Notes + Sync, F: DurableFile + Drop + Send>(
     rt: &R,
@@ -149,16 +122,17 @@ fn run_centres<R: Threads + Wait + Sync + Clock, N: Notes + Sync, F: DurableFile
     endpoints: &[Endpoint],
     links: &[DirectedLink],
     page: Option<&PageEndpoint>,
-    files: Vec<JournalFile<F>>,
+    journals: (Vec<JournalFile<F>>, Vec<WriteTimes>),
     options: ServeOptions,
     notes: &N,
 ) -> Result<bool, AllocError> {
+    let (files, times) = journals;
     let wakers = wakers_of(alloc, line)?;
     let connections = connections_of(alloc, line, &wakers, !files.is_empty())?;
     let journals = if files.is_empty() {
         Vec::new(alloc)
     } else {
-        journals_of(rt, alloc, nodes)?
+        journals_of(rt, alloc, nodes, times)?
     };
     let sinks = sinks_of(alloc, line, &connections, endpoints, &journals, options)?;
     let mentions = Mutex::new(MentionOrder::new(alloc, line)?);
@@ -183,7 +157,7 @@ fn run_centres<R: Threads + Wait + Sync + Clock, N: Notes + Sync, F: DurableFile
     Ok(!state.has_lost())
 }
 
-// Runs the links and the endpoints, and concurrently the page and the journals.
+// Runs the links and the endpoints, and concurrently the page, the notes of the logs, and the journals.
 fn run_beside<R: Threads + Wait + Sync + Clock, N: Notes + Sync, F: DurableFile + Drop + Send>(
     rt: &R,
     server: &Server<'_>,
@@ -197,9 +171,27 @@ fn run_beside<R: Threads + Wait + Sync + Clock, N: Notes + Sync, F: DurableFile 
                 .spawn(move || run_pages(rt, server, notes, page))
                 .is_err()
             {
-                notes.note(Level::Warning, "page: no thread could be made");
+                notes.note(About::of(Kind::Worker), "page: no thread could be made");
             }
         }
+        if scope.spawn(move || note_facts(rt, server, notes)).is_err() {
+            notes.note(
+                About::of(Kind::Worker),
+                "missions, handovers and sections are not noted, no thread could be made",
+            );
+        }
+        run_journals(rt, server, files, notes);
+    });
+}
+
+// Runs the links and the endpoints, and a thread for each journal.
+fn run_journals<R: Threads + Wait + Sync + Clock, N: Notes + Sync, F: DurableFile + Drop + Send>(
+    rt: &R,
+    server: &Server<'_>,
+    files: Vec<JournalFile<F>>,
+    notes: &N,
+) {
+    thread::scope(thread::scope_env(), rt, |scope| {
         let mut left = files;
         left.reverse();
         for centre in 0..server.line.centre_count() {
@@ -246,7 +238,7 @@ fn run_endpoints<R: Threads + Wait + Sync + Clock, N: Notes + Sync>(
         for endpoint in server.endpoints {
             let name = server.name(endpoint.peer);
             notes.note(
-                Level::Info,
+                server.about(Kind::Port, endpoint.peer),
                 format_args!("{name}: listens on {}", endpoint.address),
             );
             if scope

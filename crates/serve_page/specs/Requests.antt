@@ -51,13 +51,13 @@ is_digit_or_dot b = is_ascii_digit b || b == 46
 abbrev pub is_dotted : List ℕ → Bool
 is_dotted text = list_all is_digit_or_dot text
 
--- An address of IPv6 in brackets, or of IPv4, with a port or without. The name of a host is neither: it has no bracket,
--- and not only digits and dots.
+-- The form of an address: of IPv6 it begins with a bracket, and of IPv4 it is digits and dots before a port. The name
+-- of a host has neither form. No more of the host is looked at.
 abbrev pub is_address : List ℕ → Bool
 is_address [] = false
 is_address (b ∷ rest) = b == 91 || is_ascii_digit b && is_dotted (before_colon (b ∷ rest))
 
--- a host means the one that is asked: it is `localhost` or an address
+-- a host means the one that is asked: it is `localhost`, or has the form of an address
 abbrev pub is_here : List ℕ → Bool
 is_here host = has_name (codes "localhost") host || is_address host
 

@@ -251,15 +251,15 @@ fn is_reading(method: &[u8]) -> bool
     method == b"GET".as_slice() || method == b"HEAD".as_slice()
 }
 
-// Whether a host is `localhost` or an address of a host, with a port or without. A page of another host has that host's
-// name as its host, also if the name leads to this host.
+// Whether a host is `localhost` or has the form of an address, with a port or without. A page of another host has that
+// host's name as its host, also if the name leads to this host.
 fn is_here(host: &[u8]) -> bool
     ensures { result ≡ is_here host.now }
 {
     is_named(host, b"localhost") || is_address(host)
 }
 
-// Whether a host is an address of IPv6 in brackets, or of IPv4. The name of a host is neither.
+// Whether a host has the form of an address of IPv6 in brackets, or of IPv4. The name of a host has neither.
 fn is_address(host: &[u8]) -> bool
     ensures { result ≡ is_address host.now }
 {

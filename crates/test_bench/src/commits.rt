@@ -13,8 +13,8 @@ use text_script::{Event, WorldEvent};
 
 /// The log of a centre, and a share that commits to it.
 #[derive(Drop)]
-struct Place {
-    log: CentreLog,
+pub struct Place {
+    pub log: CentreLog,
     share: Share,
 }
 
@@ -65,6 +65,13 @@ fn timed(
     let start = Instant::now(rt)?;
     let bytes = play(rt.alloc(), places, events).context("the events were not committed")?;
     Ok((bytes, start.elapsed(rt)?.as_nanos()))
+}
+
+/// The logs of a line's centres to which the events were committed. `None` if a commit was refused or memory ran out.
+pub fn committed(alloc: Global, line: &Line, events: &[WorldEvent]) -> Option<Vec<Place>> {
+    let mut places = places_of(alloc, line).ok()?;
+    play(alloc, &mut places, events)?;
+    Some(places)
 }
 
 fn places_of(alloc: Global, line: &Line) -> Result<Vec<Place>, AllocError> {

@@ -2,21 +2,24 @@
 //! `test_bench answers LINE SCRIPT` prints the answers of a line's centres to a script of events. `test_bench time LINE
 //! SCRIPT TURNS` plays the script this many times, and prints the events a second and the bytes of one turn's messages
 //! to trains. `test_bench commits LINE SCRIPT TURNS` does the same with commits to the logs of the centres. `test_bench
-//! merge LINE ENTRIES` merges logs with this many entries, one log for each centre of a line. It prints the count of
-//! merged entries, and the nanoseconds for each. Without an argument the codec reads and writes each message once, and
-//! nothing is printed.
+//! lines LINE SCRIPT TURNS` makes the lines of their journals, and prints the lines a second and the bytes of one turn.
+//! `test_bench merge LINE ENTRIES` merges logs with this many entries, one log for each centre of a line. It prints the
+//! count of merged entries, and the nanoseconds for each. Without an argument the codec reads and writes each message
+//! once, and nothing is printed.
 //!
 //! Expected values come from the standard or from the written rules, never from the program's own output.
 #![tactic(auto)]
 
 mod codec;
 mod commits;
+mod lines;
 mod merging;
 mod missions;
 mod print;
 
 use crate::codec::measure_codec;
 use crate::commits::measure_commits;
+use crate::lines::measure_lines;
 use crate::merging::measure_merge;
 use crate::missions::{measure_steps, print_answers};
 use anyhow::bail;
@@ -24,7 +27,7 @@ use std::env;
 
 // The forms of the arguments.
 const FORMS: &str =
-    "TURNS, or answers LINE SCRIPT, or time|commits LINE SCRIPT TURNS, or merge LINE ENTRIES";
+    "TURNS, or answers LINE SCRIPT, or time|commits|lines LINE SCRIPT TURNS, or merge LINE ENTRIES";
 
 fn main(rt: HostRuntime) -> anyhow::Result<()> {
     let words: Vec<String> = env::args(&rt)?.collect(rt.alloc())?;
@@ -37,12 +40,31 @@ fn measure(rt: &HostRuntime, words: &[String]) -> anyhow::Result<()> {
         [] => Ok(measure_codec(rt, 1)?),
         [turns] => Ok(measure_codec(rt, number_in(turns))?),
         [what, line, given] => measure_line(rt, what.as_str(), line.as_str(), given),
-        [what, line, script, turns] if what.as_str() == "time" => {
-            measure_steps(rt, line.as_str(), script.as_str(), number_in(turns))
+        [what, line, script, turns] => {
+            measure_turns(
+                rt,
+                what.as_str(),
+                line.as_str(),
+                script.as_str(),
+                number_in(turns),
+            )
         }
-        [what, line, script, turns] if what.as_str() == "commits" => {
-            measure_commits(rt, line.as_str(), script.as_str(), number_in(turns))
-        }
+        _ => bail!("{FORMS}"),
+    }
+}
+
+// Measures what the first word names, over a line and this many turns of a script.
+fn measure_turns(
+    rt: &HostRuntime,
+    what: &str,
+    line: &str,
+    script: &str,
+    turns: u32,
+) -> anyhow::Result<()> {
+    match what {
+        "time" => measure_steps(rt, line, script, turns),
+        "commits" => measure_commits(rt, line, script, turns),
+        "lines" => measure_lines(rt, line, script, turns),
         _ => bail!("{FORMS}"),
     }
 }

@@ -32,6 +32,8 @@ pub enum Missed {
     Status,
     /// A run in the print.
     Audit,
+    /// A note, or its number.
+    Note,
     /// Hexadecimal digits.
     Digits,
     /// The time of the clock.

@@ -18,6 +18,8 @@ mod journals;
 #[cfg(test)]
 mod line;
 #[cfg(test)]
+mod notes;
+#[cfg(test)]
 mod options;
 #[cfg(test)]
 mod order;

@@ -46,6 +46,9 @@ pub const INITIATION_OF_ONE: &str = "9B028000000040000040";
 // The first five of its ten bytes.
 pub const HALF_AN_INITIATION: &str = "9B02800000";
 
+// It establishes its session with T_TRAIN 2.
+pub const ESTABLISHED: &str = "9F028000000080000040";
+
 // The centre answers with its version.
 pub const VERSION: &str = "2002C00000005FFFFFE800";
 

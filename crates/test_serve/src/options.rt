@@ -1,13 +1,11 @@
 //! The options of `serve`. They bound the messages of a train, report shut sections and the use of logs and links, and
 //! bind a train to a connection.
 
-use crate::line::{INITIATION_OF_ONE, MISSION_OF_ONE, REQUEST_OF_ONE, VERSION};
+use crate::line::{ESTABLISHED, INITIATION_OF_ONE, MISSION_OF_ONE, REQUEST_OF_ONE, VERSION};
 use crate::play::Act;
 use crate::plays::{OPENED_FIRST, Play, Seen, ServeMode};
 
-// Train 1 establishes its session with T_TRAIN 2, and initiates it again with T_TRAIN 3 and 4.
-const ESTABLISHED: &str = "9F028000000080000040";
-
+// Train 1 initiates its session again with T_TRAIN 3 and 4.
 const THIRD_INITIATION: &str = "9B0280000000C0000040";
 
 const FOURTH_INITIATION: &str = "9B028000000100000040";
@@ -106,6 +104,10 @@ pub static PLAYS: [Play<'_>; 3] = [
             ],
         )],
         status: 0,
-        seen: &[Seen::Begins("> set A 0\nA 0 Done\n> set A 1\nA 1 Done\n")],
+        seen: &[
+            Seen::Noted(" A: train 1 begins its mission", 1),
+            Seen::Noted(" A: section 0 was wished back, and is shut now", 1),
+            Seen::Begins("> set A 0\nA 0 Done\n> set A 1\nA 1 Done\n"),
+        ],
     },
 ];

@@ -2,6 +2,7 @@
 
 use crate::client::{Done, Missed, answers, connect, heard, is_ended, say};
 use crate::line::bytes_of;
+use crate::notes::{NoteCounter, report_until_noted};
 use crate::order::start_over_two;
 use crate::railway::Addresses;
 use crate::sheet::Paper;
@@ -16,6 +17,8 @@ use std::time::Clock;
 pub enum Act<'a> {
     /// It connects to centre A.
     Train,
+    /// It connects to centre B.
+    SecondTrain,
     /// It connects to the control endpoint.
     Control,
     /// It sends this text, and gets this answer.
@@ -26,6 +29,8 @@ pub enum Act<'a> {
     Opens(u32),
     /// It asks for train 1's authority until it reaches over the border.
     Crosses,
+    /// It reports train 1 from section 2, until a note has the text at this place of the comparisons.
+    Reports(usize),
     /// It receives the bytes of these digits.
     Hears(&'a str),
     /// It receives this many bytes.
@@ -42,6 +47,8 @@ pub enum Act<'a> {
     Fills(usize),
     /// The journal has room for this many bytes from now on.
     HasRoom(usize),
+    /// A note has the text at this place of the comparisons.
+    Noted(usize),
 }
 
 /// The number of a connection, in the order in which they connect, and its step.
@@ -57,6 +64,7 @@ pub struct Stage<'a> {
     pub addresses: Addresses,
     /// The journal of centre A.
     pub journal: Paper<'a>,
+    pub notes: &'a NoteCounter,
     /// When the play began, in milliseconds.
     pub begun: u64,
 }
@@ -101,6 +109,7 @@ fn play_once<R: Threads + Sync + Net<Stream = TcpStream, Listener = TcpListener>
 fn endpoint_of(addresses: Addresses, act: Act<'_>) -> Option<SocketAddr> {
     match act {
         Act::Train => Some(addresses.centre),
+        Act::SecondTrain => Some(addresses.second),
         Act::Control => Some(addresses.control),
         _ => None,
     }
@@ -118,6 +127,7 @@ fn done<R: Threads + Sync + Net<Stream = TcpStream, Listener = TcpListener> + Cl
         Act::Sends(digits) => send(stage.alloc, stream, digits),
         Act::Opens(count) => open_sessions(stage.alloc, stream, turn.saturating_mul(count), count),
         Act::Crosses => ask_until_both_come(rt, stage.alloc, stream),
+        Act::Reports(place) => report_until_noted(rt, stage.alloc, stream, stage.notes, place),
         Act::Hears(digits) => hear(stage.alloc, stream, digits),
         Act::Takes(count) => {
             heard(stage.alloc, stream, count)?;
@@ -147,6 +157,7 @@ fn done_beside<R: Threads + Sync + Net<Stream = TcpStream, Listener = TcpListene
             stage.journal.allow(room);
             Ok(())
         }
+        Act::Noted(place) => stage.notes.wait_for(rt, place),
         _ => Err(Missed::Endpoint),
     }
 }

@@ -2,10 +2,11 @@
 
 use crate::client::{Done, Missed};
 use crate::line::two_centres;
+use crate::notes::NoteCounter;
 use crate::play::Round;
 use crate::railway::{audited, served};
 use crate::sheet::{Paper, cells};
-use crate::{initiations, interlocking, journals, options, order, sinks, slots, trains};
+use crate::{initiations, interlocking, journals, notes, options, order, sinks, slots, trains};
 use cli_commands::auditing::Verdict;
 use rbc_line::Line;
 use std::alloc::Global;
@@ -39,6 +40,8 @@ pub enum ServeMode {
     Reporting,
     /// A train's messages are taken only over the connection that serves the train.
     Bound,
+    /// Notes are JSON.
+    Json,
 }
 
 /// The journals of the two centres.
@@ -83,6 +86,8 @@ pub enum Seen<'a> {
     OfB(&'a [&'a str]),
     /// The journal of centre A has this many bytes.
     LengthOfA(usize),
+    /// This many notes have this text. It is one of the first comparisons.
+    Noted(&'a str, usize),
 }
 
 /// Centre A took train 1's first message: it is the first event of the print.
@@ -98,6 +103,7 @@ fn each_play_ends_as_it_should(rt: HostRuntime) -> Result<(), Fail> {
         &trains::PLAYS[..],
         &sinks::PLAYS[..],
         &options::PLAYS[..],
+        &notes::PLAYS[..],
         &order::PLAYS[..],
     ] {
         end_as_they_should(&rt, alloc, plays)?;
@@ -155,11 +161,13 @@ fn played_so<R: Threads + Wait + Sync + Net<Stream = TcpStream, Listener = TcpLi
     papers: Papers<'_>,
 ) -> Done<()> {
     let line = two_centres(alloc).ok().ok_or(Missed::Memory)?;
+    let notes = NoteCounter::new(play.seen);
     let scene = Scene {
         alloc,
         line: &line,
         play,
         papers,
+        notes: &notes,
     };
     let (status, printed) = served(rt, scene)?;
     all_seen(scene, status, &printed)
@@ -172,13 +180,14 @@ pub struct Papers<'a> {
     pub b: Paper<'a>,
 }
 
-/// A play, its line and its journals.
+/// A play, its line, its journals and its notes.
 #[derive(Clone, Copy)]
 pub struct Scene<'a> {
     pub alloc: Global,
     pub line: &'a Line,
     pub play: &'static Play<'static>,
     pub papers: Papers<'a>,
+    pub notes: &'a NoteCounter,
 }
 
 fn all_seen(scene: Scene<'_>, status: u8, printed: &[u8]) -> Done<()> {
@@ -195,7 +204,7 @@ fn each_seen(scene: Scene<'_>, printed: &str, all: &[Seen<'_>]) -> Done<()> {
             return Err(Missed::Print);
         }
     }
-    Ok(())
+    scene.notes.compare()
 }
 
 fn is_seen(scene: Scene<'_>, printed: &str, seen: Seen<'_>) -> Done<bool> {
@@ -211,5 +220,7 @@ fn is_seen(scene: Scene<'_>, printed: &str, seen: Seen<'_>) -> Done<bool> {
         Seen::OfA(entries) => scene.papers.a.has(scene.alloc, entries),
         Seen::OfB(entries) => scene.papers.b.has(scene.alloc, entries),
         Seen::LengthOfA(length) => Ok(scene.papers.a.length() == length),
+        // The notes are compared after all others.
+        Seen::Noted(..) => Ok(true),
     }
 }

@@ -18,10 +18,11 @@ use std::thread::Threads;
 use std::time::Clock;
 use text_journal::Entry;
 
-/// The addresses of centre A and of the control endpoint.
+/// The addresses of the two centres and of the control endpoint.
 #[derive(Clone, Copy)]
 pub struct Addresses {
     pub centre: SocketAddr,
+    pub second: SocketAddr,
     pub control: SocketAddr,
 }
 
@@ -48,6 +49,7 @@ pub fn served<R: Threads + Wait + Sync + Net<Stream = TcpStream, Listener = TcpL
 fn addresses_of(endpoints: &Endpoints) -> Done<Addresses> {
     Ok(Addresses {
         centre: endpoints.address(0).ok_or(Missed::Endpoint)?,
+        second: endpoints.address(1).ok_or(Missed::Endpoint)?,
         control: endpoints.address(CONTROL).ok_or(Missed::Endpoint)?,
     })
 }
@@ -61,6 +63,7 @@ fn played<R: Threads + Sync + Net<Stream = TcpStream, Listener = TcpListener> + 
         alloc: scene.alloc,
         addresses,
         journal: scene.papers.a,
+        notes: scene.notes,
         begun: match now(rt) {
             Ok(begun) => begun,
             Err(_) => u64::MAX,
@@ -90,7 +93,7 @@ fn ended<R: Threads + Wait + Sync + Clock>(
         endpoints,
         record,
         options,
-        &NoNotes,
+        scene.notes,
         &mut out,
     ) {
         Ok(()) => Ok((0, out)),
@@ -108,6 +111,9 @@ fn options_of(mode: ServeMode) -> ServeOptions {
         }
         ServeMode::Bound => {
             options.is_bound = true;
+        }
+        ServeMode::Json => {
+            options.note_form.is_json = true;
         }
         ServeMode::Reporting => {
             options.is_telling = true;

@@ -40,6 +40,7 @@ pub static PLAYS: [Play<'_>; 1] = [
         ],
         status: 0,
         seen: &[
+            Seen::Noted(" A: train 2 begins its mission", 1),
             Seen::Begins("> set A 1\nA 1 Done\n"),
             Seen::Has("A -> 2 2902800000009FFFFFE0\n"),
             Seen::Audits(7, u64::MAX),

@@ -1,6 +1,6 @@
 -- The entries of a line's journals as one list, and rising stamps.
 use Rattle.std.specs.List.{AllPairs}
-use Rattle.std.specs.Prelude.{◌+◌, ◌-◌, ◌<◌, ◌≡◌, ◌≤◌, length, List, map, None, Option, slice_index, Some, ℕ}
+use Rattle.std.specs.Prelude.{◌+◌, ◌-◌, ◌<◌, ◌≡◌, ◌≤◌, length, List, map, None, Option, slice_index, Some, unwrap_or, ℕ}
 use Rattle.rbc_spec.specs.World.{centre_of}
 use Rattle.text_journal.specs.declared.entry.Entry.{Entry}
 use Rattle.text_script.specs.rbc_world.Views.{event_of}
@@ -15,6 +15,17 @@ ComesBefore d e = (d.stamp ≤ e.stamp) × (d.stamp ≡ e.stamp → taken_at d �
 
 abbrev pub AreInOrder : List Entry → Type 0
 AreInOrder es = AllPairs ComesBefore es
+
+-- the time of an entry in the order of times; 0 if it has none
+abbrev pub time_of : Entry → ℕ
+time_of e = unwrap_or e.time_ms 0
+
+-- one entry may precede another by time, and entries of one time as above
+abbrev pub IsNoLater : Entry → Entry → Type 0
+IsNoLater d e = (time_of d ≤ time_of e) × (time_of d ≡ time_of e → ComesBefore d e)
+
+abbrev pub AreInTimeOrder : List Entry → Type 0
+AreInTimeOrder es = AllPairs IsNoLater es
 
 abbrev pub stamps_of : List Entry → List ℕ
 stamps_of es = map (λ e. e.stamp) es

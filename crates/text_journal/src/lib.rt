@@ -40,7 +40,7 @@ pub use fault::JournalFault;
 pub use laws::{a_cut_leaves_a_beginning, a_text_begins_one_journal, whole_lines_are_a_journal};
 pub use length::whole_length;
 pub use name::file_name;
-pub use order::in_order;
+pub use order::{in_order, in_time_order};
 pub use reading::read_journal;
 pub use rising::first_fallen;
 pub use writing::{add_entry, first_line};

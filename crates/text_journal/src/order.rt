@@ -1,7 +1,7 @@
 ghost use Rattle.std.specs.Prelude.{◌≡◌, IfOk};
 ghost use Rattle.std.specs.List.{flat_map};
 ghost use Rattle.std.specs.List.Sorted.{IsPermutation};
-ghost use Rattle.text_journal.specs.Order.{AreInOrder};
+ghost use Rattle.text_journal.specs.Order.{AreInOrder, AreInTimeOrder};
 
 use crate::entry::Entry;
 use std::alloc::{AllocError, Global};
@@ -15,6 +15,16 @@ pub fn in_order(alloc: Global, journals: Vec<Vec<Entry>>) -> Result<Vec<Entry>, 
     let mut all = all_entries(alloc, journals)?;
     all.sort_by_key(|entry| (entry.stamp, entry.centre()))?;
     Ok(all)
+}
+
+/// Puts entries into the order of their times. Entries of one time are ordered by stamp, and those of one stamp by
+/// centre. Entries without a time come first.
+pub fn in_time_order(mut entries: Vec<Entry>) -> Result<Vec<Entry>, AllocError>
+    ensures once { IfOk result (λ es. IsPermutation entries.items es.items) }
+    ensures in_order { IfOk result (λ es. AreInTimeOrder es.items) }
+{
+    entries.sort_by_key(|entry| (entry.time_ms.unwrap_or(0), entry.stamp, entry.centre()))?;
+    Ok(entries)
 }
 
 // All entries, journal by journal.

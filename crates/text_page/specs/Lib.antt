@@ -1,2 +1,3 @@
 pub mod Health
 pub mod Metrics
+pub mod Cells

@@ -16,6 +16,7 @@ const colour=centre=>'h'+line.centres.findIndex(it=>it.centre==centre)%8;
 const chip=centre=>centre==null?'nobody':tag('span',{class:'chip '+colour(centre)},centre);
 const metres=m=>m.toLocaleString('en').replaceAll(',',String.fromCharCode(8239))+' m';
 const front=it=>Math.ceil(it.front_m),end=it=>it.last==null?null:line.sections[it.last].to_m;
+const time=it=>it&&tag('time',{datetime:it},it.slice(11)+' · ');
 let line,marked='',legend=[],shown;
 
 // Changes the drawn elements into the new ones. An element of the same name and key stays in place, with its focus, its
@@ -193,7 +194,7 @@ function show(now,words,alerts,more=()=>[]){
         table(['Train','Supervisor','Track','Rear end','Front end','End of authority','Distance to end','Sections',
           'Session with','Remarks'],now.trains.map(it=>row(it,now)),'No train is under way.')),
       tag('div',{class:'side'},section('events','Last events',
-        tag('ol',{},...now.last.map(it=>tag('li',{'data-k':it.event},it.event)))),...more()))])}
+        tag('ol',{},...now.last.map(it=>tag('li',{'data-k':it.event},time(it.time),it.event)))),...more()))])}
 
 const mark=t=>{
   marked=t;

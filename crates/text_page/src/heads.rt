@@ -10,7 +10,7 @@ static TITLES: [(&str, &str); 7] = [
     ("last", "Last events"),
 ];
 
-static WORDS: [(&str, &str); 31] = [
+static WORDS: [(&str, &str); 32] = [
     ("train", "Train"),
     ("supervisor", "Supervisor"),
     ("handover_to", "Handover to"),
@@ -40,6 +40,7 @@ static WORDS: [(&str, &str); 31] = [
     ("sent", "Frames sent"),
     ("taken", "Frames taken"),
     ("event", "Event"),
+    ("time", "Time in UTC"),
     ("words", "In words"),
     ("section", "Section"),
 ];

@@ -18,13 +18,15 @@ mod run;
 mod sections;
 mod sheet;
 mod style;
+mod utc;
 mod view;
 
 pub use health::causes_of;
 pub use metrics::metrics_of;
 pub use page::{line_json, live_page, now_json};
 pub use run::{Changes, Part, RunSheet};
+pub use utc::Utc;
 pub use view::{
-    CentreCounts, CentreNow, End, Layout, Limits, LineCounts, LineNow, LinkNow, MissionNow, Phase,
-    Place, Run, SectionNow, SessionNow, TruePlace, Usage,
+    CentreCounts, CentreNow, End, EventNow, Layout, Limits, LineCounts, LineNow, LinkNow,
+    MissionNow, Phase, Place, Run, SectionNow, SessionNow, TruePlace, Usage,
 };

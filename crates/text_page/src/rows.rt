@@ -1,8 +1,12 @@
 //! The current state, as tables.
 
+ghost use Rattle.std.specs.List.{list_any};
+ghost use Rattle.std.specs.Prelude.{◌≡◌, is_some};
+ghost use Rattle.text_page.specs.Cells.{time_cell};
+
 use crate::sections::add_sections;
 use crate::sheet::{Cell, Sheet};
-use crate::view::{Layout, LineNow, MissionNow, Phase, Run};
+use crate::view::{EventNow, Layout, LineNow, MissionNow, Phase, Run};
 use std::alloc::AllocError;
 
 /// Writes the whole current state.
@@ -193,11 +197,40 @@ fn add_true_places(sheet: &mut Sheet, layout: &Layout, now: &LineNow) -> Result<
     sheet.end()
 }
 
-/// Writes the last events.
+/// Writes the last events. Their times are a column if one is known.
 pub(crate) fn add_last(sheet: &mut Sheet, now: &LineNow) -> Result<(), AllocError> {
+    if has_times(&now.last) {
+        return add_timed(sheet, &now.last);
+    }
     sheet.begin("last", &["event"])?;
     for event in now.last.iter() {
-        sheet.row(&[Cell::Text(event.as_str())])?;
+        sheet.row(&[Cell::Text(event.words.as_str())])?;
     }
     sheet.end()
+}
+
+// Whether the time of an event is known.
+fn has_times(events: &[EventNow]) -> bool
+    ensures { result ≡ list_any (λ event. is_some event.time_ms) events.now }
+{
+    events.iter().any(|event| event.time_ms.is_some())
+}
+
+fn add_timed(sheet: &mut Sheet, events: &[EventNow]) -> Result<(), AllocError> {
+    sheet.begin("last", &["event", "time"])?;
+    for event in events {
+        let words = Cell::Text(event.words.as_str());
+        sheet.row(&[words, time_of(event.time_ms)])?;
+    }
+    sheet.end()
+}
+
+// This time, or nothing.
+fn time_of(time_ms: Option<u64>) -> Cell<'static>
+    ensures { result ≡ time_cell time_ms }
+{
+    match time_ms {
+        Some(time_ms) => Cell::Time(time_ms),
+        None => Cell::Nothing,
+    }
 }

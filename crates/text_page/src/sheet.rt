@@ -2,6 +2,7 @@
 //! has the names of the columns. As HTML the columns are named in words.
 
 use crate::heads::{title_of, words_of};
+use crate::utc::Utc;
 use std::alloc::{AllocError, Global};
 
 #[derive(Clone, Copy)]
@@ -19,6 +20,8 @@ pub(crate) enum Cell<'a> {
     Tenths(u64),
     /// Whether a thing is so.
     Flag(bool),
+    /// A time in milliseconds since 1970 in UTC.
+    Time(u64),
     Text(&'a str),
 }
 
@@ -147,12 +150,20 @@ impl Sheet {
             (Cell::Flag(is_so), Form::Json) => self.text.push(if is_so { '1' } else { '0' }),
             (Cell::Flag(true), Form::Html) => self.text.push_str("yes"),
             (Cell::Flag(false), Form::Html) => Ok(()),
+            (Cell::Time(time_ms), form) => self.time(form, Utc(time_ms)),
             (Cell::Text(text), Form::Html) => self.put(text),
             (Cell::Text(text), Form::Json) => {
                 self.text.push('"')?;
                 self.put(text)?;
                 self.text.push('"')
             }
+        }
+    }
+
+    fn time(&mut self, form: Form, time: Utc) -> Result<(), AllocError> {
+        match form {
+            Form::Json => write!(self.text, "\"{time}\""),
+            Form::Html => write!(self.text, "{time}"),
         }
     }
 

@@ -160,6 +160,15 @@ pub struct TruePlace {
     pub front: u32,
 }
 
+/// An event in words.
+#[derive(Drop)]
+pub struct EventNow {
+    /// The time of its write to the journal of its centre, in milliseconds since 1970 in UTC. None if it is not known,
+    /// as of centres without journals.
+    pub time_ms: Option<u64>,
+    pub words: String,
+}
+
 /// The line as its centres reported it.
 #[derive(Drop)]
 pub struct LineNow {
@@ -177,8 +186,8 @@ pub struct LineNow {
     pub links: Vec<LinkNow>,
     /// The true places of trains that run in the same process. Empty if there are none.
     pub true_places: Vec<TruePlace>,
-    /// The last events in words, the newest first.
-    pub last: Vec<String>,
+    /// The last events, the newest first.
+    pub last: Vec<EventNow>,
 }
 
 /// The counts of running centres since they began, and the events that their journals do not have yet. Only the metrics

@@ -1,10 +1,9 @@
 //! The events of a print: the lines that begin with `> `.
 
-ghost use Rattle.std.specs.Prelude.{◌≡◌};
+ghost use Rattle.std.specs.Prelude.{◌≡◌, IfOk, is_some};
 ghost use Rattle.rbc_spec.specs.World.{centre_of};
 ghost use Rattle.text_script.specs.rbc_world.Views.{event_of};
 
-use crate::cut::Cut;
 use rbc_line::Line;
 use std::alloc::Global;
 use text_script::WorldEvent;
@@ -14,9 +13,11 @@ use text_script::status::Fault;
 /// The beginning of an event's line in a print.
 pub(crate) const EVENT: &str = "> ";
 
-/// The place in the line file of the train that a cut names. An error if the train is not of the line.
-pub fn train_in(line: &Line, cut: Cut) -> Result<Option<u8>, Fault<'static>> {
-    let Some(nid_engine) = cut.train else {
+/// The place in the line file of the train of this NID_ENGINE, if one is named. An error if it is not of the line.
+pub fn train_in(line: &Line, train: Option<u32>) -> Result<Option<u8>, Fault<'static>>
+    ensures { IfOk result (λ place. is_some place ≡ is_some train) }
+{
+    let Some(nid_engine) = train else {
         return Ok(None);
     };
     match line.train_number(nid_engine) {

@@ -8,7 +8,7 @@ use crate::shown::{phase_now, section_now};
 use crate::turns::Turn;
 use rbc_line::Line;
 use std::alloc::{AllocError, Global};
-use text_page::{Changes, Layout, LineNow, Part, RunSheet, SessionNow};
+use text_page::{Changes, EventNow, Layout, LineNow, Part, RunSheet, SessionNow};
 use text_script::status::Fault;
 use text_script::{LineView, WorldEvent};
 
@@ -27,7 +27,7 @@ pub fn page_of(
     printed: &str,
     cut: Cut,
 ) -> Result<String, Fault<'static>> {
-    train_in(line, cut)?;
+    train_in(line, cut.train)?;
     let events = events_in(alloc, line, printed)?;
     let (first, after) = cut
         .places(events.len())
@@ -212,7 +212,10 @@ fn add_last(alloc: Global, now: &mut LineNow, first: u64, run: &Played) -> Resul
     }
     for (e, words) in run.words.iter().enumerate().rev().take(TOLD) {
         let event = number(first, e);
-        now.last.push(format!(in alloc; "{event} · {words}")?)?;
+        now.last.push(EventNow {
+            time_ms: None,
+            words: format!(in alloc; "{event} · {words}")?,
+        })?;
     }
     Ok(())
 }

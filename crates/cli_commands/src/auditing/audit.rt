@@ -1,5 +1,5 @@
 use crate::auditing::played::Played;
-use cli_compare::{Comparison, Verdict};
+use crate::comparing::{Comparison, Verdict};
 use rbc_line::Line;
 use std::alloc::Global;
 use text_script::StepFault;

@@ -3,9 +3,9 @@ use crate::clients::limits::{CONTROL_REST_MS, RESERVE_RESTS};
 use crate::clients::rows::{Came, RowReader};
 use crate::clients::sending::{Sent, send};
 use crate::state::{PeerStream, Server, Slot};
-use crate::status::{Kind, Level, Notes};
 use rbc_node::Share;
 use serve_control::{Command, CommandFault, command_of};
+use serve_notes::{About, Kind, Notes, PeerConnection};
 use std::sync::Wait;
 use std::sync::atomic::Ordering;
 use std::time::{Clock, Duration};
@@ -32,8 +32,8 @@ pub(crate) fn serve_control<R: Wait + Clock, N: Notes>(
     stream: &PeerStream,
 ) {
     let number = slot.number;
-    notes.often(
-        Kind::Begin,
+    notes.note(
+        about_slot(Kind::Begin, number),
         format_args!("control: connection {number} begins"),
     );
     let rest = Duration::from_millis(CONTROL_REST_MS);
@@ -42,21 +42,29 @@ pub(crate) fn serve_control<R: Wait + Clock, N: Notes>(
     match answer_rows(rt, server, notes, slot, shares.as_mut_slice(), stream) {
         Next::Stop => {
             notes.note(
-                Level::Info,
+                about_slot(Kind::Stop, number),
                 format_args!("control: connection {number} says stop"),
             );
             server.stop();
         }
         Next::StopNow => {
             notes.note(
-                Level::Info,
+                about_slot(Kind::Stop, number),
                 format_args!("control: connection {number} says stop now"),
             );
             server.stop_now();
         }
         Next::Listen | Next::End => {}
     }
-    notes.often(Kind::End, format_args!("control: connection {number} ends"));
+    notes.note(
+        about_slot(Kind::End, number),
+        format_args!("control: connection {number} ends"),
+    );
+}
+
+// The subject of a note about the connection with this number.
+fn about_slot(kind: Kind, number: usize) -> About<'static> {
+    About::of(kind).over(PeerConnection::Control(number))
 }
 
 // Answers the lines of a connection until it ends, or until all sessions have ended.
@@ -111,8 +119,8 @@ fn answer_row<R: Wait + Clock, N: Notes>(
     stream: &PeerStream,
 ) -> Next {
     if is_of_another_protocol(row) {
-        notes.often(
-            Kind::Line,
+        notes.note(
+            about_slot(Kind::Line, served.slot.number),
             "control: a connection is ended, it speaks another protocol",
         );
         return Next::End;
@@ -126,7 +134,10 @@ fn answer_row<R: Wait + Clock, N: Notes>(
         Ok(Command::StopNow) => return Next::StopNow,
         Ok(command) => command,
         Err(CommandFault::Form) => {
-            notes.often(Kind::Line, "control: a line is refused, script fault");
+            notes.note(
+                about_slot(Kind::Line, served.slot.number),
+                "control: a line is refused, script fault",
+            );
             return refuse(rt, server, stream);
         }
         Err(CommandFault::Memory) => return Next::End,

@@ -3,7 +3,8 @@ use crate::clients::entrance::{Entrance, accept, rest, rest_after};
 use crate::clients::limits::{GRACE_RESTS, LEAVING_RESTS, NEXT_RESTS};
 use crate::clients::sessions::serve_train;
 use crate::state::{Endpoint, Peer, PeerStream, Server, Slot, Watch};
-use crate::status::{Kind, Level, Life, Notes};
+use crate::status::Life;
+use serve_notes::{Kind, Notes};
 use std::sync::Wait;
 use std::sync::atomic::Ordering;
 use std::thread;
@@ -102,8 +103,8 @@ fn attend_here<R: Threads + Wait + Sync + Clock, N: Notes + Sync>(
     let stream = slot.stream.lock(rt).take();
     slot.leave(rt);
     let Some((stream, reserve)) = reserve_for(rt, endpoint, stream) else {
-        let text = "a connection is ended, no thread could be made";
-        notes.often(Kind::Thread, text);
+        let about = server.about(Kind::Thread, endpoint.peer);
+        notes.note(about, "a connection is ended, no thread could be made");
         return;
     };
     attend(rt, server, notes, endpoint.peer, reserve, stream);
@@ -146,8 +147,8 @@ fn next_peer<'a, R: Wait, N: Notes>(
     if let Peer::Trains(centre) = endpoint.peer {
         if server.is_stuck(rt, centre) {
             let name = server.name(endpoint.peer);
-            notes.often(
-                Kind::Refusal,
+            notes.note(
+                server.about(Kind::Refusal, endpoint.peer),
                 format_args!("{name}: a connection is refused, the journal can't be written"),
             );
             return None;
@@ -155,8 +156,8 @@ fn next_peer<'a, R: Wait, N: Notes>(
     }
     let Some(slot) = slot_for(rt, server, endpoint) else {
         let name = server.name(endpoint.peer);
-        notes.often(
-            Kind::Refusal,
+        notes.note(
+            server.about(Kind::Refusal, endpoint.peer),
             format_args!("{name}: a connection is refused, there are too many"),
         );
         return None;
@@ -224,7 +225,7 @@ fn end_trains<R: Wait, N: Notes>(rt: &R, server: &Server<'_>, notes: &N, endpoin
     }
     let name = server.name(endpoint.peer);
     notes.note(
-        Level::Info,
+        server.about(Kind::Stop, endpoint.peer),
         format_args!("{name}: the connections that are left are ended"),
     );
     for slot in &endpoint.slots {

@@ -1,6 +1,6 @@
 use crate::clients::limits::DEAF_REST_MS;
 use crate::state::{ENDPOINT_REST_MS, Endpoint, Listener, Peer, PeerStream, Server};
-use crate::status::{Kind, Notes};
+use serve_notes::{Kind, Notes};
 use std::alloc::Global;
 use std::io;
 use std::io::ErrorKind;
@@ -96,8 +96,8 @@ pub(crate) fn rest_after<R: Wait, N: Notes>(
         return;
     }
     let name = server.name(endpoint.peer);
-    notes.often(
-        Kind::Device,
+    notes.note(
+        server.about(Kind::Device, endpoint.peer),
         format_args!("{name}: no connection can be taken now: {error}"),
     );
     endpoint

@@ -1,6 +1,6 @@
 use crate::clients::limits::UNWRITTEN;
 use crate::state::CentreSink;
-use crate::status::{Kind, Notes};
+use serve_notes::{About, Kind, Notes, PeerConnection};
 use serve_workers::AnswerSink;
 use serve_workers::connections::ConnectionSink;
 use serve_workers::writing::Release;
@@ -32,8 +32,9 @@ impl<N: Notes> AnswerSink for LoggedSink<'_, N> {
         self.connection_sink.opened(rt, nid_engine);
         let name = self.sink.name;
         let number = self.connection_sink.number;
-        self.notes.often(
-            Kind::Session,
+        let about = About::centre(Kind::Session, name).train(nid_engine);
+        self.notes.note(
+            about.over(PeerConnection::Train(number)),
             format_args!(
                 "{name}: train {nid_engine} opens its session over train connection {number}"
             ),

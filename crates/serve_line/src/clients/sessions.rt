@@ -4,9 +4,9 @@ use crate::clients::noted::LoggedSink;
 use crate::clients::paced::Paced;
 use crate::clients::rate_limit::RateLimit;
 use crate::state::{CentreSink, Server, Slot, set_waits};
-use crate::status::{Kind, Notes};
 use crossbeam_channel::{Receiver, bounded};
 use rbc_node::{Node, Open};
+use serve_notes::{About, Kind, Notes, PeerConnection};
 use serve_workers::connections::{Connection, ConnectionSink, Shared};
 use serve_workers::writing::{Reply, SharedWriter, run_held_writer, run_writer};
 use serve_workers::{SessionEnd, run_session};
@@ -36,14 +36,14 @@ pub(crate) fn serve_train<R: Threads + Wait + Sync + Clock, N: Notes + Sync>(
     };
     let connections = sink.connections;
     let Ok(ends) = entered(rt, server.alloc, sink, number, stream) else {
-        notes.often(
-            Kind::Refusal,
+        notes.note(
+            about_slot(Kind::Refusal, name, number),
             format_args!("{name}: a train is refused, memory ran out"),
         );
         return;
     };
-    notes.often(
-        Kind::Begin,
+    notes.note(
+        about_slot(Kind::Begin, name, number),
         format_args!("{name}: train connection {number} begins"),
     );
     let noted = LoggedSink {
@@ -57,11 +57,16 @@ pub(crate) fn serve_train<R: Threads + Wait + Sync + Clock, N: Notes + Sync>(
     };
     match read_and_write(rt, server, node, slot, &ends, &noted) {
         Some(end) => tell_end(notes, name, number, end),
-        None => notes.often(
-            Kind::Thread,
+        None => notes.note(
+            about_slot(Kind::Thread, name, number),
             format_args!("{name}: train connection {number} is ended, no thread could be made"),
         ),
     }
+}
+
+// The subject of a note about the connection with this number, at the centre of this name.
+fn about_slot(kind: Kind, name: &str, number: usize) -> About<'_> {
+    About::centre(kind, name).over(PeerConnection::Train(number))
 }
 
 /// The end of a connection.
@@ -186,15 +191,19 @@ fn write_replies<R: Wait>(rt: &R, ends: &Ends, sink: &CentreSink<'_>) {
 }
 
 fn tell_end<N: Notes>(notes: &N, name: &str, number: usize, end: End) {
+    let mut about = about_slot(Kind::End, name, number);
+    if let End::Foreign(nid_engine) = end {
+        about = about.train(nid_engine);
+    }
     match ending(end) {
         (told, Some(fault)) => {
-            notes.often(
-                Kind::End,
+            notes.note(
+                about,
                 format_args!("{name}: train connection {number} {told} {fault}"),
             );
         }
-        (told, None) => notes.often(
-            Kind::End,
+        (told, None) => notes.note(
+            about,
             format_args!("{name}: train connection {number} {told}"),
         ),
     }

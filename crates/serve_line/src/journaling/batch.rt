@@ -30,8 +30,8 @@ pub(crate) fn next_entries<R: Wait + Clock>(
     Ok(entries_from(alloc, look.log(), written, now_ms(rt))?)
 }
 
-// The entries after the first `written`, at most 256.
-fn next_of(entries: &[Committed], written: usize) -> &[Committed]
+/// The entries after the first `written`, at most 256.
+pub(crate) fn next_of(entries: &[Committed], written: usize) -> &[Committed]
     ensures { result.now ≡ take 256 (drop written entries.now) }
 {
     let Some(left) = entries.get(written..) else {

@@ -1,5 +1,6 @@
 ghost use Rattle.std.specs.Prelude.{◌≡◌, ◌≤◌, if◌then◌else◌, nat_le, IfSome};
 
+use crate::journaling::write_times::{TimedWrite, WriteTimes};
 use serve_journal::Kept;
 use std::sync::atomic::{AtomicU64, Ordering};
 use std::sync::{Condvar, Mutex, MutexGuard, Wait};
@@ -35,6 +36,8 @@ struct Reach {
     kept: Kept,
     /// The number of the centre's events in the journal.
     written: usize,
+    /// The times of the last of these.
+    times: WriteTimes,
     /// Whether the journal can't be written now.
     is_stuck: bool,
     /// Whether the journal is closed: nothing more is written.
@@ -42,8 +45,9 @@ struct Reach {
 }
 
 impl Journal {
-    /// A journal that has the first `begins` events of its centre, the last with this stamp; 0 if it has none.
-    pub fn new(begins: usize, stamp: u32) -> Journal {
+    /// A journal that has the first `begins` events of its centre, the last with this stamp; 0 if it has none. The last
+    /// of them were written at these times.
+    pub fn new(begins: usize, stamp: u32, times: WriteTimes) -> Journal {
         Journal {
             begins,
             begun: stamp,
@@ -51,6 +55,7 @@ impl Journal {
             reach: Mutex::new(Reach {
                 kept: Kept::no_event(),
                 written: begins,
+                times,
                 is_stuck: false,
                 is_closed: false,
             }),
@@ -149,6 +154,12 @@ impl Journal {
         self.reach.lock(rt).written
     }
 
+    /// The time of the write of the centre's event at this place in its log, in milliseconds since 1970 in UTC. `None`
+    /// if the journal does not have the event, 256 writes followed it, or the clock failed.
+    pub(crate) fn time_of<R: Wait>(&self, rt: &R, place: usize) -> Option<u64> {
+        self.reach.lock(rt).times.time_of(place)
+    }
+
     /// The number of events that were written a second or more after the writing thread took them.
     pub(crate) fn late(&self) -> u64 {
         self.late.load(Ordering::SeqCst)
@@ -159,11 +170,19 @@ impl Journal {
         self.late.fetch_add(count as u64, Ordering::SeqCst);
     }
 
-    /// Reports that the journal has the events that `kept` shows, which are this many more.
-    pub(crate) fn reached<R: Wait>(&self, rt: &R, kept: Kept, count: usize) {
+    /// Reports that the journal has the events that `kept` shows, which are this many more, written at this time. The
+    /// time is lost if memory runs out.
+    pub(crate) fn reached<R: Wait>(&self, rt: &R, kept: Kept, count: usize, time_ms: Option<u64>) {
         let mut reach = self.reach.lock(rt);
+        let first = reach.written;
+        let after = first.saturating_add(count);
+        let _ = reach.times.add(TimedWrite {
+            first,
+            after,
+            time_ms,
+        });
         reach.kept = kept;
-        reach.written = reach.written.saturating_add(count);
+        reach.written = after;
         reach.is_stuck = false;
         self.tell(reach);
     }

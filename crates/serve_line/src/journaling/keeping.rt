@@ -1,15 +1,16 @@
 use crate::journaling::batch::next_entries;
 use crate::journaling::journal::Journal;
-use crate::status::{Level, Notes};
 use rbc_line::Line;
 use rbc_node::Node;
 use serve_journal::{DurableFile, JournalFile};
+use serve_notes::{About, Kind, Notes};
 use std::alloc::Global;
 use std::io::ErrorKind;
 use std::sync::Wait;
 use std::sync::atomic::{AtomicBool, Ordering};
 use std::time::{Clock, Duration, Instant};
 use std::{io, thread};
+use text_journal::Entry;
 
 /// The rest of the writing thread after a failed write, in milliseconds.
 const STUCK_REST_MS: u64 = 500;
@@ -72,6 +73,11 @@ pub fn keep_journal<R: Wait + Clock, N: Notes, F: DurableFile + Drop>(
     unreachable!()
 }
 
+// The time of the events of a write. They all have the same.
+fn time_of(entries: &[Entry]) -> Option<u64> {
+    entries.last()?.time_ms
+}
+
 impl<N: Notes> JournalWriter<'_, N> {
     // Writes the next events, and returns their count. After an error none of them counts as written.
     fn write_next<R: Wait + Clock, F: DurableFile + Drop>(
@@ -84,7 +90,8 @@ impl<N: Notes> JournalWriter<'_, N> {
             return Err(io::Error::from(ErrorKind::OutOfMemory));
         };
         if let Some(kept) = file.keep(self.alloc, self.line, &entries)? {
-            self.journal.reached(rt, kept, entries.len());
+            self.journal
+                .reached(rt, kept, entries.len(), time_of(&entries));
         }
         Ok(entries.len())
     }
@@ -103,7 +110,7 @@ impl<N: Notes> JournalWriter<'_, N> {
         if was_stuck {
             let name = self.name;
             self.notes.note(
-                Level::Info,
+                About::centre(Kind::JournalWritten, name),
                 format_args!("{name}: the journal is written again"),
             );
         }
@@ -115,7 +122,7 @@ impl<N: Notes> JournalWriter<'_, N> {
         if !was_stuck {
             let name = self.name;
             self.notes.note(
-                Level::Error,
+                About::centre(Kind::JournalStuck, name),
                 format_args!(
                     "{name}: the journal can't be written, and nothing more is answered until it can: {error}"
                 ),

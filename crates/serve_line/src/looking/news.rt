@@ -1,7 +1,10 @@
+use crate::journaling::Journal;
 use rbc_line::Line;
 use rbc_log::{CentreLog, Entry};
 use serve_control::world_event;
 use std::alloc::{AllocError, Global};
+use std::sync::Wait;
+use text_page::EventNow;
 use text_replay::rows_in_words;
 use text_script::print::{name_of, print_event, print_outcome};
 use text_script::status::Fault;
@@ -20,9 +23,28 @@ pub(crate) struct News {
     // Indexed by the centres' numbers: the number of log entries read so far.
     looked: Vec<usize>,
     // Copies of the notable entries since the last call of `tell`.
-    fresh: Vec<Entry>,
+    fresh: Vec<Fresh>,
     room: FrameRoom,
-    told: Vec<String>,
+    told: Vec<Told>,
+}
+
+// A copy of an entry.
+#[derive(Drop)]
+struct Fresh {
+    // Its place in the log of its centre.
+    place: usize,
+    entry: Entry,
+}
+
+// An event in words.
+#[derive(Drop)]
+struct Told {
+    centre: u8,
+    // Its place in the log of its centre.
+    place: usize,
+    // The time of its write to the journal, once it is known.
+    time_ms: Option<u64>,
+    words: String,
 }
 
 impl News {
@@ -53,32 +75,83 @@ impl News {
             return Ok(());
         };
         let mut copied = 0usize;
-        for entry in entries.iter().rev() {
+        for (i, entry) in entries.iter().enumerate().rev() {
             if copied < TOLD && is_news(line, entry) {
                 copied = copied.saturating_add(1);
                 self.room.reserve()?;
-                self.fresh.push(entry.copied(alloc, &mut self.room)?)?;
+                let entry = entry.copied(alloc, &mut self.room)?;
+                let place = from.saturating_add(i);
+                self.fresh.push(Fresh { place, entry })?;
             }
         }
         Ok(())
     }
 
-    /// Puts the copied events into words, and returns the last events, the newest first. No lock is held meanwhile.
-    pub fn tell(&mut self, alloc: Global, line: &Line) -> Result<Vec<String>, Fault<'static>> {
-        self.fresh.sort_by_key(|entry| entry.outcome.stamp)?;
+    /// Puts the copied events into words, and returns the last events, the newest first. Those that were put into words
+    /// now have no time yet. No lock is held meanwhile.
+    pub fn tell(&mut self, alloc: Global, line: &Line) -> Result<Vec<EventNow>, Fault<'static>> {
+        self.fresh.sort_by_key(|fresh| fresh.entry.outcome.stamp)?;
         let old = self.fresh.len().saturating_sub(TOLD);
-        for entry in self.fresh.iter().skip(old) {
+        for fresh in self.fresh.iter().skip(old) {
             if self.told.len() >= TOLD {
                 self.told.pop();
             }
-            self.told.insert(0, in_words(alloc, line, entry)?)?;
+            self.told.insert(0, Told::new(alloc, line, fresh)?)?;
         }
         self.fresh.clear();
         let mut last = Vec::new(alloc);
-        for words in self.told.iter() {
-            last.push(String::from_str(alloc, words.as_str())?)?;
+        for told in self.told.iter() {
+            last.push(told.event(alloc)?)?;
         }
         Ok(last)
+    }
+
+    /// Adds the times of writes to the result of the last `tell`, as far as the journals keep them. Returns whether a
+    /// time there has changed.
+    pub fn add_times<R: Wait>(
+        &mut self,
+        rt: &R,
+        journals: &[Journal],
+        last: &mut [EventNow],
+    ) -> bool {
+        let mut has_changed = false;
+        for (told, event) in self.told.iter_mut().zip(last.iter_mut()) {
+            told.find_time(rt, journals);
+            if event.time_ms != told.time_ms {
+                event.time_ms = told.time_ms;
+                has_changed = true;
+            }
+        }
+        has_changed
+    }
+}
+
+impl Told {
+    fn new(alloc: Global, line: &Line, fresh: &Fresh) -> Result<Told, Fault<'static>> {
+        Ok(Told {
+            centre: fresh.entry.centre,
+            place: fresh.place,
+            time_ms: None,
+            words: in_words(alloc, line, &fresh.entry)?,
+        })
+    }
+
+    // The event as the page shows it.
+    fn event(&self, alloc: Global) -> Result<EventNow, AllocError> {
+        Ok(EventNow {
+            time_ms: self.time_ms,
+            words: String::from_str(alloc, self.words.as_str())?,
+        })
+    }
+
+    // Reads the time of its write, if it is not known yet.
+    fn find_time<R: Wait>(&mut self, rt: &R, journals: &[Journal]) {
+        if self.time_ms.is_some() {
+            return;
+        }
+        if let Some(journal) = journals.get(self.centre as usize) {
+            self.time_ms = journal.time_of(rt, self.place);
+        }
     }
 }
 

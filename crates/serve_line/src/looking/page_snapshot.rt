@@ -1,3 +1,4 @@
+use crate::journaling::Journal;
 use crate::looking::news::News;
 use crate::looking::seen::see_centre;
 use crate::looking::sent::Sent;
@@ -85,6 +86,12 @@ impl PageSnapshot {
             place.silent = *counts;
         }
         has_changed
+    }
+
+    /// Adds the times of the last events, as the journals have them, and returns whether one has changed. The view is
+    /// that of the last look.
+    pub fn add_times<R: Wait>(&mut self, rt: &R, journals: &[Journal]) -> bool {
+        self.news.add_times(rt, journals, &mut self.now.last)
     }
 }
 

@@ -1,6 +1,6 @@
 ghost use Rattle.std.specs.Prelude.{◌≡◌, All, IfOk};
 
-use crate::journaling::Journal;
+use crate::journaling::{Journal, WriteTimes};
 use crate::state::endpoints::{Listening, ListeningAt};
 use crate::state::limits::{CONTROLS, SPARE};
 use crate::state::options::ServeOptions;
@@ -188,21 +188,28 @@ pub fn connections_of<'a>(
     Ok(connections)
 }
 
-/// For each centre its journal. It begins after the events that the node has.
+/// For each centre its journal. It begins after the events that the node has. The times are those of the last of these,
+/// by the centres' numbers.
 pub fn journals_of<R: Wait>(
     rt: &R,
     alloc: Global,
     nodes: &[Node],
+    mut times: Vec<WriteTimes>,
 ) -> Result<Vec<Journal>, AllocError> {
     let mut journals = Vec::with_capacity(alloc, nodes.len())?;
+    times.reverse();
     for node in nodes {
+        let times = match times.pop() {
+            Some(times) => times,
+            None => WriteTimes::new(alloc),
+        };
         let look = node.look(rt);
         let entries = look.log().entries();
         let stamp = match entries.last() {
             Some(entry) => entry.outcome.stamp,
             None => 0,
         };
-        journals.push(Journal::new(entries.len(), stamp))?;
+        journals.push(Journal::new(entries.len(), stamp, times))?;
     }
     Ok(journals)
 }

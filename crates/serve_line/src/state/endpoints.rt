@@ -1,9 +1,9 @@
 use crate::state::control_socket::listen_at_path;
 use crate::state::streams::bound_accept;
-use crate::status::{Level, Notes};
 use crate::true_places::TruePlaces;
 use rbc_line::Line;
 use serve_control::ServeFault;
+use serve_notes::{About, Kind, Notes};
 use std::alloc::Global;
 use std::io;
 use std::io::ErrorKind;
@@ -79,7 +79,8 @@ impl Endpoints {
         for centre in 0..line.centre_count() {
             let name = name_of(line, centre);
             let port = port_of(first.port(), centre);
-            ports.push(listen_noted(rt, name, (first.ip(), port), notes)?)?;
+            let about = About::centre(Kind::Refused, name);
+            ports.push(listen_noted(rt, about, name, (first.ip(), port), notes)?)?;
         }
         Ok(Endpoints {
             ports,
@@ -97,8 +98,8 @@ impl Endpoints {
         notes: &N,
     ) -> Result<Endpoints, ServeFault> {
         let port = port_of(first, line.centre_count());
-        self.ports
-            .push(listen_noted(rt, "control", (LOCALHOST, port), notes)?)?;
+        let about = About::of(Kind::Refused);
+        self.ports.push(listen_noted(rt, about, "control", (LOCALHOST, port), notes)?)?;
         Ok(self)
     }
 
@@ -121,7 +122,7 @@ impl Endpoints {
             }),
             Err(fault) => {
                 notes.note(
-                    Level::Error,
+                    About::of(Kind::Refused),
                     format_args!("control: {path} can't be listened on: {fault}"),
                 );
                 Err(ServeFault::Socket)
@@ -137,7 +138,7 @@ impl Endpoints {
         notes: &N,
     ) -> Result<Endpoints, ServeFault> {
         let place = (address.ip(), u32::from(address.port()));
-        let listening = listen_noted(rt, "page", place, notes)?;
+        let listening = listen_noted(rt, About::of(Kind::Refused), "page", place, notes)?;
         Ok(Endpoints {
             page: Some(PagePort {
                 listening,
@@ -180,20 +181,24 @@ fn port_of(first: u16, number: u8) -> u32 {
     }
 }
 
-// Listens at a port of an address. If that fails, a note of this name reports it.
+// Listens at a port of an address. If that fails, a note with this subject reports it, by this name.
 fn listen_noted<R: Net<Stream = TcpStream, Listener = TcpListener>, N: Notes>(
     rt: &R,
+    about: About<'_>,
     name: &str,
     (ip, port): (IpAddr, u32),
     notes: &N,
 ) -> Result<Listening, ServeFault> {
-    listen_at(rt, ip, port).map_err(|error| {
-        notes.note(
-            Level::Error,
-            format_args!("{name}: port {port} can't be listened on: {error}"),
-        );
-        ServeFault::Socket
-    })
+    match listen_at(rt, ip, port) {
+        Ok(listening) => Ok(listening),
+        Err(error) => {
+            notes.note(
+                about,
+                format_args!("{name}: port {port} can't be listened on: {error}"),
+            );
+            Err(ServeFault::Socket)
+        }
+    }
 }
 
 fn listen_at<R: Net<Stream = TcpStream, Listener = TcpListener>>(

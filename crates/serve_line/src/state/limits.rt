@@ -16,6 +16,9 @@ pub(crate) const BURST: u32 = 100;
 /// The most bytes of unsolicited lines that wait for one connection of the interlocking. At more, the connection ends.
 pub(crate) const MOST_TOLD: usize = 65_536;
 
+/// The longest rest between two looks at the centres' logs for the notes, in seconds.
+pub(crate) const LOG_REST_S: u64 = 1;
+
 /// The longest wait of an endpoint for a connection before it looks whether the centres still run, in milliseconds. It
 /// is also the longest rest of an endpoint that waits for a free slot.
 pub const ENDPOINT_REST_MS: u64 = 20;

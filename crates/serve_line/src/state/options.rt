@@ -1,5 +1,5 @@
 use crate::state::limits::{BURST, PER_SECOND};
-use crate::status::NoteForm;
+use serve_notes::NoteForm;
 use serve_workers::reading::Rate;
 
 /// The options of running centres, apart from their ports.
@@ -32,7 +32,7 @@ impl Default for ServeOptions {
             shows_life: false,
             is_bound: false,
             prints_events: true,
-            note_form: NoteForm::Timed,
+            note_form: NoteForm::TEXT,
         }
     }
 }

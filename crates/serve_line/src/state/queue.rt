@@ -1,4 +1,4 @@
-use crate::status::{Level, Notes};
+use serve_notes::{About, Kind, Notes};
 use std::sync::atomic::{AtomicBool, AtomicU64, Ordering};
 use std::time::{Clock, Duration, Instant};
 
@@ -78,7 +78,7 @@ impl Watch {
         let is_long = now.duration_since(since) >= Duration::from_secs(LONG_S);
         if is_long && !queue.is_long.swap(true, Ordering::SeqCst) {
             notes.note(
-                Level::Warning,
+                About::centre(Kind::JournalSlow, name),
                 format_args!("{name}: an event has waited for the journal for {LONG_S} s"),
             );
         }

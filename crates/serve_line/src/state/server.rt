@@ -1,4 +1,5 @@
 use crate::journaling::Journal;
+use crate::state::limits::LOG_REST_S;
 use crate::state::options::ServeOptions;
 use crate::state::sink::CentreSink;
 use crate::state::slots::Endpoint;
@@ -6,12 +7,14 @@ use crate::status::MentionOrder;
 use rbc_line::Line;
 use rbc_node::{Node, Open, Share};
 use serve_journal::{Kept, Opened, Sealed};
+use serve_notes::{About, Kind};
 use serve_workers::writing::Release;
 use serve_workers::{Committer, LinkEnds};
 use std::alloc::Global;
 use std::sync::atomic::{AtomicBool, AtomicU64, Ordering};
 use std::sync::{Mutex, Wait};
 use std::thread::Parker;
+use std::time::Duration;
 use text_script::print::name_of;
 
 /// The kind of peer at an endpoint.
@@ -51,6 +54,8 @@ pub struct State {
     pub is_over: AtomicBool,
     /// No worker is left: nothing more is committed.
     pub is_done: AtomicBool,
+    /// Rung when nothing more is committed.
+    done_waker: Parker,
     /// A journal was given up: it lacks the last committed events.
     has_lost: AtomicBool,
     /// Memory ran out, or a thread could not be made.
@@ -69,6 +74,7 @@ impl State {
             heard: AtomicU64::new(0),
             is_over: AtomicBool::new(false),
             is_done: AtomicBool::new(false),
+            done_waker: Parker::new(),
             has_lost: AtomicBool::new(false),
             has_failed: AtomicBool::new(false),
             is_short_of_files: AtomicBool::new(false),
@@ -104,6 +110,17 @@ impl State {
     /// Nothing new arrives from now on.
     pub fn end(&self) {
         self.is_over.store(true, Ordering::SeqCst);
+    }
+
+    /// Whether nothing more is committed.
+    pub fn is_done(&self) -> bool {
+        self.is_done.load(Ordering::SeqCst)
+    }
+
+    /// Rests for a second, or until nothing more is committed.
+    pub fn rest_until_done<R: Wait>(&self, rt: &R) {
+        self.done_waker
+            .park_timeout(rt, Duration::from_secs(LOG_REST_S));
     }
 
     /// Notes whether the control endpoint can take no connection, since the system gives no file.
@@ -211,6 +228,7 @@ impl Server<'_> {
     /// Nothing more is committed. The remaining events are written to the journals.
     pub fn finish(&self) {
         self.state.is_done.store(true, Ordering::SeqCst);
+        self.state.done_waker.unpark();
         for journal in self.journals {
             journal.ring();
         }
@@ -245,6 +263,14 @@ impl Server<'_> {
         match peer {
             Peer::Trains(centre) => name_of(self.line, centre),
             Peer::Interlocking => "control",
+        }
+    }
+
+    /// The subject of a note of this kind about an endpoint of this peer.
+    pub fn about(&self, kind: Kind, peer: Peer) -> About<'_> {
+        match peer {
+            Peer::Trains(centre) => About::centre(kind, name_of(self.line, centre)),
+            Peer::Interlocking => About::of(kind),
         }
     }
 

@@ -1,8 +1,7 @@
-use crate::status::kinds::Level;
-use crate::status::notes::Notes;
 use rbc_line::Line;
 use rbc_log::{CentreLog, MOST_ENTRIES};
 use rbc_node::Node;
+use serve_notes::{About, Kind, Notes};
 use std::io::Write;
 use std::sync::Wait;
 use text_page::{End, Limits};
@@ -123,7 +122,7 @@ impl Gauge {
         if mark > self.noted {
             self.noted = mark;
             notes.note(
-                Level::Warning,
+                About::centre(Kind::Usage, name),
                 format_args!("{name}: {used} of {most} of its {thing} are used"),
             );
         }

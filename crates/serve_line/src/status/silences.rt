@@ -1,5 +1,5 @@
 ghost use Rattle.std.specs.Prelude.{◌≡◌, count_by, drop, take};
-ghost use Rattle.serve_line.specs.Notes.{is_silent_for};
+ghost use Rattle.serve_line.specs.Silences.{is_silent_for};
 
 use rbc_log::{CentreLog, Entry, MOST_ENTRIES};
 use rbc_node::Node;

@@ -2,8 +2,8 @@
 
 use std::alloc::{AllocError, Global};
 use text_page::{
-    CentreNow, Layout, Limits, LineNow, LinkNow, MissionNow, Phase, Place, Run, SectionNow,
-    SessionNow, TruePlace, Usage,
+    CentreNow, EventNow, Layout, Limits, LineNow, LinkNow, MissionNow, Phase, Place, Run,
+    SectionNow, SessionNow, TruePlace, Usage,
 };
 
 // Its sections: two of 100 m with home A, and two with home B.
@@ -161,6 +161,11 @@ fn fill(alloc: Global, now: &mut LineNow) -> Result<(), AllocError> {
     now.centres.extend_from_slice(&CENTRES)?;
     now.links.extend_from_slice(&LINKS)?;
     now.true_places.extend_from_slice(&TRUE_PLACES)?;
-    now.last = names(alloc, &LAST)?;
+    for words in &LAST {
+        now.last.push(EventNow {
+            time_ms: None,
+            words: String::from_str(alloc, words)?,
+        })?;
+    }
     Ok(())
 }

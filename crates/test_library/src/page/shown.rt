@@ -16,6 +16,8 @@ enum State {
     Usual,
     /// The same, without a true place.
     CentresAlone,
+    /// The same, and the time of the last event is known.
+    Timed,
     /// Both journals are written, both centres are at this end or at none, and stopped or not.
     Written(Option<End>, bool),
 }
@@ -36,7 +38,7 @@ type Row<'a> = (State, Request<'a>, &'a [Want<'a>]);
 // The version of the shown line.
 const VERSION: u64 = 512;
 
-static ROWS: [Row<'_>; 22] = [
+static ROWS: [Row<'_>; 24] = [
     (
         State::Usual,
         Request::Of(Asked::Now { since: None }),
@@ -68,6 +70,21 @@ static ROWS: [Row<'_>; 22] = [
         State::CentresAlone,
         Request::Of(Asked::Now { since: None }),
         &[Want::Has("\"links\""), Want::Lacks("true_places")],
+    ),
+    (
+        State::Timed,
+        Request::Of(Asked::Now { since: None }),
+        &[Want::Has(
+            "\"last\":[[\"event\",\"time\"],[\"4 · \\u003cb> A B \\u003c/b> & more\",\"2026-11-29T08:00:01.250Z\"]]",
+        )],
+    ),
+    (
+        State::Timed,
+        Request::Of(Asked::Page),
+        &[
+            Want::Has("<tr><th scope='col'>Event<th scope='col'>Time in UTC\n"),
+            Want::Has("&lt;/b&gt; &amp; more<td>2026-11-29T08:00:01.250Z\n"),
+        ],
     ),
     (
         State::Usual,
@@ -240,6 +257,11 @@ fn line_in(alloc: Global, state: State) -> Result<LineNow, AllocError> {
     match state {
         State::Usual => {}
         State::CentresAlone => now.true_places.clear(),
+        State::Timed => {
+            for event in now.last.iter_mut() {
+                event.time_ms = Some(1_795_939_201_250);
+            }
+        }
         State::Written(end, is_stopped) => {
             now.is_stopped = is_stopped;
             for centre in now.centres.iter_mut() {
