@@ -3,4 +3,5 @@ pub mod Apart
 pub mod Inboxes
 pub mod Lines
 pub mod Obedience
+pub mod Radios
 pub mod Steps

@@ -1,5 +1,8 @@
 //! Runs trains over running centres.
 
+ghost use Rattle.std.specs.Prelude.{◌≡◌, false, IsErrOf, not, Ok, OnOk, true, unwrap_or};
+ghost use Rattle.text_script.specs.declared.status.fault.Fault.TheVariants.{Differs};
+
 use cli_commands::disk::Disk;
 use cli_commands::line_file::{LineFile, line_file_in};
 use cli_commands::words::TrainsWords;
@@ -40,7 +43,15 @@ pub fn run_on<R: Net<Stream = TcpStream> + Clock + AllocGlobal, P: Observer, O: 
     observer: &P,
     out: &mut O,
 ) -> Result<(), Fault<'static>> {
-    match run(rt, &given.line, settings, observer, out) {
+    result_of(run(rt, &given.line, settings, observer, out))
+}
+
+// The result of the command, by that of the trains: whether no two of them were on one section.
+fn result_of(done: Result<bool, TrainsFault>) -> Result<(), Fault<'static>>
+    ensures ok { OnOk result (done ≡ Ok true) }
+    ensures differs { done ≡ Ok false → IsErrOf result Differs }
+{
+    match done {
         Ok(true) => Ok(()),
         Ok(false) => Err(Fault::Differs),
         Err(TrainsFault::Memory) => Err(AllocError.into()),
@@ -50,7 +61,12 @@ pub fn run_on<R: Net<Stream = TcpStream> + Clock + AllocGlobal, P: Observer, O: 
 }
 
 /// The settings of the arguments. A second of the trains takes this many milliseconds.
-pub fn settings_of(port: u16, words: &TrainsWords, second_ms: u64) -> Settings {
+pub fn settings_of(port: u16, words: &TrainsWords, second_ms: u64) -> Settings
+    ensures trains { result.trains ≡ unwrap_or words.now.trains 64 }
+    ensures loss { result.loss ≡ unwrap_or words.now.loss 0 }
+    ensures late { result.late ≡ unwrap_or words.now.late 0 }
+    ensures release { result.is_releasing ≡ not words.now.is_shut }
+{
     Settings {
         port,
         trains: words.trains.unwrap_or(64),

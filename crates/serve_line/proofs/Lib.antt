@@ -1,1 +1,2 @@
 pub mod JournalingLemmas
+pub mod RoomLemmas

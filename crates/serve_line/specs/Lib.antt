@@ -1,4 +1,13 @@
+pub mod Admissions
 pub mod Facts
+pub mod Grace
 pub mod Journaling
+pub mod Meanings
+pub mod Rooms
+pub mod Rows
 pub mod Silences
 pub mod Snapshots
+pub mod Stamps
+pub mod Usage
+pub mod Watches
+pub mod WriterSteps

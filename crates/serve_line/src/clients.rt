@@ -3,15 +3,19 @@
 //!
 //! Bodies are free. docs/FORMATS.md fixes the bytes of each connection.
 
+mod admission;
 mod answer;
 mod binding;
 mod control;
 mod cutter;
 mod endpoint_loop;
 mod entrance;
+mod grace;
 mod limits;
+mod meaning;
 mod noted;
 mod paced;
+mod protocol;
 mod rate_limit;
 mod rows;
 mod sending;

@@ -2,6 +2,7 @@ use crate::browsers::{PageEndpoint, Seen};
 use crate::clients::is_idle;
 use crate::counting::mark_counts;
 use crate::looking::PageSnapshot;
+use crate::moments::milliseconds_of;
 use crate::state::{Endpoint, Peer, Server};
 use serve_notes::{About, Kind, Notes};
 use serve_page::{Asked, LineNow, Refusal, answer, answer_metrics, asked_of, refusal};
@@ -192,7 +193,7 @@ fn refresh<R: Wait + Clock>(
         return Ok(());
     };
     if let Some(at) = seen.at {
-        if time.duration_since(at) < Duration::from_millis(FRESH_MS) {
+        if milliseconds_of(time.duration_since(at)) < FRESH_MS {
             return Ok(());
         }
     }

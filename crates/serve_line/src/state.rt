@@ -6,14 +6,17 @@
 mod build;
 mod control_socket;
 mod endpoints;
+mod hosts;
 mod limits;
 mod options;
 mod paces;
 mod queue;
+mod room;
 mod server;
 mod sink;
 mod slots;
 mod streams;
+mod watch;
 
 pub use build::{
     connections_of, endpoints_of, journals_of, links_of, nodes_of, sinks_of, wakers_of,
@@ -24,6 +27,7 @@ pub use limits::ENDPOINT_REST_MS;
 pub use options::ServeOptions;
 pub use paces::Paces;
 pub use queue::{Queue, Watch};
+pub(crate) use room::{Room, SlotState, room_for};
 pub use server::{DirectedLink, Peer, Server, State};
 pub use sink::CentreSink;
 pub use slots::{Endpoint, Slot};

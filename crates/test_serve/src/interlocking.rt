@@ -4,7 +4,7 @@ use crate::line::{INITIATION_OF_ONE, VERSION};
 use crate::play::Act;
 use crate::plays::{OPENED_FIRST, Play, Seen, ServeMode};
 
-pub static PLAYS: [Play<'_>; 3] = [
+pub static PLAYS: [Play<'_>; 4] = [
     // Lines of the control endpoint with their answers, and the end of it.
     Play {
         name: "each_line_is_answered_as_a_run_prints_it",
@@ -35,6 +35,26 @@ pub static PLAYS: [Play<'_>; 3] = [
         status: 0,
         seen: &[Seen::Prints(
             "> set A 1\nA 1 Done\n> set A 2\nA 2 NotHome\n> unset A 1\nA 1 Done\nsection 0 A shut\nsection 1 A shut\nsection 2 B shut\n",
+        )],
+    },
+    // A request of a browser ends its connection, and the lines after it are not commands.
+    Play {
+        name: "a_request_of_a_browser_ends_its_connection",
+        mode: ServeMode::Usual,
+        journals: None,
+        rounds: &[(
+            1,
+            &[
+                (0, Act::Control),
+                (0, Act::Asks("POST / HTTP/1.1\nset A 1\n", "")),
+                (0, Act::Ends),
+                (1, Act::Control),
+                (1, Act::Asks("set A 0\n", "> set A 0\nA 0 Done\n")),
+            ],
+        )],
+        status: 0,
+        seen: &[Seen::Prints(
+            "> set A 0\nA 0 Done\nsection 0 A open\nsection 1 A shut\nsection 2 B shut\n",
         )],
     },
     // A train holds its connection, and `stop now` ends it.

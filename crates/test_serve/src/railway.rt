@@ -48,10 +48,20 @@ pub fn served<R: Threads + Wait + Sync + Net<Stream = TcpStream, Listener = TcpL
 
 fn addresses_of(endpoints: &Endpoints) -> Done<Addresses> {
     Ok(Addresses {
-        centre: endpoints.address(0).ok_or(Missed::Endpoint)?,
-        second: endpoints.address(1).ok_or(Missed::Endpoint)?,
-        control: endpoints.address(CONTROL).ok_or(Missed::Endpoint)?,
+        centre: address_of(endpoints, 0)?,
+        second: address_of(endpoints, 1)?,
+        control: address_of(endpoints, CONTROL)?,
     })
+}
+
+// The address of an endpoint. Only this host can connect to it.
+fn address_of(endpoints: &Endpoints, number: usize) -> Done<SocketAddr> {
+    let address = endpoints.address(number).ok_or(Missed::Endpoint)?;
+    if address.ip().is_loopback() {
+        Ok(address)
+    } else {
+        Err(Missed::Endpoint)
+    }
 }
 
 fn played<R: Threads + Sync + Net<Stream = TcpStream, Listener = TcpListener> + Clock>(

@@ -1,10 +1,12 @@
 use crate::clients::control::serve_control;
 use crate::clients::entrance::{Entrance, accept, rest, rest_after};
+use crate::clients::grace::{Grace, grace_of};
 use crate::clients::limits::{GRACE_RESTS, LEAVING_RESTS, NEXT_RESTS};
 use crate::clients::sessions::serve_train;
-use crate::state::{Endpoint, Peer, PeerStream, Server, Slot, Watch};
+use crate::state::{Endpoint, Peer, PeerStream, Room, Server, Slot, SlotState, Watch, room_for};
 use crate::status::Life;
 use serve_notes::{Kind, Notes};
+use std::alloc::AllocError;
 use std::sync::Wait;
 use std::sync::atomic::Ordering;
 use std::thread;
@@ -170,58 +172,49 @@ fn next_peer<'a, R: Wait, N: Notes>(
 // A slot for a new connection. If all are taken, another connection has to leave its slot. At a centre, this is the
 // earliest connection that serves no train. At the control endpoint, it is the least recently active one. If that
 // connection does not leave, as when it waits for the disk, the next one of the interlocking has to. If none leaves,
-// the reserve slot is taken.
+// the reserve slot is taken. `None` also if memory runs out.
 fn slot_for<'a, R: Wait>(rt: &R, server: &Server<'_>, endpoint: &'a Endpoint) -> Option<&'a Slot> {
     let each = match endpoint.peer {
         Peer::Trains(_) => LEAVING_RESTS,
         Peer::Interlocking => NEXT_RESTS,
     };
-    for turn in 0..LEAVING_RESTS {
-        if let Some(slot) = endpoint.free_slot(rt) {
-            return Some(slot);
-        }
-        if turn % each == 0 {
-            match dispensable(rt, server, endpoint) {
-                Some(slot) => slot.shut(rt),
-                None if !endpoint.is_awaiting_leave() => break,
-                None => {}
-            }
+    for turn in 0..=LEAVING_RESTS {
+        let slots = states_of(rt, server, endpoint).ok()?;
+        match room_for(&slots, turn % each == 0, turn == LEAVING_RESTS) {
+            Room::Take(place) | Room::Reserve(place) => return endpoint.take(rt, place),
+            Room::Leave(place) => endpoint.shut(rt, place),
+            Room::Wait => {}
+            Room::Full => break,
         }
         rest(rt, endpoint);
     }
-    match endpoint.free_slot(rt) {
-        Some(slot) => Some(slot),
-        None => endpoint.reserve_slot(rt),
-    }
+    None
 }
 
-// The slot whose connection has to leave for a new one.
-fn dispensable<'a, R: Wait>(
+// The states of an endpoint's slots now.
+fn states_of<R: Wait>(
     rt: &R,
     server: &Server<'_>,
-    endpoint: &'a Endpoint,
-) -> Option<&'a Slot> {
-    let mut oldest = None;
+    endpoint: &Endpoint,
+) -> Result<Vec<SlotState>, AllocError> {
+    let mut states = Vec::with_capacity(server.alloc, endpoint.slots.len())?;
     for slot in &endpoint.slots {
-        let is_kept = slot.is_reserve || slot.is_leaving();
-        if !is_kept && !server.is_serving(rt, endpoint.peer, slot.number) {
-            oldest = Some(Endpoint::older(oldest, slot));
-        }
+        let is_serving = server.is_serving(rt, endpoint.peer, slot.number);
+        states.push(slot.state(is_serving))?;
     }
-    oldest
+    Ok(states)
 }
 
 // After `stop`, trains have about 30 seconds to end their connections, and after `stop now` no time. Then the remaining
 // connections are ended.
 fn end_trains<R: Wait, N: Notes>(rt: &R, server: &Server<'_>, notes: &N, endpoint: &Endpoint) {
-    for _ in 0..GRACE_RESTS {
-        if endpoint.is_empty() {
-            return;
+    for rests in 0..=GRACE_RESTS {
+        let (is_empty, is_hasty) = (endpoint.is_empty(), server.state.is_hasty());
+        match grace_of(rests, GRACE_RESTS, is_empty, is_hasty) {
+            Grace::Over => return,
+            Grace::Wait => rest(rt, endpoint),
+            Grace::Cut => break,
         }
-        if server.state.is_hasty() {
-            break;
-        }
-        rest(rt, endpoint);
     }
     let name = server.name(endpoint.peer);
     notes.note(
@@ -241,11 +234,12 @@ fn end_controls<R: Wait>(rt: &R, server: &Server<'_>, endpoint: &Endpoint) {
         }
         rest(rt, endpoint);
     }
-    for _ in 0..LEAVING_RESTS {
-        if endpoint.is_empty() {
-            return;
+    for rests in 0..=LEAVING_RESTS {
+        match grace_of(rests, LEAVING_RESTS, endpoint.is_empty(), false) {
+            Grace::Over => return,
+            Grace::Wait => rest(rt, endpoint),
+            Grace::Cut => break,
         }
-        rest(rt, endpoint);
     }
     for slot in &endpoint.slots {
         slot.shut(rt);

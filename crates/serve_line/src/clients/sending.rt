@@ -1,8 +1,9 @@
 use crate::clients::limits::PATIENCE_S;
+use crate::moments::seconds_between;
 use crate::state::PeerStream;
 use serve_journal::Opened;
 use std::io::{ErrorKind, Write};
-use std::time::{Clock, Duration, Instant};
+use std::time::{Clock, Instant};
 
 /// How much of an answer was sent.
 #[derive(Clone, Copy, PartialEq, Eq)]
@@ -49,7 +50,7 @@ fn write_some<'a>(stream: &PeerStream, text: &'a [u8]) -> Option<&'a [u8]> {
 // Whether an answer that began at this time takes too long, or the clock fails.
 fn is_late<R: Clock>(rt: &R, begun: Instant) -> bool {
     match Instant::now(rt) {
-        Ok(now) => now.duration_since(begun) >= Duration::from_secs(PATIENCE_S),
+        Ok(now) => seconds_between(begun, now) >= PATIENCE_S,
         Err(_) => true,
     }
 }

@@ -1,5 +1,11 @@
+ghost use Rattle.std.specs.Prelude.{◌≡◌, IfOk, OnErr};
+ghost use Rattle.rbc_node.specs.Node.{centre_of};
+ghost use Rattle.serve_line.specs.Journaling.Keeping.{Writes};
+
 use crate::journaling::batch::next_entries;
 use crate::journaling::journal::Journal;
+use crate::journaling::writer_steps::{WriterStep, step_after};
+use crate::moments::seconds_between;
 use rbc_line::Line;
 use rbc_node::Node;
 use serve_journal::{DurableFile, JournalFile};
@@ -47,26 +53,28 @@ pub fn keep_journal<R: Wait + Clock, N: Notes, F: DurableFile + Drop>(
     for _ in rt.forever() {
         let is_over = writer.is_over.load(Ordering::SeqCst);
         taken_at = taken_at.or(Instant::now(rt).ok());
-        match writer.write_next(rt, file, written) {
-            Ok(0) if is_over => return true,
-            Ok(0) => {
+        let count = match writer.write_next(rt, file, written) {
+            Ok(count) => Some(count),
+            Err(error) => {
+                writer.note_stuck(rt, is_stuck, &error);
+                is_stuck = true;
+                None
+            }
+        };
+        match step_after(count, is_over, writer.is_stopped.load(Ordering::SeqCst)) {
+            WriterStep::Done => return true,
+            WriterStep::GiveUp => return false,
+            WriterStep::Retry => thread::sleep(rt, Duration::from_millis(STUCK_REST_MS)),
+            WriterStep::Rest => {
                 writer.journal.rest(rt);
                 taken_at = None;
             }
-            Ok(count) => {
+            WriterStep::Go(count) => {
                 written = written.saturating_add(count);
                 writer.count_late(rt, taken_at, count);
                 writer.note_written(is_stuck);
                 is_stuck = false;
                 taken_at = None;
-            }
-            Err(error) => {
-                writer.note_stuck(rt, is_stuck, &error);
-                is_stuck = true;
-                if writer.is_stopped.load(Ordering::SeqCst) {
-                    return false;
-                }
-                thread::sleep(rt, Duration::from_millis(STUCK_REST_MS));
             }
         }
     }
@@ -85,11 +93,16 @@ impl<N: Notes> JournalWriter<'_, N> {
         rt: &R,
         file: &mut JournalFile<F>,
         written: usize,
-    ) -> io::Result<usize> {
+    ) -> io::Result<usize>
+        ensures ok { IfOk result
+            (λ count. Writes self.now.line.now (centre_of self.now.node.now) written count file.old file.new) }
+        ensures err { OnErr result (file.new ≡ file.old) }
+    {
         let Ok(entries) = next_entries(rt, self.alloc, self.node, written) else {
             return Err(io::Error::from(ErrorKind::OutOfMemory));
         };
-        if let Some(kept) = file.keep(self.alloc, self.line, &entries)? {
+        let kept = file.keep(self.alloc, self.line, &entries)?;
+        if let Some(kept) = kept {
             self.journal
                 .reached(rt, kept, entries.len(), time_of(&entries));
         }
@@ -101,7 +114,7 @@ impl<N: Notes> JournalWriter<'_, N> {
         let (Some(taken_at), Ok(now)) = (taken_at, Instant::now(rt)) else {
             return;
         };
-        if now.duration_since(taken_at) >= Duration::from_secs(LATE_S) {
+        if seconds_between(taken_at, now) >= LATE_S {
             self.journal.add_late(count);
         }
     }

@@ -7,9 +7,10 @@ use rbc_line::Line;
 use rbc_node::Node;
 use std::alloc::{AllocError, Global};
 use std::sync::Wait;
-use text_page::{CentreCounts, CentreNow, Layout, LineCounts, LineNow, LinkNow, SectionNow, Usage};
-use text_replay::{layout_of, section_now};
+use text_page::{CentreCounts, CentreNow, Layout, LineCounts, LineNow, LinkNow};
+use text_replay::layout_of;
 use text_script::status::Fault;
+use text_script::{Mark, SectionView};
 
 /// The line as the page shows it.
 #[derive(Drop)]
@@ -109,7 +110,7 @@ fn copy_marks(before: &mut LineNow, now: &mut LineNow) {
 // Shows each section as the centres show it.
 fn see_sections(line: &Line, snapshot: &Snapshot, now: &mut LineNow) {
     for (place, s) in now.sections.iter_mut().zip(0..line.section_count()) {
-        *place = section_now(snapshot.section(line, s));
+        *place = snapshot.section(line, s);
     }
 }
 
@@ -137,8 +138,8 @@ fn no_counts(alloc: Global, line: &Line) -> Result<LineCounts, AllocError> {
     })
 }
 
-const UNSEEN: SectionNow = SectionNow {
-    usage: Usage::Shut,
+const UNSEEN: SectionView = SectionView {
+    mark: Mark::Shut,
     is_wished: false,
 };
 

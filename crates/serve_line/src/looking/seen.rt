@@ -1,11 +1,12 @@
 //! The view of one centre.
 
+use crate::stamps::last_stamp;
 use crate::status::end_of;
 use rbc_line::Line;
 use rbc_log::CentreLog;
 use std::alloc::AllocError;
-use text_page::{LineNow, SessionNow};
-use text_replay::{mission_now, phase_now};
+use text_page::LineNow;
+use text_replay::{mission_now, session_now};
 use text_script::{Centre, TrainPage};
 
 /// Adds a centre's trains, its links, and its usage.
@@ -32,10 +33,7 @@ fn see_life(log: &CentreLog, now: &mut LineNow) {
     now.events = now.events.saturating_add(entries);
     if let Some(place) = now.centres.get_mut(log.number() as usize) {
         place.entries = entries;
-        place.clock = match log.entries().last() {
-            Some(entry) => entry.outcome.stamp,
-            None => 0,
-        };
+        place.clock = last_stamp(log.entries());
         place.end = end_of(log);
     }
 }
@@ -66,13 +64,8 @@ fn see_session(
     page: &TrainPage,
     now: &mut LineNow,
 ) -> Result<(), AllocError> {
-    let Some(phase) = phase_now(page.phase, page.waiting.is_some()) else {
-        return Ok(());
-    };
-    now.sessions.push(SessionNow {
-        nid_engine,
-        centre,
-        phase,
-    })?;
+    if let Some(session) = session_now(nid_engine, centre, page.phase, page.waiting.is_some()) {
+        now.sessions.push(session)?;
+    }
     Ok(())
 }

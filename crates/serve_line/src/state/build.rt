@@ -1,6 +1,9 @@
+ghost use Rattle.std.specs.List.{AllZip};
 ghost use Rattle.std.specs.Prelude.{◌≡◌, All, IfOk};
+ghost use Rattle.serve_line.specs.Journaling.Beginning.{BeginsAfter};
 
 use crate::journaling::{Journal, WriteTimes};
+use crate::stamps::last_stamp;
 use crate::state::endpoints::{Listening, ListeningAt};
 use crate::state::limits::{CONTROLS, SPARE};
 use crate::state::options::ServeOptions;
@@ -195,7 +198,9 @@ pub fn journals_of<R: Wait>(
     alloc: Global,
     nodes: &[Node],
     mut times: Vec<WriteTimes>,
-) -> Result<Vec<Journal>, AllocError> {
+) -> Result<Vec<Journal>, AllocError>
+    ensures { IfOk result (λ journals. AllZip BeginsAfter nodes.now journals.items) }
+{
     let mut journals = Vec::with_capacity(alloc, nodes.len())?;
     times.reverse();
     for node in nodes {
@@ -203,15 +208,18 @@ pub fn journals_of<R: Wait>(
             Some(times) => times,
             None => WriteTimes::new(alloc),
         };
-        let look = node.look(rt);
-        let entries = look.log().entries();
-        let stamp = match entries.last() {
-            Some(entry) => entry.outcome.stamp,
-            None => 0,
-        };
-        journals.push(Journal::new(entries.len(), stamp, times))?;
+        journals.push(journal_of(rt, node, times))?;
     }
     Ok(journals)
+}
+
+// The journal of the centre of a node. It begins after the events that the node has.
+fn journal_of<R: Wait>(rt: &R, node: &Node, times: WriteTimes) -> Journal
+    ensures { BeginsAfter node.now result }
+{
+    let look = node.look(rt);
+    let entries = look.log().entries();
+    Journal::new(entries.len(), last_stamp(entries), times)
 }
 
 /// For each centre the sink of its answers.

@@ -1,4 +1,5 @@
 use crate::state::control_socket::listen_at_path;
+use crate::state::hosts::{port_of, this_host};
 use crate::state::streams::bound_accept;
 use crate::true_places::TruePlaces;
 use rbc_line::Line;
@@ -7,7 +8,7 @@ use serve_notes::{About, Kind, Notes};
 use std::alloc::Global;
 use std::io;
 use std::io::ErrorKind;
-use std::net::{IpAddr, Ipv4Addr, Net, SocketAddr, TcpListener, TcpStream};
+use std::net::{IpAddr, Net, SocketAddr, TcpListener, TcpStream};
 use std::os::fd::OwnedFd;
 use std::os::unix::net::UnixListener;
 use std::rt::Files;
@@ -21,9 +22,6 @@ pub struct Endpoints {
     socket: Option<ListeningAt>,
     page: Option<PagePort>,
 }
-
-/// The address of this host that only this host can connect to.
-const LOCALHOST: IpAddr = IpAddr::V4(Ipv4Addr::LOCALHOST);
 
 /// A listening port.
 #[derive(Drop)]
@@ -61,7 +59,7 @@ impl Endpoints {
         first: u16,
         notes: &N,
     ) -> Result<Endpoints, ServeFault> {
-        let host = SocketAddr::new(LOCALHOST, first);
+        let host = SocketAddr::new(this_host(), first);
         let endpoints = Endpoints::open_centres(rt, alloc, line, host, notes)?;
         endpoints.and_control(rt, line, first, notes)
     }
@@ -99,7 +97,7 @@ impl Endpoints {
     ) -> Result<Endpoints, ServeFault> {
         let port = port_of(first, line.centre_count());
         let about = About::of(Kind::Refused);
-        self.ports.push(listen_noted(rt, about, "control", (LOCALHOST, port), notes)?)?;
+        self.ports.push(listen_noted(rt, about, "control", (this_host(), port), notes)?)?;
         Ok(self)
     }
 
@@ -170,14 +168,6 @@ impl Endpoints {
     /// After those the socket of the control endpoint and the port of the page, if there are any.
     pub fn all(self) -> (Vec<Listening>, Option<ListeningAt>, Option<PagePort>) {
         (self.ports, self.socket, self.page)
-    }
-}
-
-// The port of an endpoint: `first` + `number`, or 0 if the system picks each.
-fn port_of(first: u16, number: u8) -> u32 {
-    match first {
-        0 => 0,
-        _ => u32::from(first) + u32::from(number),
     }
 }
 

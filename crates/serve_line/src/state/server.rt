@@ -1,4 +1,5 @@
 use crate::journaling::Journal;
+use crate::stamps::last_stamp;
 use crate::state::limits::LOG_REST_S;
 use crate::state::options::ServeOptions;
 use crate::state::sink::CentreSink;
@@ -145,12 +146,8 @@ impl State {
 }
 
 // The stamp of the last event of a centre; 0 if it has none.
-fn last_stamp<R: Wait>(rt: &R, node: &Node) -> u32 {
-    let look = node.look(rt);
-    match look.log().entries().last() {
-        Some(entry) => entry.outcome.stamp,
-        None => 0,
-    }
+fn last_stamp_of<R: Wait>(rt: &R, node: &Node) -> u32 {
+    last_stamp(node.look(rt).log().entries())
 }
 
 /// The shared state of all workers of a running line.
@@ -210,7 +207,7 @@ impl Server<'_> {
     pub fn open_kept<R: Wait, T: Drop>(&self, rt: &R, answer: T) -> Option<Opened<T>> {
         let mut opened = Sealed::new(answer, 0).open(&Kept::no_event())?;
         for (node, sink) in self.nodes.iter().zip(self.sinks.iter()) {
-            let sealed = opened.sealed(sink.awaited(last_stamp(rt, node)));
+            let sealed = opened.sealed(sink.awaited(last_stamp_of(rt, node)));
             let kept = sink.comes_to(rt, sealed.stamp())?;
             opened = sealed.open(&kept)?;
         }

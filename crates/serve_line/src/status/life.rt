@@ -1,7 +1,9 @@
+use crate::stamps::last_stamp;
+use crate::status::gauge::Gauge;
 use rbc_line::Line;
 use rbc_log::{CentreLog, MOST_ENTRIES};
 use rbc_node::Node;
-use serve_notes::{About, Kind, Notes};
+use serve_notes::Notes;
 use std::io::Write;
 use std::sync::Wait;
 use text_page::{End, Limits};
@@ -43,11 +45,10 @@ pub struct Life {
 impl Life {
     /// Nothing was noted yet.
     pub fn new() -> Life {
-        let gauge = Gauge { noted: 0 };
         Life {
-            log: gauge,
-            clock: gauge,
-            link: gauge,
+            log: Gauge::new(),
+            clock: Gauge::new(),
+            link: Gauge::new(),
         }
     }
 
@@ -98,47 +99,10 @@ fn write_used(line: &Line, log: &CentreLog, text: &mut Vec<u8>) -> Result<(), Fa
 
 // The number of entries of a log, the stamp of the last, and the frames of the fullest link.
 fn used_of(log: &CentreLog, centres: u8) -> (u64, u64, u64) {
-    let stamp = match log.entries().last() {
-        Some(entry) => u64::from(entry.outcome.stamp),
-        None => 0,
-    };
+    let stamp = u64::from(last_stamp(log.entries()));
     let mut frames = 0;
     for to in 0..centres {
         frames = log.core().sent(to).max(frames);
     }
     (log.entries().len() as u64, stamp, u64::from(frames))
-}
-
-/// The last noted usage of a thing, in percent.
-#[derive(Clone, Copy)]
-struct Gauge {
-    noted: u64,
-}
-
-impl Gauge {
-    // Notes the usage when it first reaches 50, 90 or 99 percent.
-    fn tell<N: Notes>(&mut self, notes: &N, name: &str, thing: &str, used: u64, most: u64) {
-        let mark = mark_reached(used, most);
-        if mark > self.noted {
-            self.noted = mark;
-            notes.note(
-                About::centre(Kind::Usage, name),
-                format_args!("{name}: {used} of {most} of its {thing} are used"),
-            );
-        }
-    }
-}
-
-// The highest of 0, 50, 90 and 99 percent that the usage has reached.
-fn mark_reached(used: u64, most: u64) -> u64 {
-    let used = used.saturating_mul(100);
-    if used >= most.saturating_mul(99) {
-        99
-    } else if used >= most.saturating_mul(90) {
-        90
-    } else if used >= most.saturating_mul(50) {
-        50
-    } else {
-        0
-    }
 }
