@@ -1,6 +1,6 @@
 -- The events that works bring are those of the receipts of their slots.
-use Rattle.std.proofs.Common.{[], ◌++◌, ◌∙◌, ◌∷◌, ◌≡◌, All, ap, append_assoc, append-nil, List, map, Option, refl}
-use Rattle.std.proofs.Common.{subst, sym, ℕ}
+use Rattle.std.proofs.Common.{[], ◌++◌, ◌+◌, ◌-◌, ◌^◌, ◌∙◌, ◌∷◌, ◌≡◌, All, ap, append_assoc, append-nil, List, map}
+use Rattle.std.proofs.Common.{min, Option, refl, subst, sym, ℕ}
 use Rattle.std.proofs.lemmas.List.{map-append}
 use Rattle.std.proofs.lemmas.List.Elements.{All-cons, All-head, All-nil, All-tail}
 use Rattle.law_served.specs.Served.{AllBring, AreDone, Brings, CommitsEach, IsDone, IsInLog, IsSlot, LeavesNone, Obeys}
@@ -62,7 +62,8 @@ delivered_more : (known : ℕ → Option Frame) (c from n : ℕ) (old new : Shar
 delivered_more known c from n old new [] done = ap events_of done ∙ sym (append-nil (events_of old))
 delivered_more known c from n old new (f ∷ frames) done =
     one_first (events_of old) (events_of done.0) (events_of new) (map (λ g. Deliver from g) frames) (Deliver from f)
-    (one_more c old done.0 (Deliver from f) done.1 done.3) (delivered_more known c from _ done.0 new frames done.4)
+    (one_more c old done.0 (Deliver from f) done.1 done.3) (delivered_more known c from (min (n + 1) (2 ^ 32 - 1)) done.0 new
+    frames done.4)
 
 -- ## The works of a slot
 

@@ -79,7 +79,7 @@ receipt_at k (r ∷ receipts) some = elim (eqb_tells r.place k) [
       let count : count_by (λ p. p == k) (map (λ x. x.place) (r ∷ receipts))
           ≡ cond (r.place == k) 1 0 + count_by (λ p. p == k) (map (λ x. x.place) receipts) =
       sum_by-cons (λ q. cond (q == k) 1 0) r.place (map (λ x. x.place) receipts) in
-      let none : cond (r.place == k) 1 0 ≡ 0 = ap (λ b. cond b 1 0) is.0 in
+      let none : ◌≡◌ {A = ℕ} (cond (r.place == k) 1 0) 0 = ap (λ b. cond b 1 0) is.0 in
       let it = receipt_at k receipts (omega (arith, some, count, none)) in
       (it.0, later_item r receipts it.0 it.1, it.2)
 ]
