@@ -49,8 +49,9 @@ CommitsEach c old new [] = new ≡ old
 CommitsEach c old new (event ∷ events) =
     (mid : ShareValue) × (outcome : Outcome) × CommitsAt c old mid event outcome × CommitsEach c mid new events
 
--- The work at centre c, with the share before it and after it. These are the clauses of `run_session`, of
--- `Committer::commit`, of `receive_frames` in the order of the numbers, and of `resume`.
+-- The work at centre c, with the share before it and after it. The premises are the clauses of `run_session`, and of
+-- `Committer::commit` for one event after another. For a link they are the clause of `receive_frames` in the order of
+-- the numbers (`frames_are_committed_in_their_order`). For a journal they are the clause of `resume`, centre by centre.
 abbrev pub IsDone : ℕ → ShareValue → Work → ShareValue → Type 0
 IsDone c old (Reads read end) new = Serves c old new read end
 IsDone c old (Obeys asked) new = All IsAsked asked × CommitsEach c old new asked
