@@ -62,8 +62,8 @@ delivered_more : (known : ℕ → Option Frame) (c from n : ℕ) (old new : Shar
 delivered_more known c from n old new [] done = ap events_of done ∙ sym (append-nil (events_of old))
 delivered_more known c from n old new (f ∷ frames) done =
     one_first (events_of old) (events_of done.0) (events_of new) (map (λ g. Deliver from g) frames) (Deliver from f)
-    (one_more c old done.0 (Deliver from f) done.1 done.3) (delivered_more known c from (min (n + 1) (2 ^ 32 - 1)) done.0 new
-    frames done.4)
+    (one_more c old done.0 (Deliver from f) done.1 done.3)
+    (delivered_more known c from (min (n + 1) (2 ^ 32 - 1)) done.0 new frames done.4)
 
 -- ## The works of a slot
 
