@@ -1,10 +1,13 @@
 pub mod Admissions
+pub mod Answering
 pub mod Facts
+pub mod Failures
 pub mod Grace
 pub mod Journaling
 pub mod Meanings
 pub mod Rooms
 pub mod Rows
+pub mod SessionEnds
 pub mod Silences
 pub mod Snapshots
 pub mod Stamps

@@ -19,7 +19,7 @@ mod protocol;
 mod rate_limit;
 mod rows;
 mod sending;
+mod session_end;
 mod sessions;
 
 pub use endpoint_loop::run_endpoint;
-pub(crate) use entrance::is_idle;

@@ -9,6 +9,7 @@ mod browsers;
 pub mod clients;
 mod counting;
 mod fact_notes;
+mod failures;
 pub mod journaling;
 mod journals;
 mod links;

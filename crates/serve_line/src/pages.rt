@@ -1,6 +1,6 @@
 use crate::browsers::{PageEndpoint, Seen};
-use crate::clients::is_idle;
 use crate::counting::mark_counts;
+use crate::failures::{is_idle, is_rest};
 use crate::looking::PageSnapshot;
 use crate::moments::milliseconds_of;
 use crate::state::{Endpoint, Peer, Server};
@@ -145,14 +145,6 @@ fn read_request(server: &Server<'_>, stream: &TcpStream) -> Option<(Asked, bool)
     }
     let has_body = !bytes.starts_with(b"HEAD ");
     Some((Asked::Refused(Refusal::Time), has_body))
-}
-
-// Whether an error only means that nothing could be done now.
-fn is_rest(kind: ErrorKind) -> bool {
-    matches!(
-        kind,
-        ErrorKind::WouldBlock | ErrorKind::TimedOut | ErrorKind::Interrupted
-    )
 }
 
 // The bytes of the answer. The centres are read only if the answer needs them, and by one thread at a time.

@@ -1,3 +1,7 @@
+ghost use Rattle.std.specs.Prelude.{◌≡◌};
+ghost use Rattle.serve_notes.specs.declared.about.PeerConnection.TheVariants.{Control};
+ghost use Rattle.serve_line.specs.Answering.{next_after};
+
 use crate::clients::answer::{SCRIPT_FAULT, Served, answer, fixed};
 use crate::clients::limits::{CONTROL_REST_MS, RESERVE_RESTS};
 use crate::clients::meaning::{Meaning, meaning_of};
@@ -64,7 +68,9 @@ pub(crate) fn serve_control<R: Wait + Clock, N: Notes>(
 }
 
 // The subject of a note about the connection with this number.
-fn about_slot(kind: Kind, number: usize) -> About<'static> {
+fn about_slot(kind: Kind, number: usize) -> About<'static>
+    ensures { result ≡ record { kind = kind; centre = None; engine = None; peer = Some (Control number) } }
+{
     About::of(kind).over(PeerConnection::Control(number))
 }
 
@@ -153,7 +159,9 @@ fn refuse<R: Wait + Clock>(rt: &R, server: &Server<'_>, stream: &PeerStream) -> 
 }
 
 // Whether the connection continues after an answer.
-fn answered(sent: Sent) -> Next {
+fn answered(sent: Sent) -> Next
+    ensures { result ≡ next_after sent }
+{
     match sent {
         Sent::Whole => Next::Listen,
         Sent::Short => Next::End,

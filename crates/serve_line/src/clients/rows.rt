@@ -1,10 +1,11 @@
 ghost use Rattle.std.specs.List.{position_or_len};
-ghost use Rattle.std.specs.Prelude.{◌≡◌, ◌<◌, ◌≤◌, IfSome, length, position, vec_len};
+ghost use Rattle.std.specs.Prelude.{◌≡◌, ◌<◌, ◌≤◌, [], IfSome, length, position, vec_len};
 ghost use Rattle.serve_line.specs.Rows.{Gives, is_feed};
 
 use crate::clients::limits::MOST_ROW;
+use crate::failures::is_rest;
 use std::alloc::Global;
-use std::io::{ErrorKind, Read};
+use std::io::Read;
 
 /// The most bytes of one read.
 const PIECE: usize = 256;
@@ -30,7 +31,9 @@ pub(crate) enum Came {
 
 impl<R: Read + Drop> RowReader<R> {
     /// A reader of lines that has read nothing yet.
-    pub fn new(alloc: Global, reader: R) -> RowReader<R> {
+    pub fn new(alloc: Global, reader: R) -> RowReader<R>
+        ensures { result.held.items ≡ [] }
+    {
         RowReader {
             reader,
             held: Vec::new(alloc),
@@ -77,12 +80,8 @@ impl<R: Read + Drop> RowReader<R> {
                 Ok(()) => Came::Nothing,
                 Err(_) => Came::End,
             },
-            Err(error) => match error.kind() {
-                ErrorKind::WouldBlock | ErrorKind::TimedOut | ErrorKind::Interrupted => {
-                    Came::Nothing
-                }
-                _ => Came::End,
-            },
+            Err(error) if is_rest(error.kind()) => Came::Nothing,
+            Err(_) => Came::End,
         }
     }
 

@@ -1,8 +1,9 @@
 use crate::clients::limits::PATIENCE_S;
+use crate::failures::is_rest;
 use crate::moments::seconds_between;
 use crate::state::PeerStream;
 use serve_journal::Opened;
-use std::io::{ErrorKind, Write};
+use std::io::Write;
 use std::time::{Clock, Instant};
 
 /// How much of an answer was sent.
@@ -40,10 +41,8 @@ fn write_some<'a>(stream: &PeerStream, text: &'a [u8]) -> Option<&'a [u8]> {
     match out.write(text) {
         Ok(0) => None,
         Ok(count) => text.get(count..),
-        Err(error) => match error.kind() {
-            ErrorKind::WouldBlock | ErrorKind::TimedOut | ErrorKind::Interrupted => Some(text),
-            _ => None,
-        },
+        Err(error) if is_rest(error.kind()) => Some(text),
+        Err(_) => None,
     }
 }
 
