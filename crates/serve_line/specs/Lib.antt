@@ -3,6 +3,7 @@ pub mod Answering
 pub mod Facts
 pub mod Failures
 pub mod Grace
+pub mod Heads
 pub mod Journaling
 pub mod Meanings
 pub mod Rooms

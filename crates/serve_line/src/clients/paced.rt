@@ -50,7 +50,7 @@ impl<'a, R: Wait + Clock> Paced<'a, R> {
             rate_limit,
             binding,
             refused: None,
-            cutter: Cutter::new(),
+            cutter: Cutter::FIRST,
             piece: [0; PIECE],
             end: 0,
             given: 0,
@@ -59,7 +59,9 @@ impl<'a, R: Wait + Clock> Paced<'a, R> {
     }
 
     /// The engine of the message at which the connection ended, if that message was refused.
-    pub fn refused(&self) -> Option<u32> {
+    pub fn refused(&self) -> Option<u32>
+        ensures { result ≡ self.now.pieces.refused }
+    {
         self.pieces.refused
     }
 }
