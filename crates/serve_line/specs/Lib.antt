@@ -1,11 +1,15 @@
+pub mod Addresses
 pub mod Admissions
 pub mod Answering
+pub mod Building
+pub mod Directions
 pub mod Facts
 pub mod Failures
 pub mod Grace
 pub mod Heads
 pub mod Journaling
 pub mod Meanings
+pub mod Peers
 pub mod Rooms
 pub mod Rows
 pub mod SessionEnds

@@ -1,3 +1,5 @@
+ghost use Rattle.std.specs.Prelude.{◌≡◌, false};
+
 use crate::looking::PageSnapshot;
 use crate::moments::milliseconds_of;
 use crate::state::{ENDPOINT_REST_MS, Endpoint, PagePort, Room, SlotState, room_for};
@@ -158,7 +160,9 @@ impl Place {
     }
 
     // The state of the place now. A connection is active only when it arrives.
-    fn state(&self) -> SlotState {
+    fn state(&self) -> SlotState
+        ensures { (result.is_reserve ≡ false) × (result.is_leaving ≡ false) × (result.is_serving ≡ false) }
+    {
         SlotState {
             is_reserve: false,
             is_taken: self.is_taken.load(Ordering::SeqCst),

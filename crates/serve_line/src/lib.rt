@@ -8,6 +8,7 @@
 mod browsers;
 pub mod clients;
 mod counting;
+mod directions;
 mod fact_notes;
 mod failures;
 pub mod journaling;

@@ -1,3 +1,5 @@
+ghost use Rattle.std.specs.Prelude.{◌≡◌, option_map, slice_get};
+
 use crate::state::control_socket::listen_at_path;
 use crate::state::hosts::{port_of, this_host};
 use crate::state::streams::bound_accept;
@@ -155,18 +157,24 @@ impl Endpoints {
     }
 
     /// The address of centre `number`; after the centres, that of the control endpoint, if it is a port.
-    pub fn address(&self, number: usize) -> Option<SocketAddr> {
-        self.ports.get(number).map(|endpoint| endpoint.address)
+    pub fn address(&self, number: usize) -> Option<SocketAddr>
+        ensures { result ≡ option_map (λ listening. listening.address) (slice_get self.now.ports.items number) }
+    {
+        self.ports.get(number).map(|listening| listening.address)
     }
 
     /// The address of the page, if there is one.
-    pub fn page_address(&self) -> Option<SocketAddr> {
+    pub fn page_address(&self) -> Option<SocketAddr>
+        ensures { result ≡ option_map (λ page. page.listening.address) self.now.page }
+    {
         self.page.as_ref().map(|page| page.listening.address)
     }
 
     /// The ports of the centres, in the order of their numbers, and then that of the control endpoint, if it has one.
     /// After those the socket of the control endpoint and the port of the page, if there are any.
-    pub fn all(self) -> (Vec<Listening>, Option<ListeningAt>, Option<PagePort>) {
+    pub fn all(self) -> (Vec<Listening>, Option<ListeningAt>, Option<PagePort>)
+        ensures { result ≡ (self.ports, self.socket, self.page) }
+    {
         (self.ports, self.socket, self.page)
     }
 }

@@ -1,8 +1,8 @@
 ghost use Rattle.std.specs.Prelude.{◌++◌, ◌<◌, ◌≡◌, false, IsTrue, vec_len};
 
 use crate::state::limits::MOST_TOLD;
+use crate::state::peer::Peer;
 use crate::state::room::SlotState;
-use crate::state::server::Peer;
 use crate::state::streams::{Address, Listener, PeerStream};
 use rbc_node::Share;
 use serve_journal::Opened;
@@ -80,7 +80,9 @@ impl Slot {
     }
 
     /// The state of the slot now. `is_serving`: whether its connection serves a train.
-    pub(crate) fn state(&self, is_serving: bool) -> SlotState {
+    pub(crate) fn state(&self, is_serving: bool) -> SlotState
+        ensures { (result.is_reserve ≡ self.now.is_reserve) × (result.is_serving ≡ is_serving) }
+    {
         SlotState {
             is_reserve: self.is_reserve,
             is_taken: self.is_taken.load(Ordering::SeqCst),

@@ -1,3 +1,4 @@
+ghost use Rattle.std.specs.Prelude.{◌≡◌};
 ghost use Rattle.serve_line.specs.Watches.{IsMovement};
 
 use crate::moments::seconds_between;
@@ -27,7 +28,9 @@ pub(crate) enum Movement {
 
 impl LastMove {
     /// Before the first look.
-    pub fn new() -> LastMove {
+    pub fn new() -> LastMove
+        ensures { result ≡ record { left = 0; since = None } }
+    {
         LastMove {
             left: 0,
             since: None,
