@@ -2,6 +2,7 @@ pub mod Addresses
 pub mod Admissions
 pub mod Answering
 pub mod Building
+pub mod Commits
 pub mod Directions
 pub mod Facts
 pub mod Failures

@@ -1,4 +1,5 @@
 ghost use Rattle.std.specs.Prelude.{◌≡◌, option_map, IfOk};
+ghost use Rattle.serve_line.specs.Commits.{IsAnswer};
 ghost use Rattle.serve_control.specs.Answers.{IsCommitPrint};
 ghost use Rattle.serve_line.specs.Journaling.Waiting.{awaited};
 
@@ -53,7 +54,9 @@ pub(crate) fn answer<R: Wait>(
 }
 
 /// A text that shows no event.
-pub(crate) fn fixed(alloc: Global, text: &'static str) -> Result<Opened<Vec<u8>>, AllocError> {
+pub(crate) fn fixed(alloc: Global, text: &'static str) -> Result<Opened<Vec<u8>>, AllocError>
+    ensures { IfOk result (λ opened. opened.answer.items ≡ text.entry.now) }
+{
     let mut opened = Opened::nothing(alloc);
     opened.add_fixed(text)?;
     Ok(opened)
@@ -95,7 +98,10 @@ fn commit<R: Wait>(
     centre: u8,
     event: Event,
     printed: &WorldEvent,
-) -> Result<Opened<Vec<u8>>, Fault<'static>> {
+) -> Result<Opened<Vec<u8>>, Fault<'static>>
+    ensures { IfOk result
+        (λ opened. IsAnswer served.entry.server.now.line.now centre printed.now opened.answer.items) }
+{
     let Served { server, slot } = served;
     let (Some(committer), Some(share)) = (server.committer(centre), shares.get_mut(centre as usize))
     else {

@@ -1,0 +1,15 @@
+-- The answers to the events of the interlocking.
+use Rattle.std.specs.Prelude.{[], ◌≡◌, ◌⊎◌, codes, List, Result, ℕ}
+use Rattle.rbc_node.specs.declared.fault.ShareFault.{ShareFault}
+use Rattle.rbc_spec.specs.Line.{Line}
+use Rattle.serve_control.specs.Answers.{IsCommitPrint}
+use Rattle.text_script.specs.rbc_centre.declared.outcome.Outcome.{Outcome}
+use Rattle.text_script.specs.rbc_world.declared.event.WorldEvent.{WorldEvent}
+
+-- The answer to an event at centre c: the print of the commit, or that a journal can't be written. A centre that is not
+-- of the line answers nothing.
+abbrev pub IsAnswer : Line → ℕ → WorldEvent → List ℕ → Type 0
+IsAnswer line c event text =
+    (text ≡ [])
+    ⊎ ((text ≡ codes "journal fault\n")
+    ⊎ ((answer : Result Outcome ShareFault) × IsCommitPrint line c event answer text))
