@@ -9,7 +9,11 @@ pub mod Failures
 pub mod Grace
 pub mod Heads
 pub mod Journaling
+pub mod Lives
 pub mod Meanings
+pub mod Mentions
+pub mod News
+pub mod Pages
 pub mod Peers
 pub mod Rooms
 pub mod Rows

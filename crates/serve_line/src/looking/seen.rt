@@ -1,11 +1,14 @@
 //! The view of one centre.
 
+ghost use Rattle.std.specs.Prelude.{◌≡◌, map};
+ghost use Rattle.serve_line.specs.Pages.{lives_with, with_frames};
+
 use crate::stamps::last_stamp;
 use crate::status::end_of;
 use rbc_line::Line;
 use rbc_log::CentreLog;
 use std::alloc::AllocError;
-use text_page::LineNow;
+use text_page::{CentreNow, LineNow, LinkNow};
 use text_replay::{mission_now, session_now};
 use text_script::{Centre, TrainPage};
 
@@ -16,8 +19,9 @@ pub(crate) fn see_centre(
     now: &mut LineNow,
 ) -> Result<(), AllocError> {
     let centre = log.core();
-    see_life(log, now);
-    see_links(centre, now);
+    now.events = now.events.saturating_add(log.entries().len() as u64);
+    see_life(log, &mut now.centres);
+    see_links(centre, &mut now.links);
     for i in 0..line.train_count() {
         if let Some(train) = line.train(i) {
             let page = centre.train(train.nid_engine);
@@ -28,26 +32,41 @@ pub(crate) fn see_centre(
     Ok(())
 }
 
-fn see_life(log: &CentreLog, now: &mut LineNow) {
-    let entries = log.entries().len() as u64;
-    now.events = now.events.saturating_add(entries);
-    if let Some(place) = now.centres.get_mut(log.number() as usize) {
-        place.entries = entries;
-        place.clock = last_stamp(log.entries());
-        place.end = end_of(log);
+// Sets the usage of the log's centre.
+fn see_life(log: &CentreLog, centres: &mut [CentreNow])
+    ensures { centres.new ≡ lives_with log.now centres.old }
+{
+    if let Some(place) = centres.get_mut(log.number() as usize) {
+        *place = CentreNow {
+            entries: log.entries().len() as u64,
+            clock: last_stamp(log.entries()),
+            end: end_of(log),
+            ..*place
+        };
     }
 }
 
 // Sets the counts of frames that the centre has sent and taken, for each of its links.
-fn see_links(centre: &Centre, now: &mut LineNow) {
-    for link in now.links.iter_mut() {
-        if link.from == centre.number() {
-            link.sent = centre.sent(link.to);
-        }
-        if link.to == centre.number() {
-            link.taken = centre.taken(link.from);
-        }
+fn see_links(centre: &Centre, links: &mut [LinkNow])
+    ensures { links.new ≡ map (with_frames centre.now) links.old }
+{
+    for link in links.iter_mut() {
+        *link = with_frames(centre, *link);
     }
+}
+
+// The link with the counts of the frames that the centre has sent or taken over it.
+fn with_frames(centre: &Centre, link: LinkNow) -> LinkNow
+    ensures { result ≡ with_frames centre.now link }
+{
+    let mut link = link;
+    if link.from == centre.number() {
+        link.sent = centre.sent(link.to);
+    }
+    if link.to == centre.number() {
+        link.taken = centre.taken(link.from);
+    }
+    link
 }
 
 // Adds a train that is supervised here. If two centres show it, the later look counts.

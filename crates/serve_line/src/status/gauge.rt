@@ -31,7 +31,9 @@ impl Gauge {
     }
 
     /// Notes the usage when it first reaches 50, 90 or 99 percent.
-    pub fn tell<N: Notes>(&mut self, notes: &N, name: &str, thing: &str, used: u64, most: u64) {
+    pub fn tell<N: Notes>(&mut self, notes: &N, name: &str, thing: &str, used: u64, most: u64)
+        ensures { self.new.noted ≡ max self.old.noted (mark_of used most) }
+    {
         if self.rises(used, most) {
             notes.note(
                 About::centre(Kind::Usage, name),
