@@ -1,5 +1,9 @@
 //! A message of a centre, field by field.
 
+ghost use Rattle.std.specs.Prelude.{◌∷◌, [], OnOk};
+ghost use Rattle.text_words.specs.Fields.{Adds};
+ghost use Rattle.text_words.specs.Variables.{data_time};
+
 use crate::field::Meaning;
 use crate::fields::Fields;
 use rbc_msgs::{TrackBody, TrackMsg};
@@ -34,7 +38,9 @@ pub fn add_track(fields: &mut Fields, message: &TrackMsg) -> Result<(), AllocErr
 }
 
 // Adds T_TRAIN of the acknowledged train data.
-fn add_time_of_data(fields: &mut Fields, t_train: TTrain) -> Result<(), AllocError> {
+fn add_time_of_data(fields: &mut Fields, t_train: TTrain) -> Result<(), AllocError>
+    ensures { OnOk result (Adds fields.old fields.new (data_time t_train ∷ [])) }
+{
     let value = t_train.value();
     if value == UNKNOWN_TIME {
         return fields.words("T_TRAIN", value, "unknown");

@@ -1,5 +1,11 @@
 //! A message of a train, field by field.
 
+ghost use Rattle.std.specs.Prelude.{◌≡◌, ◌∷◌, [], OnOk, codes};
+ghost use Rattle.rbc_vars.specs.Values.{q_status_value};
+ghost use Rattle.text_words.specs.Fields.{Adds, meant};
+ghost use Rattle.text_words.specs.Meanings.{statuses};
+ghost use Rattle.text_words.specs.Variables.{reasons_given, request_time};
+
 use crate::field::Meaning;
 use crate::fields::Fields;
 use crate::position::add_position;
@@ -59,12 +65,16 @@ fn add_body(fields: &mut Fields, body: &TrainBody) -> Result<(), AllocError> {
 }
 
 // Adds the reasons of a request for an authority: one bit for each reason.
-fn add_reason(fields: &mut Fields, reason: QMarqstreason) -> Result<(), AllocError> {
+fn add_reason(fields: &mut Fields, reason: QMarqstreason) -> Result<(), AllocError>
+    ensures { OnOk result (Adds fields.old fields.new (reasons_given reason ∷ [])) }
+{
     fields.add("Q_MARQSTREASON", reason.value(), Meaning::Bits(5))
 }
 
 // Adds T_TRAIN of the request that is answered.
-fn add_request(fields: &mut Fields, request: TTrain) -> Result<(), AllocError> {
+fn add_request(fields: &mut Fields, request: TTrain) -> Result<(), AllocError>
+    ensures { OnOk result (Adds fields.old fields.new (request_time request ∷ [])) }
+{
     let words = match request.value() {
         UNKNOWN_TIME => "unknown",
         _ => "of the request",
@@ -72,13 +82,21 @@ fn add_request(fields: &mut Fields, request: TTrain) -> Result<(), AllocError> {
     fields.words("T_TRAIN", request.value(), words)
 }
 
-fn add_status(fields: &mut Fields, status: QStatus) -> Result<(), AllocError> {
-    let words = match status {
+fn add_status(fields: &mut Fields, status: QStatus) -> Result<(), AllocError>
+    ensures { OnOk result (Adds fields.old fields.new
+        (meant (codes "Q_STATUS") (q_status_value status) (statuses status) ∷ [])) }
+{
+    fields.words("Q_STATUS", status.value(), words_of_status(status))
+}
+
+fn words_of_status(status: QStatus) -> &'static str
+    ensures { result.now ≡ statuses status }
+{
+    match status {
         QStatus::Invalid => "position invalid",
         QStatus::Valid => "position valid",
         QStatus::Unknown => "position unknown",
-    };
-    fields.words("Q_STATUS", status.value(), words)
+    }
 }
 
 /// Adds a packet that is kept without being read: its bits, up to 32 on each line.
