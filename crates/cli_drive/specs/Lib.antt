@@ -4,4 +4,5 @@ pub mod Inboxes
 pub mod Lines
 pub mod Obedience
 pub mod Radios
+pub mod Replies
 pub mod Steps

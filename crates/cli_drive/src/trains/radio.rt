@@ -1,6 +1,6 @@
 //! The radio: messages between trains and centres are lost, late or repeated by lot.
 
-ghost use Rattle.std.specs.Prelude.{[], ◌++◌, ◌<◌, ◌≡◌, ◌∷◌, IfOk, IfSome, length, OnErr, OnOk};
+ghost use Rattle.std.specs.Prelude.{[], ◌+◌, ◌++◌, ◌-◌, ◌^◌, ◌<◌, ◌≡◌, ◌∷◌, IfOk, IfSome, length, min, OnErr, OnOk};
 ghost use Rattle.std.specs.List.{position};
 ghost use Rattle.cli_drive.specs.Radios.{Arrives, is_due};
 
@@ -13,7 +13,7 @@ use std::alloc::{AllocError, Global};
 const MOST_LATE: u32 = 20;
 
 /// A message on the way between a train and a centre.
-#[derive(Debug, Drop)]
+#[derive(Drop)]
 pub(crate) struct Letter {
     /// The place of the train in the list of trains.
     pub(crate) train: usize,
@@ -26,7 +26,7 @@ pub(crate) struct Letter {
 }
 
 /// The messages on the way.
-#[derive(Debug, Drop)]
+#[derive(Drop)]
 pub(crate) struct Radio {
     alloc: Global,
     letters: Vec<Letter>,
@@ -57,6 +57,7 @@ impl Radio {
 
     /// A message is sent. By lot it is lost, or late. Half of the late ones arrive in time too.
     pub(crate) fn send(&mut self, draws: &mut Pcg32, letter: Letter) -> Result<(), AllocError>
+        ensures sent { self.new.sent ≡ min (self.old.sent + 1) (2 ^ 64 - 1) }
         ensures kept { self.old.loss ≡ 0 → self.old.late ≡ 0
             → OnOk result (self.new.letters.items ≡ self.old.letters.items ++ letter ∷ []) }
     {
@@ -72,7 +73,10 @@ impl Radio {
     }
 
     // A late message is sent. Half of them arrive in time too.
-    fn send_late(&mut self, draws: &mut Pcg32, mut letter: Letter) -> Result<(), AllocError> {
+    fn send_late(&mut self, draws: &mut Pcg32, mut letter: Letter) -> Result<(), AllocError>
+        ensures counts { (self.new.sent ≡ self.old.sent) × (self.new.lost ≡ self.old.lost)
+            × (self.new.delayed ≡ min (self.old.delayed + 1) (2 ^ 64 - 1)) }
+    {
         self.delayed = self.delayed.saturating_add(1);
         if in_hundred(draws, 50) {
             self.put(copied(self.alloc, &letter)?)?;
@@ -93,6 +97,8 @@ impl Radio {
     fn put(&mut self, letter: Letter) -> Result<(), AllocError>
         ensures ok { OnOk result (self.new.letters.items ≡ self.old.letters.items ++ letter ∷ []) }
         ensures err { OnErr result (self.new.letters.items ≡ self.old.letters.items) }
+        ensures counts { (self.new.sent ≡ self.old.sent) × (self.new.lost ≡ self.old.lost)
+            × (self.new.delayed ≡ self.old.delayed) }
     {
         self.letters.reserve(1)?;
         self.letters.push_reserved(letter);

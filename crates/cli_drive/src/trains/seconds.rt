@@ -1,5 +1,8 @@
 //! The seconds of trains over TCP.
 
+ghost use Rattle.std.specs.Prelude.{◌≡◌, option_and_then, position, slice_get};
+ghost use Rattle.train_unit.specs.Standing.{has_front};
+
 use crate::trains::calls::Calls;
 use crate::trains::check::are_apart;
 use crate::trains::fault::TrainsFault;
@@ -139,7 +142,10 @@ impl<R: Net<Stream = TcpStream> + Clock> Running<'_, R> {
     }
 
     /// The section of a train's front end.
-    pub(crate) fn section_of(&self, i: usize) -> Option<usize> {
+    pub(crate) fn section_of(&self, i: usize) -> Option<usize>
+        ensures { result ≡ option_and_then (λ train. position (λ section. has_front section train.ends)
+            self.now.interlocking.sections.items) (slice_get self.now.trains.items i) }
+    {
         self.trains.get(i)?.section(&self.interlocking.sections)
     }
 
@@ -165,9 +171,8 @@ impl<R: Net<Stream = TcpStream> + Clock> Running<'_, R> {
                 rear: train.ends.rear,
             })?;
         }
-        if !are_apart(&self.interlocking.sections, &ends) {
-            self.tally.are_apart = false;
-        }
+        let were_apart = are_apart(&self.interlocking.sections, &ends);
+        self.tally.check(were_apart);
         observer.see(&places)?;
         Ok(())
     }

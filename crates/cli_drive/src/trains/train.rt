@@ -1,9 +1,11 @@
 //! A train on the line.
 
-ghost use Rattle.std.specs.Prelude.{◌≡◌, ◌<◌, ◌≤◌, false, IfOk, IfSome, length, None, OnErr, true};
+ghost use Rattle.std.specs.Prelude.{◌≡◌, ◌≢◌, ◌<◌, ◌≤◌, false, IfOk, IfSome, length, None, OnErr, position, true};
 ghost use Rattle.rbc_msgs.specs.StepMessage.{step_message};
+ghost use Rattle.rbc_spec.specs.Message.{TrainAccepted};
 ghost use Rattle.rbc_msgs.specs.TrainSpelling.{SpellsTrain};
 ghost use Rattle.rbc_msgs.specs.TrainText.{TrainText};
+ghost use Rattle.train_unit.specs.Standing.{has_front};
 ghost use Rattle.train_unit.specs.Trains as rules;
 
 use rand::RngExt;
@@ -26,7 +28,9 @@ impl Train {
     ghost use Rattle.cli_drive.specs.Obedience.{HasRun, train_at};
 
     /// A train that has sent and received nothing.
-    pub(crate) fn new(place: Place) -> Train {
+    pub(crate) fn new(place: Place) -> Train
+        ensures { result.ends ≡ place.ends }
+    {
         Train {
             ends: place.ends,
             unit: OnBoardUnit::new(place.nid_engine),
@@ -71,7 +75,9 @@ impl Train {
     }
 
     /// The section of its front end.
-    pub(crate) fn section(&self, sections: &[Section]) -> Option<usize> {
+    pub(crate) fn section(&self, sections: &[Section]) -> Option<usize>
+        ensures { result ≡ position (λ section. has_front section self.now.ends) sections.now }
+    {
         section_of(sections, self.ends)
     }
 
@@ -132,8 +138,12 @@ impl Train {
     }
 
     /// A message of a centre has come over a connection: by 41 the centre has accepted the train.
-    pub(crate) fn came(&mut self, message: &TrackMsg) {
-        if message.body() == TrackBody::TrainAccepted {
+    pub(crate) fn came(&mut self, message: &TrackMsg)
+        ensures accepted { message.now.body ≡ TrainAccepted → self.new.driver.is_accepted ≡ true }
+        ensures other { message.now.body ≢ TrainAccepted → self.new ≡ self.old }
+        ensures train { train_at self.new ≡ train_at self.old }
+    {
+        if matches!(message.body(), TrackBody::TrainAccepted) {
             self.driver.is_accepted = true;
         }
     }
