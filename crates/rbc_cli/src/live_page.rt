@@ -1,5 +1,7 @@
 //! Runs trains over centres in this process, with the page of the line.
 
+ghost use Rattle.std.specs.Prelude.{◌≡◌, false, None, Some, true};
+
 use crate::centres::{opened, refused};
 use crate::trains::{run_on, settings_of};
 use cli_commands::demo::line_of_demo;
@@ -30,7 +32,12 @@ const SECOND_MS: u64 = 250;
 const STOPS: u32 = 100;
 
 /// The arguments of centres with a page at this port.
-const fn served_at(page: u16) -> ServeWords<'static> {
+const fn served_at(page: u16) -> ServeWords<'static>
+    ensures page { result.page ≡ Some page }
+    ensures local { (result.page_address ≡ None) × (result.address ≡ None) × (result.control ≡ None) }
+    ensures quiet { (result.is_quiet ≡ true) × (result.is_unprinted ≡ true) × (result.journal ≡ None) }
+    ensures usual { (result.is_bound ≡ false) × (result.per_second ≡ None) × (result.burst ≡ None) }
+{
     ServeWords {
         is_quiet: true,
         page: Some(page),
