@@ -1,6 +1,6 @@
 ghost use Rattle.std.specs.Prelude.{◌≡◌};
 ghost use Rattle.serve_notes.specs.declared.about.PeerConnection.TheVariants.{Train};
-ghost use Rattle.serve_notes.specs.declared.kinds.Kind.TheVariants.{End as Ends};
+ghost use Rattle.serve_notes.specs.declared.kinds.Kind.TheVariants.{End as EndKind};
 ghost use Rattle.serve_line.specs.SessionEnds.{foreign_at};
 
 use crate::clients::binding::Binding;
@@ -81,7 +81,7 @@ fn about_slot(kind: Kind, name: &str, number: usize) -> About<'_>
 // The subject of the note of an end. It names the train of a refused message.
 fn about_end(name: &str, number: usize, end: End) -> About<'_>
     ensures { result
-        ≡ record { kind = Ends; centre = Some name.entry; engine = foreign_at end; peer = Some (Train number) } }
+        ≡ record { kind = EndKind; centre = Some name.entry; engine = foreign_at end; peer = Some (Train number) } }
 {
     let about = about_slot(Kind::End, name, number);
     match end.foreign() {
