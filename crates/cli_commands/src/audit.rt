@@ -1,5 +1,9 @@
 //! The audit of a print of `run` or `serve`, or of journals.
 
+ghost use Rattle.std.specs.Prelude.{◌≡◌, ◌⊎◌};
+ghost use Rattle.cli_commands.specs.Auditing.{Audits, Reports};
+ghost use Rattle.text_script.specs.declared.status.fault.Fault.TheVariants.{Differs, Write};
+
 use crate::auditing::Audit;
 use crate::comparing::Verdict;
 use crate::files::{Files, Rows};
@@ -27,9 +31,17 @@ pub fn audit_printed<'a, F: Files, O: Write>(
         return audit_journals(alloc, given, printed, files, out);
     }
     let verdict = verdict_of(alloc, &given.line, printed, files)?;
+    report(verdict, out)?;
+    Ok(None)
+}
+
+// Prints a verdict. A difference is a fault.
+fn report<O: Write>(verdict: Verdict, out: &mut O) -> Result<(), Fault<'static>>
+    ensures { Reports result verdict }
+{
     tell(out, verdict)?;
     match verdict {
-        Verdict::Equal { .. } => Ok(None),
+        Verdict::Equal { .. } => Ok(()),
         Verdict::Differs { .. } => Err(Fault::Differs),
     }
 }
@@ -68,23 +80,31 @@ fn audit_events<O: Write>(
     line: &Line,
     events: &Events,
     out: &mut O,
-) -> Result<Option<Part>, Fault<'static>> {
-    let Some(place) = first_unfit(alloc, line, &events.entries)? else {
-        let events_read = events.entries.len() as u64;
-        tell(
-            out,
-            Verdict::Equal {
-                events: events_read,
-            },
-        )?;
-        return Ok(events.part());
-    };
-    let journal = file_name(alloc, line, place.centre)?;
-    Err(differs(journal.as_str(), place.row, out))
+) -> Result<Option<Part>, Fault<'static>>
+    ensures { Audits line.now events.now.entries.items result }
+{
+    match first_unfit(alloc, line, &events.entries)? {
+        None => {
+            let events_read = events.entries.len() as u64;
+            tell(
+                out,
+                Verdict::Equal {
+                    events: events_read,
+                },
+            )?;
+            Ok(events.part())
+        }
+        Some(place) => {
+            let journal = file_name(alloc, line, place.centre)?;
+            Err(differs(journal.as_str(), place.row, out))
+        }
+    }
 }
 
 // Reports the first line of a journal that differs from the run. The result is the fault of that.
-fn differs<O: Write>(journal: &str, row: usize, out: &mut O) -> Fault<'static> {
+fn differs<O: Write>(journal: &str, row: usize, out: &mut O) -> Fault<'static>
+    ensures { (result ≡ Differs) ⊎ (result ≡ Write) }
+{
     match tell(out, format_args!("audit: {journal} line {row} differs")) {
         Ok(()) => Fault::Differs,
         Err(_) => Fault::Write,

@@ -1,5 +1,8 @@
 //! Shows bytes as messages or as a frame, field by field.
 
+ghost use Rattle.std.specs.Prelude.{◌≡◌, false, IsErrOf, Ok, OnOk, true};
+ghost use Rattle.text_script.specs.declared.status.fault.Fault.TheVariants.{Differs};
+
 use crate::files::Files;
 use std::alloc::{AllocError, Global};
 use std::convert::AsStr;
@@ -35,6 +38,14 @@ pub fn decode<'a, S: AsStr, F: Files, O: Write>(
     } else {
         print_messages(alloc, &bytes, form, out)
     };
+    result_of(done)
+}
+
+// The result of the command, by that of the print: whether a decoder took all bytes.
+fn result_of(done: Result<bool, PrintFault>) -> Result<(), Fault<'static>>
+    ensures ok { OnOk result (done ≡ Ok true) }
+    ensures differs { done ≡ Ok false → IsErrOf result Differs }
+{
     match done {
         Ok(true) => Ok(()),
         Ok(false) => Err(Fault::Differs),

@@ -1,9 +1,12 @@
 //! Runs trains on a line.
 
+ghost use Rattle.std.specs.Prelude.{◌≡◌, false, IsErrOf, Ok, OnOk, true};
+ghost use Rattle.text_script.specs.declared.status.fault.Fault.TheVariants.{Differs};
+
 use crate::files::Files;
 use crate::line_file::{LineFile, line_file_in};
 use crate::output::flushed;
-use cli_demo::{BUILT_IN, Demo, Settings};
+use cli_demo::{BUILT_IN, Demo, DemoFault, Settings};
 use rbc_line::Line;
 use std::alloc::Global;
 use std::io::Write;
@@ -29,12 +32,20 @@ fn run_on<O: Write>(
     out: &mut O,
 ) -> Result<(), Fault<'static>> {
     let mut demo = Demo::new(alloc, line, settings)?;
-    let done = match demo.run(out) {
+    let done = demo.run(out);
+    flushed(out, result_of(done))
+}
+
+// The result of the command, by that of the demo: whether the check of the true places never failed.
+fn result_of(done: Result<bool, DemoFault>) -> Result<(), Fault<'static>>
+    ensures ok { OnOk result (done ≡ Ok true) }
+    ensures differs { done ≡ Ok false → IsErrOf result Differs }
+{
+    match done {
         Ok(true) => Ok(()),
         Ok(false) => Err(Fault::Differs),
         Err(fault) => Err(fault.into()),
-    };
-    flushed(out, done)
+    }
 }
 
 /// Reads the line file of a demo. Without a file it is the built-in one.

@@ -1,3 +1,5 @@
+ghost use Rattle.cli_commands.specs.Explaining.Results.{Explains};
+
 use crate::explaining::LineText;
 use crate::files::Files;
 use crate::inspecting::Finding;
@@ -83,7 +85,9 @@ fn print_findings<'a, W: Write>(
     out: &mut W,
     text: &str,
     fault: LineFault,
-) -> Result<(), Fault<'a>> {
+) -> Result<(), Fault<'a>>
+    ensures { Explains fault result }
+{
     let text = match LineText::new(alloc, text) {
         Ok(text) => text,
         Err(error) if error.is_memory() => return Err(Fault::Line(LineFault::Memory)),

@@ -1,6 +1,8 @@
 //! Reads the journals of a line's centres from one folder.
 
-ghost use Rattle.std.specs.Prelude.{◌<◌, length};
+ghost use Rattle.std.specs.Prelude.{◌<◌, IfOk, length, None, OnOk};
+ghost use Rattle.text_journal.specs.Order.{IsFirstFallen, stamps_of};
+ghost use Rattle.text_journal.specs.Whole.{AreWhole};
 
 use crate::files::Files;
 use crate::line_file::LineFile;
@@ -112,6 +114,8 @@ pub fn journal_of(
     bytes: &[u8],
 ) -> Result<Journal, Fault<'static>>
     requires { centre < length given.now.line.centres }
+    ensures whole { IfOk result (λ journal. AreWhole bytes.now journal.length) }
+    ensures rising { IfOk result (λ journal. IsFirstFallen (stamps_of journal.entries.items) None) }
 {
     let length = whole_length(bytes);
     let whole = bytes.get(..length).unwrap_or(bytes);
@@ -121,7 +125,10 @@ pub fn journal_of(
         lines_in(alloc, given, centre, whole)
     };
     match read {
-        Ok(entries) => rising(alloc, &given.line, centre, Journal { entries, length }),
+        Ok(entries) => {
+            test_stamps(alloc, &given.line, centre, &entries)?;
+            Ok(Journal { entries, length })
+        }
         Err(fault) => {
             let journal = file_name(alloc, &given.line, centre)?;
             Err(fault_of(alloc, journal, bytes, fault)?)
@@ -129,17 +136,19 @@ pub fn journal_of(
     }
 }
 
-// The journal, if each stamp is above the one before it.
-fn rising(
+// Tests whether each stamp is above the one before it.
+fn test_stamps(
     alloc: Global,
     line: &Line,
     centre: u8,
-    journal: Journal,
-) -> Result<Journal, Fault<'static>> {
-    match first_fallen(&journal.entries) {
+    entries: &[Entry],
+) -> Result<(), Fault<'static>>
+    ensures { OnOk result (IsFirstFallen (stamps_of entries.now) None) }
+{
+    match first_fallen(entries) {
         // The first line is not an entry.
         Some(at) => Err(unfit(alloc, line, centre, at.saturating_add(2))?),
-        None => Ok(journal),
+        None => Ok(()),
     }
 }
 

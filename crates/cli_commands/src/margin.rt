@@ -29,7 +29,10 @@ pub struct Margin {
 
 impl Margin {
     /// The place before the first line of a print, whose events have these times.
-    pub fn new(listing: &Listing<'_>, times_ms: Vec<Option<u64>>) -> Margin {
+    pub fn new(listing: &Listing<'_>, times_ms: Vec<Option<u64>>) -> Margin
+        ensures events { result.events ≡ 0 }
+        ensures range { result.range ≡ listing.now.range }
+    {
         Margin {
             is_numbered: listing.is_numbered,
             is_timed: listing.is_timed,

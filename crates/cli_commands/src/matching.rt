@@ -1,5 +1,8 @@
 //! Reads the arguments by the table of the commands.
 
+ghost use Rattle.std.specs.Prelude.{◌≡◌, IfSome, Some};
+ghost use Rattle.cli_commands.specs.Words.{value};
+
 use crate::forms::rbcline;
 use crate::numbers::signed_number;
 use clap::error::ErrorKind;
@@ -69,7 +72,9 @@ fn wrong_form<'a>(matches: &ArgMatches<'a>) -> Option<(&'a str, &'static str, &'
 }
 
 // The value of the option of this name, if it is not an address.
-fn wrong_address<'a>(words: &ArgMatches<'a>, name: &str) -> Option<&'a str> {
+fn wrong_address<'a>(words: &ArgMatches<'a>, name: &str) -> Option<&'a str>
+    ensures { IfSome result (λ word. value words.now name.now ≡ Some word.now) }
+{
     let word = words.get_str(name)?;
     match word.parse::<IpAddr>() {
         Ok(_) => None,
@@ -78,7 +83,9 @@ fn wrong_address<'a>(words: &ArgMatches<'a>, name: &str) -> Option<&'a str> {
 }
 
 // The value of the option of this name, if it is not a time.
-fn wrong_time<'a>(words: &ArgMatches<'a>, name: &str) -> Option<&'a str> {
+fn wrong_time<'a>(words: &ArgMatches<'a>, name: &str) -> Option<&'a str>
+    ensures { IfSome result (λ word. value words.now name.now ≡ Some word.now) }
+{
     let word = words.get_str(name)?;
     match word.parse::<Timestamp>() {
         Ok(_) => None,

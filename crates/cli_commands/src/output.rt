@@ -1,5 +1,8 @@
 //! Writes that end with a flush.
 
+ghost use Rattle.std.specs.Prelude.{◌≡◌, ◌⊎◌, IsErrOf};
+ghost use Rattle.text_script.specs.declared.status.fault.Fault.TheVariants.{Write as Refused};
+
 use std::fmt::Display;
 use std::io;
 use std::io::Write;
@@ -21,7 +24,9 @@ pub fn write_whole<W: Write>(out: &mut W, bytes: &[u8]) -> io::Result<()> {
 pub fn flushed<'a, W: Write, T: Drop>(
     out: &mut W,
     done: Result<T, Fault<'a>>,
-) -> Result<T, Fault<'a>> {
+) -> Result<T, Fault<'a>>
+    ensures { (result ≡ done.entry) ⊎ IsErrOf result Refused }
+{
     match out.flush() {
         Ok(()) => done,
         Err(_) => Err(Fault::Write),

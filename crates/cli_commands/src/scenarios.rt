@@ -1,5 +1,8 @@
 //! Scripts in words, and scenarios that are judged.
 
+ghost use Rattle.std.specs.Prelude.{◌==◌, ◌≡◌, IsErrOf, is_ok, OnErr};
+ghost use Rattle.text_script.specs.declared.status.fault.Fault.TheVariants.{Differs};
+
 use crate::files::Files;
 use crate::output::{flushed, write_whole};
 use crate::run::line_in;
@@ -99,6 +102,14 @@ fn test_each<'a, S: AsStr, F: Files, W: Write>(
         }
     }
     writeln!(out, "{passed} passed, {failed} failed")?;
+    result_of(failed)
+}
+
+// The result of the command, by the number of scenarios that failed.
+fn result_of(failed: u32) -> Result<(), Fault<'static>>
+    ensures ok { is_ok result ≡ (failed == 0) }
+    ensures differs { OnErr result (IsErrOf result Differs) }
+{
     if failed == 0 {
         Ok(())
     } else {

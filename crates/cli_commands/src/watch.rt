@@ -1,5 +1,12 @@
 //! Watches a print of any centres: whether trains were in danger after one of its events.
 
+ghost use Rattle.std.specs.Prelude.{◌≡◌, IfErr, IfOk, IfSome, is_some, None, OnOk, Some, true};
+ghost use Rattle.cli_commands.specs.Watching.{IsDanger, Watches};
+ghost use Rattle.law_outside.specs.Outside.{nothing_seen};
+ghost use Rattle.rbc_watch.specs.declared.watch.Watch.{Watch as Monitor};
+ghost use Rattle.rbc_watch.specs.Events.{sees_exchange};
+ghost use Rattle.rbc_watch.specs.Seen.{line_of, seen_by};
+
 use crate::files::{Files, Rows};
 use crate::line_file::LineFile;
 use crate::output::tell;
@@ -56,7 +63,9 @@ fn report<'a, O: Write, E: Write>(
     printed: &'a str,
     out: &mut O,
     err: &mut E,
-) -> Result<bool, Fault<'a>> {
+) -> Result<bool, Fault<'a>>
+    ensures { Watches watched.now.ending watched.now.events printed.now result }
+{
     let events = watched.events;
     match &watched.ending {
         None => {
@@ -94,6 +103,11 @@ impl From<AllocError> for Ending {
 }
 
 impl From<WatchFault> for Ending {
+    ghost use Rattle.std.specs.Prelude.{◌≡◌};
+    ghost use Rattle.cli_commands.specs.Watching.{ending_of};
+
+    ghost from_gives = { λ fault ending. ending ≡ ending_of fault };
+
     fn from(fault: WatchFault) -> Self {
         match fault {
             WatchFault::Memory => Ending::Memory,
@@ -132,7 +146,11 @@ impl Rows for Watched<'_> {
 }
 
 impl<'a> Watched<'a> {
-    fn new(alloc: Global, line: &'a Line) -> Result<Watched<'a>, AllocError> {
+    fn new(alloc: Global, line: &'a Line) -> Result<Watched<'a>, AllocError>
+        ensures nothing { IfOk result (λ watched. (watched.ending ≡ None) × (watched.events ≡ 0)) }
+        ensures watch { IfOk result (λ watched. IfSome watched.watch
+            (λ watch. (line_of watch ≡ line.now) × (seen_by watch ≡ nothing_seen))) }
+    {
         Ok(Watched {
             alloc,
             line,
@@ -146,7 +164,10 @@ impl<'a> Watched<'a> {
     }
 
     // Takes the last event, after all lines.
-    fn end(&mut self) {
+    fn end(&mut self)
+        ensures { is_some self.old.ending ≡ true
+            → (self.new.ending ≡ self.old.ending) × (self.new.events ≡ self.old.events) }
+    {
         if self.ending.is_some() {
             return;
         }
@@ -169,7 +190,12 @@ impl<'a> Watched<'a> {
     }
 
     // Takes an event, if one is complete.
-    fn take(&mut self, exchange: &Option<Exchange>) -> Result<(), Ending> {
+    fn take(&mut self, exchange: &Option<Exchange>) -> Result<(), Ending>
+        ensures danger { (watch : Monitor) → self.old.watch ≡ Some watch → IfSome exchange.now (λ x. IfErr result
+            (IsDanger (line_of watch) (sees_exchange (line_of watch) x (seen_by watch)))) }
+        ensures seen { (watch : Monitor) → self.old.watch ≡ Some watch → IfSome exchange.now (λ x. OnOk result
+            (IfSome self.new.watch (λ w. seen_by w ≡ sees_exchange (line_of watch) x (seen_by watch)))) }
+    {
         let Some(exchange) = exchange else {
             return Ok(());
         };

@@ -1,3 +1,9 @@
+ghost use Rattle.std.specs.Prelude.{◌≡◌, IfSome, Some, codes, option_map};
+ghost use Rattle.clap.specs.Matches.{subcommand_name_of};
+ghost use Rattle.cli_commands.specs.Words.{IsFlag, command_of, task_command, value};
+
+mod serving;
+
 use crate::decode::Decoding;
 use crate::diagram::Drawing;
 use crate::matching::matched;
@@ -6,12 +12,12 @@ pub use crate::requests::{
     TrainsWords,
 };
 use crate::time_range::{axis_of, range_of};
+use crate::words::serving::named_serve;
 use clap::error::ErrorKind;
 use clap::{ArgMatches, Error};
 use cli_demo::Settings;
 use std::alloc::{AllocError, Global};
 use std::convert::AsStr;
-use std::net::{AddrParseError, IpAddr};
 use text_replay::Cut;
 use text_script::status::Fault;
 
@@ -50,29 +56,35 @@ fn given_lines<'a>(alloc: Global, matches: &ArgMatches<'a>) -> Result<Vec<&'a st
 }
 
 // The request of matched arguments. It is there: each required argument has a value, and each number is in its range.
-fn named<'a>(matches: &ArgMatches<'a>) -> Option<Request<'a>> {
+fn named<'a>(matches: &ArgMatches<'a>) -> Option<Request<'a>>
+    ensures { IfSome result (λ request. subcommand_name_of matches.now ≡ Some (command_of request)) }
+{
     let (command, words) = matches.subcommand()?;
-    match command {
-        "words" => named_words(words),
-        "decode" => Some(named_decode(words)),
-        "encode" => named_encode(words),
-        "serve" => named_serve(words),
-        "drive" => named_drive(words),
-        "trains" => named_trains(words),
-        "tell" => named_tell(words),
-        "demo" => Some(named_demo(words)),
-        _ => named_of_file(command, words),
-    }
+    Some(match command {
+        "words" => named_words(words)?,
+        "decode" => named_decode(words),
+        "encode" => named_encode(words)?,
+        "serve" => named_serve(words)?,
+        "drive" => named_drive(words)?,
+        "trains" => named_trains(words)?,
+        "tell" => named_tell(words)?,
+        "demo" => named_demo(words),
+        _ => named_of_file(command, words)?,
+    })
 }
 
-fn named_words<'a>(words: &ArgMatches<'a>) -> Option<Request<'a>> {
-    match words.get_str("message") {
-        Some(digits) => Some(Request::Message { digits }),
-        None => named_of_file("words", words),
-    }
+fn named_words<'a>(words: &ArgMatches<'a>) -> Option<Request<'a>>
+    ensures { IfSome result (λ request. command_of request ≡ codes "words") }
+{
+    Some(match words.get_str("message") {
+        Some(digits) => Request::Message { digits },
+        None => named_of_file("words", words)?,
+    })
 }
 
-fn named_of_file<'a>(command: &str, words: &ArgMatches<'a>) -> Option<Request<'a>> {
+fn named_of_file<'a>(command: &str, words: &ArgMatches<'a>) -> Option<Request<'a>>
+    ensures { IfSome result (λ request. command_of request ≡ command.now) }
+{
     let file = words.get_str("FILE")?;
     match command {
         "check" => Some(Request::Check { file }),
@@ -92,7 +104,9 @@ fn named_of_file<'a>(command: &str, words: &ArgMatches<'a>) -> Option<Request<'a
     }
 }
 
-fn task_of<'a>(command: &str, words: &ArgMatches<'a>) -> Option<Task<'a>> {
+fn task_of<'a>(command: &str, words: &ArgMatches<'a>) -> Option<Task<'a>>
+    ensures { IfSome result (λ task. task_command task ≡ command.now) }
+{
     match command {
         "script" => Some(Task::Script(words.get_str("WORDS")?)),
         "storm" => Some(Task::Storm {
@@ -105,7 +119,9 @@ fn task_of<'a>(command: &str, words: &ArgMatches<'a>) -> Option<Task<'a>> {
     }
 }
 
-fn task_on_print<'a>(command: &str, words: &ArgMatches<'a>) -> Option<Task<'a>> {
+fn task_on_print<'a>(command: &str, words: &ArgMatches<'a>) -> Option<Task<'a>>
+    ensures { IfSome result (λ task. task_command task ≡ command.now) }
+{
     let printed = words.get_str("PRINTED")?;
     match command {
         "audit" => Some(Task::Audit(printed)),
@@ -124,7 +140,11 @@ fn task_on_print<'a>(command: &str, words: &ArgMatches<'a>) -> Option<Task<'a>> 
     }
 }
 
-fn listing_of<'a>(words: &ArgMatches<'a>, name: &str) -> Option<Listing<'a>> {
+fn listing_of<'a>(words: &ArgMatches<'a>, name: &str) -> Option<Listing<'a>>
+    ensures name { option_map (λ listing. listing.name.now) result ≡ value words.now name.now }
+    ensures numbers { IfSome result (λ listing. IsFlag words.now (codes "numbers") listing.is_numbered) }
+    ensures times { IfSome result (λ listing. IsFlag words.now (codes "times") listing.is_timed) }
+{
     Some(Listing {
         name: words.get_str(name)?,
         is_numbered: words.get_flag("numbers"),
@@ -133,83 +153,27 @@ fn listing_of<'a>(words: &ArgMatches<'a>, name: &str) -> Option<Listing<'a>> {
     })
 }
 
-fn named_decode<'a>(words: &ArgMatches<'a>) -> Request<'a> {
+fn named_decode<'a>(words: &ArgMatches<'a>) -> Request<'a>
+    ensures { command_of result ≡ codes "decode" }
+{
     Request::Decode(Decoding {
         is_frame: words.get_flag("frame"),
         is_json: words.get_flag("json"),
     })
 }
 
-fn named_encode<'a>(words: &ArgMatches<'a>) -> Option<Request<'a>> {
+fn named_encode<'a>(words: &ArgMatches<'a>) -> Option<Request<'a>>
+    ensures { IfSome result (λ request. command_of request ≡ codes "encode") }
+{
     Some(Request::Encode {
         fields: words.get_str("FIELDS")?,
         is_frame: words.get_flag("frame"),
     })
 }
 
-fn named_serve<'a>(words: &ArgMatches<'a>) -> Option<Request<'a>> {
-    Some(Request::Serve {
-        file: words.get_str("FILE")?,
-        port: words.get_one("PORT")?,
-        words: serve_words(words)?,
-    })
-}
-
-// The options of `serve`; `None` if an address is not one of IPv4 or IPv6.
-fn serve_words<'a>(words: &ArgMatches<'a>) -> Option<ServeWords<'a>> {
-    let page_address = address_of(words, "page-address").ok()?;
-    let address = address_of(words, "address").ok()?;
-    Some(ServeWords {
-        is_quiet: words.get_flag("quiet"),
-        is_for_journald: words.get_flag("journald"),
-        notes_as_json: is_json(words),
-        page: words.get_one("page"),
-        page_address,
-        address,
-        control: words.get_str("control"),
-        is_bound: words.get_flag("bind"),
-        is_telling: words.get_flag("tell"),
-        shows_life: words.get_flag("life"),
-        per_second: words.get_one("rate"),
-        burst: words.get_one("burst"),
-        is_unprinted: words.get_flag("no-print"),
-        journal: journal_words(words),
-    })
-}
-
-// Whether notes are JSON objects.
-fn is_json(words: &ArgMatches<'_>) -> bool {
-    match words.get_str("notes") {
-        Some(form) => form == "json",
-        None => false,
-    }
-}
-
-// The value of the option of this name, if it is given.
-fn address_of(words: &ArgMatches<'_>, name: &str) -> Result<Option<IpAddr>, AddrParseError> {
-    match words.get_str(name) {
-        Some(text) => Ok(Some(text.parse()?)),
-        None => Ok(None),
-    }
-}
-
-// The options of journals. Only one of the three folders is given, and only with it `--no-sync` and `--no-print`.
-fn journal_words<'a>(words: &ArgMatches<'a>) -> Option<JournalWords<'a>> {
-    let (start, folder) = if let Some(folder) = words.get_str("keep") {
-        (JournalStart::Keep, folder)
-    } else if let Some(folder) = words.get_str("resume") {
-        (JournalStart::Resume, folder)
-    } else {
-        (JournalStart::Begin, words.get_str("journal")?)
-    };
-    Some(JournalWords {
-        folder,
-        start,
-        is_synced: !words.get_flag("no-sync"),
-    })
-}
-
-fn named_drive<'a>(words: &ArgMatches<'a>) -> Option<Request<'a>> {
+fn named_drive<'a>(words: &ArgMatches<'a>) -> Option<Request<'a>>
+    ensures { IfSome result (λ request. command_of request ≡ codes "drive") }
+{
     Some(Request::Drive {
         port: words.get_one("PORT")?,
         file: words.get_str("FILE")?,
@@ -217,7 +181,9 @@ fn named_drive<'a>(words: &ArgMatches<'a>) -> Option<Request<'a>> {
     })
 }
 
-fn named_trains<'a>(words: &ArgMatches<'a>) -> Option<Request<'a>> {
+fn named_trains<'a>(words: &ArgMatches<'a>) -> Option<Request<'a>>
+    ensures { IfSome result (λ request. command_of request ≡ codes "trains") }
+{
     Some(Request::Trains {
         port: words.get_one("PORT")?,
         file: words.get_str("FILE")?,
@@ -232,14 +198,18 @@ fn named_trains<'a>(words: &ArgMatches<'a>) -> Option<Request<'a>> {
     })
 }
 
-fn named_tell<'a>(words: &ArgMatches<'a>) -> Option<Request<'a>> {
+fn named_tell<'a>(words: &ArgMatches<'a>) -> Option<Request<'a>>
+    ensures { IfSome result (λ request. command_of request ≡ codes "tell") }
+{
     Some(Request::Tell(TellWords {
         endpoint: words.get_str("ENDPOINT")?,
         timeout_s: words.get_one("timeout"),
     }))
 }
 
-fn named_demo<'a>(words: &ArgMatches<'a>) -> Request<'a> {
+fn named_demo<'a>(words: &ArgMatches<'a>) -> Request<'a>
+    ensures { command_of result ≡ codes "demo" }
+{
     let file = words.get_str("FILE");
     match words.get_one("page") {
         Some(page) => Request::LivePage {

@@ -1,1 +1,4 @@
+pub mod Commands
+pub mod Deliveries
+pub mod Flights
 pub mod Safe

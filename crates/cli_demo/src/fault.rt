@@ -1,3 +1,6 @@
+ghost use Rattle.std.specs.Prelude.{◌≡◌, Err, false, IfOk, is_ok};
+ghost use Rattle.rbc_railway.specs.declared.fault.RailwayFault.TheVariants.{Memory};
+
 use rbc_railway::RailwayFault;
 use std::alloc::{AllocError, AllocFailed};
 use std::io;
@@ -41,7 +44,10 @@ impl From<DemoFault> for Fault<'_> {
 }
 
 /// Whether a moment happened. A moment that a rule forbids does not, and nothing changes.
-pub(crate) fn happened(done: Result<(), RailwayFault>) -> Result<bool, DemoFault> {
+pub(crate) fn happened(done: Result<(), RailwayFault>) -> Result<bool, DemoFault>
+    ensures happened { IfOk result (λ has_happened. has_happened ≡ is_ok done) }
+    ensures memory { done ≡ Err Memory → is_ok result ≡ false }
+{
     match done {
         Ok(()) => Ok(true),
         Err(RailwayFault::Step(fault)) => Err(DemoFault::Step(fault)),

@@ -1,5 +1,8 @@
 //! The interlocking: it releases the sections ahead of trains, and takes one back by lot.
 
+ghost use Rattle.std.specs.Prelude.{◌≡◌, false, option_map, slice_get, slice_set, unwrap_or};
+ghost use Rattle.cli_demo.specs.Commands.{command_for};
+
 use rbc_line::{Line, Section};
 use std::alloc::{AllocError, Global};
 use text_script::{Outcome, Word, WorldEvent};
@@ -25,12 +28,16 @@ impl Interlocking {
     }
 
     /// Whether this section is released.
-    pub(crate) fn is_released(&self, section: usize) -> bool {
+    pub(crate) fn is_released(&self, section: usize) -> bool
+        ensures { result ≡ unwrap_or (slice_get self.now.released.items section) false }
+    {
         self.released.get(section).copied().unwrap_or(false)
     }
 
     /// The command for a section at its home.
-    pub(crate) fn command(&self, section: usize, is_release: bool) -> Option<WorldEvent> {
+    pub(crate) fn command(&self, section: usize, is_release: bool) -> Option<WorldEvent>
+        ensures { result ≡ option_map (command_for section is_release) (slice_get self.now.sections.items section) }
+    {
         let centre = self.sections.get(section)?.home;
         let section = section.min(65_535) as u16;
         if is_release {
@@ -53,7 +60,10 @@ impl Interlocking {
         }
     }
 
-    fn mark(&mut self, section: u16, is_released: bool) {
+    fn mark(&mut self, section: u16, is_released: bool)
+        ensures marks { self.new.released.items ≡ slice_set self.old.released.items section is_released }
+        ensures sections { self.new.sections ≡ self.old.sections }
+    {
         if let Some(released) = self.released.get_mut(section as usize) {
             *released = is_released;
         }

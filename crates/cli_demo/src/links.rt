@@ -1,5 +1,9 @@
 //! The links between centres: frames are delivered out of order, and again.
 
+ghost use Rattle.std.specs.Prelude.{◌<◌, ◌≡◌, ◌≤◌, IfSome, slice_get, Some};
+ghost use Rattle.cli_demo.specs.Deliveries.{IsSentOn};
+ghost use Rattle.cli_demo.specs.declared.links.Link.{Link as Way};
+
 use cli_storm::{Draws, below, in_hundred};
 use rbc_line::Line;
 use std::alloc::{AllocError, Global};
@@ -69,7 +73,9 @@ impl Links {
     }
 
     /// A frame of the link that is delivered now, by lot: mostly the next one, else any.
-    pub(crate) fn delivery(&self, draws: &mut Draws, loss: u8, link: usize) -> Option<WorldEvent> {
+    pub(crate) fn delivery(&self, draws: &mut Draws, loss: u8, link: usize) -> Option<WorldEvent>
+        ensures { (way : Way) → slice_get self.now.links.items link ≡ Some way → IfSome result (IsSentOn way) }
+    {
         let link = self.links.get(link)?;
         if link.sent == 0 {
             return None;
@@ -89,7 +95,9 @@ impl Links {
 
 impl Link {
     // The number of a frame: mostly the next one that was not taken, else any. None if none was sent.
-    fn number(&self, draws: &mut Draws) -> Option<u32> {
+    fn number(&self, draws: &mut Draws) -> Option<u32>
+        ensures { IfSome result (λ n. (0 < n) × (n ≤ self.now.sent)) }
+    {
         if self.taken < self.sent && in_hundred(draws, 75) {
             return Some(self.taken.saturating_add(1));
         }

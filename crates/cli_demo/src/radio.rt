@@ -1,5 +1,8 @@
 //! The radio: messages between trains and centres are on the way for any time. They arrive in any order, some twice.
 
+ghost use Rattle.std.specs.Prelude.{[], ◌++◌, ◌≡◌, ◌≤◌, ◌∷◌, OnErr, OnOk};
+ghost use Rattle.cli_demo.specs.Flights.{Arrives};
+
 use cli_storm::{Draws, below, in_hundred};
 use std::alloc::{AllocError, Global};
 
@@ -24,7 +27,9 @@ pub(crate) struct Radio {
 }
 
 impl Radio {
-    pub(crate) fn new(alloc: Global, loss: u8) -> Radio {
+    pub(crate) fn new(alloc: Global, loss: u8) -> Radio
+        ensures { (result.flights.items ≡ []) × (result.loss ≡ loss) }
+    {
         Radio {
             flights: Vec::new(alloc),
             loss,
@@ -39,7 +44,12 @@ impl Radio {
     }
 
     /// A message is sent. It is lost by lot.
-    pub(crate) fn send(&mut self, draws: &mut Draws, flight: Flight) -> Result<(), AllocError> {
+    pub(crate) fn send(&mut self, draws: &mut Draws, flight: Flight) -> Result<(), AllocError>
+        ensures kept { self.old.loss ≡ 0
+            → OnOk result (self.new.flights.items ≡ self.old.flights.items ++ flight ∷ []) }
+        ensures lost { 100 ≤ self.old.loss → self.new.flights.items ≡ self.old.flights.items }
+        ensures err { OnErr result (self.new.flights.items ≡ self.old.flights.items) }
+    {
         self.sent = self.sent.saturating_add(1);
         if in_hundred(draws, self.loss) {
             self.lost = self.lost.saturating_add(1);
@@ -63,7 +73,9 @@ impl Radio {
     }
 
     /// A message on the way that arrives now, by lot. One in eight that arrive will arrive again.
-    pub(crate) fn arrival(&mut self, draws: &mut Draws) -> Option<Flight> {
+    pub(crate) fn arrival(&mut self, draws: &mut Draws) -> Option<Flight>
+        ensures { Arrives self.old.flights.items self.new.flights.items result }
+    {
         let count = self.flights.len();
         if count == 0 {
             return None;

@@ -27,7 +27,7 @@ pub enum StepsFault {
 }
 
 /// Why a line is refused.
-#[derive(Clone, Copy, Debug, PartialEq, Eq)]
+#[derive(Clone, Copy)]
 enum StepFault {
     Memory,
     Form,

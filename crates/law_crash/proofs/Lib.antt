@@ -1,4 +1,4 @@
 mod Cuts
-mod Crashes
+pub mod Crashes
 mod Orders
 mod Played

@@ -1,3 +1,4 @@
 pub mod Sorted
 pub mod Merged
+pub mod Numbered
 pub mod BeginningsLemmas

@@ -51,7 +51,7 @@ taken_stamped line c event k = record {
 }
 
 -- a step that was not refused was taken
-not_refused : (o : Option Refusal) (x y : Outcome × Centre)
+pub not_refused : (o : Option Refusal) (x y : Outcome × Centre)
     → option_map_or {U = Result (Outcome × Centre) Refusal} (λ why. Err why) o (Ok x) ≡ Ok y → x ≡ y
 not_refused (Some why) x y is = cc
 not_refused None x y is = cc

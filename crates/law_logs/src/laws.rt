@@ -6,6 +6,7 @@ ghost use Rattle.rbc_spec.specs.Outcome.{Outcome};
 ghost use Rattle.rbc_spec.specs.Centre.{Centre};
 ghost use Rattle.rbc_spec.specs.Step.{Event, step};
 ghost use Rattle.law_logs.specs.Logs.{IsStamped, FamilyTheorem, SortedTheorem};
+ghost use Rattle.law_logs.specs.Messages.{NumberTheorem};
 
 /// For every event of a centre, the clock then shows the stamp of the step. It is above the old clock, and above the
 /// stamp of a frame that arrived. The frames of the step follow those sent before, with that stamp, and are numbered
@@ -26,4 +27,9 @@ pub fn the_family_theorem()
 /// centre, it is a merge of the logs. Each log keeps its order, whatever the method of sorting.
 pub fn a_sorted_list_is_a_merge()
     ensures { SortedTheorem }
+{}
+
+/// The messages of a centre to a train have T_TRAIN 1, 2, 3 and so on, in the order of its log.
+pub fn each_message_is_numbered()
+    ensures { NumberTheorem }
 {}

@@ -6,4 +6,6 @@
 pub mod beginnings;
 mod laws;
 
-pub use laws::{a_sorted_list_is_a_merge, each_step_is_stamped, the_family_theorem};
+pub use laws::{
+    a_sorted_list_is_a_merge, each_message_is_numbered, each_step_is_stamped, the_family_theorem,
+};

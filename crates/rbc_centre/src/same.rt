@@ -124,9 +124,12 @@ impl Outcome {
         ensures { outcome_of result ≡ outcome_of self.now }
     {
         let mut sayings = ArrayVec::new();
-        let Ok(()) = sayings.try_extend_from_slice(self.sayings.as_slice()) else {
-            unreachable!()
-        };
+        // Most steps have no message.
+        if !self.sayings.is_empty() {
+            let Ok(()) = sayings.try_extend_from_slice(self.sayings.as_slice()) else {
+                unreachable!()
+            };
+        }
         Outcome {
             stamp: self.stamp,
             sayings,

@@ -1,6 +1,8 @@
 //! Runs the centres of a line.
 
-ghost use Rattle.std.specs.Prelude.{◌≡◌};
+ghost use Rattle.std.specs.Prelude.{◌≡◌, IfSome, None, not};
+ghost use Rattle.std.specs.Net.Addr.{IsLoopbackV4, IsLoopbackV6, MatchIp};
+ghost use Rattle.std.specs.Net.Socket.{socket_ip, socket_port};
 
 use crate::record::lock_journals;
 use cli_commands::disk::Disk;
@@ -159,9 +161,15 @@ pub fn opened<
 }
 
 // The port at an address of this host; without one at 127.0.0.1.
-fn at_host(address: Option<IpAddr>, port: u16) -> SocketAddr {
-    let ip = address.unwrap_or(IpAddr::V4(Ipv4Addr::LOCALHOST));
-    SocketAddr::new(ip, port)
+fn at_host(address: Option<IpAddr>, port: u16) -> SocketAddr
+    ensures port { socket_port result ≡ port }
+    ensures given { IfSome address (λ ip. socket_ip result ≡ ip) }
+    ensures local { address ≡ None → MatchIp (socket_ip result) IsLoopbackV4 IsLoopbackV6 }
+{
+    match address {
+        Some(ip) => SocketAddr::new(ip, port),
+        None => SocketAddr::new(IpAddr::V4(Ipv4Addr::new(127, 0, 0, 1)), port),
+    }
 }
 
 // Notes on standard error, in the form of the arguments.
@@ -183,7 +191,14 @@ fn form_of(words: &ServeWords<'_>) -> NoteForm
 }
 
 // The options of the arguments.
-fn manner_of(words: &ServeWords<'_>) -> ServeOptions {
+fn manner_of(words: &ServeWords<'_>) -> ServeOptions
+    ensures tell { result.is_telling ≡ words.now.is_telling }
+    ensures life { result.shows_life ≡ words.now.shows_life }
+    ensures bind { result.is_bound ≡ words.now.is_bound }
+    ensures print { result.prints_events ≡ not words.now.is_unprinted }
+    ensures rate { IfSome words.now.per_second (λ n. result.rate.per_second ≡ n) }
+    ensures burst { IfSome words.now.burst (λ n. result.rate.burst ≡ n) }
+{
     let mut options = ServeOptions {
         is_telling: words.is_telling,
         shows_life: words.shows_life,

@@ -1,6 +1,9 @@
 //! Runs trains over centres in this process, with the page of the line.
 
+ghost use Rattle.std.specs.Prelude.{◌≡◌, false, None, Some, true};
+
 use crate::centres::{opened, refused};
+use crate::ports::{first_after, report_port};
 use crate::trains::{run_on, settings_of};
 use cli_commands::demo::line_of_demo;
 use cli_commands::disk::Disk;
@@ -30,7 +33,12 @@ const SECOND_MS: u64 = 250;
 const STOPS: u32 = 100;
 
 /// The arguments of centres with a page at this port.
-const fn served_at(page: u16) -> ServeWords<'static> {
+const fn served_at(page: u16) -> ServeWords<'static>
+    ensures page { result.page ≡ Some page }
+    ensures local { (result.page_address ≡ None) × (result.address ≡ None) × (result.control ≡ None) }
+    ensures quiet { (result.is_quiet ≡ true) × (result.is_unprinted ≡ true) × (result.journal ≡ None) }
+    ensures usual { (result.is_bound ≡ false) × (result.per_second ≡ None) × (result.burst ≡ None) }
+{
     ServeWords {
         is_quiet: true,
         page: Some(page),
@@ -68,7 +76,10 @@ pub fn run_live_page<
         Ok(given) => given,
         Err(fault) => return report(&fault, out, err),
     };
-    let port = page.saturating_add(1);
+    let port = match first_after(page, given.line.centre_count()) {
+        Ok(port) => port,
+        Err(most) => return report_port(err, "--page", page, most),
+    };
     let notes = StderrNotes {
         rt,
         form: NoteForm::TEXT,

@@ -6,6 +6,7 @@
 
 mod centres;
 mod live_page;
+mod ports;
 mod record;
 mod tell;
 mod train;
@@ -46,8 +47,7 @@ fn main(rt: HostRuntime) -> ExitCode {
         }
         Ok(Request::Tell(tell)) => run_tell(&rt, &words, tell, &mut out, &mut err),
         Ok(Request::Trains { port, file, words }) => {
-            let done = run_trains(&rt, port, file, &words, &mut out);
-            ended(done, &mut out, &mut err)
+            run_trains(&rt, port, file, &words, &mut out, &mut err)
         }
         Ok(Request::LivePage { file, page, words }) => {
             run_live_page(&rt, file, page, &words, &mut out, &mut err)

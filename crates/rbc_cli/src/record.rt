@@ -1,11 +1,13 @@
 //! Locks and begins the journals of a line's centres, as files in a folder.
 
+mod place;
+
+use crate::record::place::{Place, bytes_of, place_of, start_of};
 use cli_commands::journal::{Journal, journal_name, journal_of};
 use cli_commands::line_file::LineFile;
 use cli_commands::words::{JournalStart, JournalWords};
-use serve_journal::{JournalFile, OpenFault, SystemFile, make_journal, open_journal, read_whole};
+use serve_journal::{JournalFile, OpenFault, SystemFile, make_journal};
 use serve_line::{About, Kind, Notes, Record, ServeFault};
-use std::alloc::AllocError;
 use std::fs;
 use std::fs::File;
 use std::io::ErrorKind;
@@ -13,17 +15,6 @@ use std::path::Path;
 use std::rt::Files;
 use std::time::Clock;
 use text_journal::{Entry, first_line, in_order};
-use text_script::status::Fault;
-
-/// The journal of a centre.
-#[derive(Drop)]
-struct Place {
-    name: String,
-    /// The file, open and locked, if it exists.
-    file: Option<File>,
-    /// The number of its bytes that are kept.
-    length: usize,
-}
 
 /// The journals of all centres, locked, and their events.
 #[derive(Drop)]
@@ -47,9 +38,7 @@ pub fn lock_journals<'a, R: Files<File = File> + Clock + AllocGlobal, N: Notes>(
         let name = journal_name(rt.alloc(), &given.line, words.folder, centre)?;
         places.push(place_of(rt, name, words.start, notes)?)?;
     }
-    if words.start == JournalStart::Keep && places.iter().all(|place| place.file.is_some()) {
-        words.start = JournalStart::Resume;
-    }
+    words.start = start_of(words.start, &places);
     let entries = entries_of(rt, given, words.start, &mut places, notes)?;
     Ok(Locked {
         words,
@@ -90,34 +79,6 @@ impl Locked<'_> {
         }
         Ok(Record { files, entries })
     }
-}
-
-// Opens and locks the journal of this name. A journal to resume must exist.
-fn place_of<R: Files<File = File> + Clock, N: Notes>(
-    rt: &R,
-    name: String,
-    start: JournalStart,
-    notes: &N,
-) -> Result<Place, ServeFault> {
-    let file = match open_journal(rt, name.as_str()) {
-        Ok(file) => Some(file),
-        Err(OpenFault::Missing) if start == JournalStart::Resume => {
-            return Err(ServeFault::Run(Fault::NoJournal(name)));
-        }
-        Err(OpenFault::Missing) => None,
-        Err(fault) => {
-            notes.note(
-                About::of(Kind::Refused),
-                format_args!("{name} can't be opened: {fault}"),
-            );
-            return Err(ServeFault::Journal);
-        }
-    };
-    Ok(Place {
-        name,
-        file,
-        length: 0,
-    })
 }
 
 // The events of the journals, in the order in which they happened. If they are not resumed, a journal has none.
@@ -166,29 +127,6 @@ fn note_old<N: Notes>(places: &[Place], number: usize, start: JournalStart, note
             About::of(Kind::Refused),
             format_args!("{name} has events: go on from it by --resume, or name another folder"),
         ),
-    }
-}
-
-// The bytes of a journal; none if it does not exist.
-fn bytes_of<R: AllocGlobal, N: Notes>(
-    rt: &R,
-    place: &Place,
-    notes: &N,
-) -> Result<Vec<u8>, ServeFault> {
-    let Some(file) = &place.file else {
-        return Ok(Vec::new(rt.alloc()));
-    };
-    match read_whole(rt, file) {
-        Ok(bytes) => Ok(bytes),
-        Err(error) if error.kind() == ErrorKind::OutOfMemory => Err(AllocError.into()),
-        Err(error) => {
-            let name = &place.name;
-            notes.note(
-                About::of(Kind::Refused),
-                format_args!("{name} can't be read: {error}"),
-            );
-            Err(ServeFault::Journal)
-        }
     }
 }
 

@@ -1,5 +1,9 @@
 //! Sends lines to the interlocking's endpoint of running centres.
 
+ghost use Rattle.std.specs.Prelude.{IfSome};
+ghost use Rattle.rbc_cli.specs.Addresses.{IsAddress};
+
+use crate::train::fault_of;
 use cli_commands::disk::Disk;
 use cli_commands::files::Files as _;
 use cli_commands::words::{TellWords, lines_of};
@@ -54,12 +58,7 @@ impl From<AllocError> for TellFault<'_> {
 
 impl From<DriveFault> for TellFault<'_> {
     fn from(fault: DriveFault) -> Self {
-        TellFault::Run(match fault {
-            DriveFault::Memory => AllocError.into(),
-            DriveFault::Form(row) => Fault::Script(row),
-            DriveFault::Socket => Fault::Socket,
-            DriveFault::Write => Fault::Write,
-        })
+        TellFault::Run(fault_of(fault))
     }
 }
 
@@ -151,23 +150,29 @@ fn send(stream: &mut TcpStream, request: &[u8]) -> Result<(), DriveFault> {
 }
 
 // The endpoint of the arguments. `None` if it is a number, but not that of a port.
-fn callee_of<'a>(words: TellWords<'a>) -> Option<Callee<'a>> {
-    let endpoint = words.endpoint;
-    let is_number = !endpoint.is_empty() && endpoint.bytes().all(|byte| byte.is_ascii_digit());
-    let address = if is_number {
-        let port: u16 = endpoint.parse().ok()?;
-        if port == 0 {
-            return None;
-        }
-        Address::Port(port)
-    } else {
-        Address::Path(endpoint)
-    };
+fn callee_of<'a>(words: TellWords<'a>) -> Option<Callee<'a>>
+    ensures { IfSome result (λ callee. IsAddress words.entry.endpoint.now callee.address) }
+{
+    let address = address_of(words.endpoint)?;
     let timeout = match words.timeout_s {
         Some(seconds) => Some(Duration::from_secs(u64::from(seconds))),
         None => None,
     };
     Some(Callee { address, timeout })
+}
+
+// The address of an endpoint. `None` if it is a number, but not that of a port.
+fn address_of(endpoint: &str) -> Option<Address<'_>>
+    ensures { IfSome result (IsAddress endpoint.now) }
+{
+    let is_number = !endpoint.is_empty() && endpoint.bytes().all(|byte| byte.is_ascii_digit());
+    if !is_number {
+        return Some(Address::Path(endpoint));
+    }
+    match endpoint.parse::<u16>() {
+        Ok(port) if port > 0 => Some(Address::Port(port)),
+        _ => None,
+    }
 }
 
 fn connect<R: Net<Stream = TcpStream>>(

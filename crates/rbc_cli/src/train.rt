@@ -1,14 +1,18 @@
 //! Drives a train by hand.
 
+ghost use Rattle.std.specs.Prelude.{◌≡◌};
+ghost use Rattle.text_script.specs.Status.Statuses.{status_of};
+ghost use Rattle.rbc_cli.specs.Endings.{drive_status};
+
 use cli_commands::disk::Disk;
 use cli_commands::files::Files as _;
 use cli_drive::{DriveFault, drive, see_off, steps_of};
-use std::alloc::AllocError;
 use std::fs::File;
 use std::io::Write;
 use std::net::{IpAddr, Ipv4Addr, Net, Shutdown, SocketAddr, TcpStream};
 use std::rt::Files;
 use std::time::Duration;
+use text_script::StepFault;
 use text_script::status::Fault;
 
 /// The longest time in seconds that a centre may send nothing after the last line. The train then ends, even if the
@@ -30,10 +34,19 @@ pub fn run_train<'a, R: Net<Stream = TcpStream> + Files<File = File> + AllocGlob
     };
     match run_text(rt, port, text.as_str(), timeout_s, out) {
         Ok(()) => Ok(()),
-        Err(DriveFault::Memory) => Err(AllocError.into()),
-        Err(DriveFault::Form(row)) => Err(Fault::Script(row)),
-        Err(DriveFault::Socket) => Err(Fault::Socket),
-        Err(DriveFault::Write) => Err(Fault::Write),
+        Err(fault) => Err(fault_of(fault)),
+    }
+}
+
+/// The fault of the program, by that of a connection.
+pub fn fault_of(fault: DriveFault) -> Fault<'static>
+    ensures { status_of result ≡ drive_status fault }
+{
+    match fault {
+        DriveFault::Memory => Fault::Step(StepFault::Memory),
+        DriveFault::Form(row) => Fault::Script(row),
+        DriveFault::Socket => Fault::Socket,
+        DriveFault::Write => Fault::Write,
     }
 }
 

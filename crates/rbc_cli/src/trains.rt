@@ -1,5 +1,9 @@
 //! Runs trains over running centres.
 
+ghost use Rattle.std.specs.Prelude.{◌≡◌, false, IsErrOf, not, Ok, OnOk, true, unwrap_or};
+ghost use Rattle.text_script.specs.declared.status.fault.Fault.TheVariants.{Differs};
+
+use crate::ports::{first_at, report_port};
 use cli_commands::disk::Disk;
 use cli_commands::line_file::{LineFile, line_file_in};
 use cli_commands::words::TrainsWords;
@@ -10,26 +14,29 @@ use std::io::Write;
 use std::net::{Net, TcpStream};
 use std::rt::Files;
 use std::time::Clock;
-use text_script::status::Fault;
+use text_script::status::{Fault, ended, report};
 
 /// How long a second of the trains takes, in milliseconds.
 const SECOND_MS: u64 = 50;
 
-/// Runs trains on the line of a file over its centres, which listen on this host. If two trains were on one section,
-/// the print has that, and the fault is `Differs`.
+/// Runs trains on the line of a file over its centres, which listen on this host, and returns the exit status. If two
+/// trains were on one section, the print has that, and the fault is `Differs`.
 pub fn run_trains<
-    'a,
     R: Net<Stream = TcpStream> + Clock + Files<File = File> + AllocGlobal,
     O: Write,
->(rt: &R, port: u16, file: &'a str, words: &TrainsWords, out: &mut O) -> Result<(), Fault<'a>> {
-    let given = line_file_in(rt.alloc(), file, &Disk(rt))?;
-    run_on(
-        rt,
-        &given,
-        settings_of(port, words, SECOND_MS),
-        &NoObserver,
-        out,
-    )
+    E: Write,
+>(rt: &R, port: u16, file: &str, words: &TrainsWords, out: &mut O, err: &mut E) -> u8 {
+    let given = match line_file_in(rt.alloc(), file, &Disk(rt)) {
+        Ok(given) => given,
+        Err(fault) => return report(&fault, out, err),
+    };
+    let port = match first_at(port, given.line.centre_count()) {
+        Ok(port) => port,
+        Err(most) => return report_port(err, "PORT", port, most),
+    };
+    let settings = settings_of(port, words, SECOND_MS);
+    let done = run_on(rt, &given, settings, &NoObserver, out);
+    ended(done, out, err)
 }
 
 /// Runs trains on a line over its centres. The observer gets their true places.
@@ -40,7 +47,15 @@ pub fn run_on<R: Net<Stream = TcpStream> + Clock + AllocGlobal, P: Observer, O: 
     observer: &P,
     out: &mut O,
 ) -> Result<(), Fault<'static>> {
-    match run(rt, &given.line, settings, observer, out) {
+    result_of(run(rt, &given.line, settings, observer, out))
+}
+
+// The result of the command, by that of the trains: whether no two of them were on one section.
+fn result_of(done: Result<bool, TrainsFault>) -> Result<(), Fault<'static>>
+    ensures ok { OnOk result (done ≡ Ok true) }
+    ensures differs { done ≡ Ok false → IsErrOf result Differs }
+{
+    match done {
         Ok(true) => Ok(()),
         Ok(false) => Err(Fault::Differs),
         Err(TrainsFault::Memory) => Err(AllocError.into()),
@@ -50,7 +65,12 @@ pub fn run_on<R: Net<Stream = TcpStream> + Clock + AllocGlobal, P: Observer, O: 
 }
 
 /// The settings of the arguments. A second of the trains takes this many milliseconds.
-pub fn settings_of(port: u16, words: &TrainsWords, second_ms: u64) -> Settings {
+pub fn settings_of(port: u16, words: &TrainsWords, second_ms: u64) -> Settings
+    ensures trains { result.trains ≡ unwrap_or words.now.trains 64 }
+    ensures loss { result.loss ≡ unwrap_or words.now.loss 0 }
+    ensures late { result.late ≡ unwrap_or words.now.late 0 }
+    ensures release { result.is_releasing ≡ not words.now.is_shut }
+{
     Settings {
         port,
         trains: words.trains.unwrap_or(64),

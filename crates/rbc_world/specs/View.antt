@@ -2,6 +2,9 @@
 use Rattle.std.specs.Prelude.{◌≡◌, Bool, IfSome, length, List, None, Option, option_and_then, option_map, slice_get}
 use Rattle.std.specs.Prelude.{Some, ℕ}
 use Rattle.law_invariants.specs.Flow.Shows.{shown}
+use Rattle.rbc_book.specs.declared.mark.Mark.{Mark}
+use Rattle.rbc_book.specs.declared.mark.Mark.TheVariants as mark
+use Rattle.rbc_book.specs.declared.mark.SectionView.{SectionView}
 use Rattle.rbc_book.specs.declared.page.Entry.{Entry}
 use Rattle.rbc_book.specs.Entries.{entry_of}
 use Rattle.rbc_centre.specs.rbc_place.Places.{place_of}
@@ -14,10 +17,7 @@ use Rattle.rbc_spec.specs.LineCentre.{IsHand, LineState}
 use Rattle.rbc_spec.specs.ReadOff.{Held, held, read_off}
 use Rattle.rbc_spec.specs.World.{World}
 use Rattle.rbc_world.specs.declared.view.LineView.{LineView}
-use Rattle.rbc_world.specs.declared.view.Mark.{Mark}
-use Rattle.rbc_world.specs.declared.view.Mark.TheVariants as mark
 use Rattle.rbc_world.specs.declared.view.MissionView.{MissionView}
-use Rattle.rbc_world.specs.declared.view.SectionView.{SectionView}
 use Rattle.rbc_world.specs.declared.view.SessionView.{SessionView}
 use Rattle.rbc_world.specs.declared.view.Supervisor.{Supervisor}
 use Rattle.rbc_world.specs.declared.view.Supervisor.TheVariants as supervisor

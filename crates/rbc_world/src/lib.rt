@@ -32,10 +32,11 @@ mod view;
 mod world;
 
 pub use event::{Answer, WorldEvent};
+pub use rbc_book::{Mark, SectionView};
 pub use rbc_centre::{
     Body, Centre, Event, Frame, FrameRoom, Frames, LAST_STAMP, LinkAnswer, MissionFacts, Outcome,
     Phase, Reason, Saying, SectionRun, SentFrame, StepFault, TrainPage, Word,
 };
 pub use run::Outputs;
-pub use view::{LineView, Mark, MissionView, SectionView, SessionView, Supervisor, TrainView};
+pub use view::{LineView, MissionView, SessionView, Supervisor, TrainView, mark_of};
 pub use world::World;

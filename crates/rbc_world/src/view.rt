@@ -11,50 +11,27 @@ ghost use Rattle.rbc_world.specs.World.{line_of, state_of};
 ghost use Rattle.rbc_world.specs.View.{mark_shown, held_shown, seat_of, EachOf, AreTrainsSeen, ShowsSection, ShowsSession, Shows};
 
 use crate::world::{World, known_line};
-use rbc_book::{Entry, Page};
+use rbc_book::{Entry, Mark, Page, SectionView};
 use rbc_centre::{MissionFacts, Phase, Place, SectionRun};
 use rbc_line::Line;
 use std::alloc::{AllocError, Global};
 
-/// The use of a section, as the line sees it.
-#[derive(Clone, Copy, Debug, PartialEq, Eq)]
-pub enum Mark {
-    /// Not released by the interlocking.
-    Shut,
-    /// Released, and in no use.
-    Open,
-    /// In use for a train that has it in no movement authority.
-    Kept { nid_engine: u32 },
-    /// In a train's movement authority.
-    Given { nid_engine: u32 },
-}
-
-impl Mark {
-    /// The mark of a section with this entry in its home's book. A section in use is in its train's movement authority,
-    /// or is kept for the train.
-    pub fn of(entry: Entry, is_in_hand: bool) -> Mark
-        ensures { mark_shown result ≡ shown (entry_of entry) (λ _. is_in_hand) }
-    {
-        match entry {
-            Entry::Shut => Mark::Shut,
-            Entry::Open => Mark::Open,
-            Entry::Taken { nid_engine } | Entry::Out { nid_engine } => {
-                if is_in_hand {
-                    Mark::Given { nid_engine }
-                } else {
-                    Mark::Kept { nid_engine }
-                }
+/// The mark of a section with this entry in its home's book. A section in use is in its train's movement authority, or
+/// is kept for the train.
+pub fn mark_of(entry: Entry, is_in_hand: bool) -> Mark
+    ensures { mark_shown result ≡ shown (entry_of entry) (λ _. is_in_hand) }
+{
+    match entry {
+        Entry::Shut => Mark::Shut,
+        Entry::Open => Mark::Open,
+        Entry::Taken { nid_engine } | Entry::Out { nid_engine } => {
+            if is_in_hand {
+                Mark::Given { nid_engine }
+            } else {
+                Mark::Kept { nid_engine }
             }
         }
     }
-}
-
-/// A section of the line.
-#[derive(Clone, Copy, Debug, PartialEq, Eq)]
-pub struct SectionView {
-    pub mark: Mark,
-    /// The interlocking wishes it back.
-    pub is_wished: bool,
 }
 
 /// The session of a centre with a train.
@@ -199,9 +176,9 @@ impl World {
         ensures { mark_shown result ≡ shown (entry_of entry) (is_in_its_hand (line_of self.now) (state_of self.now) s) }
     {
         match entry {
-            Entry::Shut | Entry::Open => Mark::of(entry, false),
+            Entry::Shut | Entry::Open => mark_of(entry, false),
             Entry::Out { nid_engine } | Entry::Taken { nid_engine } => {
-                Mark::of(entry, self.is_given(s, nid_engine, trains))
+                mark_of(entry, self.is_given(s, nid_engine, trains))
             }
         }
     }

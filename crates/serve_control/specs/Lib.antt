@@ -1,4 +1,5 @@
 pub mod Answers
 pub mod Commands
 pub mod Events
+pub mod Prints
 pub mod Statuses

@@ -90,7 +90,10 @@ impl Opened<Vec<u8>> {
     }
 
     /// Adds a text of the program itself, which shows no event.
-    pub fn add_fixed(&mut self, text: &'static str) -> Result<(), AllocError> {
+    pub fn add_fixed(&mut self, text: &'static str) -> Result<(), AllocError>
+        ensures ok { OnOk result (self.new.answer.items ≡ self.old.answer.items ++ text.entry.now) }
+        ensures err { OnErr result (self.new.answer.items ≡ self.old.answer.items) }
+    {
         self.answer.extend_from_slice(text.as_bytes())
     }
 

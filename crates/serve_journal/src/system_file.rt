@@ -1,3 +1,5 @@
+ghost use Rattle.std.specs.Prelude.{◌≡◌};
+
 use crate::durable_file::DurableFile;
 use std::fs::{File, OpenFile};
 use std::io;
@@ -34,7 +36,9 @@ impl Harm {
 
 impl SystemFile {
     /// A file that `open_journal` or `make_journal` opened.
-    pub fn new(file: File, is_synced: bool) -> SystemFile {
+    pub fn new(file: File, is_synced: bool) -> SystemFile
+        ensures { (result.is_synced ≡ is_synced) × (result.length ≡ 0) × (result.harm ≡ None) }
+    {
         SystemFile {
             file,
             is_synced,

@@ -1,2 +1,4 @@
+pub mod Begins
+pub mod Keeping
 pub mod Notes
 pub mod Resumed

@@ -1,1 +1,3 @@
 pub mod JournalingLemmas
+pub mod Ranges
+pub mod RoomLemmas

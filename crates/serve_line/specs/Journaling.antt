@@ -1,3 +1,5 @@
+pub mod Beginning
+pub mod Keeping
 pub mod Noting
 pub mod Resuming
 pub mod Times

@@ -1,5 +1,8 @@
+ghost use Rattle.std.specs.Prelude.{◌≡◌, false};
+
 use crate::looking::PageSnapshot;
-use crate::state::{ENDPOINT_REST_MS, Endpoint, PagePort};
+use crate::moments::milliseconds_of;
+use crate::state::{ENDPOINT_REST_MS, Endpoint, PagePort, Room, SlotState, room_for};
 use crate::true_places::TruePlaces;
 use rbc_line::Line;
 use rbc_node::Node;
@@ -105,14 +108,15 @@ impl PageEndpoint {
     }
 
     fn free_place<R: Wait>(&self, rt: &R) -> Option<&Place> {
-        let mut first = None;
-        for place in &self.places {
-            if !place.is_taken.load(Ordering::SeqCst) {
-                return Some(place);
-            }
-            first = Some(Place::first(first, place));
+        let mut slots = [Place::FREE; BROWSERS];
+        for (slot, place) in slots.iter_mut().zip(self.places.iter()) {
+            *slot = place.state();
         }
-        let first = first?;
+        let first = match room_for(&slots, true, false) {
+            Room::Take(place) => return self.places.get(place),
+            Room::Leave(place) => self.places.get(place)?,
+            Room::Reserve(_) | Room::Wait | Room::Full => return None,
+        };
         first.shut(rt);
         for _ in 0..LEAVING_RESTS {
             if !first.is_taken.load(Ordering::SeqCst) {
@@ -125,6 +129,15 @@ impl PageEndpoint {
 }
 
 impl Place {
+    // A place that no connection has.
+    const FREE: SlotState = SlotState {
+        is_reserve: false,
+        is_taken: false,
+        is_leaving: false,
+        is_serving: false,
+        heard: 0,
+    };
+
     fn new() -> Place {
         Place {
             is_taken: AtomicBool::new(false),
@@ -146,12 +159,16 @@ impl Place {
         self.is_taken.store(false, Ordering::SeqCst);
     }
 
-    // The place whose connection arrived earlier.
-    fn first<'a>(one: Option<&'a Place>, other: &'a Place) -> &'a Place {
-        let number = other.number.load(Ordering::SeqCst);
-        match one {
-            Some(one) if one.number.load(Ordering::SeqCst) < number => one,
-            _ => other,
+    // The state of the place now. A connection is active only when it arrives.
+    fn state(&self) -> SlotState
+        ensures { (result.is_reserve ≡ false) × (result.is_leaving ≡ false) × (result.is_serving ≡ false) }
+    {
+        SlotState {
+            is_reserve: false,
+            is_taken: self.is_taken.load(Ordering::SeqCst),
+            is_leaving: false,
+            is_serving: false,
+            heard: self.number.load(Ordering::SeqCst),
         }
     }
 }
@@ -163,10 +180,7 @@ fn first_version<R: Clock>(rt: &R) -> u64 {
         return 0;
     };
     match now.duration_since(UNIX_EPOCH) {
-        Ok(since) => since
-            .as_secs()
-            .saturating_mul(1_000)
-            .saturating_add(u64::from(since.subsec_millis())),
+        Ok(since) => milliseconds_of(since),
         Err(_) => 0,
     }
 }

@@ -3,19 +3,24 @@
 //!
 //! Bodies are free. docs/FORMATS.md fixes the bytes of each connection.
 
+mod admission;
 mod answer;
 mod binding;
+mod connection_refusal;
 mod control;
 mod cutter;
 mod endpoint_loop;
 mod entrance;
+mod grace;
 mod limits;
+mod meaning;
 mod noted;
 mod paced;
+mod protocol;
 mod rate_limit;
 mod rows;
 mod sending;
+mod session_end;
 mod sessions;
 
 pub use endpoint_loop::run_endpoint;
-pub(crate) use entrance::is_idle;

@@ -9,6 +9,7 @@ mod journal;
 mod keeping;
 mod resuming;
 mod write_times;
+mod writer_steps;
 
 pub(crate) use batch::next_of;
 pub use held::Journaled;

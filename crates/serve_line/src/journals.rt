@@ -1,3 +1,6 @@
+ghost use Rattle.std.specs.Prelude.{◌≡◌, [], IfOk, map};
+ghost use Rattle.serve_line.specs.Journaling.Resuming.{AreResumed, first_share};
+
 use crate::journaling::{JournalWriter, ResumeFault, keep_journal, resume};
 use crate::state::Server;
 use rbc_line::Line;
@@ -22,7 +25,9 @@ pub struct Record<F: DurableFile + Drop> {
 
 impl<F: DurableFile + Drop> Record<F> {
     /// No journal is written, and the line begins again.
-    pub fn none(alloc: Global) -> Record<F> {
+    pub fn none(alloc: Global) -> Record<F>
+        ensures { result.entries.items ≡ [] }
+    {
         Record {
             files: Vec::new(alloc),
             entries: Vec::new(alloc),
@@ -38,7 +43,9 @@ pub(crate) fn resume_noted<R: Wait, N: Notes>(
     nodes: &[Node],
     entries: Vec<Entry>,
     notes: &N,
-) -> Result<Vec<Share>, ServeFault> {
+) -> Result<Vec<Share>, ServeFault>
+    ensures { IfOk result (λ shares. AreResumed nodes.now entries.items (map first_share nodes.now) shares.items) }
+{
     match resume(rt, alloc, nodes, &entries) {
         Ok(shares) => {
             for share in &shares {

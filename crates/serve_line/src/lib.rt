@@ -8,14 +8,18 @@
 mod browsers;
 pub mod clients;
 mod counting;
+mod directions;
 mod fact_notes;
+mod failures;
 pub mod journaling;
 mod journals;
 mod links;
 pub mod looking;
+mod moments;
 mod pages;
 mod printing;
 mod running;
+mod stamps;
 pub mod state;
 pub mod status;
 mod tally;

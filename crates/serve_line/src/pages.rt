@@ -1,7 +1,8 @@
 use crate::browsers::{PageEndpoint, Seen};
-use crate::clients::is_idle;
 use crate::counting::mark_counts;
+use crate::failures::{is_idle, is_rest};
 use crate::looking::PageSnapshot;
+use crate::moments::milliseconds_of;
 use crate::state::{Endpoint, Peer, Server};
 use serve_notes::{About, Kind, Notes};
 use serve_page::{Asked, LineNow, Refusal, answer, answer_metrics, asked_of, refusal};
@@ -146,14 +147,6 @@ fn read_request(server: &Server<'_>, stream: &TcpStream) -> Option<(Asked, bool)
     Some((Asked::Refused(Refusal::Time), has_body))
 }
 
-// Whether an error only means that nothing could be done now.
-fn is_rest(kind: ErrorKind) -> bool {
-    matches!(
-        kind,
-        ErrorKind::WouldBlock | ErrorKind::TimedOut | ErrorKind::Interrupted
-    )
-}
-
 // The bytes of the answer. The centres are read only if the answer needs them, and by one thread at a time.
 fn answer_to<R: Wait + Clock, N: Notes>(
     rt: &R,
@@ -192,7 +185,7 @@ fn refresh<R: Wait + Clock>(
         return Ok(());
     };
     if let Some(at) = seen.at {
-        if time.duration_since(at) < Duration::from_millis(FRESH_MS) {
+        if milliseconds_of(time.duration_since(at)) < FRESH_MS {
             return Ok(());
         }
     }

@@ -5,8 +5,8 @@ use rbc_line::Line;
 use rbc_node::Family;
 use serve_control::{ServeFault, print_family};
 use serve_notes::{About, Kind, Notes};
-use std::alloc::Global;
-use std::io::Write;
+use std::alloc::{AllocError, Global};
+use std::io::{BufWriter, Write};
 
 /// Prints all events. If a write fails, a note reports the number of missing events.
 pub(crate) fn print_noted<N: Notes, O: Write>(
@@ -17,7 +17,7 @@ pub(crate) fn print_noted<N: Notes, O: Write>(
     out: &mut O,
 ) -> Result<(), ServeFault> {
     let mut tally = Tally::new(out);
-    let done = print_family(alloc, line, family, &mut tally);
+    let done = print_buffered(alloc, line, family, &mut tally);
     if done.is_err() {
         let mut all = 0u64;
         for log in family.logs() {
@@ -32,4 +32,21 @@ pub(crate) fn print_noted<N: Notes, O: Write>(
         );
     }
     done
+}
+
+// Prints all events through a buffer.
+fn print_buffered<O: Write>(
+    alloc: Global,
+    line: &Line,
+    family: &Family,
+    out: &mut O,
+) -> Result<(), ServeFault> {
+    let Ok(mut out) = BufWriter::new(alloc, out) else {
+        return Err(AllocError.into());
+    };
+    print_family(alloc, line, family, &mut out)?;
+    match out.flush() {
+        Ok(()) => Ok(()),
+        Err(error) => Err(ServeFault::Run(error.into())),
+    }
 }

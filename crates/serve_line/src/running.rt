@@ -7,7 +7,7 @@ use crate::links::carry;
 use crate::pages::run_pages;
 use crate::printing::print_noted;
 use crate::state::{
-    DirectedLink, Endpoint, Endpoints, ServeOptions, Server, Slot, State, connections_of,
+    DirectedLink, Endpoint, Endpoints, Peer, ServeOptions, Server, Slot, State, connections_of,
     endpoints_of, journals_of, links_of, nodes_of, sinks_of, wakers_of,
 };
 use crate::status::MentionOrder;
@@ -245,7 +245,9 @@ fn run_endpoints<R: Threads + Wait + Sync + Clock, N: Notes + Sync>(
                 .spawn(move || run_endpoint(rt, server, notes, endpoint))
                 .is_err()
             {
-                server.state.close_endpoint();
+                if let Peer::Trains(_) = endpoint.peer {
+                    server.state.close_endpoint();
+                }
                 server.fail();
             }
         }

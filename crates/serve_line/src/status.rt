@@ -4,6 +4,7 @@
 //! Bodies are free. docs/FORMATS.md fixes the shown data.
 
 mod facts;
+mod gauge;
 mod life;
 mod mention_order;
 mod silences;

@@ -1,3 +1,5 @@
+ghost use Rattle.std.specs.Prelude.{◌≡◌, true};
+
 use std::io;
 use std::io::Write;
 
@@ -12,7 +14,9 @@ pub(crate) struct Tally<'a, O> {
 }
 
 impl<'a, O: Write> Tally<'a, O> {
-    pub fn new(out: &'a mut O) -> Tally<'a, O> {
+    pub fn new(out: &'a mut O) -> Tally<'a, O>
+        ensures { (result.events ≡ 0) × (result.is_new ≡ true) }
+    {
         Tally {
             out,
             events: 0,
@@ -21,7 +25,9 @@ impl<'a, O: Write> Tally<'a, O> {
     }
 
     /// The number of events sent, the last perhaps in part.
-    pub fn events(&self) -> u64 {
+    pub fn events(&self) -> u64
+        ensures { result ≡ self.now.events }
+    {
         self.events
     }
 

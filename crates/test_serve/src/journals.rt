@@ -28,6 +28,11 @@ const STARTED: Before<'_> = (
     Taken::Said("9D0680000000C00000500040A0280CC096140050014406400418"),
 );
 
+// The train opens its session again, with T_TRAIN 4. Message 32 that answers it has T_TRAIN 3.
+const OPENED_AGAIN: &str = "9B028000000100000040";
+
+const THIRD_VERSION: &str = "2002C0000000DFFFFFE800";
+
 // A gives B the supervision right of the train.
 const ASKED: Before<'_> = (5, Taken::Delivered(1, 0));
 
@@ -107,7 +112,7 @@ pub static PLAYS: [Play<'_>; 6] = [
         status: 6,
         seen: &[Seen::Begins("> set A 1\nA 1 Done\n"), Seen::LengthOfA(5)],
     },
-    // The frames go over their links once more, and no centre takes one twice.
+    // The frames go over their links once more, and no centre takes one twice. The train's messages are counted on.
     Play {
         name: "centres_go_on_where_they_were",
         mode: ServeMode::Usual,
@@ -123,18 +128,21 @@ pub static PLAYS: [Play<'_>; 6] = [
                     0,
                     Act::Asks(
                         "show\n",
-                        "> show\nsection 0 A shut\nsection 1 A shut\nsection 2 B given 1\ntrain 1 B\n",
+                        "> show\nsection 0 A shut\nsection 1 A shut\nsection 2 B given 1\nsection 3 C shut\ntrain 1 B\n",
                     ),
                 ),
                 (0, Act::Asks("set A 0\n", "> set A 0\nA 0 Done\n")),
+                (1, Act::SecondTrain),
+                (1, Act::Sends(OPENED_AGAIN)),
+                (1, Act::Hears(THIRD_VERSION)),
             ],
         )],
         status: 0,
         seen: &[
             Seen::Counts("> deliver", 2),
             Seen::OfA(&["6 > set A 0"]),
-            Seen::OfB(&[]),
-            Seen::Audits(7, 7),
+            Seen::OfB(&["7 > train B 9B028000000100000040"]),
+            Seen::Audits(8, 8),
         ],
     },
     // The event that sends the first frame is missing.

@@ -6,36 +6,41 @@ use crate::client::{Done, Missed};
 use rbc_line::Line;
 use std::alloc::Global;
 
-const TWO_CENTRES: &str = "nid_c = 5
+const THREE_CENTRES: &str = "nid_c = 5
 [[centre]]
 name = \"A\"
 nid_rbc = 1
 [[centre]]
 name = \"B\"
 nid_rbc = 2
+[[centre]]
+name = \"C\"
+nid_rbc = 3
 [[track]]
 name = \"main\"
 section = [
   { length = 1000, home = \"A\", balise = 100 },
   { length = 1000, home = \"A\", balise = 101 },
   { length = 1000, home = \"B\", balise = 102 },
+  { length = 1000, home = \"C\", balise = 103 },
 ]
 [[train]]
 engine = 1
 registrar = \"A\"
 [[train]]
 engine = 2
-registrar = \"B\"
+registrar = \"C\"
 ";
 
 /// The number of the control endpoint.
-pub const CONTROL: usize = 2;
+pub const CONTROL: usize = 3;
 
-/// Sections 0 and 1 of centre A, and then section 2 of centre B. Train 1 is registered at A, train 2 at B.
-pub fn two_centres(alloc: Global) -> Result<Line, &'static str>
+/// Sections 0 and 1 of centre A, then section 2 of centre B, and section 3 of centre C. Train 1 is registered at A,
+/// train 2 at C.
+pub fn three_centres(alloc: Global) -> Result<Line, &'static str>
     ensures { IfOk result (λ line. 2 ≤ length line.centres) }
 {
-    Line::from_toml(alloc, TWO_CENTRES)
+    Line::from_toml(alloc, THREE_CENTRES)
         .ok()
         .ok_or("the line file is accepted")
 }

@@ -89,7 +89,7 @@ pub static PLAYS: [Play<'_>; 3] = [
                     0,
                     Act::Asks(
                         "show\n",
-                        "> show\nsection 0 A open\nsection 1 A open\nsection 2 B shut\nA log 2 of 1000000\nA clock 2 of 1073741823\nA link B 0 of 65536\nB log 0 of 1000000\nB clock 0 of 1073741823\nB link A 0 of 65536\n",
+                        "> show\nsection 0 A open\nsection 1 A open\nsection 2 B shut\nsection 3 C shut\nA log 2 of 1000000\nA clock 2 of 1073741823\nA link B 0 of 65536\nA link C 0 of 65536\nB log 0 of 1000000\nB clock 0 of 1073741823\nB link A 0 of 65536\nB link C 0 of 65536\nC log 0 of 1000000\nC clock 0 of 1073741823\nC link A 0 of 65536\nC link B 0 of 65536\n",
                     ),
                 ),
                 (2, Act::Train),

@@ -1,7 +1,7 @@
 //! Plays at running centres: the steps of peers, and the comparisons after the centres have ended.
 
 use crate::client::{Done, Missed};
-use crate::line::two_centres;
+use crate::line::three_centres;
 use crate::notes::NoteCounter;
 use crate::play::Round;
 use crate::railway::{audited, served};
@@ -44,10 +44,10 @@ pub enum ServeMode {
     Json,
 }
 
-/// The journals of the two centres.
+/// The journals of the centres.
 #[derive(Clone, Copy)]
 pub struct Journals<'a> {
-    /// The most bytes of each.
+    /// The most bytes of those of A and B. That of C has room.
     pub rooms: (usize, usize),
     /// The events that the centres took earlier.
     pub before: &'a [Before<'a>],
@@ -136,11 +136,13 @@ fn end_so<R: Threads + Wait + Sync + Net<Stream = TcpStream, Listener = TcpListe
 ) -> Done<()> {
     let of_a = cells(alloc)?;
     let of_b = cells(alloc)?;
+    let of_c = cells(alloc)?;
     let (a, b) = match play.journals {
         Some(journals) => journals.rooms,
         None => (0, 0),
     };
     let (room_a, room_b) = (AtomicUsize::new(a), AtomicUsize::new(b));
+    let room_c = AtomicUsize::new(256);
     let papers = Papers {
         a: Paper {
             cells: &of_a,
@@ -149,6 +151,10 @@ fn end_so<R: Threads + Wait + Sync + Net<Stream = TcpStream, Listener = TcpListe
         b: Paper {
             cells: &of_b,
             room: &room_b,
+        },
+        c: Paper {
+            cells: &of_c,
+            room: &room_c,
         },
     };
     played_so(rt, alloc, play, papers)
@@ -160,7 +166,7 @@ fn played_so<R: Threads + Wait + Sync + Net<Stream = TcpStream, Listener = TcpLi
     play: &'static Play<'static>,
     papers: Papers<'_>,
 ) -> Done<()> {
-    let line = two_centres(alloc).ok().ok_or(Missed::Memory)?;
+    let line = three_centres(alloc).ok().ok_or(Missed::Memory)?;
     let notes = NoteCounter::new(play.seen);
     let scene = Scene {
         alloc,
@@ -173,11 +179,12 @@ fn played_so<R: Threads + Wait + Sync + Net<Stream = TcpStream, Listener = TcpLi
     all_seen(scene, status, &printed)
 }
 
-/// The journals of centres A and B.
+/// The journals of centres A, B and C.
 #[derive(Clone, Copy)]
 pub struct Papers<'a> {
     pub a: Paper<'a>,
     pub b: Paper<'a>,
+    pub c: Paper<'a>,
 }
 
 /// A play, its line, its journals and its notes.

@@ -18,7 +18,7 @@ use std::thread::Threads;
 use std::time::Clock;
 use text_journal::Entry;
 
-/// The addresses of the two centres and of the control endpoint.
+/// The addresses of centres A and B, and of the control endpoint.
 #[derive(Clone, Copy)]
 pub struct Addresses {
     pub centre: SocketAddr,
@@ -48,10 +48,20 @@ pub fn served<R: Threads + Wait + Sync + Net<Stream = TcpStream, Listener = TcpL
 
 fn addresses_of(endpoints: &Endpoints) -> Done<Addresses> {
     Ok(Addresses {
-        centre: endpoints.address(0).ok_or(Missed::Endpoint)?,
-        second: endpoints.address(1).ok_or(Missed::Endpoint)?,
-        control: endpoints.address(CONTROL).ok_or(Missed::Endpoint)?,
+        centre: address_of(endpoints, 0)?,
+        second: address_of(endpoints, 1)?,
+        control: address_of(endpoints, CONTROL)?,
     })
+}
+
+// The address of an endpoint. Only this host can connect to it.
+fn address_of(endpoints: &Endpoints, number: usize) -> Done<SocketAddr> {
+    let address = endpoints.address(number).ok_or(Missed::Endpoint)?;
+    if address.ip().is_loopback() {
+        Ok(address)
+    } else {
+        Err(Missed::Endpoint)
+    }
 }
 
 fn played<R: Threads + Sync + Net<Stream = TcpStream, Listener = TcpListener> + Clock>(
@@ -123,7 +133,7 @@ fn options_of(mode: ServeMode) -> ServeOptions {
     options
 }
 
-// Journals of the two centres, written on these papers.
+// Journals of the centres, written on these papers.
 fn record_of<'a>(alloc: Global, play: &Play<'_>, papers: Papers<'a>) -> Done<Record<Sheet<'a>>> {
     match play.journals {
         Some(journals) => Ok(Record {
@@ -136,7 +146,7 @@ fn record_of<'a>(alloc: Global, play: &Play<'_>, papers: Papers<'a>) -> Done<Rec
 
 fn files_of<'a>(alloc: Global, papers: Papers<'a>) -> Done<Vec<JournalFile<Sheet<'a>>>> {
     let mut files = Vec::new(alloc);
-    for paper in [papers.a, papers.b] {
+    for paper in [papers.a, papers.b, papers.c] {
         let file = JournalFile::open(paper.open(), 0)
             .ok()
             .ok_or(Missed::Print)?;

@@ -1,7 +1,7 @@
 //! The answers to the interlocking when a centre can take no more events.
 
 use crate::client::{Done, Missed, answers, connect};
-use crate::line::two_centres;
+use crate::line::three_centres;
 use rbc_line::Line;
 use rbc_node::{Node, Open};
 use rbc_world::{Body, Event, Frame};
@@ -30,7 +30,7 @@ static LINES: [(&str, &str); 4] = [
     ("set B 2\n", "> set B 2\nB 2 Done\n"),
     (
         "show\n",
-        "> show\nsection 0 A shut\nsection 1 A shut\nsection 2 B open\n",
+        "> show\nsection 0 A shut\nsection 1 A shut\nsection 2 B open\nsection 3 C shut\n",
     ),
 ];
 
@@ -147,7 +147,7 @@ fn asked_with<'a, R: Threads + Wait + Sync + Net<Stream = TcpStream> + Clock>(
 
 #[test]
 fn an_event_that_is_refused_is_answered_by_its_fault(rt: HostRuntime) -> Result<(), Fail> {
-    let line = two_centres(rt.alloc())?;
+    let line = three_centres(rt.alloc())?;
     let nodes = nodes_at_the_end(&rt, rt.alloc(), &line)?;
     asked(&rt, rt.alloc(), &line, &nodes)
 }

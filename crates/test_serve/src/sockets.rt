@@ -2,7 +2,7 @@
 
 use crate::client::{Done, Missed};
 use crate::files::name_of;
-use crate::line::two_centres;
+use crate::line::three_centres;
 use rbc_line::Line;
 use serve_journal::SystemFile;
 use serve_line::state::listen_at_path;
@@ -154,9 +154,10 @@ fn printed<R: Threads + Wait + Sync + Clock>(
 #[test]
 fn the_interlocking_is_served_over_a_socket(rt: HostRuntime) -> Result<(), Fail> {
     let path = name_of(&rt, "served.socket")?;
-    let line = two_centres(rt.alloc())?;
+    let line = three_centres(rt.alloc())?;
     let printed = printed_over_a_socket(&rt, rt.alloc(), &line, path.as_str())?;
-    let wanted = "> set A 1\nA 1 Done\nsection 0 A shut\nsection 1 A open\nsection 2 B shut\n";
+    let wanted =
+        "> set A 1\nA 1 Done\nsection 0 A shut\nsection 1 A open\nsection 2 B shut\nsection 3 C shut\n";
     let is_there = fs::exists(&rt, path.as_str())?;
     assert!(rt; (printed.as_slice(), is_there) == (wanted.as_bytes(), false));
     Ok(())

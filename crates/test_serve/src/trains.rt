@@ -6,7 +6,7 @@ use crate::plays::{Play, Seen, ServeMode};
 
 pub static PLAYS: [Play<'_>; 1] = [
     // The interlocking releases section 1, and is answered. Then train 2 opens its session and starts a mission in
-    // section 1, with the right from centre B. Meanwhile train 1 opens its session. Train 2 stays connected until train
+    // section 1, with the right from centre C. Meanwhile train 1 opens its session. Train 2 stays connected until train
     // 1 is answered.
     Play {
         name: "two_trains_are_served_and_the_print_is_audited",

@@ -6,3 +6,7 @@ pub mod Written
 pub mod Words
 pub mod Senses
 pub mod Looked
+pub mod Refused
+pub mod Reports
+pub mod Sections
+pub mod Tabled

@@ -1,5 +1,8 @@
 //! Reads fields in the form of `decode --json`, and prints the bytes of their messages or their frame.
 
+ghost use Rattle.std.specs.Prelude.{[], ◌-◌, ◌≡◌, length};
+ghost use Rattle.text_fields.specs.Reports.{Reports, place_in};
+
 use crate::shown::Shown;
 use crate::written::{Written, WrittenFault, frame_of, message_of};
 use serde_json::Value;
@@ -19,6 +22,10 @@ pub enum EncodeFault {
 }
 
 impl From<AllocError> for EncodeFault {
+    ghost use Rattle.text_fields.specs.declared.encode.EncodeFault.TheVariants.{Memory};
+
+    ghost from_gives = { λ _ fault. fault ≡ Memory };
+
     fn from(_error: AllocError) -> EncodeFault {
         EncodeFault::Memory
     }
@@ -120,7 +127,10 @@ struct Whole<'a> {
 }
 
 impl<'a> Whole<'a> {
-    fn new(alloc: Global, is_frame: bool) -> Whole<'a> {
+    fn new(alloc: Global, is_frame: bool) -> Whole<'a>
+        ensures kind { (result.is_frame ≡ is_frame) × (result.message ≡ 0) }
+        ensures none { (result.rows.items ≡ []) × (result.written.items ≡ []) }
+    {
         Whole {
             alloc,
             is_frame,
@@ -166,14 +176,14 @@ impl<'a> Whole<'a> {
     }
 
     // The line of a fault, and its words.
-    fn fault_of(&self, fault: WrittenFault) -> EncodeFault {
+    fn fault_of(&self, fault: WrittenFault) -> EncodeFault
+        ensures { Reports self.now.rows.items (place_in fault (length self.now.written.items - 1)) result }
+    {
+        if let WrittenFault::Memory = fault {
+            return EncodeFault::Memory;
+        }
         let last = self.written.len().saturating_sub(1);
-        let place = match fault {
-            WrittenFault::Memory => return EncodeFault::Memory,
-            WrittenFault::Long => 0,
-            WrittenFault::Room(place) => place.min(last),
-            WrittenFault::Other(place, _) => place.min(last),
-        };
+        let place = place_in(fault, last);
         let row = self.rows.get(place).copied().unwrap_or(0);
         match self.words_of(fault, place) {
             Ok(words) => EncodeFault::Line(row, words),
@@ -199,6 +209,16 @@ impl<'a> Whole<'a> {
             WrittenFault::Other(at, shown) if at > place => missing(alloc, shown),
             WrittenFault::Other(_, shown) => other(alloc, written, shown),
         }
+    }
+}
+
+// The place of the field of a fault, or the last one.
+fn place_in(fault: WrittenFault, last: usize) -> usize
+    ensures { result ≡ place_in fault last }
+{
+    match fault {
+        WrittenFault::Memory | WrittenFault::Long => 0,
+        WrittenFault::Room(place) | WrittenFault::Other(place, _) => place.min(last),
     }
 }
 

@@ -1,5 +1,8 @@
 //! The fault of a message or of a frame, and its place among the fields.
 
+ghost use Rattle.std.specs.Prelude.{◌≡◌, length, min, unwrap_or};
+ghost use Rattle.text_fields.specs.Refused.{fault_place, fault_words, frame_place, frame_words, has_length};
+
 use crate::seen::Seen;
 use rbc_linkmsg::{FrameFault, decode_frame};
 use rbc_msgs::{MsgFault, decode_track, decode_train};
@@ -48,7 +51,9 @@ fn message_fault(alloc: Global, bytes: &[u8]) -> Option<MsgFault> {
     }
 }
 
-fn words_of(fault: MsgFault) -> &'static str {
+fn words_of(fault: MsgFault) -> &'static str
+    ensures { result.now ≡ fault_words fault }
+{
     match fault {
         MsgFault::Short => "bytes are missing",
         MsgFault::Length => "L_MESSAGE is not the length of the message",
@@ -62,26 +67,35 @@ fn words_of(fault: MsgFault) -> &'static str {
 }
 
 // How many fields are shown before the fault.
-fn place_of(fault: MsgFault, length: usize, seen: &Seen) -> usize {
+fn place_of(fault: MsgFault, byte_count: usize, seen: &Seen) -> usize
+    ensures { result ≡ min (unwrap_or (fault_place fault byte_count seen.now) (length seen.now.shown.items))
+        (length seen.now.shown.items) }
+{
     let all = seen.shown.len();
-    let place = match fault {
+    fault_place(fault, byte_count, seen).unwrap_or(all).min(all)
+}
+
+// How many fields are shown before the fault. None if all are.
+fn fault_place(fault: MsgFault, byte_count: usize, seen: &Seen) -> Option<usize>
+    ensures { result ≡ fault_place fault byte_count seen.now }
+{
+    match fault {
         MsgFault::Short | MsgFault::Padding | MsgFault::Memory => None,
         MsgFault::UnknownNumber => Some(1),
-        MsgFault::Length => match seen.notes.beyond {
-            Some(place) if has_length(seen, length) => Some(place),
-            _ => Some(2),
-        },
+        MsgFault::Length if has_length(seen, byte_count) => seen.notes.beyond.or(Some(2)),
+        MsgFault::Length => Some(2),
         MsgFault::Packet => seen.notes.wrong_packet,
         MsgFault::Missing => seen.notes.missing,
         MsgFault::Value => seen.notes.refused,
-    };
-    place.unwrap_or(all).min(all)
+    }
 }
 
 // Whether L_MESSAGE, the second field, is the number of the bytes.
-fn has_length(seen: &Seen, length: usize) -> bool {
+fn has_length(seen: &Seen, byte_count: usize) -> bool
+    ensures { result ≡ has_length seen.now byte_count }
+{
     match seen.shown.get(1) {
-        Some(l_message) => l_message.value == length as u64,
+        Some(l_message) => l_message.value == byte_count as u64,
         None => false,
     }
 }
@@ -93,15 +107,32 @@ pub(crate) fn frame_refusal(bytes: &[u8], seen: &Seen) -> Option<Refusal> {
         Err(fault) => fault,
     };
     let all = seen.shown.len();
-    let (words, place) = match fault {
-        FrameFault::Short => ("bytes are missing", None),
-        FrameFault::Length => ("bytes follow the frame", seen.notes.beyond),
-        FrameFault::Kind => ("no frame has this kind", Some(3)),
-        FrameFault::Value => ("a field is out of its range", seen.notes.refused),
-    };
     Some(Refusal {
         number: fault.number(),
-        words,
-        place: place.unwrap_or(all).min(all),
+        words: frame_words(fault),
+        place: frame_place(fault, seen).unwrap_or(all).min(all),
     })
+}
+
+fn frame_words(fault: FrameFault) -> &'static str
+    ensures { result.now ≡ frame_words fault }
+{
+    match fault {
+        FrameFault::Short => "bytes are missing",
+        FrameFault::Length => "bytes follow the frame",
+        FrameFault::Kind => "no frame has this kind",
+        FrameFault::Value => "a field is out of its range",
+    }
+}
+
+// How many fields are shown before the fault. None if all are.
+fn frame_place(fault: FrameFault, seen: &Seen) -> Option<usize>
+    ensures { result ≡ frame_place fault seen.now }
+{
+    match fault {
+        FrameFault::Short => None,
+        FrameFault::Length => seen.notes.beyond,
+        FrameFault::Kind => Some(3),
+        FrameFault::Value => seen.notes.refused,
+    }
 }

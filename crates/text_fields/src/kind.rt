@@ -1,6 +1,7 @@
 //! The meanings of the values of a field.
 
 ghost use Rattle.std.specs.Prelude.{◌≡◌};
+ghost use Rattle.text_fields.specs.Refused.{has, refuses};
 ghost use Rattle.text_fields.specs.Senses.{listed};
 ghost use Rattle.text_fields.specs.Words.{words_or};
 
@@ -49,16 +50,34 @@ const UNKNOWN_TIME: u64 = 4_294_967_295;
 
 impl Kind {
     /// Whether a decoder refuses this value of the field.
-    pub fn refuses(self, value: u64) -> bool {
+    pub fn refuses(self, value: u64) -> bool
+        ensures { result ≡ refuses self value }
+    {
         match self {
-            Kind::Words(words) => words.iter().all(|row| row.0 != value),
+            Kind::Words(words) => !has(words, value),
             Kind::Only(only, _) => value != only,
             Kind::Range(least, most) => value < least || value > most,
             Kind::TrainTime | Kind::CentreTime => value == UNKNOWN_TIME,
             Kind::Filling => value != 0,
-            _ => false,
+            Kind::Number
+            | Kind::Message
+            | Kind::Packet
+            | Kind::Count(_)
+            | Kind::OtherTime
+            | Kind::Group
+            | Kind::Distance
+            | Kind::Decimetres
+            | Kind::Speed
+            | Kind::Bits => false,
         }
     }
+}
+
+// Whether a table has a meaning of the value.
+fn has(words: Words, value: u64) -> bool
+    ensures { result ≡ has words.entry.now value }
+{
+    words.iter().any(|row| row.0 == value)
 }
 
 /// The meaning of a value by a table, or other words.

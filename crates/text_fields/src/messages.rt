@@ -2,6 +2,7 @@
 
 ghost use Rattle.std.specs.Prelude.{ℕ, ◌≡◌, ◌<◌, ◌++◌, [], length, IfOk, OnOk, List, Bool, true};
 ghost use Rattle.std.specs.List.{AllByRecursion};
+ghost use Rattle.text_fields.specs.Sections.{messages_section, packets_section};
 ghost use Rattle.text_fields.specs.Shown.{all_bits};
 ghost use Rattle.text_fields.specs.Named.{Named};
 ghost use Rattle.text_fields.specs.Messages.{PacketFields, packet_shown, packets_shown, filling_fields, numbered};
@@ -33,7 +34,9 @@ impl Side {
     }
 
     /// The section of SUBSET-026 with the packets of its messages.
-    pub fn packets(self) -> &'static str {
+    pub fn packets(self) -> &'static str
+        ensures { result.now ≡ packets_section self }
+    {
         match self {
             Side::Train => "7.4.3",
             Side::Centre => "7.4.2",
@@ -41,7 +44,9 @@ impl Side {
     }
 
     /// The section of SUBSET-026 with its messages.
-    pub fn messages(self) -> &'static str {
+    pub fn messages(self) -> &'static str
+        ensures { result.now ≡ messages_section self }
+    {
         match self {
             Side::Train => "8.6",
             Side::Centre => "8.7",

@@ -1,10 +1,12 @@
 //! The packets of a message, and their headers (SUBSET-026 7.4).
 
-ghost use Rattle.std.specs.Prelude.{ℕ, ◌≡◌, ◌≢◌, ◌+◌, ◌≤◌, ◌++◌, length, true, IfOk, IsTrue, OnOk, Bool, List};
+ghost use Rattle.std.specs.Prelude.{ℕ, ◌≡◌, ◌≢◌, ◌+◌, ◌-◌, ◌==◌, ◌||◌, ◌≤◌, ◌++◌, length, not, true, IfOk, IsTrue};
+ghost use Rattle.std.specs.Prelude.{OnOk, Bool, List};
 ghost use Rattle.rbc_packets.specs.Layout.{widths};
 ghost use Rattle.text_fields.specs.Shown.{all_bits};
 ghost use Rattle.text_fields.specs.Named.{Named, fields_in};
 ghost use Rattle.text_fields.specs.Messages.{packet_head, packet_shown};
+ghost use Rattle.text_fields.specs.Tabled.{has_table};
 ghost use Rattle.text_fields.specs.Walks.{Next, Shows, Takes, IsContent, IsLaid, after};
 
 use crate::kind::Kind;
@@ -65,12 +67,10 @@ impl<'a> Walk<'a> {
     }
 
     // Whether no bits of the packet are left, or it is shown as bits.
-    fn is_whole(&self, side: Side, number: u64) -> bool {
-        let has_table = match side {
-            Side::Train => number == 0,
-            Side::Centre => [15, 42, 131].contains(&number),
-        };
-        !has_table || self.room() == 0
+    fn is_whole(&self, side: Side, number: u64) -> bool
+        ensures { result ≡ (not (has_table side number) || (length self.now.look.1 - self.now.end) == 0) }
+    {
+        !has_table(side, number) || self.room() == 0
     }
 
     /// Shows the header of a packet after NID_PACKET, and finds the end of the packet. Returns whether there is one.
@@ -130,5 +130,15 @@ impl<'a> Walk<'a> {
             Side::Centre if number == 131 => self.transition(),
             _ => Ok(true),
         }
+    }
+}
+
+// Whether the fields of the packet are shown by the table, and not as bits.
+fn has_table(side: Side, number: u64) -> bool
+    ensures { result ≡ has_table side number }
+{
+    match side {
+        Side::Train => number == 0,
+        Side::Centre => number == 15 || number == 42 || number == 131,
     }
 }

@@ -1,7 +1,11 @@
 //! Prints messages and frames field by field, for a reader or as JSON.
 
+ghost use Rattle.std.specs.Prelude.{◌+◌, ◌-◌, ◌^◌, ◌≡◌, min};
+ghost use Rattle.text_fields.specs.Sections.{own_section, section_in, sender_of};
+
 use crate::fault::{Refusal, frame_refusal, message_refusal};
 use crate::kind::Kind;
+use crate::layout::Field;
 use crate::meaning::{meaning_of, unit_of};
 use crate::messages::Side;
 use crate::seen::Seen;
@@ -87,10 +91,12 @@ pub fn print_messages<W: Write>(
 }
 
 // The sender of a message.
-fn side_of(message: &[u8]) -> Side {
-    match message.first() {
-        Some(number) => Side::of((*number).into()),
-        None => Side::Centre,
+fn side_of(message: &[u8]) -> Side
+    ensures { result ≡ sender_of message.now }
+{
+    match message {
+        [number, ..] => Side::of((*number).into()),
+        [] => Side::Centre,
     }
 }
 
@@ -223,20 +229,47 @@ impl Printer {
     }
 
     /// The section of SUBSET-026 that defines the field, or `profile`.
-    fn section(self, shown: Shown) -> &'static str {
-        match (shown.field.kind, self.side) {
-            (Kind::Message, side) => side.messages(),
-            (Kind::Packet, side) => side.packets(),
-            (Kind::Filling, _) => "",
-            _ if shown.field.name == "bits" => "",
-            _ if self.is_frame => "profile",
-            _ => shown.field.section(),
+    fn section(self, shown: Shown) -> &'static str
+        ensures { result.now ≡ section_in self.side self.is_frame shown.field.kind shown.field.name.now }
+    {
+        match shown.field.kind {
+            Kind::Message => self.side.messages(),
+            Kind::Packet => self.side.packets(),
+            Kind::Filling => "",
+            Kind::Number
+            | Kind::Count(_)
+            | Kind::Words(_)
+            | Kind::Only(..)
+            | Kind::Range(..)
+            | Kind::TrainTime
+            | Kind::CentreTime
+            | Kind::OtherTime
+            | Kind::Group
+            | Kind::Distance
+            | Kind::Decimetres
+            | Kind::Speed
+            | Kind::Bits => own_section(shown.field, self.is_frame),
         }
     }
 }
 
+// The section that defines the variable of a field. Bits without a meaning have none.
+fn own_section(field: Field, is_frame: bool) -> &'static str
+    ensures { result.now ≡ own_section is_frame field.name.now }
+{
+    if field.name == "bits" {
+        ""
+    } else if is_frame {
+        "profile"
+    } else {
+        field.section()
+    }
+}
+
 // The last bit of a field.
-fn last_bit(from: u32, width: u32) -> u32 {
+fn last_bit(from: u32, width: u32) -> u32
+    ensures { result ≡ min (2 ^ 32 - 1) (from + (width - 1)) }
+{
     from.saturating_add(width.saturating_sub(1))
 }
 

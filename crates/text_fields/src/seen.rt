@@ -1,3 +1,5 @@
+ghost use Rattle.std.specs.Prelude.{◌≡◌, None, Some, unwrap_or};
+
 use crate::shown::Shown;
 
 /// The places of possible faults: each is the count of the fields that are shown before it.
@@ -14,7 +16,9 @@ pub struct Notes {
 }
 
 impl Notes {
-    pub(crate) fn new() -> Notes {
+    pub(crate) fn new() -> Notes
+        ensures { result ≡ record { refused = None; wrong_packet = None; missing = None; beyond = None } }
+    {
         Notes {
             refused: None,
             wrong_packet: None,
@@ -23,19 +27,34 @@ impl Notes {
         }
     }
 
-    pub(crate) fn note_refused(&mut self, count: usize) {
+    /// Notes the first field with a refused value.
+    pub(crate) fn note_refused(&mut self, count: usize)
+        ensures noted { self.new.refused ≡ Some (unwrap_or self.old.refused count) }
+        ensures others { (self.new.wrong_packet ≡ self.old.wrong_packet) × (self.new.missing ≡ self.old.missing)
+            × (self.new.beyond ≡ self.old.beyond) }
+    {
         if self.refused.is_none() {
             self.refused = Some(count);
         }
     }
 
-    pub(crate) fn note_wrong(&mut self, count: usize) {
+    /// Notes the first packet with a wrong length.
+    pub(crate) fn note_wrong(&mut self, count: usize)
+        ensures noted { self.new.wrong_packet ≡ Some (unwrap_or self.old.wrong_packet count) }
+        ensures others { (self.new.refused ≡ self.old.refused) × (self.new.missing ≡ self.old.missing)
+            × (self.new.beyond ≡ self.old.beyond) }
+    {
         if self.wrong_packet.is_none() {
             self.wrong_packet = Some(count);
         }
     }
 
-    pub(crate) fn note_missing(&mut self, count: usize) {
+    /// Notes the first packet in place of a required one.
+    pub(crate) fn note_missing(&mut self, count: usize)
+        ensures noted { self.new.missing ≡ Some (unwrap_or self.old.missing count) }
+        ensures others { (self.new.refused ≡ self.old.refused) × (self.new.wrong_packet ≡ self.old.wrong_packet)
+            × (self.new.beyond ≡ self.old.beyond) }
+    {
         if self.missing.is_none() {
             self.missing = Some(count);
         }

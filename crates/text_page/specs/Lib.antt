@@ -1,3 +1,4 @@
 pub mod Health
 pub mod Metrics
 pub mod Cells
+pub mod Sections

@@ -28,5 +28,5 @@ pub use run::{Changes, Part, RunSheet};
 pub use utc::Utc;
 pub use view::{
     CentreCounts, CentreNow, End, EventNow, Layout, Limits, LineCounts, LineNow, LinkNow,
-    MissionNow, Phase, Place, Run, SectionNow, SessionNow, TruePlace, Usage,
+    MissionNow, SessionNow, TruePlace,
 };

@@ -168,7 +168,7 @@ fn add_line(text: &mut String, now: &LineNow) -> Result<(), AllocError> {
     for state in &STATES {
         let count = sections
             .iter()
-            .filter(|section| word_of(section.usage) == *state)
+            .filter(|section| word_of(section.mark) == *state)
             .count();
         writeln!(text, "rbc_sections{{state=\"{state}\"}} {count}")?;
     }

@@ -6,7 +6,9 @@ ghost use Rattle.text_page.specs.Cells.{time_cell};
 
 use crate::sections::add_sections;
 use crate::sheet::{Cell, Sheet};
-use crate::view::{EventNow, Layout, LineNow, MissionNow, Phase, Run};
+use crate::view::{EventNow, Layout, LineNow, MissionNow, SessionNow};
+use rbc_line::SectionRun;
+use rbc_session::Phase;
 use std::alloc::AllocError;
 
 /// Writes the whole current state.
@@ -103,11 +105,16 @@ fn centre_of(layout: &Layout, centre: Option<u8>) -> Cell<'_> {
 }
 
 // The first and the last section, if there are any.
-fn ends_of(run: Run) -> [Cell<'static>; 2] {
-    match run.last() {
+fn ends_of(run: SectionRun) -> [Cell<'static>; 2] {
+    match last_of(run) {
         Some(last) => [section(Some(run.first)), section(Some(last))],
         None => [Cell::Nothing; 2],
     }
+}
+
+// The last section, if there is one.
+fn last_of(run: SectionRun) -> Option<u16> {
+    run.first.checked_add(run.count.checked_sub(1)?)
 }
 
 fn section(number: Option<u16>) -> Cell<'static> {
@@ -123,19 +130,20 @@ fn add_sessions(sheet: &mut Sheet, layout: &Layout, now: &LineNow) -> Result<(),
         sheet.row(&[
             Cell::Number(u64::from(session.nid_engine)),
             name_of(&layout.centres, session.centre as usize),
-            words_of(session.phase),
+            words_of(session),
         ])?;
     }
     sheet.end()
 }
 
-/// The phase of a session, in words.
-pub(crate) fn words_of(phase: Phase) -> Cell<'static> {
-    Cell::Text(match phase {
-        Phase::Opened => "opened",
-        Phase::Up => "up",
-        Phase::Waiting => "start waits",
-    })
+/// The phase of a session in words, or nothing if there is none.
+pub(crate) fn words_of(session: &SessionNow) -> Cell<'static> {
+    match session.phase {
+        _ if session.is_waiting => Cell::Text("start waits"),
+        Phase::Closed => Cell::Nothing,
+        Phase::Opened => Cell::Text("opened"),
+        Phase::Up => Cell::Text("up"),
+    }
 }
 
 static CENTRE: [&str; 7] = [

@@ -7,7 +7,8 @@ use crate::rows::{MISSION, add_last, add_state, cells_of, name_of, number_of, wo
 use crate::sections::state_of;
 use crate::sheet::{Cell, Form, Sheet};
 use crate::style::{HEAD, SEALED, SLIDER, STYLE};
-use crate::view::{Layout, LineNow, MissionNow, Phase, SectionNow};
+use crate::view::{Layout, LineNow, MissionNow, SessionNow};
+use rbc_book::SectionView;
 use std::alloc::{AllocError, Global};
 
 /// The events that a page shows, by their numbers from 1. The line before the first event is shown too.
@@ -75,9 +76,9 @@ impl RunSheet {
         &mut self,
         event: u64,
         section: u16,
-        now: SectionNow,
+        seen: SectionView,
     ) -> Result<(), AllocError> {
-        let [state, train, wished] = state_of(now);
+        let [state, train, wished] = state_of(seen);
         let number = Cell::Number(u64::from(section));
         self.sheet.row_at(event, &[number, state, train, wished])
     }
@@ -100,17 +101,17 @@ impl RunSheet {
         }
     }
 
-    /// Adds the phase of a centre's session with a train from an event on, or that there is none.
+    /// Adds a centre's session with a train from an event on, or that there is none.
     pub fn add_session(
         &mut self,
         layout: &Layout,
         event: u64,
         nid_engine: u32,
         centre: u8,
-        phase: Option<Phase>,
+        session: Option<&SessionNow>,
     ) -> Result<(), AllocError> {
-        let state = match phase {
-            Some(phase) => words_of(phase),
+        let state = match session {
+            Some(session) => words_of(session),
             None => Cell::Nothing,
         };
         let centre = name_of(&layout.centres, centre as usize);

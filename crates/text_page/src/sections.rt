@@ -1,8 +1,12 @@
 //! The sections. Consecutive sections of the same look are one line of the table.
 
+ghost use Rattle.std.specs.Prelude.{◌≡◌};
+ghost use Rattle.text_page.specs.Sections.{mark_word, user_of};
+
 use crate::rows::{name_of, number_of};
 use crate::sheet::{Cell, Sheet};
-use crate::view::{Layout, LineNow, SectionNow, Usage};
+use crate::view::{Layout, LineNow};
+use rbc_book::{Mark, SectionView};
 use std::alloc::AllocError;
 
 /// Consecutive sections of the same look.
@@ -20,7 +24,7 @@ struct Stretch {
 struct Look {
     track: u8,
     home: u8,
-    now: SectionNow,
+    seen: SectionView,
 }
 
 static COLUMNS: [&str; 9] = [
@@ -56,18 +60,18 @@ pub(crate) fn add_sections(
 
 // One section.
 fn stretch_at(layout: &Layout, now: &LineNow, s: usize) -> Option<Stretch> {
-    let place = layout.sections.get(s)?;
-    let now = *now.sections.get(s)?;
-    let start = u64::from(place.start);
+    let section = layout.sections.get(s)?;
+    let seen = *now.sections.get(s)?;
+    let start = u64::from(section.start);
     Some(Stretch {
         first: s,
         last: s,
         start,
-        end: start + u64::from(place.metres),
+        end: start + u64::from(section.metres),
         look: Look {
-            track: place.track,
-            home: place.home,
-            now,
+            track: section.track,
+            home: section.home,
+            seen,
         },
     })
 }
@@ -81,7 +85,7 @@ fn add_stretch(
         return Ok(());
     };
     let look = stretch.look;
-    let [state, train, wished] = state_of(look.now);
+    let [state, train, wished] = state_of(look.seen);
     sheet.row(&[
         Cell::Number(stretch.first as u64),
         Cell::Number(stretch.last as u64),
@@ -96,39 +100,47 @@ fn add_stretch(
 }
 
 /// The use of a section, the train that uses it, and whether it is wished back.
-pub(crate) fn state_of(now: SectionNow) -> [Cell<'static>; 3] {
-    let train = match now.usage {
-        Usage::Shut | Usage::Open => None,
-        Usage::Kept { nid_engine } | Usage::Given { nid_engine } => Some(nid_engine),
-    };
+pub(crate) fn state_of(seen: SectionView) -> [Cell<'static>; 3] {
     [
-        Cell::Text(word_of(now.usage)),
-        number_of(train),
-        Cell::Flag(now.is_wished),
+        Cell::Text(word_of(seen.mark)),
+        number_of(user_of(seen.mark)),
+        Cell::Flag(seen.is_wished),
     ]
 }
 
+// The train that uses the section, if one does.
+fn user_of(mark: Mark) -> Option<u32>
+    ensures { result ≡ user_of mark }
+{
+    match mark {
+        Mark::Shut | Mark::Open => None,
+        Mark::Kept { nid_engine } | Mark::Given { nid_engine } => Some(nid_engine),
+    }
+}
+
 /// The word for the use of a section.
-pub(crate) fn word_of(usage: Usage) -> &'static str {
-    match usage {
-        Usage::Shut => "shut",
-        Usage::Open => "open",
-        Usage::Kept { .. } => "kept",
-        Usage::Given { .. } => "given",
+pub(crate) fn word_of(mark: Mark) -> &'static str
+    ensures { result.now ≡ mark_word mark }
+{
+    match mark {
+        Mark::Shut => "shut",
+        Mark::Open => "open",
+        Mark::Kept { .. } => "kept",
+        Mark::Given { .. } => "given",
     }
 }
 
 /// Writes the place of each section.
 pub(crate) fn add_places(sheet: &mut Sheet, layout: &Layout) -> Result<(), AllocError> {
     sheet.begin("sections", &["section", "track", "from_m", "to_m", "home"])?;
-    for (s, place) in layout.sections.iter().enumerate() {
-        let start = u64::from(place.start);
+    for (s, section) in layout.sections.iter().enumerate() {
+        let start = u64::from(section.start);
         sheet.row(&[
             Cell::Number(s as u64),
-            name_of(&layout.tracks, place.track as usize),
+            name_of(&layout.tracks, section.track as usize),
             Cell::Number(start),
-            Cell::Number(start + u64::from(place.metres)),
-            name_of(&layout.centres, place.home as usize),
+            Cell::Number(start + u64::from(section.metres)),
+            name_of(&layout.centres, section.home as usize),
         ])?;
     }
     sheet.end()

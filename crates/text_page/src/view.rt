@@ -1,5 +1,9 @@
 //! The line and the state of its centres, each seen at its own moment.
 
+use rbc_book::SectionView;
+use rbc_line::{Section, SectionRun};
+use rbc_session::Phase;
+
 /// The data that do not change while the centres run.
 #[derive(Drop)]
 pub struct Layout {
@@ -10,58 +14,13 @@ pub struct Layout {
     pub ports: Vec<u16>,
     /// The tracks' names.
     pub tracks: Vec<String>,
-    /// The places of the sections, by section number. The numbers grow along each track.
-    pub sections: Vec<Place>,
+    /// By section number. The numbers grow along each track.
+    pub sections: Vec<Section>,
 }
 
-/// The place of a section.
-#[derive(Clone, Copy)]
-pub struct Place {
-    /// The number of its track.
-    pub track: u8,
-    /// The number of its home centre.
-    pub home: u8,
-    /// The start of the section, in metres from the start of its track.
-    pub start: u32,
-    pub metres: u32,
-}
-
-/// The state of a section at its home.
-#[derive(Clone, Copy, PartialEq, Eq)]
-pub struct SectionNow {
-    pub usage: Usage,
-    /// The interlocking wishes the section back.
-    pub is_wished: bool,
-}
-
-/// The use of a section.
-#[derive(Clone, Copy, PartialEq, Eq)]
-pub enum Usage {
-    /// The interlocking has not released the section.
-    Shut,
-    /// The section is released, and unused.
-    Open,
-    /// The section is in use for a train, and is not in its movement authority.
-    Kept { nid_engine: u32 },
-    /// The section is in a train's movement authority.
-    Given { nid_engine: u32 },
-}
-
-/// Consecutive sections.
-#[derive(Clone, Copy, PartialEq, Eq)]
-pub struct Run {
-    pub first: u16,
-    pub count: u16,
-}
-
-impl Run {
-    /// The last section, if there is one.
-    pub(crate) fn last(self) -> Option<u16> {
-        self.first.checked_add(self.count.checked_sub(1)?)
-    }
-}
-
-/// A mission, at the centre that supervises it or on the way between two centres.
+/// A mission, at the centre that supervises it or on the way between two centres. It has the shown part of its facts
+/// (`rbc_mission::MissionFacts`), and no other. So a report that changes nothing shown leaves it as it is, and the page
+/// of a print has no line for it.
 #[derive(Clone, Copy, PartialEq, Eq)]
 pub struct MissionNow {
     pub nid_engine: u32,
@@ -75,29 +34,22 @@ pub struct MissionNow {
     /// The safe rear end, if the integrity of the train is confirmed.
     pub rear: Option<u32>,
     /// The sections of the movement authority.
-    pub hand: Run,
+    pub hand: SectionRun,
     /// The lent sections that follow those of the authority.
-    pub pool: Run,
+    pub pool: SectionRun,
     /// The last section to keep, if a request to shorten the authority is pending.
     pub asked: Option<u16>,
     pub is_ended: bool,
 }
 
-/// The phase of a session.
-#[derive(Clone, Copy, PartialEq, Eq)]
-pub enum Phase {
-    Opened,
-    Up,
-    /// A start of mission waits for the right to supervise the train.
-    Waiting,
-}
-
 /// The session of a centre with a train.
-#[derive(Clone, Copy)]
+#[derive(Clone, Copy, PartialEq, Eq)]
 pub struct SessionNow {
     pub nid_engine: u32,
     pub centre: u8,
     pub phase: Phase,
+    /// A start of mission waits for the right to supervise the train.
+    pub is_waiting: bool,
 }
 
 /// The used part of a centre's life and of its slots for connections.
@@ -177,7 +129,7 @@ pub struct LineNow {
     /// No new connection is accepted.
     pub is_stopped: bool,
     /// By section number.
-    pub sections: Vec<SectionNow>,
+    pub sections: Vec<SectionView>,
     /// By the trains' places in the line file.
     pub missions: Vec<Option<MissionNow>>,
     pub sessions: Vec<SessionNow>,

@@ -10,9 +10,9 @@ use Rattle.text_replay.specs.declared.changes.Change.{Change}
 use Rattle.text_replay.specs.Noted.{changes_from, changes_of, is_seen, noted, same_flag, same_mark, same_view}
 use Rattle.text_replay.specs.Noted.{stretches_to}
 use Rattle.text_replay.specs.Stretches.{AreStretchesOf, IsSeen}
-use Rattle.text_script.specs.rbc_world.declared.view.Mark.{Mark}
-use Rattle.text_script.specs.rbc_world.declared.view.Mark.TheVariants as mark
-use Rattle.text_script.specs.rbc_world.declared.view.SectionView.{SectionView}
+use Rattle.text_script.specs.rbc_book.declared.mark.Mark.{Mark}
+use Rattle.text_script.specs.rbc_book.declared.mark.Mark.TheVariants as mark
+use Rattle.text_script.specs.rbc_book.declared.mark.SectionView.{SectionView}
 
 -- The changes are those of the views: there is none, or the last is that of the open stretch.
 abbrev Follow : List SectionView → List Change → Type 0

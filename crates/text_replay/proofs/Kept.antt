@@ -11,8 +11,8 @@ use Rattle.text_replay.specs.declared.changes.Change.{Change}
 use Rattle.text_replay.specs.declared.changes.SectionChanges.{SectionChanges}
 use Rattle.text_replay.specs.Noted.{AreAllNoted, AreKept, changes_at, changes_from, changes_of, noted, stretches_to}
 use Rattle.text_replay.specs.Stretches.{AreStretchesOf, seen_in}
+use Rattle.text_script.specs.rbc_book.declared.mark.SectionView.{SectionView}
 use Rattle.text_script.specs.rbc_world.declared.view.LineView.{LineView}
-use Rattle.text_script.specs.rbc_world.declared.view.SectionView.{SectionView}
 
 abbrev items_of : Option (Vec Change Global) → Option (List Change)
 items_of o = option_map (λ (list : Vec Change Global). list.items) o

@@ -8,7 +8,7 @@ use Rattle.std.specs.List.{All}
 use Rattle.text_replay.proofs.Showing.{after_all, before, earlier, latest, more, over, past, seen_at, seen_more}
 use Rattle.text_replay.specs.declared.stretch.Stretch.{Stretch}
 use Rattle.text_replay.specs.Stretches.{AreStretchesOf, IsSeen, shown_at}
-use Rattle.text_script.specs.rbc_world.declared.view.SectionView.{SectionView}
+use Rattle.text_script.specs.rbc_book.declared.mark.SectionView.{SectionView}
 
 -- the stretch of a view
 abbrev pub stretch_of : ℕ → SectionView → ℕ → Stretch

@@ -6,7 +6,7 @@ use Rattle.std.proofs.lemmas.List.{length-append}
 use Rattle.std.specs.Prelude.{if◌then◌else◌, nat_le, nat_lt}
 use Rattle.text_replay.specs.declared.stretch.Stretch.{Stretch}
 use Rattle.text_replay.specs.Stretches.{IsSeen, shown_at}
-use Rattle.text_script.specs.rbc_world.declared.view.SectionView.{SectionView}
+use Rattle.text_script.specs.rbc_book.declared.mark.SectionView.{SectionView}
 
 -- the first of the two that exists
 abbrev first_of_two : Option SectionView → Option SectionView → Option SectionView

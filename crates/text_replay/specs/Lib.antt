@@ -1,5 +1,4 @@
 pub mod Stretches
 pub mod Noted
 pub mod Turned
-pub mod Shown
 pub mod Told

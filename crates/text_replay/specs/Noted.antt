@@ -6,10 +6,10 @@ use Rattle.text_replay.specs.declared.changes.Change.{Change}
 use Rattle.text_replay.specs.declared.changes.SectionChanges.{SectionChanges}
 use Rattle.text_replay.specs.declared.stretch.Stretch.{Stretch}
 use Rattle.text_replay.specs.Stretches.{seen_in}
+use Rattle.text_script.specs.rbc_book.declared.mark.Mark.{Mark}
+use Rattle.text_script.specs.rbc_book.declared.mark.Mark.TheVariants as mark
+use Rattle.text_script.specs.rbc_book.declared.mark.SectionView.{SectionView}
 use Rattle.text_script.specs.rbc_world.declared.view.LineView.{LineView}
-use Rattle.text_script.specs.rbc_world.declared.view.Mark.{Mark}
-use Rattle.text_script.specs.rbc_world.declared.view.Mark.TheVariants as mark
-use Rattle.text_script.specs.rbc_world.declared.view.SectionView.{SectionView}
 
 abbrev pub same_mark : Mark → Mark → Bool
 same_mark mark.Shut mark.Shut = true

@@ -3,9 +3,9 @@ use Rattle.std.specs.List.{All}
 use Rattle.std.specs.Prelude.{[], ◌&&◌, ◌<◌, ◌∷◌, ◌≡◌, ◌≤◌, false, if◌then◌else◌, List, nat_le, nat_lt, None, Option}
 use Rattle.std.specs.Prelude.{slice_get, Some, unwrap_or, ℕ}
 use Rattle.text_replay.specs.declared.stretch.Stretch.{Stretch}
+use Rattle.text_script.specs.rbc_book.declared.mark.Mark.TheVariants as mark
+use Rattle.text_script.specs.rbc_book.declared.mark.SectionView.{SectionView}
 use Rattle.text_script.specs.rbc_world.declared.view.LineView.{LineView}
-use Rattle.text_script.specs.rbc_world.declared.view.Mark.TheVariants as mark
-use Rattle.text_script.specs.rbc_world.declared.view.SectionView.{SectionView}
 
 -- the view of a section; a section that is not of the line is shut
 abbrev pub seen_in : ℕ → LineView → SectionView

@@ -1,8 +1,8 @@
 //! The data of a line that do not change.
 
-use rbc_line::Line;
+use rbc_line::{Line, Section};
 use std::alloc::{AllocError, Global};
-use text_page::{Layout, Place};
+use text_page::Layout;
 
 /// The data of a line that do not change; its centres listen at these ports.
 pub fn layout_of(alloc: Global, line: &Line, ports: Vec<u16>) -> Result<Layout, AllocError> {
@@ -35,17 +35,12 @@ fn tracks_of(alloc: Global, line: &Line) -> Result<Vec<String>, AllocError> {
     Ok(names)
 }
 
-fn sections_of(alloc: Global, line: &Line) -> Result<Vec<Place>, AllocError> {
-    let mut places = Vec::new(alloc);
+fn sections_of(alloc: Global, line: &Line) -> Result<Vec<Section>, AllocError> {
+    let mut sections = Vec::new(alloc);
     for s in 0..line.section_count() {
         if let Some(section) = line.section(s) {
-            places.push(Place {
-                track: section.track,
-                home: section.home,
-                start: section.start,
-                metres: u32::from(section.metres),
-            })?;
+            sections.push(section)?;
         }
     }
-    Ok(places)
+    Ok(sections)
 }

@@ -27,7 +27,7 @@ pub use handovers::Handovers;
 pub use layout::layout_of;
 pub use page::page_of;
 pub use retelling::Retelling;
-pub use shown::{mission_now, phase_now, section_now};
+pub use shown::{mission_now, session_now};
 pub use stretch::Stretch;
 pub use turns::{Turn, Turns};
 pub use words::rows_in_words;

@@ -4,11 +4,11 @@ use crate::cut::Cut;
 use crate::events::{events_in, train_in};
 use crate::layout::layout_of;
 use crate::played::{Played, play};
-use crate::shown::{phase_now, section_now};
+use crate::shown::session_of;
 use crate::turns::Turn;
 use rbc_line::Line;
 use std::alloc::{AllocError, Global};
-use text_page::{Changes, EventNow, Layout, LineNow, Part, RunSheet, SessionNow};
+use text_page::{Changes, EventNow, Layout, LineNow, Part, RunSheet};
 use text_script::status::Fault;
 use text_script::{LineView, WorldEvent};
 
@@ -126,7 +126,7 @@ fn add_sections(
     for section in 0..line.section_count() {
         for stretch in run.sections.stretches(alloc, section, states)? {
             let event = number(before, stretch.since);
-            sheet.add_section(event, section, section_now(stretch.seen))?;
+            sheet.add_section(event, section, stretch.seen)?;
         }
     }
     sheet.end()
@@ -177,10 +177,10 @@ fn add_sessions(
     for train in 0..line.train_count() {
         let first = usize::from(train).saturating_mul(centres.into());
         for centre in 0..centres {
-            for turn in told(run.phases.of(first.saturating_add(centre.into()))) {
+            for turn in told(run.sessions.of(first.saturating_add(centre.into()))) {
                 let event = number(before, turn.since);
                 let nid_engine = nid_engine_of(line, train);
-                sheet.add_session(layout, event, nid_engine, centre, turn.value)?;
+                sheet.add_session(layout, event, nid_engine, centre, turn.value.as_ref())?;
             }
         }
     }
@@ -222,17 +222,11 @@ fn add_last(alloc: Global, now: &mut LineNow, first: u64, run: &Played) -> Resul
 
 // Adds the sections and the sessions of a view.
 fn add_view(now: &mut LineNow, view: &LineView) -> Result<(), AllocError> {
-    for section in &view.sections {
-        now.sections.push(section_now(*section))?;
-    }
-    for train in &view.trains {
-        for (centre, session) in train.sessions.iter().enumerate() {
-            if let Some(phase) = phase_now(session.phase, session.waiting.is_some()) {
-                now.sessions.push(SessionNow {
-                    nid_engine: train.nid_engine,
-                    centre: u8::try_from(centre).unwrap_or(u8::MAX),
-                    phase,
-                })?;
+    now.sections.extend_from_slice(&view.sections)?;
+    for (train, seen) in view.trains.iter().enumerate() {
+        for centre in 0..seen.sessions.len() {
+            if let Some(session) = session_of(view, train, centre) {
+                now.sessions.push(session)?;
             }
         }
     }

@@ -3,12 +3,12 @@
 use crate::changes::SectionChanges;
 use crate::events::centre_of;
 use crate::handovers::Handovers;
-use crate::shown::{mission_now, phase_now};
+use crate::shown::{mission_now, session_of};
 use crate::turns::Turns;
 use crate::words::event_in_words;
 use rbc_line::Line;
 use std::alloc::{AllocError, Global};
-use text_page::{MissionNow, Phase};
+use text_page::{MissionNow, SessionNow};
 use text_script::status::Fault;
 use text_script::{Answer, LineView, MissionView, SectionRun, Supervisor, World, WorldEvent};
 
@@ -19,7 +19,7 @@ pub(crate) struct Played {
     /// By the trains' places in the line file.
     pub missions: Turns<Option<MissionNow>>,
     /// By train, and then by centre.
-    pub phases: Turns<Option<Phase>>,
+    pub sessions: Turns<Option<SessionNow>>,
     /// The events in words.
     pub words: Vec<String>,
     /// The line after the last event.
@@ -86,7 +86,7 @@ fn begun(alloc: Global, line: &Line, centres: &Centres) -> Result<Played, AllocE
     Ok(Played {
         sections: SectionChanges::new(alloc, line)?,
         missions: Turns::new(alloc, trains)?,
-        phases: Turns::new(alloc, sessions)?,
+        sessions: Turns::new(alloc, sessions)?,
         words: Vec::new(alloc),
         last: centres.world.view(alloc)?,
     })
@@ -143,7 +143,7 @@ fn look(alloc: Global, centres: &Centres, played: &mut Played) -> Result<(), All
     let event = played.words.len();
     played.sections.note(event, &view)?;
     note_missions(&view, &centres.handovers, event, &mut played.missions)?;
-    note_phases(&view, event, &mut played.phases)?;
+    note_sessions(&view, event, &mut played.sessions)?;
     played.last = view;
     Ok(())
 }
@@ -166,16 +166,16 @@ fn note_missions(
 }
 
 // Records the sessions of each train.
-fn note_phases(
+fn note_sessions(
     view: &LineView,
     event: usize,
-    phases: &mut Turns<Option<Phase>>,
+    sessions: &mut Turns<Option<SessionNow>>,
 ) -> Result<(), AllocError> {
     for (train, seen) in view.trains.iter().enumerate() {
         let first = train.saturating_mul(seen.sessions.len());
-        for (centre, session) in seen.sessions.iter().enumerate() {
-            let phase = phase_now(session.phase, session.waiting.is_some());
-            phases.note(first.saturating_add(centre), event, phase)?;
+        for centre in 0..seen.sessions.len() {
+            let session = session_of(view, train, centre);
+            sessions.note(first.saturating_add(centre), event, session)?;
         }
     }
     Ok(())

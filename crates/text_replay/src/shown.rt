@@ -1,27 +1,9 @@
-//! The views of a section, a mission and a session on the page.
+//! A mission and a session on the page.
 
-ghost use Rattle.std.specs.Prelude.{◌≡◌};
-ghost use Rattle.text_script.specs.rbc_world.View.{mark_shown};
-ghost use Rattle.text_replay.specs.Shown.{usage_shown};
+ghost use Rattle.std.specs.Prelude.{◌≡◌, option_map};
 
-use text_page::{MissionNow, Phase, Run, SectionNow, Usage};
-use text_script::{Mark, MissionFacts, Phase as SessionPhase, SectionRun, SectionView};
-
-/// The view of a section.
-pub fn section_now(view: SectionView) -> SectionNow
-    ensures mark { usage_shown result.usage ≡ mark_shown view.mark }
-    ensures wish { result.is_wished ≡ view.is_wished }
-{
-    SectionNow {
-        usage: match view.mark {
-            Mark::Shut => Usage::Shut,
-            Mark::Open => Usage::Open,
-            Mark::Kept { nid_engine } => Usage::Kept { nid_engine },
-            Mark::Given { nid_engine } => Usage::Given { nid_engine },
-        },
-        is_wished: view.is_wished,
-    }
-}
+use text_page::{MissionNow, SessionNow};
+use text_script::{LineView, MissionFacts, Phase, SectionRun};
 
 /// The mission of a train with this authority and these lent sections, without a known handover.
 pub fn mission_now(
@@ -30,7 +12,14 @@ pub fn mission_now(
     facts: &MissionFacts,
     hand: SectionRun,
     pool: SectionRun,
-) -> MissionNow {
+) -> MissionNow
+    ensures train { (result.nid_engine ≡ nid_engine) × (result.supervisor ≡ supervisor) }
+    ensures place { (result.track ≡ facts.now.place.track) × (result.front ≡ facts.now.place.front) }
+    ensures hand { result.hand ≡ hand }
+    ensures pool { result.pool ≡ pool }
+    ensures asked { result.asked ≡ option_map (λ proposal. proposal.last_kept) facts.now.proposal }
+    ensures ended { result.is_ended ≡ facts.now.is_ended }
+{
     MissionNow {
         nid_engine,
         supervisor,
@@ -41,26 +30,38 @@ pub fn mission_now(
             .place
             .rear
             .map(|rear| u32::try_from(rear).unwrap_or(0)),
-        hand: run_of(hand),
-        pool: run_of(pool),
+        hand,
+        pool,
         asked: facts.proposal.map(|proposal| proposal.last_kept),
         is_ended: facts.is_ended,
     }
 }
 
-fn run_of(run: SectionRun) -> Run {
-    Run {
-        first: run.first,
-        count: run.count,
-    }
+/// The session of a train with a centre in a view of the line, if there is one. Both are named by their places in the
+/// line file.
+pub(crate) fn session_of(view: &LineView, train: usize, centre: usize) -> Option<SessionNow> {
+    let train = view.trains.get(train)?;
+    let session = train.sessions.get(centre)?;
+    let centre = u8::try_from(centre).ok()?;
+    let is_waiting = session.waiting.is_some();
+    session_now(train.nid_engine, centre, session.phase, is_waiting)
 }
 
-/// The phase of a session, if there is one. `is_waiting` is whether a start of mission waits at the centre.
-pub fn phase_now(phase: SessionPhase, is_waiting: bool) -> Option<Phase> {
+/// The session of a train with a centre, if there is one. `is_waiting` is whether a start of mission waits at the
+/// centre.
+pub fn session_now(
+    nid_engine: u32,
+    centre: u8,
+    phase: Phase,
+    is_waiting: bool,
+) -> Option<SessionNow> {
     match phase {
-        _ if is_waiting => Some(Phase::Waiting),
-        SessionPhase::Closed => None,
-        SessionPhase::Opened => Some(Phase::Opened),
-        SessionPhase::Up => Some(Phase::Up),
+        Phase::Closed if !is_waiting => None,
+        _ => Some(SessionNow {
+            nid_engine,
+            centre,
+            phase,
+            is_waiting,
+        }),
     }
 }

@@ -11,8 +11,8 @@ use Rattle.rbc_spec.specs.LineCentre.{LineState}
 use Rattle.rbc_spec.specs.Maps.{has}
 use Rattle.rbc_spec.specs.Outcome as spec
 use Rattle.rbc_world.specs.declared.view.LineView.{LineView}
-use Rattle.rbc_world.specs.declared.view.Mark.{Mark}
-use Rattle.rbc_world.specs.declared.view.SectionView.{SectionView}
+use Rattle.rbc_world.specs.rbc_book.declared.mark.Mark.{Mark}
+use Rattle.rbc_world.specs.rbc_book.declared.mark.SectionView.{SectionView}
 use Rattle.rbc_world.specs.rbc_centre.declared.outcome.Word.{Word}
 use Rattle.rbc_world.specs.rbc_centre.Views.{word_of}
 use Rattle.rbc_world.specs.rbc_train.declared.saying.Saying.{Saying as SayingCode}

@@ -3,3 +3,4 @@ pub mod Holds
 pub mod Meets
 pub mod Named
 pub mod Sent
+pub mod Levels

@@ -14,8 +14,8 @@ use Rattle.rbc_spec.specs.Outcome as spec
 use Rattle.rbc_spec.specs.Outcome.{Outcome, Saying}
 use Rattle.rbc_spec.specs.ReadOff.{read_off}
 use Rattle.rbc_spec.specs.World.{Answer, Answered, World}
-use Rattle.rbc_world.specs.declared.view.Mark.{Mark}
-use Rattle.rbc_world.specs.declared.view.Mark.TheVariants as mark
+use Rattle.rbc_world.specs.rbc_book.declared.mark.Mark.{Mark}
+use Rattle.rbc_world.specs.rbc_book.declared.mark.Mark.TheVariants as mark
 use Rattle.rbc_world.specs.rbc_centre.declared.outcome.Word.{Word}
 use Rattle.rbc_world.specs.rbc_centre.declared.outcome.Word.TheVariants as word
 use Rattle.text_scenario.specs.declared.expectation.BodyKind.{BodyKind}

@@ -9,6 +9,9 @@ use Rattle.rbc_packets.specs.declared.position.Position.{Position}
 use Rattle.rbc_packets.specs.Packet.{Packet}
 use Rattle.rbc_packets.specs.Steps.{◌>>=◌}
 use Rattle.rbc_spec.specs.Message.{unknown_time}
+use Rattle.rbc_packets.specs.declared.level.Level.TheVariants.{Level2}
+use Rattle.rbc_packets.specs.declared.train_length.TrainLength.TheVariants.{ConfirmedByDevice}
+use Rattle.rbc_vars.specs.declared.direction.Direction.TheVariants as direction
 use Rattle.rbc_vars.specs.declared.scale.QScale.{QScale}
 use Rattle.rbc_vars.specs.declared.scale.QScale.TheVariants as scale
 use Rattle.text_scenario.specs.declared.fault.SentFault.{SentFault}
@@ -17,6 +20,23 @@ use Rattle.text_scenario.specs.declared.kind.Kind.{Kind}
 use Rattle.text_scenario.specs.declared.kind.Kind.TheVariants as kind
 use Rattle.text_scenario.specs.declared.report.Report.{Report}
 use Rattle.text_scenario.specs.declared.sent.Sent.{Sent}
+
+-- the report of a line that names no field: a train of 200 m at standstill, in full supervision under level 2
+abbrev pub usual : Report
+usual = record {
+  nid_lrbg = 16777215;
+  q_scale = scale.Metre;
+  distance = 0;
+  q_dirlrbg = direction.Nominal;
+  q_dlrbg = direction.Nominal;
+  in_rear = 100;
+  in_advance = 200;
+  v_train = 0;
+  train_length = ConfirmedByDevice 200;
+  q_dirtrain = direction.Nominal;
+  m_mode = 0;
+  level = Level2;
+}
 
 -- the unit of a scale, in decimetres
 abbrev pub unit_of : QScale → ℕ

@@ -1,5 +1,8 @@
 //! Reads the fields of a train's message.
 
+ghost use Rattle.std.specs.Prelude.{◌%◌, ◌*◌, ◌+◌, ◌≡◌};
+ghost use Rattle.text_scenario.specs.Levels.{level_of};
+
 use crate::kind::Kind;
 use crate::row_fault::RowFault;
 use crate::sending::Draft;
@@ -155,7 +158,9 @@ fn place_in(word: &str) -> Option<(u32, u32, Direction)> {
 }
 
 // NID_LRBG of a balise group.
-fn group_of(nid_c: u16, nid_bg: u32) -> NidLrbg {
+fn group_of(nid_c: u16, nid_bg: u32) -> NidLrbg
+    ensures { result ≡ nid_c % 1024 * 16384 + nid_bg % 16384 }
+{
     let nid_lrbg = u64::from(nid_c % 1024) * 16_384 + u64::from(nid_bg % 16_384);
     NidLrbg::new(nid_lrbg)
 }
@@ -257,7 +262,14 @@ fn read_level<'a>(words: &mut Words<'_, 'a>, draft: &mut Draft) -> Result<(), Ro
         draft.report.level = Level::Ntc(NidNtc::new(u64::from(system % 256)));
         return Ok(());
     }
-    draft.report.level = match words.one_of("a level", &LEVELS)? {
+    draft.report.level = level_of(words.one_of("a level", &LEVELS)?);
+    Ok(())
+}
+
+fn level_of(plain: Plain) -> Level
+    ensures { result ≡ level_of plain }
+{
+    match plain {
         Plain::Level0 => Level::Level0,
         Plain::Level1 => Level::Level1,
         Plain::Level2 => Level::Level2,
@@ -265,8 +277,7 @@ fn read_level<'a>(words: &mut Words<'_, 'a>, draft: &mut Draft) -> Result<(), Ro
         Plain::Spare5 => Level::Spare5,
         Plain::Spare6 => Level::Spare6,
         Plain::Spare7 => Level::Spare7,
-    };
-    Ok(())
+    }
 }
 
 fn read_direction<'a>(

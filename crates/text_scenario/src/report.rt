@@ -1,5 +1,5 @@
 ghost use Rattle.std.specs.Prelude.{◌≡◌, ◌^◌, ◌<◌, IfOk};
-ghost use Rattle.text_scenario.specs.Named.{position_of, unit_of, units_of};
+ghost use Rattle.text_scenario.specs.Named.{position_of, unit_of, units_of, usual};
 
 use crate::fault::SentFault;
 use rbc_packets::{Level, Location, Position, TrainLength};
@@ -29,7 +29,9 @@ pub struct Report {
 
 impl Report {
     /// A train of 200 m at standstill, in full supervision under level 2. Its group is not known.
-    pub fn usual() -> Report {
+    pub fn usual() -> Report
+        ensures { result ≡ usual }
+    {
         Report {
             nid_lrbg: NidLrbg::new(16_777_215),
             q_scale: QScale::Metre,

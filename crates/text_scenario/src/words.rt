@@ -1,5 +1,7 @@
 //! The words of a line, which are read from left to right.
 
+ghost use Rattle.std.specs.Prelude.{◌≡◌, ◌==◌, ◌≤◌, ◌∷◌, [], IfErr, IfOk, is_ok, length, map};
+
 use crate::nearest::Search;
 use crate::row_fault::RowFault;
 use rbc_line::Line;
@@ -31,7 +33,12 @@ pub struct Words<'w, 'a> {
 
 impl<'a> Words<'_, 'a> {
     /// Reads a word.
-    pub fn word(&mut self, what: &'static str) -> Result<&'a str, RowFault<'a>> {
+    pub fn word(&mut self, what: &'static str) -> Result<&'a str, RowFault<'a>>
+        ensures read { IfOk result (λ word. map (λ w. w.now) self.old.rest.now
+            ≡ word.now ∷ map (λ w. w.now) self.new.rest.now) }
+        ensures none { IfErr result (λ fault. self.old.rest.now ≡ []) }
+        ensures line { self.new.line ≡ self.old.line }
+    {
         match self.rest {
             [first, rest @ ..] => {
                 self.rest = rest;
@@ -89,7 +96,9 @@ impl<'a> Words<'_, 'a> {
     }
 
     /// Reads a decimal number up to a greatest one.
-    pub fn number(&mut self, most: u32, what: &'static str) -> Result<u32, RowFault<'a>> {
+    pub fn number(&mut self, most: u32, what: &'static str) -> Result<u32, RowFault<'a>>
+        ensures { IfOk result (λ number. number ≤ most) }
+    {
         let word = self.word(what)?;
         match number_in(word) {
             Some(number) if number <= most => Ok(number),
@@ -116,12 +125,16 @@ impl<'a> Words<'_, 'a> {
     }
 
     /// Reads NID_ENGINE of a train.
-    pub fn engine(&mut self) -> Result<u32, RowFault<'a>> {
+    pub fn engine(&mut self) -> Result<u32, RowFault<'a>>
+        ensures { IfOk result (λ nid_engine. nid_engine ≤ 16777215) }
+    {
         self.number(16_777_215, "the number of a train up to 16777215")
     }
 
     /// Refuses a further word.
-    pub fn end(&self) -> Result<(), RowFault<'a>> {
+    pub fn end(&self) -> Result<(), RowFault<'a>>
+        ensures { is_ok result ≡ (length self.now.rest.now == 0) }
+    {
         match self.rest {
             [] => Ok(()),
             [word, ..] => Err(RowFault::Further(*word)),

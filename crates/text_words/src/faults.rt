@@ -1,9 +1,16 @@
 //! Faults of messages, and reasons of silence, in words.
 
+ghost use Rattle.std.specs.Prelude.{◌≡◌, option_map, Some};
+ghost use Rattle.rbc_msgs.specs.Faults.{fault_number};
+ghost use Rattle.text_words.specs.Meanings.{faults, meaning_of, meaning_of_name, reasons, replies};
+
+use crate::meanings::{Meanings, NamedMeanings, meaning_of, meaning_of_name};
 use rbc_msgs::MsgFault;
 
 /// The meaning of a fault of a message.
-pub fn words_of_fault(fault: MsgFault) -> &'static str {
+pub fn words_of_fault(fault: MsgFault) -> &'static str
+    ensures { Some result.now ≡ meaning_of faults (fault_number fault) }
+{
     match fault {
         MsgFault::Short => "bytes are missing",
         MsgFault::Length => "L_MESSAGE is not the length of the message",
@@ -17,7 +24,9 @@ pub fn words_of_fault(fault: MsgFault) -> &'static str {
 }
 
 /// The meaning of the fault of this number.
-pub(crate) fn words_of_fault_number(number: u32) -> Option<&'static str> {
+pub(crate) fn words_of_fault_number(number: u32) -> Option<&'static str>
+    ensures { option_map (λ words. words.now) result ≡ meaning_of faults number }
+{
     let fault = match number {
         1 => MsgFault::Short,
         2 => MsgFault::Length,
@@ -32,30 +41,36 @@ pub(crate) fn words_of_fault_number(number: u32) -> Option<&'static str> {
     Some(words_of_fault(fault))
 }
 
+const REASONS: Meanings = &[
+    (1, "its T_TRAIN is not above the last one"),
+    (2, "no session stands with the train"),
+    (3, "the train is not of the line"),
+    (4, "its report has no place to be taken at"),
+    (5, "the train is not supervised here"),
+    (6, "the train's data are not known"),
+    (7, "a request to shorten stands"),
+    (8, "it answers no request that stands"),
+    (9, "the mission is ended"),
+    (10, "the session is up already, or not up yet"),
+];
+
 /// The reason for which a message has no answer, by its printed number.
-pub(crate) fn words_of_reason(number: u32) -> Option<&'static str> {
-    match number {
-        1 => Some("its T_TRAIN is not above the last one"),
-        2 => Some("no session stands with the train"),
-        3 => Some("the train is not of the line"),
-        4 => Some("its report has no place to be taken at"),
-        5 => Some("the train is not supervised here"),
-        6 => Some("the train's data are not known"),
-        7 => Some("a request to shorten stands"),
-        8 => Some("it answers no request that stands"),
-        9 => Some("the mission is ended"),
-        10 => Some("the session is up already, or not up yet"),
-        _ => None,
-    }
+pub(crate) fn words_of_reason(number: u32) -> Option<&'static str>
+    ensures { option_map (λ words. words.now) result ≡ meaning_of reasons number }
+{
+    meaning_of(REASONS, u64::from(number))
 }
 
+const REPLIES: NamedMeanings = &[
+    ("Done", "done"),
+    ("Asked", "in use, and its return is asked for"),
+    ("NotHome", "not a section of this centre"),
+    ("Told", "shut now, as was wished"),
+];
+
 /// The meaning of a reply to the interlocking, for its section.
-pub(crate) fn words_of_word(word: &str) -> Option<&'static str> {
-    match word {
-        "Done" => Some("done"),
-        "Asked" => Some("in use, and its return is asked for"),
-        "NotHome" => Some("not a section of this centre"),
-        "Told" => Some("shut now, as was wished"),
-        _ => None,
-    }
+pub(crate) fn words_of_word(word: &str) -> Option<&'static str>
+    ensures { option_map (λ words. words.now) result ≡ meaning_of_name replies word.now }
+{
+    meaning_of_name(REPLIES, word)
 }

@@ -8,6 +8,7 @@ mod faults;
 mod field;
 mod fields;
 mod frames;
+mod meanings;
 mod message;
 mod names;
 mod numbers;

@@ -1,5 +1,8 @@
 //! Shows the bytes of a message field by field.
 
+ghost use Rattle.std.specs.Prelude.{◌≡◌, ◌∷◌, [], OnOk, codes, false, if◌then◌else◌, length, option_map};
+ghost use Rattle.text_words.specs.Fields.{Adds, counted, is_of_train, message_of, message_variable, shown_of};
+
 use crate::field::{Field, Meaning};
 use crate::fields::Fields;
 use crate::names::{name_of_number, number_of_track, number_of_train};
@@ -35,21 +38,37 @@ fn add_of_centre(fields: &mut Fields, bytes: &[u8]) -> Result<(), MsgFault> {
 }
 
 /// NID_MESSAGE of the bytes and its name, if there is a byte.
-pub fn name_of(bytes: &[u8]) -> Option<Field> {
-    let number = u64::from(*bytes.first()?);
-    let from = if is_of_train(bytes) {
+pub fn name_of(bytes: &[u8]) -> Option<Field>
+    ensures { option_map (λ field. (shown_of field).1) result ≡ message_of bytes.now }
+{
+    match bytes {
+        [number, ..] => Some(field_of_number(u64::from(*number), sender_of(bytes))),
+        [] => None,
+    }
+}
+
+fn sender_of(bytes: &[u8]) -> &'static str
+    ensures { result.now ≡ (if is_of_train bytes.now then codes "train" else codes "centre") }
+{
+    if is_of_train(bytes) {
         "train"
     } else {
         "centre"
-    };
-    Some(field_of_number(number, from))
+    }
 }
 
-fn is_of_train(bytes: &[u8]) -> bool {
-    bytes.first().is_some_and(|number| *number >= 128)
+fn is_of_train(bytes: &[u8]) -> bool
+    ensures { result ≡ is_of_train bytes.now }
+{
+    match bytes {
+        [number, ..] => *number >= 128,
+        [] => false,
+    }
 }
 
-fn field_of_number(number: u64, from: &'static str) -> Field {
+fn field_of_number(number: u64, from: &'static str) -> Field
+    ensures { shown_of result ≡ (false, message_variable number from.entry.now) }
+{
     let name = name_of_number(number);
     Field {
         is_in_packet: false,
@@ -65,10 +84,14 @@ fn add_start(
     number: u64,
     from: &'static str,
     bytes: &[u8],
-) -> Result<(), AllocError> {
+) -> Result<(), AllocError>
+    ensures { OnOk result (Adds fields.old fields.new (message_variable number from.entry.now
+        ∷ counted (codes "L_MESSAGE") (length bytes.now) (codes "bytes") ∷ [])) }
+{
     let first = field_of_number(number, from);
     fields.add(first.name, first.value, first.meaning)?;
     let count = bytes.len() as u64;
     let unit = "bytes";
-    fields.add("L_MESSAGE", count, Meaning::Count { count, unit })
+    fields.add("L_MESSAGE", count, Meaning::Count { count, unit })?;
+    Ok(())
 }

@@ -1,10 +1,12 @@
 //! The number and the name of each message (SUBSET-026 8.6, 8.7).
 
-ghost use Rattle.std.specs.Prelude.{◌≡◌};
+ghost use Rattle.std.specs.Prelude.{◌≡◌, codes, unwrap_or};
 ghost use Rattle.rbc_msgs.specs.Bodies.{track_body};
 ghost use Rattle.rbc_msgs.specs.TrainSpelling.{train_number};
 ghost use Rattle.rbc_msgs.specs.TrackSpelling.{track_number};
+ghost use Rattle.text_words.specs.Meanings.{meaning_of, messages};
 
+use crate::meanings::{Meanings, meaning_of};
 use rbc_msgs::{TrackBody, TrainBody};
 
 /// NID_MESSAGE of a message from a train.
@@ -41,27 +43,36 @@ pub fn number_of_track(body: TrackBody) -> u64
     }
 }
 
+const MESSAGES: Meanings = &[
+    (3, "Movement Authority"),
+    (8, "Acknowledgement of Train Data"),
+    (9, "Request to Shorten MA"),
+    (24, "General Message"),
+    (32, "RBC/RIU System Version"),
+    (
+        39,
+        "Acknowledgement of termination of a communication session",
+    ),
+    (40, "Train Rejected"),
+    (41, "Train Accepted"),
+    (129, "Validated Train Data"),
+    (132, "MA Request"),
+    (136, "Train Position Report"),
+    (137, "Request to shorten MA is granted"),
+    (138, "Request to shorten MA is rejected"),
+    (150, "End of Mission"),
+    (155, "Initiation of a communication session"),
+    (156, "Termination of a communication session"),
+    (157, "SoM Position Report"),
+    (159, "Session Established"),
+];
+
 /// The name of the message of this NID_MESSAGE.
-pub fn name_of_number(number: u64) -> &'static str {
-    match number {
-        3 => "Movement Authority",
-        8 => "Acknowledgement of Train Data",
-        9 => "Request to Shorten MA",
-        24 => "General Message",
-        32 => "RBC/RIU System Version",
-        39 => "Acknowledgement of termination of a communication session",
-        40 => "Train Rejected",
-        41 => "Train Accepted",
-        129 => "Validated Train Data",
-        132 => "MA Request",
-        136 => "Train Position Report",
-        137 => "Request to shorten MA is granted",
-        138 => "Request to shorten MA is rejected",
-        150 => "End of Mission",
-        155 => "Initiation of a communication session",
-        156 => "Termination of a communication session",
-        157 => "SoM Position Report",
-        159 => "Session Established",
-        _ => "no message that is read",
+pub fn name_of_number(number: u64) -> &'static str
+    ensures { result.now ≡ unwrap_or (meaning_of messages number) (codes "no message that is read") }
+{
+    match meaning_of(MESSAGES, number) {
+        Some(name) => name,
+        None => "no message that is read",
     }
 }

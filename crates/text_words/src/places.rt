@@ -1,5 +1,8 @@
 //! Places on the line in metres from the start of their track.
 
+ghost use Rattle.std.specs.Prelude.{◌≡◌, IfOk, string_bytes};
+ghost use Rattle.text_words.specs.Said.{point_of, point_words, track_at, track_name};
+
 use rbc_line::Line;
 use rbc_packets::Position;
 use rbc_place::{extent, section_start};
@@ -50,19 +53,37 @@ pub fn point_in_words(
     line: &Line,
     nid_lrbg: u32,
     metres: u64,
-) -> Result<String, AllocError> {
+) -> Result<String, AllocError>
+    ensures { IfOk result (λ text. string_bytes text ≡ point_words line.now nid_lrbg metres) }
+{
     let Some(number) = line.section_of_group(nid_lrbg) else {
         return format!(in alloc; "{metres} m past NID_LRBG {nid_lrbg}");
     };
-    let point = u64::from(section_start(line, number)).saturating_add(metres);
+    let point = point_of(line, number, metres);
     let track = track_of(line, number);
     format!(in alloc; "{point} m of {track}")
 }
 
+// The metres of a point this far from the start of a section.
+fn point_of(line: &Line, number: u16, metres: u64) -> u64
+    ensures { result ≡ point_of line.now number metres }
+{
+    u64::from(section_start(line, number)).saturating_add(metres)
+}
+
+/// The name of a track.
+pub fn name_of_track(line: &Line, track: u8) -> &str
+    ensures { result.now ≡ track_name line.now track }
+{
+    line.track_name(track).unwrap_or("?")
+}
+
 /// The name of the track of a section.
-pub fn track_of(line: &Line, number: u16) -> &str {
+pub fn track_of(line: &Line, number: u16) -> &str
+    ensures { result.now ≡ track_at line.now number }
+{
     match line.section(number) {
-        Some(section) => line.track_name(section.track).unwrap_or("?"),
+        Some(section) => name_of_track(line, section.track),
         None => "?",
     }
 }

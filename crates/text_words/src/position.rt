@@ -1,7 +1,14 @@
 //! Packet 0, position report, field by field.
 
+ghost use Rattle.std.specs.Prelude.{◌≡◌, ◌∷◌, [], OnOk, unwrap_or};
+ghost use Rattle.rbc_vars.specs.Values.{direction_value};
+ghost use Rattle.text_words.specs.Fields.{Adds, meant};
+ghost use Rattle.text_words.specs.Meanings.{directions, meaning_of, modes, scales};
+ghost use Rattle.text_words.specs.Variables.{distance, speed};
+
 use crate::field::Meaning;
 use crate::fields::Fields;
+use crate::meanings::{Meanings, meaning_of};
 use rbc_packets::{Level, Location, Position, TrainLength};
 use rbc_vars::{Direction, MMode, QScale};
 use std::alloc::AllocError;
@@ -45,7 +52,9 @@ fn add_running(fields: &mut Fields, position: &Position) -> Result<(), AllocErro
 }
 
 /// Adds V_TRAIN, in steps of 5 km/h.
-fn add_speed(fields: &mut Fields, value: u64) -> Result<(), AllocError> {
+fn add_speed(fields: &mut Fields, value: u64) -> Result<(), AllocError>
+    ensures { OnOk result (Adds fields.old fields.new (speed value ∷ [])) }
+{
     if value > MOST_SPEED {
         return fields.words("V_TRAIN", value, "spare");
     }
@@ -56,7 +65,9 @@ fn add_speed(fields: &mut Fields, value: u64) -> Result<(), AllocError> {
     fields.add("V_TRAIN", value, meaning)
 }
 
-fn words_of_scale(scale: QScale) -> &'static str {
+fn words_of_scale(scale: QScale) -> &'static str
+    ensures { result.now ≡ scales scale }
+{
     match scale {
         QScale::Decimetre => "unit 10 cm",
         QScale::Metre => "unit 1 m",
@@ -70,7 +81,9 @@ fn add_distance(
     name: &'static str,
     value: u64,
     scale: QScale,
-) -> Result<(), AllocError> {
+) -> Result<(), AllocError>
+    ensures { OnOk result (Adds fields.old fields.new (distance name.entry.now value scale ∷ [])) }
+{
     if value == UNKNOWN {
         return fields.words(name, value, "unknown");
     }
@@ -92,14 +105,22 @@ fn add_direction(
     fields: &mut Fields,
     name: &'static str,
     direction: Direction,
-) -> Result<(), AllocError> {
-    let words = match direction {
+) -> Result<(), AllocError>
+    ensures { OnOk result (Adds fields.old fields.new
+        (meant name.entry.now (direction_value direction) (directions direction) ∷ [])) }
+{
+    fields.words(name, direction.value(), words_of_direction(direction))
+}
+
+fn words_of_direction(direction: Direction) -> &'static str
+    ensures { result.now ≡ directions direction }
+{
+    match direction {
         Direction::Reverse => "reverse",
         Direction::Nominal => "nominal",
         Direction::Unknown => "unknown",
         Direction::Spare => "spare",
-    };
-    fields.words(name, direction.value(), words)
+    }
 }
 
 fn add_length(fields: &mut Fields, length: TrainLength) -> Result<(), AllocError> {
@@ -117,24 +138,32 @@ fn add_length(fields: &mut Fields, length: TrainLength) -> Result<(), AllocError
     }
 }
 
-fn words_of_mode(mode: MMode) -> &'static str {
-    match mode.value() {
-        0 => "Full Supervision",
-        1 => "On Sight",
-        2 => "Staff Responsible",
-        3 => "Shunting",
-        4 => "Unfitted",
-        5 => "Sleeping",
-        6 => "Stand By",
-        7 => "Trip",
-        8 => "Post Trip",
-        9 => "System Failure",
-        10 => "Isolation",
-        11 => "Non Leading",
-        12 => "Limited Supervision",
-        13 => "National System",
-        14 => "Reversing",
-        _ => "Passive Shunting",
+const MODES: Meanings = &[
+    (0, "Full Supervision"),
+    (1, "On Sight"),
+    (2, "Staff Responsible"),
+    (3, "Shunting"),
+    (4, "Unfitted"),
+    (5, "Sleeping"),
+    (6, "Stand By"),
+    (7, "Trip"),
+    (8, "Post Trip"),
+    (9, "System Failure"),
+    (10, "Isolation"),
+    (11, "Non Leading"),
+    (12, "Limited Supervision"),
+    (13, "National System"),
+    (14, "Reversing"),
+    (15, "Passive Shunting"),
+];
+
+// M_MODE has 4 bits: the table has each of its values.
+fn words_of_mode(mode: MMode) -> &'static str
+    ensures { result.now ≡ unwrap_or (meaning_of modes mode) [] }
+{
+    match meaning_of(MODES, mode.value()) {
+        Some(words) => words,
+        None => "",
     }
 }
 

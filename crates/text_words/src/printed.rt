@@ -1,5 +1,11 @@
 //! Puts a line that `run` prints into words.
 
+ghost use Rattle.std.specs.Fmt.{decimal};
+ghost use Rattle.std.specs.Prelude.{◌++◌, ◌≡◌, [], codes, IfOk, IfSome, option_map, string_bytes, unwrap_or};
+ghost use Rattle.rbc_msgs.specs.Faults.{fault_number};
+ghost use Rattle.text_words.specs.Meanings.{faults, meaning_of};
+ghost use Rattle.text_words.specs.Said.{answered, between, happened, supervisor_words, what_of, who_of};
+
 use crate::faults::words_of_fault;
 use crate::row::{Row, row_of};
 use crate::said::{track_in_words, train_in_words};
@@ -33,7 +39,11 @@ fn row_told(
     line: &Line,
     row: Row<'_>,
     text: &str,
-) -> Result<Option<Told>, AllocError> {
+) -> Result<Option<Told>, AllocError>
+    ensures who { IfOk result (λ told. IfSome told (λ t. string_bytes t.who ≡ who_of row.entry)) }
+    ensures what { IfOk result (λ told. IfSome told (λ t. string_bytes t.what ≡ what_of line.now row.entry)) }
+    ensures line { IfOk result (λ told. IfSome told (λ t. string_bytes t.line ≡ text.now)) }
+{
     Ok(Some(Told {
         who: who_of(alloc, row)?,
         what: what_of(alloc, line, row)?,
@@ -121,7 +131,10 @@ fn centre_saying(alloc: Global, line: &Line, bytes: &[u8]) -> Result<String, All
     }
 }
 
-fn fault_in_words(alloc: Global, fault: MsgFault) -> Result<String, AllocError> {
+fn fault_in_words(alloc: Global, fault: MsgFault) -> Result<String, AllocError>
+    ensures { IfOk result (λ text. string_bytes text ≡ codes "no message, fault " ++ (decimal (fault_number fault)
+        ++ (codes ": " ++ unwrap_or (meaning_of faults (fault_number fault)) []))) }
+{
     let number = fault.number();
     let words = words_of_fault(fault);
     format!(in alloc; "no message, fault {number}: {words}")
@@ -146,34 +159,39 @@ fn shortened(alloc: Global, bytes: &[u8]) -> Result<String, AllocError> {
 }
 
 /// The speaker and the receiver of a line.
-fn who_of(alloc: Global, row: Row<'_>) -> Result<String, AllocError> {
+fn who_of(alloc: Global, row: Row<'_>) -> Result<String, AllocError>
+    ensures { IfOk result (λ text. string_bytes text ≡ who_of row.entry) }
+{
     match row {
-        Row::Set { centre, .. } | Row::Unset { centre, .. } => {
-            between(alloc, "interlocking", "->", centre)
-        }
+        Row::Set { centre, .. } => between(alloc, "interlocking", "->", centre),
+        Row::Unset { centre, .. } => between(alloc, "interlocking", "->", centre),
         Row::Word { centre, .. } => between(alloc, centre, "->", "interlocking"),
-        Row::Deliver { from, to, .. } | Row::Frame { from, to, .. } => {
-            between(alloc, from, "=>", to)
-        }
+        Row::Deliver { from, to, .. } => between(alloc, from, "=>", to),
+        Row::Frame { from, to, .. } => between(alloc, from, "=>", to),
         Row::Section { section, .. } => format!(in alloc; "section {section}"),
         Row::Supervisor { nid_engine, .. } => format!(in alloc; "train {nid_engine}"),
-        Row::Silent { centre, .. }
-        | Row::Fault { centre, .. }
-        | Row::Nothing { centre }
-        | Row::NotNext { centre, .. }
-        | Row::Train { centre, .. }
-        | Row::Message { centre, .. } => String::from_str(alloc, centre),
-        Row::NotSent | Row::Show => Ok(String::new(alloc)),
+        Row::Silent { centre, .. } => String::from_str(alloc, centre),
+        Row::Fault { centre, .. } => String::from_str(alloc, centre),
+        Row::Nothing { centre } => String::from_str(alloc, centre),
+        Row::NotNext { centre, .. } => String::from_str(alloc, centre),
+        Row::Train { centre, .. } => String::from_str(alloc, centre),
+        Row::Message { centre, .. } => String::from_str(alloc, centre),
+        Row::NotSent => Ok(String::new(alloc)),
+        Row::Show => Ok(String::new(alloc)),
     }
 }
 
 /// The speaker and the receiver, with an arrow between them.
-fn between(alloc: Global, from: &str, arrow: &str, to: &str) -> Result<String, AllocError> {
+fn between(alloc: Global, from: &str, arrow: &str, to: &str) -> Result<String, AllocError>
+    ensures { IfOk result (λ text. string_bytes text ≡ between from.now arrow.now to.now) }
+{
     format!(in alloc; "{from} {arrow} {to}")
 }
 
-/// The content of a line, in words.
-fn what_of(alloc: Global, line: &Line, row: Row<'_>) -> Result<String, AllocError> {
+/// The content of a line, in words. It is empty for bytes: their message has words of its own.
+fn what_of(alloc: Global, line: &Line, row: Row<'_>) -> Result<String, AllocError>
+    ensures { IfOk result (λ text. string_bytes text ≡ what_of line.now row.entry) }
+{
     match row {
         Row::Set { section, .. } => event_in_words(alloc, "section", section.into(), "is released"),
         Row::Unset { section, .. } => {
@@ -195,21 +213,30 @@ fn what_of(alloc: Global, line: &Line, row: Row<'_>) -> Result<String, AllocErro
             train,
             is_wished,
         } => section_in_words(alloc, line, section, mark, train, is_wished),
-        Row::Supervisor {
-            centre: Some(centre),
-            ..
-        } => format!(in alloc; "supervised by {centre}"),
-        _ => String::from_str(alloc, plain_words(row)),
+        Row::Supervisor { centre, .. } => supervisor_in_words(alloc, centre),
+        Row::Show => String::from_str(alloc, "the line is shown"),
+        Row::Nothing { .. } => String::from_str(alloc, "taken, and nothing is answered"),
+        Row::NotSent => String::from_str(alloc, "no such frame was sent"),
+        Row::NotNext { words, .. } => String::from_str(alloc, words),
+        Row::Train { .. } => Ok(String::new(alloc)),
+        Row::Message { .. } => Ok(String::new(alloc)),
+    }
+}
+
+fn supervisor_in_words(alloc: Global, centre: Option<&str>) -> Result<String, AllocError>
+    ensures { IfOk result (λ text. string_bytes text
+        ≡ supervisor_words (option_map (λ name. name.now) centre.entry)) }
+{
+    match centre {
+        Some(centre) => format!(in alloc; "supervised by {centre}"),
+        None => String::from_str(alloc, "supervised by no centre"),
     }
 }
 
 /// The event of a section or a frame, in words.
-fn event_in_words(
-    alloc: Global,
-    what: &str,
-    number: u32,
-    words: &str,
-) -> Result<String, AllocError> {
+fn event_in_words(alloc: Global, what: &str, number: u32, words: &str) -> Result<String, AllocError>
+    ensures { IfOk result (λ text. string_bytes text ≡ happened what.now number words.now) }
+{
     format!(in alloc; "{what} {number} {words}")
 }
 
@@ -219,17 +246,8 @@ fn answer_in_words(
     what: &str,
     number: u32,
     words: &str,
-) -> Result<String, AllocError> {
+) -> Result<String, AllocError>
+    ensures { IfOk result (λ text. string_bytes text ≡ answered what.now number words.now) }
+{
     format!(in alloc; "{what} {number}: {words}")
-}
-
-fn plain_words(row: Row<'_>) -> &'static str {
-    match row {
-        Row::Show => "the line is shown",
-        Row::Nothing { .. } => "taken, and nothing is answered",
-        Row::NotSent => "no such frame was sent",
-        Row::NotNext { words, .. } => words,
-        Row::Supervisor { .. } => "supervised by no centre",
-        _ => "",
-    }
 }

@@ -1,14 +1,24 @@
 //! A message of a centre, field by field.
 
+ghost use Rattle.std.specs.Prelude.{◌<◌, ◌^◌, ◌≡◌, ◌∷◌, [], OnOk};
+ghost use Rattle.text_words.specs.Fields.{Adds};
+ghost use Rattle.text_words.specs.Variables.{data_time, is_unknown_time};
+
 use crate::field::Meaning;
 use crate::fields::Fields;
 use rbc_msgs::{TrackBody, TrackMsg};
 use rbc_packets::{Authority, SessionOrder, Transition};
-use rbc_vars::TTrain;
 use std::alloc::AllocError;
 
 /// The value of T_TRAIN that is unknown.
-pub const UNKNOWN_TIME: u64 = 4_294_967_295;
+const UNKNOWN_TIME: u64 = 4_294_967_295;
+
+/// Whether T_TRAIN is unknown.
+pub fn is_unknown_time(value: u64) -> bool
+    ensures { result ≡ is_unknown_time value }
+{
+    value == UNKNOWN_TIME
+}
 
 /// Adds the fields after NID_MESSAGE and L_MESSAGE.
 pub fn add_track(fields: &mut Fields, message: &TrackMsg) -> Result<(), AllocError> {
@@ -24,7 +34,7 @@ pub fn add_track(fields: &mut Fields, message: &TrackMsg) -> Result<(), AllocErr
         TrackBody::Authority(authority) | TrackBody::ShorteningRequest(authority) => {
             add_authority(fields, authority)
         }
-        TrackBody::DataAcknowledged(t_train) => add_time_of_data(fields, t_train),
+        TrackBody::DataAcknowledged(t_train) => add_time_of_data(fields, t_train.value()),
         TrackBody::Transition(transition) => add_transition(fields, transition),
         TrackBody::EndSession(order) => add_order(fields, order),
         TrackBody::SystemVersion => fields.words("M_VERSION", 32, "version 2.0"),
@@ -34,9 +44,11 @@ pub fn add_track(fields: &mut Fields, message: &TrackMsg) -> Result<(), AllocErr
 }
 
 // Adds T_TRAIN of the acknowledged train data.
-fn add_time_of_data(fields: &mut Fields, t_train: TTrain) -> Result<(), AllocError> {
-    let value = t_train.value();
-    if value == UNKNOWN_TIME {
+fn add_time_of_data(fields: &mut Fields, value: u64) -> Result<(), AllocError>
+    requires { value < 2 ^ 32 }
+    ensures { OnOk result (Adds fields.old fields.new (data_time value ∷ [])) }
+{
+    if is_unknown_time(value) {
         return fields.words("T_TRAIN", value, "unknown");
     }
     let meaning = Meaning::Count {

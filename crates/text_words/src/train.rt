@@ -1,12 +1,18 @@
 //! A message of a train, field by field.
 
+ghost use Rattle.std.specs.Prelude.{◌≡◌, ◌∷◌, [], OnOk, codes};
+ghost use Rattle.rbc_vars.specs.Values.{q_status_value};
+ghost use Rattle.text_words.specs.Fields.{Adds, meant};
+ghost use Rattle.text_words.specs.Meanings.{statuses};
+ghost use Rattle.text_words.specs.Variables.{reasons_given, request_time};
+
 use crate::field::Meaning;
 use crate::fields::Fields;
 use crate::position::add_position;
-use crate::track::UNKNOWN_TIME;
+use crate::track::is_unknown_time;
 use rbc_msgs::{TrainBody, TrainMsg};
 use rbc_packets::Opaque;
-use rbc_vars::{QMarqstreason, QStatus, TTrain};
+use rbc_vars::QStatus;
 use std::alloc::AllocError;
 
 // A packet has at most 8 170 bits after its header.
@@ -37,7 +43,7 @@ fn add_body(fields: &mut Fields, body: &TrainBody) -> Result<(), AllocError> {
             q_marqstreason,
             position,
         } => {
-            add_reason(fields, *q_marqstreason)?;
+            add_reason(fields, q_marqstreason.value())?;
             add_position(fields, position)
         }
         TrainBody::Report { position } | TrainBody::EndOfMission { position } => {
@@ -45,7 +51,7 @@ fn add_body(fields: &mut Fields, body: &TrainBody) -> Result<(), AllocError> {
         }
         TrainBody::ShorteningGranted { request, position }
         | TrainBody::ShorteningRejected { request, position } => {
-            add_request(fields, *request)?;
+            add_request(fields, request.value())?;
             add_position(fields, position)
         }
         TrainBody::StartOfMission { q_status, position } => {
@@ -59,26 +65,37 @@ fn add_body(fields: &mut Fields, body: &TrainBody) -> Result<(), AllocError> {
 }
 
 // Adds the reasons of a request for an authority: one bit for each reason.
-fn add_reason(fields: &mut Fields, reason: QMarqstreason) -> Result<(), AllocError> {
-    fields.add("Q_MARQSTREASON", reason.value(), Meaning::Bits(5))
+fn add_reason(fields: &mut Fields, value: u64) -> Result<(), AllocError>
+    ensures { OnOk result (Adds fields.old fields.new (reasons_given value ∷ [])) }
+{
+    fields.add("Q_MARQSTREASON", value, Meaning::Bits(5))
 }
 
 // Adds T_TRAIN of the request that is answered.
-fn add_request(fields: &mut Fields, request: TTrain) -> Result<(), AllocError> {
-    let words = match request.value() {
-        UNKNOWN_TIME => "unknown",
-        _ => "of the request",
-    };
-    fields.words("T_TRAIN", request.value(), words)
+fn add_request(fields: &mut Fields, value: u64) -> Result<(), AllocError>
+    ensures { OnOk result (Adds fields.old fields.new (request_time value ∷ [])) }
+{
+    if is_unknown_time(value) {
+        return fields.words("T_TRAIN", value, "unknown");
+    }
+    fields.words("T_TRAIN", value, "of the request")
 }
 
-fn add_status(fields: &mut Fields, status: QStatus) -> Result<(), AllocError> {
-    let words = match status {
+fn add_status(fields: &mut Fields, status: QStatus) -> Result<(), AllocError>
+    ensures { OnOk result (Adds fields.old fields.new
+        (meant (codes "Q_STATUS") (q_status_value status) (statuses status) ∷ [])) }
+{
+    fields.words("Q_STATUS", status.value(), words_of_status(status))
+}
+
+fn words_of_status(status: QStatus) -> &'static str
+    ensures { result.now ≡ statuses status }
+{
+    match status {
         QStatus::Invalid => "position invalid",
         QStatus::Valid => "position valid",
         QStatus::Unknown => "position unknown",
-    };
-    fields.words("Q_STATUS", status.value(), words)
+    }
 }
 
 /// Adds a packet that is kept without being read: its bits, up to 32 on each line.

@@ -1,3 +1,8 @@
+ghost use Rattle.std.specs.Prelude.{[], ◌≡◌, false, IfOk, is_some, List, None, Some, true, ℕ};
+ghost use Rattle.cli_commands.specs.Auditing.{audited, counted};
+ghost use Rattle.cli_commands.specs.Comparing.Told.{told, wants_ending};
+ghost use Rattle.text_script.specs.rbc_centre.declared.fault.StepFault.{StepFault as Why};
+
 use crate::auditing::played::Played;
 use crate::comparing::{Comparison, Verdict};
 use rbc_line::Line;
@@ -29,7 +34,9 @@ pub struct Audit<'a> {
 
 impl<'a> Audit<'a> {
     /// Starts an audit without lines.
-    pub fn new(alloc: Global, line: &'a Line) -> Result<Audit<'a>, Fault<'static>> {
+    pub fn new(alloc: Global, line: &'a Line) -> Result<Audit<'a>, Fault<'static>>
+        ensures { IfOk result (λ audit. (audit.faulty ≡ None) × (audit.refused ≡ None) × (audit.events ≡ 0)) }
+    {
         Ok(Audit {
             alloc,
             line,
@@ -43,7 +50,10 @@ impl<'a> Audit<'a> {
     }
 
     /// Takes the next line of the print, without its line feed.
-    pub fn row(&mut self, row: &str) {
+    pub fn row(&mut self, row: &str)
+        ensures { is_some self.old.faulty ≡ true → (self.new.faulty ≡ self.old.faulty)
+            × (self.new.comparison ≡ self.old.comparison) × (self.new.events ≡ self.old.events) }
+    {
         self.rows = self.rows.saturating_add(1);
         if self.faulty.is_some() {
             return;
@@ -57,7 +67,13 @@ impl<'a> Audit<'a> {
 
     /// The result of the audit, when no more lines come. A script fault is reported before a refused step, and a
     /// refused step before a difference.
-    pub fn end(&mut self) -> Result<Verdict, Fault<'static>> {
+    pub fn end(&mut self) -> Result<Verdict, Fault<'static>>
+        ensures answer { (ending : List (List ℕ)) → result ≡ audited self.new.faulty self.new.refused
+            (told self.new.comparison [] ending []) self.new.events }
+        ensures faulty { self.new.faulty ≡ self.old.faulty }
+        ensures refused { (why : Why) → self.old.refused ≡ Some why → self.new.refused ≡ Some why }
+        ensures events { self.new.events ≡ self.old.events }
+    {
         if let Some(row) = self.faulty {
             return Err(Fault::Script(row));
         }
@@ -86,21 +102,39 @@ impl<'a> Audit<'a> {
         }
     }
 
-    fn play(&mut self, entry: &Entry) {
+    fn play(&mut self, entry: &Entry)
+        ensures after { is_some self.old.refused ≡ true
+            → (self.new.comparison ≡ self.old.comparison) × (self.new.events ≡ self.old.events) }
+        ensures counted { self.old.refused ≡ None → self.new.events ≡ counted entry.now self.old.events }
+        ensures faulty { self.new.faulty ≡ self.old.faulty }
+    {
         if self.refused.is_some() {
             return;
         }
-        if let Entry::Event(_) = entry {
-            self.events = self.events.saturating_add(1);
-        }
+        self.count(entry);
         match self.played.entry(entry) {
             Ok(text) => self.comparison.begin(text),
             Err(fault) => self.refuse(fault),
         }
     }
 
+    // An event is counted; `show` is not.
+    fn count(&mut self, entry: &Entry)
+        ensures counted { self.new.events ≡ counted entry.now self.old.events }
+        ensures faulty { self.new.faulty ≡ self.old.faulty }
+    {
+        if let Entry::Event(_) = entry {
+            self.events = self.events.saturating_add(1);
+        }
+    }
+
     // After all lines of an event, the last lines of the print may come.
-    fn know_ending(&mut self) {
+    fn know_ending(&mut self)
+        ensures known { self.new.refused ≡ None → wants_ending self.new.comparison ≡ false }
+        ensures faulty { self.new.faulty ≡ self.old.faulty }
+        ensures refused { (why : Why) → self.old.refused ≡ Some why → self.new.refused ≡ Some why }
+        ensures events { self.new.events ≡ self.old.events }
+    {
         if self.refused.is_some() || !self.comparison.wants_ending() {
             return;
         }
@@ -111,7 +145,12 @@ impl<'a> Audit<'a> {
     }
 
     // Only the first refusal is reported.
-    fn refuse(&mut self, fault: StepFault) {
+    fn refuse(&mut self, fault: StepFault)
+        ensures first { (why : Why) → self.old.refused ≡ Some why → self.new.refused ≡ Some why }
+        ensures refused { is_some self.new.refused ≡ true }
+        ensures faulty { self.new.faulty ≡ self.old.faulty }
+        ensures events { self.new.events ≡ self.old.events }
+    {
         if self.refused.is_none() {
             self.refused = Some(fault);
         }

@@ -1,3 +1,8 @@
+ghost use Rattle.std.specs.Prelude.{◌≡◌, OnOk};
+ghost use Rattle.std.specs.List.{Contains};
+ghost use Rattle.cli_commands.specs.Rerunning.Causes.{KeepsOrLeaves};
+ghost use Rattle.text_journal.specs.Order.{taken_at};
+
 use rbc_line::Line;
 use std::alloc::Global;
 use text_journal::Entry;
@@ -38,7 +43,11 @@ fn keep_one(
     world: &mut World,
     answer: &mut Answer,
     entry: Entry,
-) -> Result<(), StepFault> {
+) -> Result<(), StepFault>
+    ensures entries { OnOk result (KeepsOrLeaves caused.old.entries.items entry caused.new.entries.items) }
+    ensures cut { OnOk result (Contains cut.old.items (taken_at entry)
+        → caused.new.entries.items ≡ caused.old.entries.items) }
+{
     let centre = entry.centre();
     if cut.contains(&centre) {
         caused.left_out = caused.left_out.saturating_add(1);

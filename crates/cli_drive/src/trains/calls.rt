@@ -1,9 +1,11 @@
 //! The connections of trains to centres.
 
+ghost use Rattle.std.specs.Prelude.{◌≡◌, ◌+◌, if◌then◌else◌, nat_le, None, Some};
+
 use crate::trains::connection::Connection;
 use crate::trains::fault::TrainsFault;
 use crate::trains::radio::Letter;
-use std::alloc::{AllocError, Global};
+use std::alloc::Global;
 use std::net::{Net, TcpStream};
 
 /// A connection for each train and each centre.
@@ -19,12 +21,12 @@ impl Calls {
         alloc: Global,
         trains: usize,
         centres: u8,
-        port: u16,
-    ) -> Result<Calls, AllocError> {
+        first: u16,
+    ) -> Result<Calls, TrainsFault> {
         let mut connections = Vec::new(alloc);
         for _ in 0..trains {
             for centre in 0..centres {
-                let port = port.saturating_add(u16::from(centre));
+                let port = port_after(first, centre).ok_or(TrainsFault::Socket)?;
                 connections.push(Connection::new(alloc, port))?;
             }
         }
@@ -70,4 +72,11 @@ impl Calls {
         }
         opened
     }
+}
+
+/// The port that is this far after the first. None if it is not below 65 536.
+pub(crate) fn port_after(first: u16, number: u8) -> Option<u16>
+    ensures { result ≡ (if nat_le (first + number) 65535 then Some (first + number) else None) }
+{
+    first.checked_add(u16::from(number))
 }

@@ -1,5 +1,9 @@
 //! A connection to a port of this host that is opened again when it fails.
 
+ghost use Rattle.std.specs.Prelude.{[], ◌&&◌, ◌+◌, ◌-◌, ◌<◌, ◌≡◌, ◌≤◌, ◌^◌, Err, is_some, min, nat_le, None, not, Ok};
+ghost use Rattle.std.specs.Prelude.{true};
+ghost use Rattle.cli_drive.specs.declared.trains.fault.TrainsFault.TheVariants.{Socket};
+
 use crate::trains::fault::TrainsFault;
 use crate::trains::inbox::Inbox;
 use std::alloc::Global;
@@ -31,7 +35,11 @@ pub(crate) struct Connection {
 }
 
 impl Connection {
-    pub(crate) fn new(alloc: Global, port: u16) -> Connection {
+    pub(crate) fn new(alloc: Global, port: u16) -> Connection
+        ensures port { result.port ≡ port }
+        ensures shut { (result.stream ≡ None) × (result.inbox.bytes.items ≡ []) }
+        ensures counts { (result.next ≡ 0) × (result.tries ≡ 0) × (result.opened ≡ 0) }
+    {
         Connection {
             alloc,
             port,
@@ -44,12 +52,18 @@ impl Connection {
     }
 
     /// Whether it is open.
-    pub(crate) fn is_open(&self) -> bool {
+    pub(crate) fn is_open(&self) -> bool
+        ensures { result ≡ is_some self.now.stream }
+    {
         self.stream.is_some()
     }
 
     /// It ends. A part of a message that has arrived is dropped.
-    pub(crate) fn end(&mut self) {
+    pub(crate) fn end(&mut self)
+        ensures shut { (self.new.stream ≡ None) × (self.new.inbox.bytes.items ≡ []) }
+        ensures counts { (self.new.next ≡ self.old.next) × (self.new.tries ≡ self.old.tries)
+            × (self.new.opened ≡ self.old.opened) }
+    {
         self.stream = None;
         self.inbox = Inbox::new(self.alloc);
     }
@@ -60,20 +74,48 @@ impl Connection {
         rt: &R,
         now: u32,
     ) -> Result<(), TrainsFault> {
-        if self.is_open() || now < self.next {
+        if !self.is_due(now) {
             return Ok(());
         }
         self.next = now.saturating_add(AGAIN);
         match opened(rt, self.port) {
             Some(stream) => {
-                self.inbox = Inbox::new(self.alloc);
-                self.stream = Some(stream);
-                self.tries = 0;
-                self.opened = self.opened.saturating_add(1);
+                self.begin(stream);
+                Ok(())
             }
-            None if self.tries >= MOST_TRIES => return Err(TrainsFault::Socket),
-            None => self.tries = self.tries.saturating_add(1),
+            None => self.fail(),
         }
+    }
+
+    // Whether it is to be opened: it is not open, and it is time.
+    fn is_due(&self, now: u32) -> bool
+        ensures { result ≡ not (is_some self.now.stream) && nat_le self.now.next now }
+    {
+        !self.is_open() && self.next <= now
+    }
+
+    // It was opened.
+    fn begin(&mut self, stream: TcpStream)
+        ensures open { (is_some self.new.stream ≡ true) × (self.new.inbox.bytes.items ≡ []) }
+        ensures counts { (self.new.next ≡ self.old.next) × (self.new.tries ≡ 0)
+            × (self.new.opened ≡ min (self.old.opened + 1) (2 ^ 32 - 1)) }
+    {
+        self.inbox = Inbox::new(self.alloc);
+        self.stream = Some(stream);
+        self.tries = 0;
+        self.opened = self.opened.saturating_add(1);
+    }
+
+    // It failed to open. An error means that it has failed too often.
+    fn fail(&mut self) -> Result<(), TrainsFault>
+        ensures often { MOST_TRIES ≤ self.old.tries → (result ≡ Err Socket) × (self.new ≡ self.old) }
+        ensures again { self.old.tries < MOST_TRIES → (result ≡ Ok tt)
+            × (self.new ≡ record self.old { tries = self.old.tries + 1 }) }
+    {
+        if self.tries >= MOST_TRIES {
+            return Err(TrainsFault::Socket);
+        }
+        self.tries += 1;
         Ok(())
     }
 

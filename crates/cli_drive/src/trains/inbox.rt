@@ -1,6 +1,6 @@
 //! The bytes of a connection, as messages of a centre or as lines.
 
-ghost use Rattle.std.specs.Prelude.{◌≡◌, ◌≤◌, drop, IfOk, OnOk, take, vec_len};
+ghost use Rattle.std.specs.Prelude.{[], ◌++◌, ◌≡◌, ◌≤◌, drop, IfOk, OnOk, take, vec_len};
 ghost use Rattle.cli_drive.specs.Inboxes.{first_length, IsCut};
 
 use crate::head::{HEAD, length_of};
@@ -11,13 +11,13 @@ use std::mem;
 const MOST_ROW: usize = 65_536;
 
 /// The bytes of a connection that are not yet a whole message.
-#[derive(Debug, Drop)]
+#[derive(Drop)]
 pub(crate) struct Inbox {
     bytes: Vec<u8>,
 }
 
 /// The first message of an inbox.
-#[derive(Debug, Drop)]
+#[derive(Drop)]
 pub(crate) enum Came {
     /// Its bytes.
     Message(Vec<u8>),
@@ -28,14 +28,18 @@ pub(crate) enum Came {
 }
 
 impl Inbox {
-    pub(crate) fn new(alloc: Global) -> Inbox {
+    pub(crate) fn new(alloc: Global) -> Inbox
+        ensures { result.bytes.items ≡ [] }
+    {
         Inbox {
             bytes: Vec::new(alloc),
         }
     }
 
     /// These bytes have arrived.
-    pub(crate) fn add(&mut self, piece: &[u8]) -> Result<(), AllocError> {
+    pub(crate) fn add(&mut self, piece: &[u8]) -> Result<(), AllocError>
+        ensures { OnOk result (self.new.bytes.items ≡ self.old.bytes.items ++ piece.now) }
+    {
         self.bytes.extend_from_slice(piece)
     }
 

@@ -1,5 +1,7 @@
 //! The interlocking of the trains: it releases sections over the control endpoint of the centres.
 
+ghost use Rattle.std.specs.Prelude.{◌&&◌, ◌≡◌, nat_le, not};
+
 use crate::trains::connection::Connection;
 use crate::trains::fault::TrainsFault;
 use crate::trains::replies::{Reply, reply_of};
@@ -12,11 +14,20 @@ use std::str::from_utf8;
 const AGAIN: u32 = 500;
 
 /// A section as the interlocking knows it.
-#[derive(Clone, Copy, Debug)]
+#[derive(Clone, Copy)]
 struct Known {
     is_released: bool,
     /// When a command for it may be sent, in units of 10 ms.
     next: u32,
+}
+
+impl Known {
+    // Whether a command to release it may be sent.
+    fn is_due(self, now: u32) -> bool
+        ensures { result ≡ not self.is_released && nat_le self.next now }
+    {
+        !self.is_released && self.next <= now
+    }
 }
 
 /// The sections of a line, and the connection to the control endpoint.
@@ -62,7 +73,7 @@ impl Interlocking {
         else {
             return Ok(());
         };
-        if known.is_released || now < known.next {
+        if !known.is_due(now) {
             return Ok(());
         }
         known.next = now.saturating_add(AGAIN);

@@ -3,7 +3,7 @@
 use std::alloc::AllocError;
 
 /// The true place of a train.
-#[derive(Clone, Copy, Debug, PartialEq, Eq)]
+#[derive(Clone, Copy)]
 pub struct TruePlace {
     pub nid_engine: u32,
     /// The number of its track in the line file, from 0.

@@ -1,7 +1,14 @@
 //! Which sections the interlocking releases.
 
+ghost use Rattle.std.specs.Option.{option_map_or};
+ghost use Rattle.std.specs.List.{list_any};
+ghost use Rattle.std.specs.Prelude.{◌&&◌, ◌≡◌, false, not, slice_get};
+ghost use Rattle.train_unit.specs.Standing.{stands_on};
+
 use crate::trains::fault::TrainsFault;
 use crate::trains::seconds::Running;
+use crate::trains::train::Train;
+use rbc_line::Section;
 use std::net::{Net, TcpStream};
 use std::time::Clock;
 use train_unit::driving::covers;
@@ -56,21 +63,26 @@ impl<R: Net<Stream = TcpStream> + Clock> Running<'_, R> {
 
     // Whether a train that no centre has accepted is on this section.
     fn is_hidden(&self, section: usize) -> bool {
-        let Some(section) = self.interlocking.sections.get(section) else {
-            return false;
-        };
-        for train in &self.trains {
-            if !train.driver.is_accepted && covers(section, train.ends) {
-                return true;
-            }
+        match self.interlocking.sections.get(section) {
+            Some(section) => is_under_hidden(section, &self.trains),
+            None => false,
         }
-        false
     }
 
-    fn is_accepted(&self, i: usize) -> bool {
+    fn is_accepted(&self, i: usize) -> bool
+        ensures { result
+            ≡ option_map_or (λ train. train.driver.is_accepted) (slice_get self.entry.now.trains.items i) false }
+    {
         match self.trains.get(i) {
             Some(train) => train.driver.is_accepted,
             None => false,
         }
     }
+}
+
+// Whether one of the trains that no centre has accepted is on the section.
+fn is_under_hidden(section: &Section, trains: &[Train]) -> bool
+    ensures { result ≡ list_any (λ train. not train.driver.is_accepted && stands_on section.now train.ends) trains.now }
+{
+    trains.iter().any(|train| !train.driver.is_accepted && covers(section, train.ends))
 }

@@ -1,5 +1,7 @@
 //! The print of trains over TCP.
 
+ghost use Rattle.std.specs.Prelude.{◌&&◌, ◌+◌, ◌-◌, ◌/◌, ◌^◌, ◌≡◌, codes, if◌then◌else◌, min, true};
+
 use crate::trains::fault::TrainsFault;
 use crate::trains::seconds::Running;
 use std::io::Write;
@@ -8,7 +10,7 @@ use std::io::Write;
 const OFTEN: u32 = 60;
 
 /// The counts of a run.
-#[derive(Clone, Copy, Debug)]
+#[derive(Clone, Copy)]
 pub(crate) struct Tally {
     pub(crate) handovers: u32,
     /// At the end of no second two trains were on one section.
@@ -18,11 +20,42 @@ pub(crate) struct Tally {
 }
 
 impl Tally {
-    pub(crate) fn new() -> Tally {
+    pub(crate) fn new() -> Tally
+        ensures { result ≡ record { handovers = 0; are_apart = true; shown = 0 } }
+    {
         Tally {
             handovers: 0,
             are_apart: true,
             shown: 0,
+        }
+    }
+
+    /// Counts a change of the centre that a train follows. The first centre of a train is not a change.
+    fn count(&mut self, is_first: bool)
+        ensures { self.new ≡ (if is_first then self.old
+            else record self.old { handovers = min (self.old.handovers + 1) (2 ^ 32 - 1) }) }
+    {
+        if !is_first {
+            self.handovers = self.handovers.saturating_add(1);
+        }
+    }
+
+    /// Takes the check at the end of a second.
+    pub(crate) fn check(&mut self, are_apart: bool)
+        ensures { self.new ≡ record self.old { are_apart = self.old.are_apart && are_apart } }
+    {
+        self.are_apart = self.are_apart && are_apart;
+    }
+
+    /// The verdict on all seconds.
+    fn verdict(&self) -> &'static str
+        ensures { result.now ≡ (if self.now.are_apart then codes "At no second were two trains on one section."
+            else codes "FAILED: two trains were on one section.") }
+    {
+        if self.are_apart {
+            "At no second were two trains on one section."
+        } else {
+            "FAILED: two trains were on one section."
         }
     }
 }
@@ -38,7 +71,9 @@ impl<R> Running<'_, R> {
         Ok(())
     }
 
-    fn second_now(&self) -> u32 {
+    fn second_now(&self) -> u32
+        ensures { result ≡ (self.entry.now.now - 1000) / 100 }
+    {
         self.now.saturating_sub(1_000) / 100
     }
 
@@ -49,9 +84,7 @@ impl<R> Running<'_, R> {
         is_first: bool,
         out: &mut W,
     ) -> Result<(), TrainsFault> {
-        if !is_first {
-            self.tally.handovers = self.tally.handovers.saturating_add(1);
-        }
+        self.tally.count(is_first);
         self.show(train, out)
     }
 
@@ -114,11 +147,7 @@ impl<R> Running<'_, R> {
             self.tally.handovers
         )?;
         writeln!(out, "{arrived} of {} trains arrived", self.trains.len())?;
-        if self.tally.are_apart {
-            writeln!(out, "At no second were two trains on one section.")?;
-        } else {
-            writeln!(out, "FAILED: two trains were on one section.")?;
-        }
+        writeln!(out, "{}", self.tally.verdict())?;
         out.flush()?;
         Ok(())
     }

@@ -1,6 +1,9 @@
 //! The seconds of trains over TCP.
 
-use crate::trains::calls::Calls;
+ghost use Rattle.std.specs.Prelude.{◌≡◌, slice_get};
+ghost use Rattle.cli_drive.specs.Fronts.{front_section};
+
+use crate::trains::calls::{Calls, port_after};
 use crate::trains::check::are_apart;
 use crate::trains::fault::TrainsFault;
 use crate::trains::interlocking::Interlocking;
@@ -48,7 +51,7 @@ pub fn run<R: Net<Stream = TcpStream> + Clock + AllocGlobal, P: Observer, W: Wri
 ) -> Result<bool, TrainsFault> {
     let alloc = rt.alloc();
     let centres = line.centre_count();
-    let control = settings.port.saturating_add(u16::from(centres));
+    let control = port_after(settings.port, centres).ok_or(TrainsFault::Socket)?;
     let interlocking = Interlocking::new(alloc, line, control)?;
     let mut trains = Vec::new(alloc);
     for place in placed_on(alloc, line, &interlocking.sections, settings.trains)? {
@@ -139,8 +142,14 @@ impl<R: Net<Stream = TcpStream> + Clock> Running<'_, R> {
     }
 
     /// The section of a train's front end.
-    pub(crate) fn section_of(&self, i: usize) -> Option<usize> {
-        self.trains.get(i)?.section(&self.interlocking.sections)
+    pub(crate) fn section_of(&self, i: usize) -> Option<usize>
+        ensures { result ≡ front_section self.entry.now.interlocking.sections.items
+            (slice_get self.entry.now.trains.items i) }
+    {
+        match self.trains.get(i) {
+            Some(train) => train.section(&self.interlocking.sections),
+            None => None,
+        }
     }
 
     fn have_all_ended(&self) -> bool {
@@ -165,9 +174,8 @@ impl<R: Net<Stream = TcpStream> + Clock> Running<'_, R> {
                 rear: train.ends.rear,
             })?;
         }
-        if !are_apart(&self.interlocking.sections, &ends) {
-            self.tally.are_apart = false;
-        }
+        let were_apart = are_apart(&self.interlocking.sections, &ends);
+        self.tally.check(were_apart);
         observer.see(&places)?;
         Ok(())
     }

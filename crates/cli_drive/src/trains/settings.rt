@@ -1,5 +1,5 @@
 /// The settings of trains over TCP.
-#[derive(Clone, Copy, Debug)]
+#[derive(Clone, Copy)]
 pub struct Settings {
     /// The port of the first centre. The others listen at the ports after it, and then the control endpoint.
     pub port: u16,

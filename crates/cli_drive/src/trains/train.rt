@@ -1,12 +1,17 @@
 //! A train on the line.
 
-ghost use Rattle.std.specs.Prelude.{◌≡◌, ◌<◌, ◌≤◌, IfSome, length, true};
+ghost use Rattle.std.specs.Prelude.{◌≡◌, ◌≢◌, ◌<◌, ◌≤◌, false, IfOk, IfSome, length, None, OnErr, position, true};
+ghost use Rattle.rbc_msgs.specs.StepMessage.{step_message};
+ghost use Rattle.rbc_spec.specs.Message.{TrainAccepted};
+ghost use Rattle.rbc_msgs.specs.TrainSpelling.{SpellsTrain};
+ghost use Rattle.rbc_msgs.specs.TrainText.{TrainText};
+ghost use Rattle.train_unit.specs.Standing.{has_front};
 ghost use Rattle.train_unit.specs.Trains as rules;
 
 use rand::RngExt;
 use rand_pcg::Pcg32;
 use rbc_line::{Line, Section};
-use rbc_msgs::{TrackBody, TrackMsg, encode_train};
+use rbc_msgs::{TrackBody, TrackMsg, TrainMsg, encode_train};
 use std::alloc::{AllocError, Global};
 use train_unit::driving::{Driver, LENGTH, MARGIN, Place, Speech, message, position, section_of};
 use train_unit::{Ends, OnBoardUnit};
@@ -23,7 +28,9 @@ impl Train {
     ghost use Rattle.cli_drive.specs.Obedience.{HasRun, train_at};
 
     /// A train that has sent and received nothing.
-    pub(crate) fn new(place: Place) -> Train {
+    pub(crate) fn new(place: Place) -> Train
+        ensures { result.ends ≡ place.ends }
+    {
         Train {
             ends: place.ends,
             unit: OnBoardUnit::new(place.nid_engine),
@@ -68,7 +75,9 @@ impl Train {
     }
 
     /// The section of its front end.
-    pub(crate) fn section(&self, sections: &[Section]) -> Option<usize> {
+    pub(crate) fn section(&self, sections: &[Section]) -> Option<usize>
+        ensures { result ≡ position (λ section. has_front section self.now.ends) sections.now }
+    {
         section_of(sections, self.ends)
     }
 
@@ -85,7 +94,13 @@ impl Train {
         centre: u8,
         section: Section,
         now: u32,
-    ) -> Result<Option<Vec<u8>>, AllocError> {
+    ) -> Result<Option<Vec<u8>>, AllocError>
+        ensures sent { IfOk result (λ said. IfSome said (λ bytes. (m : TrainText) × SpellsTrain bytes.items m
+            × (rules.may_say line.now centre (step_message m) (train_at self.old) ≡ true)
+            × (train_at self.new ≡ rules.says centre (step_message m) (train_at self.old)))) }
+        ensures silent { IfOk result (λ said. said ≡ None → train_at self.new ≡ train_at self.old) }
+        ensures err { OnErr result (train_at self.new ≡ train_at self.old) }
+    {
         self.driver.engage(section.home, now);
         self.driver.reopen(centre, now);
         let stamp = now.max(self.driver.clock.saturating_add(1));
@@ -101,16 +116,34 @@ impl Train {
         let Ok(bytes) = encode_train(alloc, &message) else {
             return Err(AllocError);
         };
-        if self.unit.say(line, centre, &message, self.ends).is_err() {
+        if !self.say(line, centre, &message) {
             return Ok(None);
         }
         self.driver.has_sent(centre, speech, stamp);
         Ok(Some(bytes))
     }
 
+    // Sends a message to a centre, if the rules allow it.
+    fn say(&mut self, line: &Line, centre: u8, message: &TrainMsg) -> bool
+        ensures may { result ≡ true
+            → rules.may_say line.now centre (step_message message.now) (train_at self.old) ≡ true }
+        ensures sent { result ≡ true → train_at self.new
+            ≡ rules.says centre (step_message message.now) (train_at self.old) }
+        ensures silent { result ≡ false → train_at self.new ≡ train_at self.old }
+    {
+        match self.unit.say(line, centre, message, self.ends) {
+            Ok(()) => true,
+            Err(_) => false,
+        }
+    }
+
     /// A message of a centre has come over a connection: by 41 the centre has accepted the train.
-    pub(crate) fn came(&mut self, message: &TrackMsg) {
-        if message.body() == TrackBody::TrainAccepted {
+    pub(crate) fn came(&mut self, message: &TrackMsg)
+        ensures accepted { message.now.body ≡ TrainAccepted → self.new.driver.is_accepted ≡ true }
+        ensures other { message.now.body ≢ TrainAccepted → self.new ≡ self.old }
+        ensures train { train_at self.new ≡ train_at self.old }
+    {
+        if matches!(message.body(), TrackBody::TrainAccepted) {
             self.driver.is_accepted = true;
         }
     }

@@ -1,3 +1,5 @@
+ghost use Rattle.std.specs.Prelude.{◌≡◌, false, true};
+
 use crate::clients::cutter::Head;
 use serve_workers::connections::ConnectionSink;
 use std::sync::Wait;
@@ -16,7 +18,10 @@ pub(crate) struct Binding<'a, R> {
 
 impl<R: Wait> Binding<'_, R> {
     /// Whether a message is taken. An initiation of session is taken over any connection.
-    pub fn admits(&self, head: Head) -> bool {
+    pub fn admits(&self, head: Head) -> bool
+        ensures free { self.now.is_bound ≡ false → result ≡ true }
+        ensures initiation { head.nid_message ≡ 155 → result ≡ true }
+    {
         if !self.is_bound || head.nid_message == INITIATION {
             return true;
         }

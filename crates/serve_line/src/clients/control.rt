@@ -1,10 +1,15 @@
+ghost use Rattle.std.specs.Prelude.{◌≡◌};
+ghost use Rattle.serve_notes.specs.declared.about.PeerConnection.TheVariants.{Control};
+ghost use Rattle.serve_line.specs.Answering.{next_after};
+
 use crate::clients::answer::{SCRIPT_FAULT, Served, answer, fixed};
 use crate::clients::limits::{CONTROL_REST_MS, RESERVE_RESTS};
+use crate::clients::meaning::{Meaning, meaning_of};
 use crate::clients::rows::{Came, RowReader};
 use crate::clients::sending::{Sent, send};
 use crate::state::{PeerStream, Server, Slot};
 use rbc_node::Share;
-use serve_control::{Command, CommandFault, command_of};
+use serve_control::Command;
 use serve_notes::{About, Kind, Notes, PeerConnection};
 use std::sync::Wait;
 use std::sync::atomic::Ordering;
@@ -63,7 +68,9 @@ pub(crate) fn serve_control<R: Wait + Clock, N: Notes>(
 }
 
 // The subject of a note about the connection with this number.
-fn about_slot(kind: Kind, number: usize) -> About<'static> {
+fn about_slot(kind: Kind, number: usize) -> About<'static>
+    ensures { result ≡ record { kind = kind; centre = None; engine = None; peer = Some (Control number) } }
+{
     About::of(kind).over(PeerConnection::Control(number))
 }
 
@@ -118,29 +125,24 @@ fn answer_row<R: Wait + Clock, N: Notes>(
     row: &[u8],
     stream: &PeerStream,
 ) -> Next {
-    if is_of_another_protocol(row) {
-        notes.note(
-            about_slot(Kind::Line, served.slot.number),
-            "control: a connection is ended, it speaks another protocol",
-        );
-        return Next::End;
-    }
-    let Served { server, .. } = served;
-    let Ok(row) = std::str::from_utf8(row) else {
-        return refuse(rt, server, stream);
-    };
-    let command = match command_of(server.alloc, server.line, row) {
-        Ok(Command::Stop) => return Next::Stop,
-        Ok(Command::StopNow) => return Next::StopNow,
-        Ok(command) => command,
-        Err(CommandFault::Form) => {
-            notes.note(
-                about_slot(Kind::Line, served.slot.number),
-                "control: a line is refused, script fault",
-            );
+    let Served { server, slot } = served;
+    let about = about_slot(Kind::Line, slot.number);
+    let command = match meaning_of(server.alloc, server.line, row) {
+        Meaning::Command(Command::Stop) => return Next::Stop,
+        Meaning::Command(Command::StopNow) => return Next::StopNow,
+        Meaning::Command(command) => command,
+        Meaning::NoForm => {
+            notes.note(about, "control: a line is refused, script fault");
             return refuse(rt, server, stream);
         }
-        Err(CommandFault::Memory) => return Next::End,
+        Meaning::Foreign => {
+            notes.note(
+                about,
+                "control: a connection is ended, it speaks another protocol",
+            );
+            return Next::End;
+        }
+        Meaning::NoMemory => return Next::End,
     };
     match answer(rt, served, shares, command) {
         Ok(text) => answered(send(rt, stream, &text)),
@@ -157,20 +159,11 @@ fn refuse<R: Wait + Clock>(rt: &R, server: &Server<'_>, stream: &PeerStream) -> 
 }
 
 // Whether the connection continues after an answer.
-fn answered(sent: Sent) -> Next {
+fn answered(sent: Sent) -> Next
+    ensures { result ≡ next_after sent }
+{
     match sent {
         Sent::Whole => Next::Listen,
         Sent::Short => Next::End,
     }
-}
-
-// Whether a line is the request line of HTTP/1, or has a control character other than a tab. A browser sends such a
-// line, perhaps for a page of another site. The lines that follow are not from the interlocking.
-fn is_of_another_protocol(row: &[u8]) -> bool {
-    let row = row.strip_suffix(b"\r").unwrap_or(row);
-    row.ends_with(b" HTTP/1.0")
-        || row.ends_with(b" HTTP/1.1")
-        || row
-            .iter()
-            .any(|byte| byte.is_ascii_control() && *byte != b'\t')
 }

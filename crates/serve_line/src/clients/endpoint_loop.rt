@@ -1,10 +1,13 @@
+use crate::clients::connection_refusal::ConnectionRefusal;
 use crate::clients::control::serve_control;
 use crate::clients::entrance::{Entrance, accept, rest, rest_after};
+use crate::clients::grace::{Grace, grace_of};
 use crate::clients::limits::{GRACE_RESTS, LEAVING_RESTS, NEXT_RESTS};
 use crate::clients::sessions::serve_train;
-use crate::state::{Endpoint, Peer, PeerStream, Server, Slot, Watch};
+use crate::state::{Endpoint, Peer, PeerStream, Room, Server, Slot, SlotState, Watch, room_for};
 use crate::status::Life;
 use serve_notes::{Kind, Notes};
+use std::alloc::AllocError;
 use std::sync::Wait;
 use std::sync::atomic::Ordering;
 use std::thread;
@@ -123,8 +126,8 @@ fn reserve_for<'a, R: Wait>(
     Some((stream, slot))
 }
 
-// The next connection of an endpoint, with its slot. `None` if none came for a while, or after `stop`. A connection is
-// refused if no slot is free.
+// The next connection of an endpoint, with its slot. `None` if none came for a while, or after `stop`, or if it is
+// refused.
 fn next_peer<'a, R: Wait, N: Notes>(
     rt: &R,
     server: &Server<'_>,
@@ -143,85 +146,90 @@ fn next_peer<'a, R: Wait, N: Notes>(
     if server.state.is_stopped() {
         return None;
     }
-    let shared = stream.try_clone().ok()?;
-    if let Peer::Trains(centre) = endpoint.peer {
-        if server.is_stuck(rt, centre) {
-            let name = server.name(endpoint.peer);
+    match seat(rt, server, endpoint, &stream) {
+        Ok(slot) => Some((stream, slot)),
+        Err(refusal) => {
+            let (name, words) = (server.name(endpoint.peer), refusal.words());
             notes.note(
                 server.about(Kind::Refusal, endpoint.peer),
-                format_args!("{name}: a connection is refused, the journal can't be written"),
+                format_args!("{name}: a connection is refused, {words}"),
             );
-            return None;
+            None
         }
     }
-    let Some(slot) = slot_for(rt, server, endpoint) else {
-        let name = server.name(endpoint.peer);
-        notes.note(
-            server.about(Kind::Refusal, endpoint.peer),
-            format_args!("{name}: a connection is refused, there are too many"),
-        );
-        return None;
+}
+
+// Puts a new connection into a slot.
+fn seat<'a, R: Wait>(
+    rt: &R,
+    server: &Server<'_>,
+    endpoint: &'a Endpoint,
+    stream: &PeerStream,
+) -> Result<&'a Slot, ConnectionRefusal> {
+    let shared = stream.try_clone()?;
+    if let Peer::Trains(centre) = endpoint.peer {
+        if server.is_stuck(rt, centre) {
+            return Err(ConnectionRefusal::Journal);
+        }
+    }
+    let Some(slot) = slot_for(rt, server, endpoint)? else {
+        return Err(ConnectionRefusal::Slots);
     };
     slot.heard.store(server.state.hear(), Ordering::SeqCst);
     *slot.stream.lock(rt) = Some(shared);
-    Some((stream, slot))
+    Ok(slot)
 }
 
 // A slot for a new connection. If all are taken, another connection has to leave its slot. At a centre, this is the
 // earliest connection that serves no train. At the control endpoint, it is the least recently active one. If that
 // connection does not leave, as when it waits for the disk, the next one of the interlocking has to. If none leaves,
-// the reserve slot is taken.
-fn slot_for<'a, R: Wait>(rt: &R, server: &Server<'_>, endpoint: &'a Endpoint) -> Option<&'a Slot> {
+// the reserve slot is taken. `None` if that is not free.
+fn slot_for<'a, R: Wait>(
+    rt: &R,
+    server: &Server<'_>,
+    endpoint: &'a Endpoint,
+) -> Result<Option<&'a Slot>, AllocError> {
     let each = match endpoint.peer {
         Peer::Trains(_) => LEAVING_RESTS,
         Peer::Interlocking => NEXT_RESTS,
     };
-    for turn in 0..LEAVING_RESTS {
-        if let Some(slot) = endpoint.free_slot(rt) {
-            return Some(slot);
-        }
-        if turn % each == 0 {
-            match dispensable(rt, server, endpoint) {
-                Some(slot) => slot.shut(rt),
-                None if !endpoint.is_awaiting_leave() => break,
-                None => {}
-            }
+    for turn in 0..=LEAVING_RESTS {
+        let slots = states_of(rt, server, endpoint)?;
+        match room_for(&slots, turn % each == 0, turn == LEAVING_RESTS) {
+            Room::Take(place) | Room::Reserve(place) => return Ok(endpoint.take(rt, place)),
+            Room::Leave(place) => endpoint.shut(rt, place),
+            Room::Wait => {}
+            Room::Full => break,
         }
         rest(rt, endpoint);
     }
-    match endpoint.free_slot(rt) {
-        Some(slot) => Some(slot),
-        None => endpoint.reserve_slot(rt),
-    }
+    Ok(None)
 }
 
-// The slot whose connection has to leave for a new one.
-fn dispensable<'a, R: Wait>(
+// The states of an endpoint's slots now.
+fn states_of<R: Wait>(
     rt: &R,
     server: &Server<'_>,
-    endpoint: &'a Endpoint,
-) -> Option<&'a Slot> {
-    let mut oldest = None;
+    endpoint: &Endpoint,
+) -> Result<Vec<SlotState>, AllocError> {
+    let mut states = Vec::with_capacity(server.alloc, endpoint.slots.len())?;
     for slot in &endpoint.slots {
-        let is_kept = slot.is_reserve || slot.is_leaving();
-        if !is_kept && !server.is_serving(rt, endpoint.peer, slot.number) {
-            oldest = Some(Endpoint::older(oldest, slot));
-        }
+        let is_serving = server.is_serving(rt, endpoint.peer, slot.number);
+        states.push(slot.state(is_serving))?;
     }
-    oldest
+    Ok(states)
 }
 
 // After `stop`, trains have about 30 seconds to end their connections, and after `stop now` no time. Then the remaining
 // connections are ended.
 fn end_trains<R: Wait, N: Notes>(rt: &R, server: &Server<'_>, notes: &N, endpoint: &Endpoint) {
-    for _ in 0..GRACE_RESTS {
-        if endpoint.is_empty() {
-            return;
+    for rests in 0..=GRACE_RESTS {
+        let (is_empty, is_hasty) = (endpoint.is_empty(), server.state.is_hasty());
+        match grace_of(rests, GRACE_RESTS, is_empty, is_hasty) {
+            Grace::Over => return,
+            Grace::Wait => rest(rt, endpoint),
+            Grace::Cut => break,
         }
-        if server.state.is_hasty() {
-            break;
-        }
-        rest(rt, endpoint);
     }
     let name = server.name(endpoint.peer);
     notes.note(
@@ -241,11 +249,12 @@ fn end_controls<R: Wait>(rt: &R, server: &Server<'_>, endpoint: &Endpoint) {
         }
         rest(rt, endpoint);
     }
-    for _ in 0..LEAVING_RESTS {
-        if endpoint.is_empty() {
-            return;
+    for rests in 0..=LEAVING_RESTS {
+        match grace_of(rests, LEAVING_RESTS, endpoint.is_empty(), false) {
+            Grace::Over => return,
+            Grace::Wait => rest(rt, endpoint),
+            Grace::Cut => break,
         }
-        rest(rt, endpoint);
     }
     for slot in &endpoint.slots {
         slot.shut(rt);
@@ -263,7 +272,7 @@ fn attend<R: Threads + Wait + Sync + Clock, N: Notes + Sync>(
 ) {
     match peer {
         Peer::Trains(centre) => {
-            if let Some(stream) = stream.tcp() {
+            if let Some(stream) = stream.into_tcp() {
                 serve_train(rt, server, notes, centre, slot, stream);
             }
         }

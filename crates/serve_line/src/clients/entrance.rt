@@ -1,4 +1,7 @@
+ghost use Rattle.std.specs.Prelude.{◌≡◌, None};
+
 use crate::clients::limits::DEAF_REST_MS;
+use crate::failures::is_idle;
 use crate::state::{ENDPOINT_REST_MS, Endpoint, Listener, Peer, PeerStream, Server};
 use serve_notes::{Kind, Notes};
 use std::alloc::Global;
@@ -18,7 +21,9 @@ pub(crate) struct Entrance {
 
 impl Entrance {
     /// Accepts connections of this listener, with a file in reserve or without one.
-    pub fn new(listener: Listener, has_reserve: bool) -> Entrance {
+    pub fn new(listener: Listener, has_reserve: bool) -> Entrance
+        ensures { result ≡ record { listener = listener; reserve = None; has_reserve = has_reserve } }
+    {
         Entrance {
             listener,
             reserve: None,
@@ -48,14 +53,6 @@ impl Entrance {
             self.reserve = self.listener.try_clone().ok();
         }
     }
-}
-
-/// Whether this error of `accept` only means that no connection came.
-pub(crate) fn is_idle(kind: ErrorKind) -> bool {
-    matches!(
-        kind,
-        ErrorKind::WouldBlock | ErrorKind::Interrupted | ErrorKind::ConnectionAborted
-    )
 }
 
 /// The next connection of an endpoint. If the control endpoint can take none, since too many files are open, the

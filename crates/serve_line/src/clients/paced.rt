@@ -1,4 +1,5 @@
-ghost use Rattle.std.specs.Prelude.{◌≡◌};
+ghost use Rattle.std.specs.Prelude.{◌≡◌, ◌+◌, ◌<◌, ◌≤◌, ℕ, false, IfNone, IfSome, IsTrue};
+ghost use Rattle.std.specs.Prelude.{length, min, slice_get, slice_index, Some};
 
 use crate::clients::binding::Binding;
 use crate::clients::cutter::{Cutter, Head};
@@ -49,7 +50,7 @@ impl<'a, R: Wait + Clock> Paced<'a, R> {
             rate_limit,
             binding,
             refused: None,
-            cutter: Cutter::new(),
+            cutter: Cutter::FIRST,
             piece: [0; PIECE],
             end: 0,
             given: 0,
@@ -58,14 +59,20 @@ impl<'a, R: Wait + Clock> Paced<'a, R> {
     }
 
     /// The engine of the message at which the connection ended, if that message was refused.
-    pub fn refused(&self) -> Option<u32> {
+    pub fn refused(&self) -> Option<u32>
+        ensures { result ≡ self.now.pieces.refused }
+    {
         self.pieces.refused
     }
 }
 
 impl<R: Wait + Clock> Pieces<'_, R> {
     // The next byte to give, if one was read.
-    fn next(&self) -> Option<u8> {
+    fn next(&self) -> Option<u8>
+        ensures some { IfSome result (λ byte. (self.now.given < self.now.end)
+            × (slice_get self.now.piece self.now.given ≡ Some byte)) }
+        ensures none { IfNone result (min self.now.end 4096 ≤ self.now.given) }
+    {
         if self.given >= self.end {
             return None;
         }
@@ -74,7 +81,10 @@ impl<R: Wait + Clock> Pieces<'_, R> {
 
     // Reads a piece. The result is whether the read succeeded, also at the end of the stream. An interrupted read is
     // tried again.
-    fn fill(&mut self) -> bool {
+    fn fill(&mut self) -> bool
+        ensures read { IsTrue result → (self.new.given ≡ 0) × (self.new.end ≤ 4096) }
+        ensures failed { result ≡ false → (self.new.given ≡ self.old.given) × (self.new.end ≡ self.old.end) }
+    {
         for _ in 0..u64::MAX {
             let mut reader = self.stream;
             match reader.read(&mut self.piece) {
@@ -92,7 +102,11 @@ impl<R: Wait + Clock> Pieces<'_, R> {
 
     // Gives bytes that were read, up to the last byte of a message. That byte is given first, after a wait. The result
     // is the number of bytes; `None` if the message is not taken.
-    fn give(&mut self, buffer: &mut [u8]) -> Option<usize> {
+    fn give(&mut self, buffer: &mut [u8]) -> Option<usize>
+        ensures count { IfSome result (λ n. (n ≤ length buffer.new) × (self.new.given ≡ self.old.given + n)) }
+        ensures bytes { IfSome result (λ n. (k : ℕ) → k < n
+            → slice_index buffer.new k ≡ slice_index self.old.piece (self.old.given + k)) }
+    {
         let mut count = 0usize;
         for place in buffer.iter_mut() {
             let Some(byte) = self.next() else {
@@ -117,7 +131,12 @@ impl<R: Wait + Clock> Pieces<'_, R> {
 
     // Waits until a message may pass. The result is whether it is taken. If not, the connection has to leave its slot,
     // or the message is refused. A message that is refused at once takes nothing from the rate of its train.
-    fn admits(&mut self, head: Head) -> bool {
+    fn admits(&mut self, head: Head) -> bool
+        ensures given { self.new.given ≡ self.old.given }
+        ensures end { self.new.end ≡ self.old.end }
+        ensures piece { self.new.piece ≡ self.old.piece }
+        ensures refused { IsTrue result → self.new.refused ≡ self.old.refused }
+    {
         if self.binding.admits(head) {
             if !self.rate_limit.admits(head.nid_engine) {
                 return false;

@@ -1,11 +1,10 @@
+use crate::clients::admission::{Admission, admission_of};
+use crate::moments::milliseconds_of;
 use crate::state::{Paces, Slot};
 use rbc_line::Line;
 use std::sync::Wait;
 use std::thread;
 use std::time::{Clock, Duration};
-
-/// The longest sleep of a thread before it checks whether its connection has to leave, in milliseconds.
-const MOST_SLEEP_MS: u64 = 100;
 
 /// Delays the thread that reads a train's connection if messages arrive too fast.
 #[derive(Drop)]
@@ -25,13 +24,11 @@ impl<R: Wait + Clock> RateLimit<'_, R> {
                 return true;
             };
             let asked = bucket.lock(self.rt).ask(now);
-            let Err(wait) = asked else {
-                return true;
-            };
-            if self.slot.is_leaving() {
-                return false;
+            match admission_of(asked, self.slot.is_leaving()) {
+                Admission::Pass => return true,
+                Admission::Leave => return false,
+                Admission::Wait(time) => thread::sleep(self.rt, Duration::from_millis(time)),
             }
-            thread::sleep(self.rt, Duration::from_millis(wait.min(MOST_SLEEP_MS)));
         }
         unreachable!()
     }
@@ -39,10 +36,5 @@ impl<R: Wait + Clock> RateLimit<'_, R> {
 
 // The monotonic time in milliseconds, if the clock gives it.
 fn now_of<T: Clock>(clock: &T) -> Option<u64> {
-    let now = clock.monotonic().ok()?;
-    Some(
-        now.as_secs()
-            .saturating_mul(1000)
-            .saturating_add(u64::from(now.subsec_millis())),
-    )
+    Some(milliseconds_of(clock.monotonic().ok()?))
 }

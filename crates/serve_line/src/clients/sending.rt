@@ -1,8 +1,10 @@
 use crate::clients::limits::PATIENCE_S;
+use crate::failures::is_rest;
+use crate::moments::seconds_between;
 use crate::state::PeerStream;
 use serve_journal::Opened;
-use std::io::{ErrorKind, Write};
-use std::time::{Clock, Duration, Instant};
+use std::io::Write;
+use std::time::{Clock, Instant};
 
 /// How much of an answer was sent.
 #[derive(Clone, Copy, PartialEq, Eq)]
@@ -39,17 +41,15 @@ fn write_some<'a>(stream: &PeerStream, text: &'a [u8]) -> Option<&'a [u8]> {
     match out.write(text) {
         Ok(0) => None,
         Ok(count) => text.get(count..),
-        Err(error) => match error.kind() {
-            ErrorKind::WouldBlock | ErrorKind::TimedOut | ErrorKind::Interrupted => Some(text),
-            _ => None,
-        },
+        Err(error) if is_rest(error.kind()) => Some(text),
+        Err(_) => None,
     }
 }
 
 // Whether an answer that began at this time takes too long, or the clock fails.
 fn is_late<R: Clock>(rt: &R, begun: Instant) -> bool {
     match Instant::now(rt) {
-        Ok(now) => now.duration_since(begun) >= Duration::from_secs(PATIENCE_S),
+        Ok(now) => seconds_between(begun, now) >= PATIENCE_S,
         Err(_) => true,
     }
 }

@@ -1,15 +1,21 @@
+ghost use Rattle.std.specs.Prelude.{◌≡◌};
+ghost use Rattle.serve_notes.specs.declared.about.PeerConnection.TheVariants.{Train};
+ghost use Rattle.serve_notes.specs.declared.kinds.Kind.TheVariants.{End as EndKind};
+ghost use Rattle.serve_line.specs.SessionEnds.{foreign_at};
+
 use crate::clients::binding::Binding;
 use crate::clients::limits::{PATIENCE_S, REPLIES, SILENCE_S};
 use crate::clients::noted::LoggedSink;
 use crate::clients::paced::Paced;
 use crate::clients::rate_limit::RateLimit;
+use crate::clients::session_end::{End, end_after};
 use crate::state::{CentreSink, Server, Slot, set_waits};
 use crossbeam_channel::{Receiver, bounded};
 use rbc_node::{Node, Open};
 use serve_notes::{About, Kind, Notes, PeerConnection};
 use serve_workers::connections::{Connection, ConnectionSink, Shared};
+use serve_workers::run_session;
 use serve_workers::writing::{Reply, SharedWriter, run_held_writer, run_writer};
-use serve_workers::{SessionEnd, run_session};
 use std::alloc::{AllocError, Global};
 use std::net::{Shutdown, TcpStream};
 use std::sync::atomic::AtomicU32;
@@ -65,18 +71,23 @@ pub(crate) fn serve_train<R: Threads + Wait + Sync + Clock, N: Notes + Sync>(
 }
 
 // The subject of a note about the connection with this number, at the centre of this name.
-fn about_slot(kind: Kind, name: &str, number: usize) -> About<'_> {
+fn about_slot(kind: Kind, name: &str, number: usize) -> About<'_>
+    ensures { result
+        ≡ record { kind = kind; centre = Some name.entry; engine = None; peer = Some (Train number) } }
+{
     About::centre(kind, name).over(PeerConnection::Train(number))
 }
 
-/// The end of a connection.
-#[derive(Clone, Copy)]
-enum End {
-    Session(SessionEnd),
-    /// Its train was too slow to read its answers.
-    Cut,
-    /// A message of this engine came over it, and it does not serve that train.
-    Foreign(u32),
+// The subject of the note of an end. It names the train of a refused message.
+fn about_end(name: &str, number: usize, end: End) -> About<'_>
+    ensures { result
+        ≡ record { kind = EndKind; centre = Some name.entry; engine = foreign_at end; peer = Some (Train number) } }
+{
+    let about = about_slot(Kind::End, name, number);
+    match end.foreign() {
+        Some(nid_engine) => about.train(nid_engine),
+        None => about,
+    }
 }
 
 // The parts of a connection that its two threads use.
@@ -172,11 +183,7 @@ fn read_messages<R: Wait + Clock, N: Notes>(
     let mut source = Paced::new(stream, rate_limit, binding);
     let end = run_session(rt, server.alloc, node, &Open, share, &mut source, noted);
     let is_kept = noted.connection_sink.connections.leave(rt, slot.number);
-    match source.refused() {
-        Some(nid_engine) => End::Foreign(nid_engine),
-        None if is_kept => End::Session(end),
-        None => End::Cut,
-    }
+    end_after(end, is_kept, slot.is_leaving(), source.refused())
 }
 
 // Writes the pending replies of a connection. If there is a journal, each reply waits until its event is written there.
@@ -191,11 +198,8 @@ fn write_replies<R: Wait>(rt: &R, ends: &Ends, sink: &CentreSink<'_>) {
 }
 
 fn tell_end<N: Notes>(notes: &N, name: &str, number: usize, end: End) {
-    let mut about = about_slot(Kind::End, name, number);
-    if let End::Foreign(nid_engine) = end {
-        about = about.train(nid_engine);
-    }
-    match ending(end) {
+    let about = about_end(name, number, end);
+    match end.words() {
         (told, Some(fault)) => {
             notes.note(
                 about,
@@ -205,27 +209,6 @@ fn tell_end<N: Notes>(notes: &N, name: &str, number: usize, end: End) {
         (told, None) => notes.note(
             about,
             format_args!("{name}: train connection {number} {told}"),
-        ),
-    }
-}
-
-// The text of the note of an end, with the number of its fault or of the engine.
-fn ending(end: End) -> (&'static str, Option<u32>) {
-    match end {
-        End::Session(SessionEnd::EndOfStream) => ("ends", None),
-        End::Session(SessionEnd::Fault(fault)) => (
-            "is ended, stream fault",
-            Some(u32::from(fault.number())),
-        ),
-        End::Session(SessionEnd::Device) => ("is lost", None),
-        End::Session(SessionEnd::Refused(fault)) => (
-            "is ended, refused",
-            Some(u32::from(fault.number())),
-        ),
-        End::Cut => ("is cut, its train is too slow", None),
-        End::Foreign(nid_engine) => (
-            "is ended, a message came over it of a train that it does not serve:",
-            Some(nid_engine),
         ),
     }
 }

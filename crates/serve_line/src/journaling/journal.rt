@@ -1,4 +1,6 @@
-ghost use Rattle.std.specs.Prelude.{◌≡◌, ◌≤◌, if◌then◌else◌, nat_le, IfSome};
+ghost use Rattle.std.specs.Prelude.{◌≡◌, ◌+◌, ◌-◌, ◌<◌, ◌≤◌, ◌^◌, false, if◌then◌else◌};
+ghost use Rattle.std.specs.Prelude.{IfNone, IfSome, min, nat_le, Some};
+ghost use Rattle.serve_line.specs.Journaling.Waiting.{awaited};
 
 use crate::journaling::write_times::{TimedWrite, WriteTimes};
 use serve_journal::Kept;
@@ -44,10 +46,48 @@ struct Reach {
     is_closed: bool,
 }
 
+impl Reach {
+    // Shows the events that the journal keeps, if that with this stamp is one of them.
+    fn shows(&self, stamp: u32) -> Option<Kept>
+        ensures some { IfSome result (λ kept. (kept ≡ self.now.kept) × (stamp ≤ kept)) }
+        ensures none { IfNone result (self.now.kept < stamp) }
+    {
+        let kept = self.kept.again();
+        if kept.stamp() >= stamp {
+            Some(kept)
+        } else {
+            None
+        }
+    }
+
+    // The journal has the events that `kept` shows: this many more, written at this time. The time is lost if memory
+    // runs out.
+    fn add(&mut self, kept: Kept, count: usize, time_ms: Option<u64>)
+        ensures kept { self.new.kept ≡ kept }
+        ensures written { self.new.written ≡ min (self.old.written + count) (2 ^ 64 - 1) }
+        ensures stuck { self.new.is_stuck ≡ false }
+        ensures closed { self.new.is_closed ≡ self.old.is_closed }
+    {
+        let first = self.written;
+        let after = first.saturating_add(count);
+        let _ = self.times.add(TimedWrite {
+            first,
+            after,
+            time_ms,
+        });
+        self.kept = kept;
+        self.written = after;
+        self.is_stuck = false;
+    }
+}
+
 impl Journal {
     /// A journal that has the first `begins` events of its centre, the last with this stamp; 0 if it has none. The last
     /// of them were written at these times.
-    pub fn new(begins: usize, stamp: u32, times: WriteTimes) -> Journal {
+    pub fn new(begins: usize, stamp: u32, times: WriteTimes) -> Journal
+        ensures begins { result.begins ≡ begins }
+        ensures begun { result.begun ≡ stamp }
+    {
         Journal {
             begins,
             begun: stamp,
@@ -65,7 +105,9 @@ impl Journal {
     }
 
     /// The number of the centre's events in the journal at the start.
-    pub(crate) fn begins(&self) -> usize {
+    pub(crate) fn begins(&self) -> usize
+        ensures { result ≡ self.now.begins }
+    {
         self.begins
     }
 
@@ -87,12 +129,23 @@ impl Journal {
 
     /// Waits after a commit with this stamp whose answer need not wait for its event. It waits only if the journal is
     /// 4096 stamps late, or can't be written. `None` if the journal was closed.
-    pub fn keeps_up<R: Wait>(&self, rt: &R, stamp: u32) -> Option<Kept> {
+    pub fn keeps_up<R: Wait>(&self, rt: &R, stamp: u32) -> Option<Kept>
+        ensures { IfSome result (λ kept. awaited (Some self.now.begun) (stamp - 4096) ≤ kept) }
+    {
         self.waker.unpark();
-        if self.reach.lock(rt).is_stuck {
-            self.wait_for(rt, self.awaited(stamp))
+        let is_stuck = self.reach.lock(rt).is_stuck;
+        self.wait_for(rt, self.needed(stamp, is_stuck))
+    }
+
+    // The stamp that the journal has to keep before an answer leaves that need not wait for its event. The event has
+    // this stamp.
+    fn needed(&self, stamp: u32, is_stuck: bool) -> u32
+        ensures { result ≡ awaited (Some self.now.begun) (if is_stuck then stamp else stamp - 4096) }
+    {
+        if is_stuck {
+            self.awaited(stamp)
         } else {
-            self.wait_for(rt, self.awaited(stamp.saturating_sub(MOST_UNWRITTEN)))
+            self.awaited(stamp.saturating_sub(MOST_UNWRITTEN))
         }
     }
 
@@ -104,8 +157,7 @@ impl Journal {
         self.waker.unpark();
         let mut reach = self.reach.lock(rt);
         for _ in rt.forever() {
-            let kept = reach.kept.again();
-            if kept.stamp() >= stamp {
+            if let Some(kept) = reach.shows(stamp) {
                 return Some(kept);
             }
             if reach.is_closed || reach.is_stuck {
@@ -127,8 +179,7 @@ impl Journal {
     {
         let mut reach = self.reach.lock(rt);
         for _ in rt.forever() {
-            let kept = reach.kept.again();
-            if kept.stamp() >= stamp {
+            if let Some(kept) = reach.shows(stamp) {
                 return Some(kept);
             }
             if reach.is_closed {
@@ -174,16 +225,7 @@ impl Journal {
     /// time is lost if memory runs out.
     pub(crate) fn reached<R: Wait>(&self, rt: &R, kept: Kept, count: usize, time_ms: Option<u64>) {
         let mut reach = self.reach.lock(rt);
-        let first = reach.written;
-        let after = first.saturating_add(count);
-        let _ = reach.times.add(TimedWrite {
-            first,
-            after,
-            time_ms,
-        });
-        reach.kept = kept;
-        reach.written = after;
-        reach.is_stuck = false;
+        reach.add(kept, count, time_ms);
         self.tell(reach);
     }
 

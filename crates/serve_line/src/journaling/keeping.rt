@@ -1,5 +1,11 @@
+ghost use Rattle.std.specs.Prelude.{◌≡◌, IfOk, OnErr};
+ghost use Rattle.rbc_node.specs.Node.{centre_of};
+ghost use Rattle.serve_line.specs.Journaling.Keeping.{HasKept, IsTurn, TriesWrite, Writes};
+
 use crate::journaling::batch::next_entries;
 use crate::journaling::journal::Journal;
+use crate::journaling::writer_steps::{WriterStep, step_after};
+use crate::moments::seconds_between;
 use rbc_line::Line;
 use rbc_node::Node;
 use serve_journal::{DurableFile, JournalFile};
@@ -40,37 +46,72 @@ pub fn keep_journal<R: Wait + Clock, N: Notes, F: DurableFile + Drop>(
     rt: &R,
     writer: &JournalWriter<'_, N>,
     file: &mut JournalFile<F>,
-) -> bool {
-    let mut written = writer.journal.begins();
-    let mut is_stuck = false;
-    let mut taken_at = None;
+) -> bool
+    ensures { HasKept writer.now.line.now (centre_of writer.now.node.now) writer.now.journal.now.begins file.old
+        file.new result }
+{
+    let mut progress = Progress {
+        written: writer.journal.begins(),
+        is_stuck: false,
+        taken_at: None,
+    };
     for _ in rt.forever() {
-        let is_over = writer.is_over.load(Ordering::SeqCst);
-        taken_at = taken_at.or(Instant::now(rt).ok());
-        match writer.write_next(rt, file, written) {
-            Ok(0) if is_over => return true,
-            Ok(0) => {
-                writer.journal.rest(rt);
-                taken_at = None;
-            }
-            Ok(count) => {
-                written = written.saturating_add(count);
-                writer.count_late(rt, taken_at, count);
-                writer.note_written(is_stuck);
-                is_stuck = false;
-                taken_at = None;
-            }
-            Err(error) => {
-                writer.note_stuck(rt, is_stuck, &error);
-                is_stuck = true;
-                if writer.is_stopped.load(Ordering::SeqCst) {
-                    return false;
-                }
-                thread::sleep(rt, Duration::from_millis(STUCK_REST_MS));
-            }
+        if let Some(is_whole) = progress.turn(rt, writer, file) {
+            return is_whole;
         }
     }
     unreachable!()
+}
+
+/// The progress of the writing thread.
+#[derive(Clone, Copy)]
+struct Progress {
+    // The number of the centre's events in the journal.
+    written: usize,
+    // Whether the last write failed.
+    is_stuck: bool,
+    // The time at which the next events were taken first.
+    taken_at: Option<Instant>,
+}
+
+impl Progress {
+    // Writes the next events, and rests if none wait, or if the write failed. The result is `None` if the thread goes
+    // on. Else it is whether all events are written.
+    fn turn<R: Wait + Clock, N: Notes, F: DurableFile + Drop>(
+        &mut self,
+        rt: &R,
+        writer: &JournalWriter<'_, N>,
+        file: &mut JournalFile<F>,
+    ) -> Option<bool>
+        ensures { IsTurn writer.now.line.now (centre_of writer.now.node.now) self.old.written self.new.written
+            file.old file.new result }
+    {
+        let is_over = writer.is_over.load(Ordering::SeqCst);
+        self.taken_at = self.taken_at.or(Instant::now(rt).ok());
+        let count = writer.try_next(rt, file, self.written, self.is_stuck);
+        match step_after(count, is_over, writer.is_stopped.load(Ordering::SeqCst)) {
+            WriterStep::Done => Some(true),
+            WriterStep::GiveUp => Some(false),
+            WriterStep::Retry => {
+                self.is_stuck = true;
+                thread::sleep(rt, Duration::from_millis(STUCK_REST_MS));
+                None
+            }
+            WriterStep::Rest => {
+                self.taken_at = None;
+                writer.journal.rest(rt);
+                None
+            }
+            WriterStep::Go(count) => {
+                self.written = self.written.saturating_add(count);
+                writer.count_late(rt, self.taken_at, count);
+                writer.note_written(self.is_stuck);
+                self.is_stuck = false;
+                self.taken_at = None;
+                None
+            }
+        }
+    }
 }
 
 // The time of the events of a write. They all have the same.
@@ -85,15 +126,39 @@ impl<N: Notes> JournalWriter<'_, N> {
         rt: &R,
         file: &mut JournalFile<F>,
         written: usize,
-    ) -> io::Result<usize> {
+    ) -> io::Result<usize>
+        ensures ok { IfOk result
+            (λ count. Writes self.now.line.now (centre_of self.now.node.now) written count file.old file.new) }
+        ensures err { OnErr result (file.new ≡ file.old) }
+    {
         let Ok(entries) = next_entries(rt, self.alloc, self.node, written) else {
             return Err(io::Error::from(ErrorKind::OutOfMemory));
         };
-        if let Some(kept) = file.keep(self.alloc, self.line, &entries)? {
+        let kept = file.keep(self.alloc, self.line, &entries)?;
+        if let Some(kept) = kept {
             self.journal
                 .reached(rt, kept, entries.len(), time_of(&entries));
         }
         Ok(entries.len())
+    }
+
+    // Writes the next events, and returns their count. If that fails, the journal is marked as stuck: `None`.
+    fn try_next<R: Wait + Clock, F: DurableFile + Drop>(
+        &self,
+        rt: &R,
+        file: &mut JournalFile<F>,
+        written: usize,
+        was_stuck: bool,
+    ) -> Option<usize>
+        ensures { TriesWrite self.now.line.now (centre_of self.now.node.now) written result file.old file.new }
+    {
+        match self.write_next(rt, file, written) {
+            Ok(count) => Some(count),
+            Err(error) => {
+                self.note_stuck(rt, was_stuck, &error);
+                None
+            }
+        }
     }
 
     // Counts written events as late, if they were taken at least `LATE_S` ago.
@@ -101,7 +166,7 @@ impl<N: Notes> JournalWriter<'_, N> {
         let (Some(taken_at), Ok(now)) = (taken_at, Instant::now(rt)) else {
             return;
         };
-        if now.duration_since(taken_at) >= Duration::from_secs(LATE_S) {
+        if seconds_between(taken_at, now) >= LATE_S {
             self.journal.add_late(count);
         }
     }

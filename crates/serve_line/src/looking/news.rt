@@ -1,6 +1,14 @@
+ghost use Rattle.std.specs.List.{list_any};
+ghost use Rattle.std.specs.Prelude.{◌≡◌, [], IfOk, length, OnErr, OnOk, replicate, slice_set, string_bytes};
+ghost use Rattle.rbc_msgs.specs.StepMessage.{step_body};
+ghost use Rattle.text_script.specs.rbc_centre.States.{number_of};
+ghost use Rattle.text_script.specs.rbc_centre.Views.{event_of};
+ghost use Rattle.serve_line.specs.News as spec;
+
 use crate::journaling::Journal;
 use rbc_line::Line;
 use rbc_log::{CentreLog, Entry};
+use rbc_msgs::TrainBody;
 use serve_control::world_event;
 use std::alloc::{AllocError, Global};
 use std::sync::Wait;
@@ -8,8 +16,7 @@ use text_page::EventNow;
 use text_replay::rows_in_words;
 use text_script::print::{name_of, print_event, print_outcome};
 use text_script::status::Fault;
-use text_script::{Body, Event, FrameRoom, StepFault};
-use text_words::number_of_train;
+use text_script::{Body, Event, Frame, FrameRoom, SentFrame, StepFault};
 
 /// The number of events on the page.
 const TOLD: usize = 24;
@@ -49,7 +56,11 @@ struct Told {
 
 impl News {
     /// No event of any centre was looked at yet.
-    pub fn new(alloc: Global, line: &Line) -> Result<News, AllocError> {
+    pub fn new(alloc: Global, line: &Line) -> Result<News, AllocError>
+        ensures looked { IfOk result (λ news. news.looked.items ≡ replicate (length line.now.centres) 0) }
+        ensures fresh { IfOk result (λ news. news.fresh.items ≡ []) }
+        ensures told { IfOk result (λ news. news.told.items ≡ []) }
+    {
         Ok(News {
             looked: vec![in alloc; 0usize; line.centre_count() as usize]?,
             fresh: Vec::new(alloc),
@@ -58,25 +69,54 @@ impl News {
         })
     }
 
-    /// Copies the last notable events of a centre since the last call.
-    pub fn read_on(
-        &mut self,
-        alloc: Global,
-        line: &Line,
-        log: &CentreLog,
-    ) -> Result<(), AllocError> {
-        let Some(looked) = self.looked.get_mut(log.number() as usize) else {
+    /// Copies the last notable events of a centre since the last call. If memory runs out, the next call reads the same
+    /// events again.
+    pub fn read_on(&mut self, alloc: Global, log: &CentreLog) -> Result<(), AllocError>
+        ensures ok { OnOk result (self.new.looked.items
+            ≡ slice_set self.old.looked.items (number_of log.now.core) (length log.now.entries)) }
+        ensures err { OnErr result ((self.new.looked.items ≡ self.old.looked.items)
+            × (self.new.fresh.items ≡ self.old.fresh.items)) }
+    {
+        let number = log.number() as usize;
+        let Some(looked) = self.looked.get(number) else {
             return Ok(());
         };
-        let count = log.entries().len();
-        let from = (*looked).max(count.saturating_sub(OLDEST));
-        *looked = count;
-        let Some(entries) = log.entries().get(from..) else {
+        let (looked, before) = (*looked, self.fresh.len());
+        if let Err(error) = self.copy_news(alloc, log.entries(), looked) {
+            self.fresh.truncate(before);
+            return Err(error);
+        }
+        self.mark(number, log.entries().len());
+        Ok(())
+    }
+
+    // Marks as many entries of a centre's log as read.
+    fn mark(&mut self, number: usize, count: usize)
+        ensures looked { self.new.looked.items ≡ slice_set self.old.looked.items number count }
+        ensures fresh { self.new.fresh.items ≡ self.old.fresh.items }
+    {
+        if let Some(looked) = self.looked.get_mut(number) {
+            *looked = count;
+        }
+    }
+
+    // Copies the last notable ones of these entries, but none of the first `looked`.
+    fn copy_news(
+        &mut self,
+        alloc: Global,
+        entries: &[Entry],
+        looked: usize,
+    ) -> Result<(), AllocError>
+        ensures looked { self.new.looked.items ≡ self.old.looked.items }
+        ensures fresh { spec.Continues self.old.fresh.items self.new.fresh.items }
+    {
+        let from = looked.max(entries.len().saturating_sub(OLDEST));
+        let Some(entries) = entries.get(from..) else {
             return Ok(());
         };
         let mut copied = 0usize;
         for (i, entry) in entries.iter().enumerate().rev() {
-            if copied < TOLD && is_news(line, entry) {
+            if copied < TOLD && is_news(entry) {
                 copied = copied.saturating_add(1);
                 self.room.reserve()?;
                 let entry = entry.copied(alloc, &mut self.room)?;
@@ -127,7 +167,11 @@ impl News {
 }
 
 impl Told {
-    fn new(alloc: Global, line: &Line, fresh: &Fresh) -> Result<Told, Fault<'static>> {
+    fn new(alloc: Global, line: &Line, fresh: &Fresh) -> Result<Told, Fault<'static>>
+        ensures place { IfOk result
+            (λ told. (told.centre ≡ fresh.now.entry.centre) × (told.place ≡ fresh.now.place)) }
+        ensures time { IfOk result (λ told. told.time_ms ≡ None) }
+    {
         Ok(Told {
             centre: fresh.entry.centre,
             place: fresh.place,
@@ -137,7 +181,10 @@ impl Told {
     }
 
     // The event as the page shows it.
-    fn event(&self, alloc: Global) -> Result<EventNow, AllocError> {
+    fn event(&self, alloc: Global) -> Result<EventNow, AllocError>
+        ensures time { IfOk result (λ event. event.time_ms ≡ self.now.time_ms) }
+        ensures words { IfOk result (λ event. string_bytes event.words ≡ string_bytes self.now.words) }
+    {
         Ok(EventNow {
             time_ms: self.time_ms,
             words: String::from_str(alloc, self.words.as_str())?,
@@ -166,32 +213,52 @@ fn in_words(alloc: Global, line: &Line, entry: &Entry) -> Result<String, Fault<'
     Ok(format!(in alloc; "{stamp} · {words}")?)
 }
 
-// Whether an event is notable. Routine reports and requests of a train are not. Of the frames, only those of handovers
-// are.
-fn is_news(line: &Line, entry: &Entry) -> bool {
-    if entry.outcome.silence.is_some() || announces(line, entry) {
-        return true;
-    }
-    match &entry.event {
+// Whether an event is notable: it is silent, it led to a frame of a handover, or its kind is notable.
+fn is_news(entry: &Entry) -> bool
+    ensures { result ≡ spec.is_news entry.now }
+{
+    entry.outcome.silence.is_some()
+        || announces(entry.outcome.frames.as_slice())
+        || is_notable(&entry.event)
+}
+
+// Whether the kind of an event is notable. Routine reports and requests of a train are not. Of the frames, only those
+// of handovers are.
+fn is_notable(event: &Event) -> bool
+    ensures { result ≡ spec.is_notable (event_of event.now) }
+{
+    match event {
         Event::Set(_) | Event::Unset(_) => true,
-        Event::Train(message) => !matches!(number_of_train(message.body()), 129 | 132 | 136 | 159),
-        Event::Deliver { frame, .. } => is_of_handover(frame.body()),
+        Event::Train(message) => !is_routine(message.body()),
+        Event::Deliver { frame, .. } => is_of_handover(frame),
     }
 }
 
-// Whether an event led to a frame of a handover.
-fn announces(line: &Line, entry: &Entry) -> bool {
-    for sent in entry.outcome.frames.as_slice() {
-        if is_of_handover(sent.frame.body()) {
-            return true;
-        }
-    }
-    false
-}
-
-fn is_of_handover(body: Body) -> bool {
+// Whether a message is a routine one.
+fn is_routine(body: &TrainBody) -> bool
+    ensures { result ≡ spec.is_routine (step_body body.now) }
+{
     matches!(
         body,
+        TrainBody::TrainData { .. }
+            | TrainBody::Request { .. }
+            | TrainBody::Report { .. }
+            | TrainBody::SessionEstablished
+    )
+}
+
+// Whether one of these frames is of a handover.
+fn announces(frames: &[SentFrame]) -> bool
+    ensures { result ≡ list_any spec.is_sent_for_handover frames.now }
+{
+    frames.iter().any(|sent| is_of_handover(&sent.frame))
+}
+
+fn is_of_handover(frame: &Frame) -> bool
+    ensures { result ≡ spec.is_of_handover frame.now.body }
+{
+    matches!(
+        frame.body(),
         Body::Announce { .. } | Body::Cancel { .. } | Body::TakingOver { .. } | Body::Yield { .. }
     )
 }

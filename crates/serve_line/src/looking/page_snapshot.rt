@@ -1,3 +1,8 @@
+ghost use Rattle.std.specs.Prelude.{◌≡◌, [], IfOk, length, map, replicate};
+ghost use Rattle.serve_line.specs.Directions.{directions_of};
+ghost use Rattle.serve_line.specs.Pages.{unused_link};
+
+use crate::directions::directions_of;
 use crate::journaling::Journal;
 use crate::looking::news::News;
 use crate::looking::seen::see_centre;
@@ -7,9 +12,10 @@ use rbc_line::Line;
 use rbc_node::Node;
 use std::alloc::{AllocError, Global};
 use std::sync::Wait;
-use text_page::{CentreCounts, CentreNow, Layout, LineCounts, LineNow, LinkNow, SectionNow, Usage};
-use text_replay::{layout_of, section_now};
+use text_page::{CentreCounts, CentreNow, Layout, LineCounts, LineNow, LinkNow};
+use text_replay::layout_of;
 use text_script::status::Fault;
+use text_script::{Mark, SectionView};
 
 /// The line as the page shows it.
 #[derive(Drop)]
@@ -67,7 +73,7 @@ impl PageSnapshot {
             see_centre(line, log, &mut now)?;
             snapshot.add(line, log);
             self.sent.read_on(line, log.core());
-            self.news.read_on(alloc, line, log)?;
+            self.news.read_on(alloc, log)?;
         }
         self.sent.add_handovers(&mut now);
         see_sections(line, &snapshot, &mut now);
@@ -109,12 +115,19 @@ fn copy_marks(before: &mut LineNow, now: &mut LineNow) {
 // Shows each section as the centres show it.
 fn see_sections(line: &Line, snapshot: &Snapshot, now: &mut LineNow) {
     for (place, s) in now.sections.iter_mut().zip(0..line.section_count()) {
-        *place = section_now(snapshot.section(line, s));
+        *place = snapshot.section(line, s);
     }
 }
 
 // The line before the first look.
-fn nothing_of(alloc: Global, line: &Line) -> Result<LineNow, AllocError> {
+fn nothing_of(alloc: Global, line: &Line) -> Result<LineNow, AllocError>
+    ensures events { IfOk result (λ now. now.events ≡ 0) }
+    ensures sections { IfOk result (λ now. now.sections.items ≡ replicate (length line.now.sections) UNSEEN) }
+    ensures missions { IfOk result (λ now. now.missions.items ≡ replicate (length line.now.trains) None) }
+    ensures sessions { IfOk result (λ now. now.sessions.items ≡ []) }
+    ensures centres { IfOk result (λ now. now.centres.items ≡ replicate (length line.now.centres) UNUSED) }
+    ensures links { IfOk result (λ now. now.links.items ≡ map unused_link (directions_of line.now)) }
+{
     Ok(LineNow {
         events: 0,
         is_stopped: false,
@@ -129,7 +142,10 @@ fn nothing_of(alloc: Global, line: &Line) -> Result<LineNow, AllocError> {
 }
 
 // The counts before the first look.
-fn no_counts(alloc: Global, line: &Line) -> Result<LineCounts, AllocError> {
+fn no_counts(alloc: Global, line: &Line) -> Result<LineCounts, AllocError>
+    ensures { IfOk result (λ counts. counts.centres.items
+        ≡ replicate (length line.now.centres) CentreCounts.NOTHING) }
+{
     Ok(LineCounts {
         centres: vec![in alloc; CentreCounts::NOTHING; line.centre_count() as usize]?,
         refusals: [0; 4],
@@ -137,8 +153,8 @@ fn no_counts(alloc: Global, line: &Line) -> Result<LineCounts, AllocError> {
     })
 }
 
-const UNSEEN: SectionNow = SectionNow {
-    usage: Usage::Shut,
+const UNSEEN: SectionView = SectionView {
+    mark: Mark::Shut,
     is_wished: false,
 };
 
@@ -152,19 +168,17 @@ const UNUSED: CentreNow = CentreNow {
     limits: LIMITS,
 };
 
-fn links_of(alloc: Global, line: &Line) -> Result<Vec<LinkNow>, AllocError> {
-    let mut links = Vec::new(alloc);
-    for from in 0..line.centre_count() {
-        for to in 0..line.centre_count() {
-            if line.linked(from, to) {
-                links.push(LinkNow {
-                    from,
-                    to,
-                    sent: 0,
-                    taken: 0,
-                })?;
-            }
-        }
-    }
-    Ok(links)
+// The links before the first look.
+fn links_of(alloc: Global, line: &Line) -> Result<Vec<LinkNow>, AllocError>
+    ensures { IfOk result (λ links. links.items ≡ map unused_link (directions_of line.now)) }
+{
+    directions_of(alloc, line)?
+        .into_iter()
+        .map(|direction| LinkNow {
+            from: direction.from,
+            to: direction.to,
+            sent: 0,
+            taken: 0,
+        })
+        .collect(alloc)
 }

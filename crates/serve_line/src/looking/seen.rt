@@ -1,11 +1,15 @@
 //! The view of one centre.
 
+ghost use Rattle.std.specs.Prelude.{◌≡◌, map};
+ghost use Rattle.serve_line.specs.Pages.{lives_with, with_frames};
+
+use crate::stamps::last_stamp;
 use crate::status::end_of;
 use rbc_line::Line;
 use rbc_log::CentreLog;
 use std::alloc::AllocError;
-use text_page::{LineNow, SessionNow};
-use text_replay::{mission_now, phase_now};
+use text_page::{CentreNow, LineNow, LinkNow};
+use text_replay::{mission_now, session_now};
 use text_script::{Centre, TrainPage};
 
 /// Adds a centre's trains, its links, and its usage.
@@ -15,8 +19,9 @@ pub(crate) fn see_centre(
     now: &mut LineNow,
 ) -> Result<(), AllocError> {
     let centre = log.core();
-    see_life(log, now);
-    see_links(centre, now);
+    now.events = now.events.saturating_add(log.entries().len() as u64);
+    see_life(log, &mut now.centres);
+    see_links(centre, &mut now.links);
     for i in 0..line.train_count() {
         if let Some(train) = line.train(i) {
             let page = centre.train(train.nid_engine);
@@ -27,29 +32,42 @@ pub(crate) fn see_centre(
     Ok(())
 }
 
-fn see_life(log: &CentreLog, now: &mut LineNow) {
-    let entries = log.entries().len() as u64;
-    now.events = now.events.saturating_add(entries);
-    if let Some(place) = now.centres.get_mut(log.number() as usize) {
-        place.entries = entries;
-        place.clock = match log.entries().last() {
-            Some(entry) => entry.outcome.stamp,
-            None => 0,
+// Sets the usage of the log's centre.
+fn see_life(log: &CentreLog, centres: &mut [CentreNow])
+    ensures { centres.new ≡ lives_with log.now centres.old }
+{
+    let number = log.number() as usize;
+    if number < centres.len() {
+        centres[number] = CentreNow {
+            entries: log.entries().len() as u64,
+            clock: last_stamp(log.entries()),
+            end: end_of(log),
+            ..centres[number]
         };
-        place.end = end_of(log);
     }
 }
 
 // Sets the counts of frames that the centre has sent and taken, for each of its links.
-fn see_links(centre: &Centre, now: &mut LineNow) {
-    for link in now.links.iter_mut() {
-        if link.from == centre.number() {
-            link.sent = centre.sent(link.to);
-        }
-        if link.to == centre.number() {
-            link.taken = centre.taken(link.from);
-        }
+fn see_links(centre: &Centre, links: &mut [LinkNow])
+    ensures { links.new ≡ map (with_frames centre.now) links.old }
+{
+    for link in links.iter_mut() {
+        *link = with_frames(centre, *link);
     }
+}
+
+// The link with the counts of the frames that the centre has sent or taken over it.
+fn with_frames(centre: &Centre, link: LinkNow) -> LinkNow
+    ensures { result ≡ with_frames centre.now link }
+{
+    let mut link = link;
+    if link.from == centre.number() {
+        link.sent = centre.sent(link.to);
+    }
+    if link.to == centre.number() {
+        link.taken = centre.taken(link.from);
+    }
+    link
 }
 
 // Adds a train that is supervised here. If two centres show it, the later look counts.
@@ -66,13 +84,8 @@ fn see_session(
     page: &TrainPage,
     now: &mut LineNow,
 ) -> Result<(), AllocError> {
-    let Some(phase) = phase_now(page.phase, page.waiting.is_some()) else {
-        return Ok(());
-    };
-    now.sessions.push(SessionNow {
-        nid_engine,
-        centre,
-        phase,
-    })?;
+    if let Some(session) = session_now(nid_engine, centre, page.phase, page.waiting.is_some()) {
+        now.sessions.push(session)?;
+    }
     Ok(())
 }

@@ -1,4 +1,7 @@
+ghost use Rattle.std.specs.Prelude.{◌≡◌, option_map, slice_get};
+
 use crate::state::control_socket::listen_at_path;
+use crate::state::hosts::{port_of, this_host};
 use crate::state::streams::bound_accept;
 use crate::true_places::TruePlaces;
 use rbc_line::Line;
@@ -7,7 +10,7 @@ use serve_notes::{About, Kind, Notes};
 use std::alloc::Global;
 use std::io;
 use std::io::ErrorKind;
-use std::net::{IpAddr, Ipv4Addr, Net, SocketAddr, TcpListener, TcpStream};
+use std::net::{IpAddr, Net, SocketAddr, TcpListener, TcpStream};
 use std::os::fd::OwnedFd;
 use std::os::unix::net::UnixListener;
 use std::rt::Files;
@@ -21,9 +24,6 @@ pub struct Endpoints {
     socket: Option<ListeningAt>,
     page: Option<PagePort>,
 }
-
-/// The address of this host that only this host can connect to.
-const LOCALHOST: IpAddr = IpAddr::V4(Ipv4Addr::LOCALHOST);
 
 /// A listening port.
 #[derive(Drop)]
@@ -61,7 +61,7 @@ impl Endpoints {
         first: u16,
         notes: &N,
     ) -> Result<Endpoints, ServeFault> {
-        let host = SocketAddr::new(LOCALHOST, first);
+        let host = SocketAddr::new(this_host(), first);
         let endpoints = Endpoints::open_centres(rt, alloc, line, host, notes)?;
         endpoints.and_control(rt, line, first, notes)
     }
@@ -99,7 +99,7 @@ impl Endpoints {
     ) -> Result<Endpoints, ServeFault> {
         let port = port_of(first, line.centre_count());
         let about = About::of(Kind::Refused);
-        self.ports.push(listen_noted(rt, about, "control", (LOCALHOST, port), notes)?)?;
+        self.ports.push(listen_noted(rt, about, "control", (this_host(), port), notes)?)?;
         Ok(self)
     }
 
@@ -157,27 +157,25 @@ impl Endpoints {
     }
 
     /// The address of centre `number`; after the centres, that of the control endpoint, if it is a port.
-    pub fn address(&self, number: usize) -> Option<SocketAddr> {
-        self.ports.get(number).map(|endpoint| endpoint.address)
+    pub fn address(&self, number: usize) -> Option<SocketAddr>
+        ensures { result ≡ option_map (λ listening. listening.address) (slice_get self.now.ports.items number) }
+    {
+        self.ports.get(number).map(|listening| listening.address)
     }
 
     /// The address of the page, if there is one.
-    pub fn page_address(&self) -> Option<SocketAddr> {
+    pub fn page_address(&self) -> Option<SocketAddr>
+        ensures { result ≡ option_map (λ page. page.listening.address) self.now.page }
+    {
         self.page.as_ref().map(|page| page.listening.address)
     }
 
     /// The ports of the centres, in the order of their numbers, and then that of the control endpoint, if it has one.
     /// After those the socket of the control endpoint and the port of the page, if there are any.
-    pub fn all(self) -> (Vec<Listening>, Option<ListeningAt>, Option<PagePort>) {
+    pub fn all(self) -> (Vec<Listening>, Option<ListeningAt>, Option<PagePort>)
+        ensures { result ≡ (self.ports, self.socket, self.page) }
+    {
         (self.ports, self.socket, self.page)
-    }
-}
-
-// The port of an endpoint: `first` + `number`, or 0 if the system picks each.
-fn port_of(first: u16, number: u8) -> u32 {
-    match first {
-        0 => 0,
-        _ => u32::from(first) + u32::from(number),
     }
 }
 

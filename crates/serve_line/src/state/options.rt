@@ -1,3 +1,5 @@
+ghost use Rattle.std.specs.Prelude.{◌≡◌, false, true};
+
 use crate::state::limits::{BURST, PER_SECOND};
 use serve_notes::NoteForm;
 use serve_workers::reading::Rate;
@@ -22,7 +24,17 @@ pub struct ServeOptions {
 impl Default for ServeOptions {
     /// The defaults: 50 messages per second, 100 at once, no notifications and no usage. A train's messages are taken
     /// over any connection, and all events are printed at the end.
-    fn default() -> ServeOptions {
+    fn default() -> ServeOptions
+        ensures { result
+            ≡ record {
+              rate = record { per_second = 50; burst = 100 };
+              is_telling = false;
+              shows_life = false;
+              is_bound = false;
+              prints_events = true;
+              note_form = record { has_level = false; is_json = false };
+            } }
+    {
         ServeOptions {
             rate: Rate {
                 per_second: PER_SECOND,

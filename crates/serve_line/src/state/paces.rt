@@ -1,3 +1,6 @@
+ghost use Rattle.std.specs.Prelude.{◌≡◌, IfOk, length, unwrap_or};
+ghost use Rattle.rbc_spec.specs.Line.{train_number};
+
 use rbc_line::Line;
 use serve_workers::reading::{Bucket, Rate};
 use std::alloc::{AllocError, Global};
@@ -14,25 +17,41 @@ pub struct Paces {
 
 impl Paces {
     /// Full buckets of this rate.
-    pub(crate) fn new(alloc: Global, line: &Line, rate: Rate) -> Result<Paces, AllocError> {
-        let mut trains = Vec::new(alloc);
-        for _ in 0..line.train_count() {
-            trains.push(Mutex::new(Bucket::new(rate)))?;
-        }
+    pub(crate) fn new(alloc: Global, line: &Line, rate: Rate) -> Result<Paces, AllocError>
+        ensures { IfOk result (λ paces. length paces.trains.items ≡ length line.now.trains) }
+    {
         Ok(Paces {
-            trains,
+            trains: buckets_of(alloc, line.train_count(), rate)?,
             others: Mutex::new(Bucket::new(rate)),
         })
     }
 
     /// The bucket of an engine, by its NID_ENGINE.
     pub fn bucket(&self, line: &Line, nid_engine: u32) -> &Mutex<Bucket> {
-        let Some(train) = line.train_number(nid_engine) else {
-            return &self.others;
-        };
-        match self.trains.get(train as usize) {
+        match self.trains.get(place_of(line, nid_engine)) {
             Some(bucket) => bucket,
             None => &self.others,
         }
+    }
+}
+
+// This many full buckets of a rate.
+fn buckets_of(alloc: Global, trains: u8, rate: Rate) -> Result<Vec<Mutex<Bucket>>, AllocError>
+    ensures { IfOk result (λ buckets. length buckets.items ≡ trains) }
+{
+    let mut buckets = Vec::new(alloc);
+    for _ in 0..trains {
+        buckets.push(Mutex::new(Bucket::new(rate)))?;
+    }
+    Ok(buckets)
+}
+
+// The place of the bucket of an engine. It is after those of all trains if the engine is not of the line.
+fn place_of(line: &Line, nid_engine: u32) -> usize
+    ensures { result ≡ unwrap_or (train_number line.now nid_engine) (length line.now.trains) }
+{
+    match line.train_number(nid_engine) {
+        Some(train) => train as usize,
+        None => line.train_count() as usize,
     }
 }

@@ -1,9 +1,7 @@
+use crate::state::watch::{LONG_S, LastMove, Movement};
 use serve_notes::{About, Kind, Notes};
 use std::sync::atomic::{AtomicBool, AtomicU64, Ordering};
-use std::time::{Clock, Duration, Instant};
-
-/// The longest wait of an event for the disk without a note, in seconds.
-const LONG_S: u64 = 1;
+use std::time::{Clock, Instant};
 
 /// The events that wait until the journal of a centre has them.
 #[derive(Drop)]
@@ -47,40 +45,32 @@ impl Queue {
 /// Checks the queue of a centre periodically, and notes when it does not move.
 #[derive(Clone, Copy)]
 pub struct Watch {
-    // The number of events that had left, and the time since then.
-    left: u64,
-    since: Option<Instant>,
+    moves: LastMove,
 }
 
 impl Watch {
     /// A watch before its first check.
     pub fn new() -> Watch {
         Watch {
-            left: 0,
-            since: None,
+            moves: LastMove::new(),
         }
     }
 
     /// Checks the queue of the centre of this name.
     pub fn look<T: Clock, N: Notes>(&mut self, clock: &T, queue: &Queue, notes: &N, name: &str) {
         let left = queue.left.load(Ordering::SeqCst);
-        let is_empty = queue.entered.load(Ordering::SeqCst) == left;
-        if is_empty || left != self.left {
-            self.left = left;
-            self.since = None;
-            queue.is_long.store(false, Ordering::SeqCst);
-            return;
-        }
-        let Ok(now) = Instant::now(clock) else {
-            return;
-        };
-        let since = *self.since.get_or_insert(now);
-        let is_long = now.duration_since(since) >= Duration::from_secs(LONG_S);
-        if is_long && !queue.is_long.swap(true, Ordering::SeqCst) {
-            notes.note(
-                About::centre(Kind::JournalSlow, name),
-                format_args!("{name}: an event has waited for the journal for {LONG_S} s"),
-            );
+        let entered = queue.entered.load(Ordering::SeqCst);
+        match self.moves.look(entered, left, Instant::now(clock).ok()) {
+            Movement::Moves => queue.is_long.store(false, Ordering::SeqCst),
+            Movement::Waits => {}
+            Movement::IsLong => {
+                if !queue.is_long.swap(true, Ordering::SeqCst) {
+                    notes.note(
+                        About::centre(Kind::JournalSlow, name),
+                        format_args!("{name}: an event has waited for the journal for {LONG_S} s"),
+                    );
+                }
+            }
         }
     }
 }

@@ -1,43 +1,29 @@
+ghost use Rattle.std.specs.Prelude.{◌≡◌, IfSome, option_map, slice_get};
+ghost use Rattle.rbc_log.specs.Log.{LogValue};
+ghost use Rattle.rbc_node.specs.Node.{centre_of, IsLogOf};
+ghost use Rattle.serve_line.specs.Stamps.{last_stamp};
+ghost use Rattle.serve_line.specs.Peers.{about_centre, at_peer, peer_centre, peer_name};
+
 use crate::journaling::Journal;
+use crate::stamps::last_stamp;
 use crate::state::limits::LOG_REST_S;
 use crate::state::options::ServeOptions;
+use crate::state::peer::{DirectedLink, Peer};
 use crate::state::sink::CentreSink;
 use crate::state::slots::Endpoint;
 use crate::status::MentionOrder;
 use rbc_line::Line;
-use rbc_node::{Node, Open, Share};
+use rbc_node::{Node, Open};
 use serve_journal::{Kept, Opened, Sealed};
 use serve_notes::{About, Kind};
+use serve_workers::Committer;
 use serve_workers::writing::Release;
-use serve_workers::{Committer, LinkEnds};
 use std::alloc::Global;
 use std::sync::atomic::{AtomicBool, AtomicU64, Ordering};
 use std::sync::{Mutex, Wait};
 use std::thread::Parker;
 use std::time::Duration;
 use text_script::print::name_of;
-
-/// The kind of peer at an endpoint.
-#[derive(Clone, Copy)]
-pub enum Peer {
-    /// Trains, connected to the centre of this number.
-    Trains(u8),
-    /// The interlocking, connected to all centres.
-    Interlocking,
-}
-
-/// The link from one centre to another.
-#[derive(Drop)]
-pub struct DirectedLink {
-    /// The number of the sending centre.
-    pub from: u8,
-    /// The number of the receiving centre.
-    pub to: u8,
-    /// The signals between its two workers.
-    pub ends: LinkEnds,
-    /// The receipts of the frames that were received over it.
-    pub share: Mutex<Share>,
-}
 
 /// Whether the centres still run.
 #[derive(Drop)]
@@ -145,12 +131,11 @@ impl State {
 }
 
 // The stamp of the last event of a centre; 0 if it has none.
-fn last_stamp<R: Wait>(rt: &R, node: &Node) -> u32 {
+fn last_stamp_of<R: Wait>(rt: &R, node: &Node) -> u32
+    ensures { (log : LogValue) × IsLogOf (centre_of node.now) log × (result ≡ last_stamp log.entries) }
+{
     let look = node.look(rt);
-    match look.log().entries().last() {
-        Some(entry) => entry.outcome.stamp,
-        None => 0,
-    }
+    last_stamp(look.log().entries())
 }
 
 /// The shared state of all workers of a running line.
@@ -182,7 +167,10 @@ pub struct Server<'a> {
 
 impl Server<'_> {
     /// The committer of a centre: its node and its sink.
-    pub fn committer(&self, centre: u8) -> Option<Committer<'_, Open, CentreSink<'_>>> {
+    pub fn committer(&self, centre: u8) -> Option<Committer<'_, Open, CentreSink<'_>>>
+        ensures node { IfSome result (λ committer. slice_get self.now.nodes.now centre ≡ Some committer.node.now) }
+        ensures sink { IfSome result (λ committer. slice_get self.now.sinks.now centre ≡ Some committer.sink.now) }
+    {
         let node = self.nodes.get(centre as usize)?;
         let sink = self.sinks.get(centre as usize)?;
         Some(Committer {
@@ -193,7 +181,9 @@ impl Server<'_> {
     }
 
     /// The journal of a centre, if it keeps one.
-    pub fn journal(&self, centre: u8) -> Option<&Journal> {
+    pub fn journal(&self, centre: u8) -> Option<&Journal>
+        ensures { option_map (λ journal. journal.now) result ≡ slice_get self.now.journals.now centre }
+    {
         self.journals.get(centre as usize)
     }
 
@@ -207,10 +197,12 @@ impl Server<'_> {
 
     /// Opens an answer about all centres once the journals have each event that the centres have taken so far. `None`
     /// if one of them can't be written now.
-    pub fn open_kept<R: Wait, T: Drop>(&self, rt: &R, answer: T) -> Option<Opened<T>> {
+    pub fn open_kept<R: Wait, T: Drop>(&self, rt: &R, answer: T) -> Option<Opened<T>>
+        ensures { IfSome result (λ opened. opened.answer ≡ answer) }
+    {
         let mut opened = Sealed::new(answer, 0).open(&Kept::no_event())?;
         for (node, sink) in self.nodes.iter().zip(self.sinks.iter()) {
-            let sealed = opened.sealed(sink.awaited(last_stamp(rt, node)));
+            let sealed = opened.sealed(sink.awaited(last_stamp_of(rt, node)));
             let kept = sink.comes_to(rt, sealed.stamp())?;
             opened = sealed.open(&kept)?;
         }
@@ -235,7 +227,9 @@ impl Server<'_> {
     }
 
     /// The node of a train endpoint's centre; `None` for the interlocking.
-    pub fn node(&self, peer: Peer) -> Option<&Node> {
+    pub fn node(&self, peer: Peer) -> Option<&Node>
+        ensures { option_map (λ node. node.now) result ≡ at_peer self.now.nodes.now peer }
+    {
         match peer {
             Peer::Trains(centre) => self.nodes.get(centre as usize),
             Peer::Interlocking => None,
@@ -243,7 +237,9 @@ impl Server<'_> {
     }
 
     /// The sink of a train endpoint's centre; `None` for the interlocking.
-    pub fn sink(&self, peer: Peer) -> Option<&CentreSink<'_>> {
+    pub fn sink(&self, peer: Peer) -> Option<&CentreSink<'_>>
+        ensures { option_map (λ sink. sink.now) result ≡ at_peer self.now.sinks.now peer }
+    {
         match peer {
             Peer::Trains(centre) => self.sinks.get(centre as usize),
             Peer::Interlocking => None,
@@ -259,7 +255,9 @@ impl Server<'_> {
     }
 
     /// The prefix of a peer's notes.
-    pub fn name(&self, peer: Peer) -> &str {
+    pub fn name(&self, peer: Peer) -> &str
+        ensures { result.now ≡ peer_name self.now.line.now peer }
+    {
         match peer {
             Peer::Trains(centre) => name_of(self.line, centre),
             Peer::Interlocking => "control",
@@ -267,7 +265,9 @@ impl Server<'_> {
     }
 
     /// The subject of a note of this kind about an endpoint of this peer.
-    pub fn about(&self, kind: Kind, peer: Peer) -> About<'_> {
+    pub fn about(&self, kind: Kind, peer: Peer) -> About<'_>
+        ensures { about_centre result ≡ (kind, peer_centre self.now.line.now peer) }
+    {
         match peer {
             Peer::Trains(centre) => About::centre(kind, name_of(self.line, centre)),
             Peer::Interlocking => About::of(kind),

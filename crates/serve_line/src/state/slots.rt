@@ -1,5 +1,8 @@
+ghost use Rattle.std.specs.Prelude.{◌++◌, ◌<◌, ◌≡◌, false, IsTrue, vec_len};
+
 use crate::state::limits::MOST_TOLD;
-use crate::state::server::Peer;
+use crate::state::peer::Peer;
+use crate::state::room::SlotState;
 use crate::state::streams::{Address, Listener, PeerStream};
 use rbc_node::Share;
 use serve_journal::Opened;
@@ -62,7 +65,7 @@ impl Slot {
             return false;
         };
         let mut told = self.told.lock(rt);
-        told.get().len() < MOST_TOLD && told.add(text).is_ok()
+        add_told(&mut told, text)
     }
 
     /// Takes the notification lines since the last call.
@@ -76,9 +79,17 @@ impl Slot {
         self.is_taken.store(false, Ordering::SeqCst);
     }
 
-    /// Whether the connection of this slot was last active before that of the other slot.
-    fn was_active_before(&self, other: &Slot) -> bool {
-        self.heard.load(Ordering::SeqCst) < other.heard.load(Ordering::SeqCst)
+    /// The state of the slot now. `is_serving`: whether its connection serves a train.
+    pub(crate) fn state(&self, is_serving: bool) -> SlotState
+        ensures { (result.is_reserve ≡ self.now.is_reserve) × (result.is_serving ≡ is_serving) }
+    {
+        SlotState {
+            is_reserve: self.is_reserve,
+            is_taken: self.is_taken.load(Ordering::SeqCst),
+            is_leaving: self.is_leaving(),
+            is_serving,
+            heard: self.heard.load(Ordering::SeqCst),
+        }
     }
 }
 
@@ -98,36 +109,30 @@ pub struct Endpoint {
 }
 
 impl Endpoint {
-    /// Takes a free slot, if there is one. Only the thread of the endpoint calls it.
-    pub fn free_slot<R: Wait>(&self, rt: &R) -> Option<&Slot> {
-        self.free_slot_of(rt, false)
+    /// Takes the slot at a place, which is free. Only the thread of the endpoint calls it.
+    pub fn take<R: Wait>(&self, rt: &R, place: usize) -> Option<&Slot> {
+        let slot = self.slots.get(place)?;
+        slot.told.lock(rt).clear();
+        slot.is_leaving.store(false, Ordering::SeqCst);
+        slot.is_taken.store(true, Ordering::SeqCst);
+        Some(slot)
     }
 
     /// Takes the reserve slot, if the endpoint has one and it is free. Only the thread of the endpoint calls it.
     pub fn reserve_slot<R: Wait>(&self, rt: &R) -> Option<&Slot> {
-        self.free_slot_of(rt, true)
-    }
-
-    fn free_slot_of<R: Wait>(&self, rt: &R, is_reserve: bool) -> Option<&Slot> {
-        for slot in &self.slots {
-            if slot.is_reserve == is_reserve && !slot.is_taken.load(Ordering::SeqCst) {
-                slot.told.lock(rt).clear();
-                slot.is_leaving.store(false, Ordering::SeqCst);
-                slot.is_taken.store(true, Ordering::SeqCst);
-                return Some(slot);
+        for (place, slot) in self.slots.iter().enumerate() {
+            if slot.is_reserve && !slot.is_taken.load(Ordering::SeqCst) {
+                return self.take(rt, place);
             }
         }
         None
     }
 
-    /// Whether a connection has to leave its slot, and has not left yet.
-    pub fn is_awaiting_leave(&self) -> bool {
-        for slot in &self.slots {
-            if slot.is_leaving() && slot.is_taken.load(Ordering::SeqCst) {
-                return true;
-            }
+    /// Shuts the connection that has the slot at a place.
+    pub fn shut<R: Wait>(&self, rt: &R, place: usize) {
+        if let Some(slot) = self.slots.get(place) {
+            slot.shut(rt);
         }
-        false
     }
 
     /// Whether no slot is taken.
@@ -139,12 +144,16 @@ impl Endpoint {
         }
         true
     }
+}
 
-    /// The slot whose connection was last active earlier.
-    pub fn older<'a>(one: Option<&'a Slot>, other: &'a Slot) -> &'a Slot {
-        match one {
-            Some(one) if one.was_active_before(other) => one,
-            _ => other,
-        }
+// Adds a text to notification lines, and returns whether there was room for it.
+fn add_told(told: &mut Opened<Vec<u8>>, text: &Opened<Vec<u8>>) -> bool
+    ensures room { IsTrue result → vec_len told.old.answer < 65536 }
+    ensures added { IsTrue result → told.new.answer.items ≡ told.old.answer.items ++ text.now.answer.items }
+    ensures refused { result ≡ false → told.new.answer.items ≡ told.old.answer.items }
+{
+    if told.get().len() >= MOST_TOLD {
+        return false;
     }
+    told.add(text).is_ok()
 }

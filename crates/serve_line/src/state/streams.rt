@@ -1,3 +1,6 @@
+ghost use Rattle.std.specs.Prelude.{◌≡◌, false, IfNone, IfSome};
+ghost use Rattle.serve_line.specs.Addresses.{is_port};
+
 use crate::state::limits::ENDPOINT_REST_MS;
 use std::alloc::{AllocError, Global};
 use std::fmt::{Display, Formatter};
@@ -27,10 +30,10 @@ impl PeerStream {
         }
     }
 
-    /// The connection over a port, for a further owner. `None` if it is over a Unix socket, or if memory runs out.
-    pub fn tcp(&self) -> Option<Arc<TcpStream, Global>> {
+    /// The connection over a port; `None` if it is over a Unix socket.
+    pub fn into_tcp(self) -> Option<Arc<TcpStream, Global>> {
         match self {
-            PeerStream::Tcp(stream) => Arc::try_clone(stream).ok(),
+            PeerStream::Tcp(stream) => Some(stream),
             PeerStream::Unix(_) => None,
         }
     }
@@ -161,7 +164,10 @@ impl Address {
     }
 
     /// The address of the port; `None` if it is a path.
-    pub fn socket(&self) -> Option<SocketAddr> {
+    pub fn socket(&self) -> Option<SocketAddr>
+        ensures some { IfSome result (λ address. self.now ≡ Address.Port address) }
+        ensures none { IfNone result (is_port self.now ≡ false) }
+    {
         match self {
             Address::Port(address) => Some(*address),
             Address::Path(_) => None,

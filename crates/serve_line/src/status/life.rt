@@ -1,13 +1,20 @@
+ghost use Rattle.std.specs.Prelude.{◌≡◌, length};
+ghost use Rattle.rbc_log.specs.Log.{LogValue};
+ghost use Rattle.rbc_node.specs.Node.{centre_of, IsLogOf};
+ghost use Rattle.serve_line.specs.Lives.{end_of, IsNoted, most_sent, used_of};
+
+use crate::stamps::last_stamp;
+use crate::status::gauge::Gauge;
 use rbc_line::Line;
 use rbc_log::{CentreLog, MOST_ENTRIES};
 use rbc_node::Node;
-use serve_notes::{About, Kind, Notes};
+use serve_notes::Notes;
 use std::io::Write;
 use std::sync::Wait;
 use text_page::{End, Limits};
 use text_script::print::name_of;
 use text_script::status::Fault;
-use text_script::{Event, LAST_STAMP, StepFault};
+use text_script::{Centre, Event, LAST_STAMP, StepFault};
 
 /// The most frames of a directed link.
 const MOST_FRAMES: u32 = 65_536;
@@ -21,7 +28,9 @@ pub(crate) const LIMITS: Limits = Limits {
 
 /// The end that a centre has reached, if it takes no further event. A `set` would have the next stamp: it is refused if
 /// and only if the clock or a link is at its end.
-pub(crate) fn end_of(log: &CentreLog) -> Option<End> {
+pub(crate) fn end_of(log: &CentreLog) -> Option<End>
+    ensures { result ≡ end_of log.now }
+{
     if log.entries().len() >= MOST_ENTRIES {
         return Some(End::Log);
     }
@@ -42,12 +51,13 @@ pub struct Life {
 
 impl Life {
     /// Nothing was noted yet.
-    pub fn new() -> Life {
-        let gauge = Gauge { noted: 0 };
+    pub fn new() -> Life
+        ensures { (result.log.noted ≡ 0) × (result.clock.noted ≡ 0) × (result.link.noted ≡ 0) }
+    {
         Life {
-            log: gauge,
-            clock: gauge,
-            link: gauge,
+            log: Gauge::new(),
+            clock: Gauge::new(),
+            link: Gauge::new(),
         }
     }
 
@@ -59,8 +69,13 @@ impl Life {
         node: &Node,
         notes: &N,
         name: &str,
-    ) {
-        let (entries, stamp, frames) = used_of(node.look(rt).log(), line.centre_count());
+    )
+        ensures { (log : LogValue) × IsLogOf (centre_of node.now) log
+            × IsNoted (used_of log (length line.now.centres)) self.old self.new }
+    {
+        let look = node.look(rt);
+        let (entries, stamp, frames) = used_of(look.log(), line.centre_count());
+        drop(look);
         self.log
             .tell(notes, name, "log", entries, MOST_ENTRIES as u64);
         self.clock
@@ -97,48 +112,17 @@ fn write_used(line: &Line, log: &CentreLog, text: &mut Vec<u8>) -> Result<(), Fa
 }
 
 // The number of entries of a log, the stamp of the last, and the frames of the fullest link.
-fn used_of(log: &CentreLog, centres: u8) -> (u64, u64, u64) {
-    let stamp = match log.entries().last() {
-        Some(entry) => u64::from(entry.outcome.stamp),
-        None => 0,
-    };
-    let mut frames = 0;
-    for to in 0..centres {
-        frames = log.core().sent(to).max(frames);
-    }
+fn used_of(log: &CentreLog, centres: u8) -> (u64, u64, u64)
+    ensures { result ≡ used_of log.now centres }
+{
+    let stamp = u64::from(last_stamp(log.entries()));
+    let frames = most_sent(log.core(), centres);
     (log.entries().len() as u64, stamp, u64::from(frames))
 }
 
-/// The last noted usage of a thing, in percent.
-#[derive(Clone, Copy)]
-struct Gauge {
-    noted: u64,
-}
-
-impl Gauge {
-    // Notes the usage when it first reaches 50, 90 or 99 percent.
-    fn tell<N: Notes>(&mut self, notes: &N, name: &str, thing: &str, used: u64, most: u64) {
-        let mark = mark_reached(used, most);
-        if mark > self.noted {
-            self.noted = mark;
-            notes.note(
-                About::centre(Kind::Usage, name),
-                format_args!("{name}: {used} of {most} of its {thing} are used"),
-            );
-        }
-    }
-}
-
-// The highest of 0, 50, 90 and 99 percent that the usage has reached.
-fn mark_reached(used: u64, most: u64) -> u64 {
-    let used = used.saturating_mul(100);
-    if used >= most.saturating_mul(99) {
-        99
-    } else if used >= most.saturating_mul(90) {
-        90
-    } else if used >= most.saturating_mul(50) {
-        50
-    } else {
-        0
-    }
+// The frames of the centre's fullest link, to one of the first `centres`.
+fn most_sent(centre: &Centre, centres: u8) -> u32
+    ensures { result ≡ most_sent centre.now centres }
+{
+    (0..centres).fold(0, |most, to| centre.sent(to).max(most))
 }

@@ -1,3 +1,7 @@
+ghost use Rattle.std.specs.Prelude.{◌≡◌, IfOk, length, replicate};
+ghost use Rattle.text_script.specs.rbc_centre.Views.{event_of};
+ghost use Rattle.serve_line.specs.Mentions as spec;
+
 use crate::status::silences::next_piece;
 use rbc_line::Line;
 use rbc_log::{CentreLog, Entry};
@@ -14,15 +18,27 @@ pub struct MentionOrder {
 }
 
 /// A message that named a train: the stamp of its step, and the centre.
-#[derive(Clone, Copy, PartialEq, Eq, PartialOrd, Ord)]
+#[derive(Clone, Copy)]
 struct Mention {
     stamp: u32,
     centre: u8,
 }
 
+impl Mention {
+    // Its place in the order of all messages: by the stamp, and then by the centre's number.
+    fn place(self) -> u64
+        ensures { result ≡ spec.place_of self }
+    {
+        u64::from(self.stamp) * 256 + u64::from(self.centre)
+    }
+}
+
 impl MentionOrder {
     /// No train has been named.
-    pub fn new(alloc: Global, line: &Line) -> Result<MentionOrder, AllocError> {
+    pub fn new(alloc: Global, line: &Line) -> Result<MentionOrder, AllocError>
+        ensures first { IfOk result (λ order. order.first.items ≡ replicate (length line.now.trains) None) }
+        ensures looked { IfOk result (λ order. order.looked.items ≡ replicate (length line.now.centres) 0) }
+    {
         Ok(MentionOrder {
             first: vec![in alloc; None; line.train_count() as usize]?,
             looked: vec![in alloc; 0usize; line.centre_count() as usize]?,
@@ -30,7 +46,10 @@ impl MentionOrder {
     }
 
     /// Reads a piece of the new log entries of a centre, and returns whether more are left.
-    pub fn read_on(&mut self, line: &Line, log: &CentreLog) -> bool {
+    pub fn read_on(&mut self, line: &Line, log: &CentreLog) -> bool
+        ensures first { self.new.first.items ≡ spec.named_in line.now self.old.first.items
+            (spec.new_entries self.old.looked.items log.now) }
+    {
         let centre = log.number() as usize;
         let Some(looked) = self.looked.get_mut(centre) else {
             return false;
@@ -44,11 +63,11 @@ impl MentionOrder {
         read < log.entries().len()
     }
 
-    fn read(&mut self, line: &Line, entry: &Entry) {
-        let Event::Train(message) = &entry.event else {
-            return;
-        };
-        let Some(train) = line.train_number(message.nid_engine()) else {
+    fn read(&mut self, line: &Line, entry: &Entry)
+        ensures first { self.new.first.items ≡ spec.named_after line.now self.old.first.items entry.now }
+        ensures looked { self.new.looked.items ≡ self.old.looked.items }
+    {
+        let Some(train) = named_by(line, entry) else {
             return;
         };
         let mention = Mention {
@@ -56,10 +75,7 @@ impl MentionOrder {
             centre: entry.centre,
         };
         if let Some(place) = self.first.get_mut(train as usize) {
-            match place {
-                Some(first) if *first <= mention => {}
-                _ => *place = Some(mention),
-            }
+            *place = Some(earlier(*place, mention));
         }
     }
 
@@ -71,11 +87,31 @@ impl MentionOrder {
                 heard.push((*first, train))?;
             }
         }
-        heard.sort_by_key(|item| item.0)?;
+        heard.sort_by_key(|item| item.0.place())?;
         let mut trains = Vec::with_capacity(alloc, heard.len())?;
         for (_, train) in heard.iter() {
             trains.push(*train)?;
         }
         Ok(trains)
+    }
+}
+
+// The place in the line file of the train that a message to a centre names.
+fn named_by(line: &Line, entry: &Entry) -> Option<u8>
+    ensures { result ≡ spec.named_by line.now (event_of entry.now.event) }
+{
+    match &entry.event {
+        Event::Train(message) => line.train_number(message.nid_engine()),
+        Event::Set(_) | Event::Unset(_) | Event::Deliver { .. } => None,
+    }
+}
+
+// The earlier one of two messages.
+fn earlier(first: Option<Mention>, next: Mention) -> Mention
+    ensures { result ≡ spec.earlier first next }
+{
+    match first {
+        Some(first) if first.place() <= next.place() => first,
+        _ => next,
     }
 }

@@ -1,5 +1,5 @@
-ghost use Rattle.std.specs.Prelude.{◌≡◌, count_by, drop, take};
-ghost use Rattle.serve_line.specs.Silences.{is_silent_for};
+ghost use Rattle.std.specs.Prelude.{◌≡◌, ◌<◌, ◌+◌, ◌-◌, ◌^◌, ◌↔◌, count_by, drop, IsTrue, length, min, replicate, take};
+ghost use Rattle.serve_line.specs.Silences.{HasCounted, is_silent_for};
 
 use rbc_log::{CentreLog, Entry, MOST_ENTRIES};
 use rbc_node::Node;
@@ -22,7 +22,9 @@ pub(crate) struct Silences {
 
 impl Silences {
     /// No entry was read.
-    pub fn new() -> Silences {
+    pub fn new() -> Silences
+        ensures { result ≡ record { read = 0; counts = replicate 10 0 } }
+    {
         Silences {
             read: 0,
             counts: [0; REASONS],
@@ -47,13 +49,16 @@ impl Silences {
     }
 
     // Reads a piece of the new entries, and returns whether more are left.
-    fn read_on(&mut self, log: &CentreLog) -> bool {
+    fn read_on(&mut self, log: &CentreLog) -> bool
+        ensures counts { HasCounted (take 4096 (drop self.old.read log.now.entries)) self.old.counts self.new.counts }
+        ensures read { self.new.read
+            ≡ min (self.old.read + length (take 4096 (drop self.old.read log.now.entries))) (2 ^ 64 - 1) }
+        ensures more { IsTrue result ↔ (self.new.read < length log.now.entries) }
+    {
         let entries = log.entries();
         let piece = next_piece(entries, self.read);
         self.read = self.read.saturating_add(piece.len());
-        for (count, number) in self.counts.iter_mut().zip(1u8..=10) {
-            *count = count.saturating_add(silent_in(piece, number));
-        }
+        add_silent(&mut self.counts, piece);
         self.read < entries.len()
     }
 }
@@ -68,6 +73,15 @@ pub(crate) fn next_piece(entries: &[Entry], read: usize) -> &[Entry]
     match left.get(..PIECE) {
         Some(first) => first,
         None => left,
+    }
+}
+
+// Adds to the count of each reason the messages among these events that are silent for it.
+fn add_silent(counts: &mut [u64; REASONS], entries: &[Entry])
+    ensures { HasCounted entries.now counts.old counts.new }
+{
+    for place in 0..REASONS {
+        counts[place] = counts[place].saturating_add(silent_in(entries, place as u8 + 1));
     }
 }
 

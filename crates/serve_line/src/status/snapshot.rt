@@ -13,7 +13,7 @@ use std::io::Write;
 use std::sync::{Mutex, Wait};
 use text_script::print::{print_section, print_train};
 use text_script::status::Fault;
-use text_script::{Mark, SectionRun, SectionView};
+use text_script::{Mark, SectionRun, SectionView, mark_of};
 
 /// The line as the centres show it, each at its own moment: at the control endpoint, and on the page.
 #[derive(Drop)]
@@ -179,9 +179,9 @@ impl Snapshot {
         ensures { mark_shown result ≡ mark_by entry (is_given_in line.now self.now s) }
     {
         match entry {
-            Entry::Shut | Entry::Open => Mark::of(entry, false),
+            Entry::Shut | Entry::Open => mark_of(entry, false),
             Entry::Taken { nid_engine } | Entry::Out { nid_engine } => {
-                Mark::of(entry, self.is_given(line, s, nid_engine))
+                mark_of(entry, self.is_given(line, s, nid_engine))
             }
         }
     }

@@ -117,41 +117,58 @@ serves_now : (c : ℕ) (calls : List Call) (next : ℕ) (serving : Option ℕ) �
 serves_now c [] next serving serves = serves
 serves_now c (call ∷ calls) next serving serves = serves.0
 
-pub beginning : (said : List Reply) (first c : ℕ) (serving : Option ℕ) (early : List Reply) (calls : List Call)
-    → IsCounted first said → All (IsSaidBy first said) early → All (IsSaidBy first said) (submitted calls)
-    → (last : ℕ) (left : List Reply) → Goes calls first serving early last left → Serves c calls first serving
-    → (rest : List Reply) × (said ≡ let_out calls ++ rest)
-beginning said first c serving early [] counted waits come last left goes serves = (said, refl)
-beginning said first c serving early (Says begins r is_taken ∷ calls) counted waits come last left goes serves =
+-- The released replies are counted from the turn at the beginning. A property of all replies that waited or were
+-- submitted holds for them.
+pub released : (P : Reply → Type 0) (first c : ℕ) (serving : Option ℕ) (early : List Reply) (calls : List Call)
+    → All P early → All P (submitted calls) → (last : ℕ) (left : List Reply)
+    → Goes calls first serving early last left → Serves c calls first serving
+    → IsCounted first (let_out calls) × All P (let_out calls)
+released P first c serving early [] waits come last left goes serves = (tt, All-nil P)
+released P first c serving early (Says begins r is_taken ∷ calls) waits come last left goes serves =
     let t = r.message.t_train in
     let then_serves = serves_now c calls (turn_after begins t first serving) (serving_after begins t first serving)
     serves.1 in
     let no_change = unchanged c begins t first serving early serves.0 then_serves in
-    let all : All (IsSaidBy first said) (handed is_taken first r early) =
-    all_handed (IsSaidBy first said) is_taken first r early (All-head (IsSaidBy first said) r (submitted calls) come)
-    waits in
+    let all : All P (handed is_taken first r early) =
+    all_handed P is_taken first r early (All-head P r (submitted calls) come) waits in
     let left_is : goes.0 ≡ handed is_taken first r early =
     goes.1
     ∙ ap (λ n. handed is_taken n r (early_after begins t first serving early)) no_change.0
     ∙ ap (handed is_taken first r) no_change.1 in
-    beginning said first c (serving_after begins t first serving) goes.0 calls counted
-    (subst (All (IsSaidBy first said)) (sym left_is) all)
-    (All-tail (IsSaidBy first said) r (submitted calls) come) last left
+    released P first c (serving_after begins t first serving) goes.0 calls (subst (All P) (sym left_is) all)
+    (All-tail P r (submitted calls) come) last left
     (subst (λ n. Goes calls n (serving_after begins t first serving) goes.0 last left) no_change.0 goes.2)
     (subst (λ n. Serves c calls n (serving_after begins t first serving)) no_change.0 serves.1)
-beginning said first c serving early (Leaves d ∷ calls) counted waits come last left goes serves =
-    beginning said first c (without d serving) goes.0 calls counted
-    (subst (All (IsSaidBy first said)) (sym goes.1) waits) come last left goes.2 serves.1
-beginning [] first c serving early (LetsOut r ∷ calls) counted waits come last left goes serves =
-    absurd (no_turn first r goes.1.number (all_left (IsSaidBy first []) first r early goes.0 goes.1 waits).0)
-beginning (s ∷ said) first c serving early (LetsOut r ∷ calls) counted waits come last left goes serves =
-    let held = all_left (IsSaidBy first (s ∷ said)) first r early goes.0 goes.1 waits in
+released P first c serving early (Leaves d ∷ calls) waits come last left goes serves =
+    released P first c (without d serving) goes.0 calls (subst (All P) (sym goes.1) waits) come last left goes.2
+    serves.1
+released P first c serving early (LetsOut r ∷ calls) waits come last left goes serves =
+    let held = all_left P first r early goes.0 goes.1 waits in
+    let later = released P (first + 1) c serving goes.0 calls held.1 come last left goes.2 serves.1 in
+    ((goes.1.number, later.0), All-cons P r (let_out calls) held.0 later.1)
+
+-- replies of the centre that are counted from a number are a beginning of all its replies from that number on
+begins_with : (first : ℕ) (said outs : List Reply) → IsCounted first said → IsCounted first outs
+    → All (IsSaidBy first said) outs → (rest : List Reply) × (said ≡ outs ++ rest)
+begins_with first said [] counted out all = (said, refl)
+begins_with first [] (r ∷ outs) counted out all =
+    absurd (no_turn first r out.0 (All-head (IsSaidBy first []) r outs all))
+begins_with first (s ∷ said) (r ∷ outs) counted out all =
     let on : (x : Reply) → IsSaidBy first (s ∷ said) x → IsSaidBy (first + 1) said x =
     λ x is. said_on first s said x counted.0 is in
-    let is_first : s ≡ r = turn first s said r counted goes.1.number held.0 in
-    let later = beginning said (first + 1) c serving goes.0 calls counted.1 (All-weaker _ _ on goes.0 held.1)
-    (All-weaker _ _ on (submitted calls) come) last left goes.2 serves.1 in
+    let is_first : s ≡ r =
+    turn first s said r counted out.0 (All-head (IsSaidBy first (s ∷ said)) r outs all) in
+    let later = begins_with (first + 1) said outs counted.1 out.1
+    (All-weaker _ _ on outs (All-tail (IsSaidBy first (s ∷ said)) r outs all)) in
     (later.0, ap (λ x. x ∷ said) is_first ∙ ap (λ xs. r ∷ xs) later.1)
+
+pub beginning : (said : List Reply) (first c : ℕ) (serving : Option ℕ) (early : List Reply) (calls : List Call)
+    → IsCounted first said → All (IsSaidBy first said) early → All (IsSaidBy first said) (submitted calls)
+    → (last : ℕ) (left : List Reply) → Goes calls first serving early last left → Serves c calls first serving
+    → (rest : List Reply) × (said ≡ let_out calls ++ rest)
+beginning said first c serving early calls counted waits come last left goes serves =
+    let out = released (IsSaidBy first said) first c serving early calls waits come last left goes serves in
+    begins_with first said (let_out calls) counted out.0 out.1
 
 -- ## The reply taken out of the waiting replies is the reply of the current turn
 

@@ -48,6 +48,7 @@ impl Bucket {
         ensures err { OnErr result (self.new.level ≡ held_at self.old now) }
         ensures held { OnErr result (self.new.level < 1000) }
         ensures wait { IfErr result (λ wait. 1000 ≤ self.new.level + wait * max self.old.rate.per_second 1) }
+        ensures soon { IfErr result (λ wait. (wait - 1) * max self.old.rate.per_second 1 + self.new.level ≤ 1000) }
     {
         self.fill(now);
         if self.level >= MESSAGE {

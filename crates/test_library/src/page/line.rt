@@ -1,36 +1,41 @@
 //! A line of two centres, with a train that has sections 0 and 1 of four.
 
+use rbc_line::Section;
+use rbc_world::{Mark, Phase, SectionRun, SectionView};
 use std::alloc::{AllocError, Global};
 use text_page::{
-    CentreNow, EventNow, Layout, Limits, LineNow, LinkNow, MissionNow, Phase, Place, Run,
-    SectionNow, SessionNow, TruePlace, Usage,
+    CentreNow, EventNow, Layout, Limits, LineNow, LinkNow, MissionNow, SessionNow, TruePlace,
 };
 
 // Its sections: two of 100 m with home A, and two with home B.
-static PLACES: [Place; 4] = [
-    Place {
+static PLACES: [Section; 4] = [
+    Section {
         track: 0,
-        home: 0,
         start: 0,
         metres: 100,
-    },
-    Place {
-        track: 0,
         home: 0,
+        balise: 1,
+    },
+    Section {
+        track: 0,
         start: 100,
         metres: 100,
+        home: 0,
+        balise: 2,
     },
-    Place {
+    Section {
         track: 0,
-        home: 1,
         start: 200,
         metres: 100,
-    },
-    Place {
-        track: 0,
         home: 1,
+        balise: 3,
+    },
+    Section {
+        track: 0,
         start: 300,
         metres: 100,
+        home: 1,
+        balise: 4,
     },
 ];
 
@@ -54,21 +59,21 @@ fn names(alloc: Global, given: &[&str]) -> Result<Vec<String>, AllocError> {
 }
 
 // Train 19 is in sections 0 and 1, section 2 is kept for it, and section 3 is not released.
-static SECTIONS: [SectionNow; 4] = [
-    SectionNow {
-        usage: Usage::Given { nid_engine: 19 },
+static SECTIONS: [SectionView; 4] = [
+    SectionView {
+        mark: Mark::Given { nid_engine: 19 },
         is_wished: false,
     },
-    SectionNow {
-        usage: Usage::Given { nid_engine: 19 },
+    SectionView {
+        mark: Mark::Given { nid_engine: 19 },
         is_wished: false,
     },
-    SectionNow {
-        usage: Usage::Kept { nid_engine: 19 },
+    SectionView {
+        mark: Mark::Kept { nid_engine: 19 },
         is_wished: false,
     },
-    SectionNow {
-        usage: Usage::Shut,
+    SectionView {
+        mark: Mark::Shut,
         is_wished: false,
     },
 ];
@@ -81,8 +86,8 @@ static MISSIONS: [Option<MissionNow>; 1] = [Some(MissionNow {
     track: 0,
     front: 1_234,
     rear: None,
-    hand: Run { first: 0, count: 2 },
-    pool: Run { first: 2, count: 0 },
+    hand: SectionRun { first: 0, count: 2 },
+    pool: SectionRun { first: 2, count: 0 },
     asked: None,
     is_ended: false,
 })];
@@ -91,6 +96,7 @@ static SESSIONS: [SessionNow; 1] = [SessionNow {
     nid_engine: 19,
     centre: 0,
     phase: Phase::Up,
+    is_waiting: false,
 }];
 
 const LIMITS: Limits = Limits {

@@ -2,9 +2,10 @@
 
 use crate::page::line::{layout, now};
 use crate::page::wanted::{Want, unmet};
+use rbc_world::{Mark, SectionView};
 use std::alloc::{AllocError, Global};
 use std::test::*;
-use text_page::{Changes, Layout, LineNow, Part, RunSheet, SectionNow, Usage};
+use text_page::{Changes, Layout, LineNow, Part, RunSheet};
 
 // The page of the last two of seven events, after which the line is in the state `now`. Section 2 is kept from event 6
 // on, and is wished back. The mission of train 19 and its session with A end with event 7.
@@ -32,9 +33,9 @@ fn add_changes(sheet: &mut RunSheet) -> Result<(), AllocError> {
     sheet.add_event(6, "</script><b>\"A\"</b>")?;
     sheet.end()?;
     sheet.begin(Changes::Sections)?;
-    let usage = Usage::Kept { nid_engine: 19 };
+    let mark = Mark::Kept { nid_engine: 19 };
     let is_wished = true;
-    sheet.add_section(6, 2, SectionNow { usage, is_wished })?;
+    sheet.add_section(6, 2, SectionView { mark, is_wished })?;
     sheet.end()
 }
 

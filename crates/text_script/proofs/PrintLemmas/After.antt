@@ -11,7 +11,7 @@ use Rattle.rbc_spec.specs.Line.{Line}
 use Rattle.rbc_spec.specs.LineCentre.{LineState}
 use Rattle.rbc_spec.specs.Outcome.{Outcome, Saying}
 use Rattle.rbc_world.specs.declared.view.LineView.{LineView}
-use Rattle.rbc_world.specs.declared.view.SectionView.{SectionView}
+use Rattle.rbc_world.specs.rbc_book.declared.mark.SectionView.{SectionView}
 use Rattle.rbc_world.specs.View.{mark_shown, seat_of, Shows}
 use Rattle.text_script.proofs.PrintLemmas.Seats.{seat_found}
 use Rattle.text_script.specs.Print.Answers.{AreSayingRows, frame_rows, IsOutcomePrint, IsRemark}

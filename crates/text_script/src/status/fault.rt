@@ -83,12 +83,22 @@ impl Fault<'_> {
 }
 
 impl From<LineFault> for Fault<'_> {
+    ghost use Rattle.std.specs.Prelude.{◌≡◌};
+    ghost use Rattle.text_script.specs.declared.status.fault.Fault.TheVariants.{Line};
+
+    ghost from_gives = { λ why fault. fault ≡ Line why };
+
     fn from(fault: LineFault) -> Self {
         Fault::Line(fault)
     }
 }
 
 impl From<StepFault> for Fault<'_> {
+    ghost use Rattle.std.specs.Prelude.{◌≡◌};
+    ghost use Rattle.text_script.specs.declared.status.fault.Fault.TheVariants.{Step};
+
+    ghost from_gives = { λ why fault. fault ≡ Step why };
+
     fn from(fault: StepFault) -> Self {
         Fault::Step(fault)
     }
@@ -96,6 +106,12 @@ impl From<StepFault> for Fault<'_> {
 
 // A failed allocation without a number of its own counts as a refused step.
 impl From<AllocError> for Fault<'_> {
+    ghost use Rattle.std.specs.Prelude.{◌≡◌};
+    ghost use Rattle.rbc_world.specs.rbc_centre.declared.fault.StepFault.TheVariants.{Memory};
+    ghost use Rattle.text_script.specs.declared.status.fault.Fault.TheVariants.{Step};
+
+    ghost from_gives = { λ _ fault. fault ≡ Step Memory };
+
     fn from(_error: AllocError) -> Self {
         Fault::Step(StepFault::Memory)
     }
@@ -108,6 +124,11 @@ impl<T: Drop> From<AllocFailed<T>> for Fault<'_> {
 }
 
 impl From<io::Error> for Fault<'_> {
+    ghost use Rattle.std.specs.Prelude.{◌≡◌};
+    ghost use Rattle.text_script.specs.declared.status.fault.Fault.TheVariants.{Write};
+
+    ghost from_gives = { λ _ fault. fault ≡ Write };
+
     fn from(_error: io::Error) -> Self {
         Fault::Write
     }

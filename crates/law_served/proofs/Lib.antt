@@ -1,0 +1,3 @@
+mod Brought
+mod Origins
+mod Written

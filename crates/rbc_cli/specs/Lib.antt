@@ -1,0 +1,4 @@
+pub mod Addresses
+pub mod Endings
+pub mod Ports
+pub mod Starts
