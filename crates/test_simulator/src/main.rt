@@ -1,0 +1,157 @@
+//! Simulates running centres. Centres, links, trains, the interlocking, disks and the clock are in memory, and one
+//! thread lets them take their steps. A seed draws the line, the order of the steps and the faults. `test_simulator
+//! FIRST COUNT` plays the runs of COUNT seeds from FIRST on, and prints their number. `test_simulator counts FIRST
+//! COUNT` also prints the steps and the crashes. `test_simulator SEED` prints the steps of one run. At a fault the
+//! program prints the last steps, the seed and the reason, and ends with status 1.
+//!
+//! The parts of the running centres are those of the program: nodes, journals, lanes, buckets, links, sessions and
+//! answers. The loops of the threads in `serve_line` are written again, as steps of a schedule. What leaves the
+//! centres is judged by the durable bytes of the journals.
+#![tactic(auto)]
+
+mod answering;
+mod carrying;
+mod disk;
+mod hearing;
+mod judge;
+mod keeping;
+mod lines;
+mod lives;
+mod outside;
+mod peers;
+mod program;
+mod routing;
+mod simulation;
+mod starting;
+mod talking;
+mod trouble;
+mod watching;
+
+use crate::disk::Platter;
+use crate::lines::LINES;
+use crate::simulation::{Mark, Simulation};
+use crate::trouble::{Done, Trouble};
+use anyhow::bail;
+use cli_storm::{Draws, below};
+use rbc_line::Line;
+use std::env;
+use std::sync::Mutex;
+
+// The forms of the arguments.
+const FORMS: &str = "SEED, or FIRST COUNT, or counts FIRST COUNT";
+
+// How many steps are printed at a fault.
+const LAST: usize = 40;
+
+// A run that was played.
+#[derive(Drop)]
+struct Played {
+    steps: u32,
+    kills: u32,
+    marks: Vec<Mark>,
+    trouble: Option<Trouble>,
+}
+
+fn main(rt: HostRuntime) -> anyhow::Result<()> {
+    let words: Vec<String> = env::args(&rt)?.collect(rt.alloc())?;
+    match words.get(1..).unwrap_or_default() {
+        [seed] => play_one(&rt, number_in(seed)),
+        [first, count] => play_all(&rt, number_in(first), number_in(count), false),
+        [what, first, count] if what.as_str() == "counts" => {
+            play_all(&rt, number_in(first), number_in(count), true)
+        }
+        _ => bail!("{FORMS}"),
+    }
+}
+
+fn number_in(word: &String) -> u64 {
+    word.as_str().parse().unwrap_or(0)
+}
+
+// Plays the run of a seed, and prints its steps.
+fn play_one(rt: &HostRuntime, seed: u64) -> anyhow::Result<()> {
+    let played = play(rt, seed)?;
+    print_marks(rt, &played, 0)?;
+    judged(seed, &played)
+}
+
+// Plays the runs of seeds, and prints their number.
+fn play_all(rt: &HostRuntime, first: u64, count: u64, has_counts: bool) -> anyhow::Result<()> {
+    let (mut steps, mut kills) = (0u64, 0u64);
+    for turn in 0..count {
+        let seed = first.saturating_add(turn);
+        let played = play(rt, seed)?;
+        if played.trouble.is_some() {
+            print_marks(rt, &played, played.marks.len().saturating_sub(LAST))?;
+        }
+        judged(seed, &played)?;
+        steps = steps.saturating_add(u64::from(played.steps));
+        kills = kills.saturating_add(u64::from(played.kills));
+    }
+    if has_counts {
+        println!(rt; "{count} runs, {steps} steps, {kills} kills, 0 faults")?;
+    } else {
+        println!(rt; "{count} runs, 0 faults")?;
+    }
+    Ok(())
+}
+
+fn print_marks(rt: &HostRuntime, played: &Played, first: usize) -> anyhow::Result<()> {
+    for mark in played.marks.iter().skip(first) {
+        println!(rt; "{}: {} {}", mark.step, mark.what, mark.which)?;
+    }
+    Ok(())
+}
+
+// A fault ends the program.
+fn judged(seed: u64, played: &Played) -> anyhow::Result<()> {
+    match played.trouble {
+        Some(Trouble::Wrong(why)) => bail!("seed {seed}, step {}: {why}", played.steps),
+        Some(Trouble::Memory) => bail!("seed {seed}: memory ran out"),
+        None => Ok(()),
+    }
+}
+
+// Plays the run of a seed.
+fn play(rt: &HostRuntime, seed: u64) -> anyhow::Result<Played> {
+    let mut draws = Draws { x: seed };
+    for _ in 0..4 {
+        draws.draw();
+    }
+    let text = LINES.get(below(&mut draws, 3)).copied().unwrap_or("");
+    let Ok(line) = Line::from_toml(rt.alloc(), text) else {
+        bail!("the line has a fault");
+    };
+    let mut platters = Vec::new(rt.alloc());
+    for _ in 0..line.centre_count() {
+        platters.push(Mutex::new(Platter::new(rt.alloc())))?;
+    }
+    match Simulation::new(rt, &line, &platters, draws) {
+        Ok(simulation) => Ok(ended(simulation)),
+        Err(_) => bail!("memory ran out"),
+    }
+}
+
+// Lets a run take its steps, at least 300.
+fn ended(mut simulation: Simulation<'_>) -> Played {
+    let trouble = take_steps(&mut simulation).err();
+    let Simulation {
+        step,
+        kills,
+        marks,
+        ..
+    } = simulation;
+    Played {
+        steps: step,
+        kills,
+        marks,
+        trouble,
+    }
+}
+
+fn take_steps(simulation: &mut Simulation<'_>) -> Done<()> {
+    for _ in 0..300 + below(&mut simulation.draws, 1_200) {
+        simulation.take_step()?;
+    }
+    simulation.calm_down()
+}

@@ -1,0 +1,237 @@
+//! A run: the centres, their disks, and what is outside them. The order of the steps and the faults are drawn.
+
+use crate::disk::{Fate, Platter};
+use crate::judge::Judge;
+use crate::outside::Train;
+use crate::program::{CONTROLS, Program};
+use crate::starting::Found;
+use crate::trouble::Done;
+use cli_storm::{Draws, below, in_hundred};
+use rbc_line::{Line, Section};
+use std::alloc::Global;
+use std::sync::Mutex;
+
+/// An engine that is no train of the line.
+const STRANGER: u32 = 99;
+
+/// How many of the last connections are drawn most often.
+const RECENT: usize = 8;
+
+/// The steps of the threads of the centres.
+static THREADS: [&str; 7] = [
+    "reads a message, connection",
+    "hands an answer in, thread",
+    "writes a message, connection",
+    "puts a frame, link",
+    "takes a frame, link",
+    "writes a journal, centre",
+    "answers a line, control connection",
+];
+
+/// The number of steps of the threads.
+pub const COUNT: usize = 7;
+
+/// A step that did something: its number, what it did, and which thread.
+#[derive(Clone, Copy)]
+pub struct Mark {
+    pub step: u32,
+    pub what: &'static str,
+    pub which: usize,
+}
+
+/// The connection that a train uses to a centre, and how often the train has spoken over it.
+#[derive(Clone, Copy)]
+pub struct Call {
+    pub number: usize,
+    pub spoken: usize,
+}
+
+/// The state of a run.
+#[derive(Drop)]
+pub struct Simulation<'a> {
+    pub rt: &'a HostRuntime,
+    pub alloc: Global,
+    pub line: &'a Line,
+    pub platters: &'a [Mutex<Platter>],
+    pub draws: Draws,
+    /// In units of 10 ms.
+    pub now: u32,
+    pub program: Option<Program<'a>>,
+    /// A start has locked the journals.
+    pub has_lock: bool,
+    /// The journals that a start has read.
+    pub found: Option<Found>,
+    pub sections: Vec<Section>,
+    pub trains: Vec<Train>,
+    /// By train and centre.
+    pub calls: Vec<Option<Call>>,
+    pub judge: Judge<'a>,
+    /// No fault is drawn.
+    pub is_calm: bool,
+    pub step: u32,
+    pub kills: u32,
+    pub marks: Vec<Mark>,
+}
+
+impl<'a> Simulation<'a> {
+    /// Before the first start of the centres.
+    pub fn new(
+        rt: &'a HostRuntime,
+        line: &'a Line,
+        platters: &'a [Mutex<Platter>],
+        draws: Draws,
+    ) -> Done<Simulation<'a>> {
+        let alloc = rt.alloc();
+        let mut simulation = Simulation {
+            rt,
+            alloc,
+            line,
+            platters,
+            draws,
+            now: 1_000,
+            program: None,
+            has_lock: false,
+            found: None,
+            sections: Vec::new(alloc),
+            trains: Vec::new(alloc),
+            calls: Vec::new(alloc),
+            judge: Judge::new(rt, line)?,
+            is_calm: false,
+            step: 0,
+            kills: 0,
+            marks: Vec::new(alloc),
+        };
+        for s in 0..line.section_count() {
+            if let Some(section) = line.section(s) {
+                simulation.sections.push(section)?;
+            }
+        }
+        for i in 0..line.train_count() {
+            if let Some(train) = line.train(i) {
+                let section = below(&mut simulation.draws, simulation.sections.len().max(1));
+                simulation
+                    .trains
+                    .push(Train::new(train.nid_engine, section))?;
+            }
+        }
+        simulation.trains.push(Train::new(STRANGER, 0))?;
+        for _ in 0..simulation.trains.len().saturating_mul(platters.len()) {
+            simulation.calls.push(None)?;
+        }
+        Ok(simulation)
+    }
+
+    /// Notes that a step did something.
+    pub fn mark(&mut self, what: &'static str, which: usize) -> Done<()> {
+        let step = self.step;
+        self.marks.push(Mark { step, what, which })?;
+        Ok(())
+    }
+
+    /// A drawn thread, peer or fault takes a step.
+    pub fn take_step(&mut self) -> Done<()> {
+        self.step = self.step.saturating_add(1);
+        match below(&mut self.draws, 100) {
+            0..=79 => {
+                self.take_turn()?;
+            }
+            80..=92 => self.speak()?,
+            93..=95 => self.command()?,
+            _ => self.trouble()?,
+        }
+        let is_ending = match &self.program {
+            Some(program) => program.is_stopped,
+            None => true,
+        };
+        if is_ending {
+            self.start_or_end()?;
+        }
+        self.judge.catch_up(self.platters, self.now)
+    }
+
+    // A drawn thread of the centres takes a step.
+    fn take_turn(&mut self) -> Done<bool> {
+        let what = below(&mut self.draws, COUNT);
+        let count = self.count(what);
+        let first = if in_hundred(&mut self.draws, 80) {
+            count.saturating_sub(RECENT)
+        } else {
+            0
+        };
+        let which = below(&mut self.draws, count.saturating_sub(first).max(1));
+        self.turn(what, first.saturating_add(which))
+    }
+
+    /// How many threads take steps of this kind.
+    pub fn count(&self, what: usize) -> usize {
+        let Some(program) = &self.program else {
+            return 0;
+        };
+        match what {
+            0 | 2 => program.connections.len(),
+            1 => program.workers.len(),
+            3 | 4 => program.links.len(),
+            5 => self.platters.len(),
+            _ => CONTROLS,
+        }
+    }
+
+    /// A thread of the centres takes a step. The result is whether it could. What leaves is judged.
+    pub fn turn(&mut self, what: usize, which: usize) -> Done<bool> {
+        let Some(mut program) = self.program.take() else {
+            return Ok(false);
+        };
+        let did = match what {
+            0 => program.read(which, self.now, &mut self.draws)?,
+            1 => program.hand_in(which)?,
+            2 => self.write(&mut program, which)?,
+            3 => program.send(which)?,
+            4 => program.receive(which)?,
+            5 => {
+                let fate = self.fate();
+                program.keep(which, self.now, fate)?
+            }
+            _ => {
+                let (did, text) = program.answer(which)?;
+                if !text.is_empty() {
+                    self.judge.to_control(&text)?;
+                }
+                did
+            }
+        };
+        self.program = Some(program);
+        if did {
+            self.mark(THREADS.get(what).copied().unwrap_or(""), which)?;
+        }
+        Ok(did)
+    }
+
+    // The thread that writes a connection takes a step.
+    fn write(&mut self, program: &mut Program<'a>, number: usize) -> Done<bool> {
+        let Some(bytes) = program.write(number)? else {
+            return Ok(false);
+        };
+        let Some(connection) = program.connections.get_mut(number) else {
+            return Ok(false);
+        };
+        if bytes.is_empty() {
+            connection.is_shut = true;
+            return Ok(true);
+        }
+        let (centre, nid_engine) = (connection.centre, connection.nid_engine);
+        self.judge.to_train(number, centre, nid_engine, &bytes)?;
+        Ok(true)
+    }
+
+    // What the disk does with the next write.
+    fn fate(&mut self) -> Fate {
+        if self.is_calm {
+            return Fate::Good;
+        }
+        match below(&mut self.draws, 100) {
+            0..=9 => Fate::Torn(below(&mut self.draws, 200)),
+            10..=14 => Fate::Unsynced,
+            _ => Fate::Good,
+        }
+    }
+}
