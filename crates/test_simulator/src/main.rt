@@ -43,6 +43,14 @@ const FORMS: &str = "SEED, or FIRST COUNT, or counts FIRST COUNT";
 // How many steps are printed at a fault.
 const LAST: usize = 40;
 
+// What is printed of runs.
+#[derive(Clone, Copy, PartialEq, Eq)]
+enum Print {
+    Runs,
+    Counts,
+    Steps,
+}
+
 // A run that was played.
 #[derive(Drop)]
 struct Played {
@@ -55,10 +63,10 @@ struct Played {
 fn main(rt: HostRuntime) -> anyhow::Result<()> {
     let words: Vec<String> = env::args(&rt)?.collect(rt.alloc())?;
     match words.get(1..).unwrap_or_default() {
-        [seed] => play_one(&rt, number_in(seed)),
-        [first, count] => play_all(&rt, number_in(first), number_in(count), false),
+        [seed] => play_all(&rt, number_in(seed), 1, Print::Steps),
+        [first, count] => play_all(&rt, number_in(first), number_in(count), Print::Runs),
         [what, first, count] if what.as_str() == "counts" => {
-            play_all(&rt, number_in(first), number_in(count), true)
+            play_all(&rt, number_in(first), number_in(count), Print::Counts)
         }
         _ => bail!("{FORMS}"),
     }
@@ -68,27 +76,22 @@ fn number_in(word: &String) -> u64 {
     word.as_str().parse().unwrap_or(0)
 }
 
-// Plays the run of a seed, and prints its steps.
-fn play_one(rt: &HostRuntime, seed: u64) -> anyhow::Result<()> {
-    let played = play(rt, seed)?;
-    print_marks(rt, &played, 0)?;
-    judged(seed, &played)
-}
-
-// Plays the runs of seeds, and prints their number.
-fn play_all(rt: &HostRuntime, first: u64, count: u64, has_counts: bool) -> anyhow::Result<()> {
+// Plays the runs of seeds, and prints their number. A fault ends the program.
+fn play_all(rt: &HostRuntime, first: u64, count: u64, print: Print) -> anyhow::Result<()> {
     let (mut steps, mut kills) = (0u64, 0u64);
     for turn in 0..count {
         let seed = first.saturating_add(turn);
         let played = play(rt, seed)?;
-        if played.trouble.is_some() {
-            print_marks(rt, &played, played.marks.len().saturating_sub(LAST))?;
+        print_marks(rt, &played, print)?;
+        match played.trouble {
+            Some(Trouble::Wrong(why)) => bail!("seed {seed}, step {}: {why}", played.steps),
+            Some(Trouble::Memory) => bail!("seed {seed}: memory ran out"),
+            None => {}
         }
-        judged(seed, &played)?;
         steps = steps.saturating_add(u64::from(played.steps));
         kills = kills.saturating_add(u64::from(played.kills));
     }
-    if has_counts {
+    if print == Print::Counts {
         println!(rt; "{count} runs, {steps} steps, {kills} kills, 0 faults")?;
     } else {
         println!(rt; "{count} runs, 0 faults")?;
@@ -96,20 +99,18 @@ fn play_all(rt: &HostRuntime, first: u64, count: u64, has_counts: bool) -> anyho
     Ok(())
 }
 
-fn print_marks(rt: &HostRuntime, played: &Played, first: usize) -> anyhow::Result<()> {
+// Prints the steps of a run; the last, if it ended with a fault; or none.
+fn print_marks(rt: &HostRuntime, played: &Played, print: Print) -> anyhow::Result<()> {
+    let count = played.marks.len();
+    let first = match (print, played.trouble) {
+        (Print::Steps, _) => 0,
+        (_, Some(_)) => count.saturating_sub(LAST),
+        (_, None) => count,
+    };
     for mark in played.marks.iter().skip(first) {
         println!(rt; "{}: {} {}", mark.step, mark.what, mark.which)?;
     }
     Ok(())
-}
-
-// A fault ends the program.
-fn judged(seed: u64, played: &Played) -> anyhow::Result<()> {
-    match played.trouble {
-        Some(Trouble::Wrong(why)) => bail!("seed {seed}, step {}: {why}", played.steps),
-        Some(Trouble::Memory) => bail!("seed {seed}: memory ran out"),
-        None => Ok(()),
-    }
 }
 
 // Plays the run of a seed.
@@ -126,14 +127,9 @@ fn play(rt: &HostRuntime, seed: u64) -> anyhow::Result<Played> {
     for _ in 0..line.centre_count() {
         platters.push(Mutex::new(Platter::new(rt.alloc())))?;
     }
-    match Simulation::new(rt, &line, &platters, draws) {
-        Ok(simulation) => Ok(ended(simulation)),
-        Err(_) => bail!("memory ran out"),
-    }
-}
-
-// Lets a run take its steps, at least 300.
-fn ended(mut simulation: Simulation<'_>) -> Played {
+    let Ok(mut simulation) = Simulation::new(rt, &line, &platters, draws) else {
+        bail!("memory ran out");
+    };
     let trouble = take_steps(&mut simulation).err();
     let Simulation {
         step,
@@ -141,12 +137,12 @@ fn ended(mut simulation: Simulation<'_>) -> Played {
         marks,
         ..
     } = simulation;
-    Played {
+    Ok(Played {
         steps: step,
         kills,
         marks,
         trouble,
-    }
+    })
 }
 
 fn take_steps(simulation: &mut Simulation<'_>) -> Done<()> {
