@@ -146,7 +146,7 @@ fn play(rt: &HostRuntime, seed: u64) -> anyhow::Result<Played> {
 }
 
 fn take_steps(simulation: &mut Simulation<'_>) -> Done<()> {
-    for _ in 0..300 + below(&mut simulation.draws, 1_200) {
+    for _ in 0..400 + below(&mut simulation.draws, 1_600) {
         simulation.take_step()?;
     }
     simulation.calm_down()

@@ -6,7 +6,7 @@ use crate::outside::Train;
 use crate::program::{CONTROLS, Program};
 use crate::starting::Found;
 use crate::trouble::Done;
-use cli_storm::{Draws, below, in_hundred};
+use cli_storm::{Draws, below};
 use rbc_line::{Line, Section};
 use std::alloc::Global;
 use std::sync::Mutex;
@@ -14,8 +14,8 @@ use std::sync::Mutex;
 /// An engine that is no train of the line.
 const STRANGER: u32 = 99;
 
-/// How many of the last connections are drawn most often.
-const RECENT: usize = 8;
+/// How many of the first and of the last threads of a kind are drawn most often.
+const FEW: usize = 6;
 
 /// The steps of the threads of the centres.
 static THREADS: [&str; 7] = [
@@ -30,6 +30,9 @@ static THREADS: [&str; 7] = [
 
 /// The number of steps of the threads.
 pub const COUNT: usize = 7;
+
+/// How often each of these steps is drawn.
+static WEIGHTS: [usize; 14] = [0, 0, 0, 1, 1, 1, 1, 2, 2, 3, 4, 5, 5, 6];
 
 /// A step that did something: its number, what it did, and which thread.
 #[derive(Clone, Copy)]
@@ -149,16 +152,20 @@ impl<'a> Simulation<'a> {
         self.judge.catch_up(self.platters, self.now)
     }
 
-    // A drawn thread of the centres takes a step.
+    // A drawn thread of the centres takes a step: one of the first of its kind, of the last, or of all.
     fn take_turn(&mut self) -> Done<bool> {
-        let what = below(&mut self.draws, COUNT);
+        let lot = below(&mut self.draws, 14);
+        let what = WEIGHTS.get(lot).copied().unwrap_or(0);
         let count = self.count(what);
-        let first = if in_hundred(&mut self.draws, 80) {
-            count.saturating_sub(RECENT)
-        } else {
-            0
+        let first = match below(&mut self.draws, 2) {
+            0 => count.saturating_sub(FEW),
+            _ => 0,
         };
-        let which = below(&mut self.draws, count.saturating_sub(first).max(1));
+        let places = match below(&mut self.draws, 2) {
+            0 => count.min(FEW),
+            _ => count,
+        };
+        let which = below(&mut self.draws, places.max(1));
         self.turn(what, first.saturating_add(which))
     }
 
