@@ -12,6 +12,7 @@ use serve_workers::writing::Release;
 use serve_workers::{Committer, NoSink};
 use std::alloc::Global;
 use text_script::WorldEvent;
+use std::sync::Wait;
 
 /// The answer to a line if a journal can't be written.
 pub const JOURNAL_FAULT: &str = "journal fault\n";
@@ -46,7 +47,7 @@ impl Control {
     }
 }
 
-impl Program<'_> {
+impl<R: Wait> Program<'_, R> {
     /// A control connection reads the next line, or its answer leaves. The result is whether it took a step, and the
     /// text that left.
     pub fn answer(&mut self, number: usize) -> Done<(bool, Vec<u8>)> {

@@ -5,6 +5,7 @@ use crate::trouble::Done;
 use rbc_board::CellBoard;
 use rbc_node::{Node, Open};
 use serve_workers::{Committer, InOrder, NoSink, Order, receive_frames, send_kept_frames};
+use std::sync::Wait;
 
 /// The most frames of a link.
 const MOST_FRAMES: u32 = 65_536;
@@ -23,7 +24,7 @@ pub struct Passage {
 
 impl Passage {
     /// The link from a centre to the centre of a node, without the frames that this has taken.
-    pub fn new(rt: &HostRuntime, node: &Node, from: u8, worker: usize) -> Passage {
+    pub fn new<R: Wait>(rt: &R, node: &Node, from: u8, worker: usize) -> Passage {
         let look = node.look(rt);
         Passage {
             from,
@@ -35,7 +36,7 @@ impl Passage {
     }
 }
 
-impl Program<'_> {
+impl<R: Wait> Program<'_, R> {
     /// Whether a frame is on its way, and the journal of its sender was not given up.
     pub fn has_frame(&self, at: usize) -> bool {
         let Some(link) = self.links.get(at) else {

@@ -4,10 +4,11 @@ use crate::answering::{JOURNAL_FAULT, SCRIPT_FAULT};
 use crate::judge::{Judge, Said};
 use crate::trouble::{Done, Trouble};
 use rbc_msgs::{TrackBody, decode_track};
+use std::sync::Wait;
 
 const TOO_EARLY: Trouble = Trouble::Wrong("an answer left before its event was durable");
 
-impl Judge<'_> {
+impl<R: Wait + AllocGlobal> Judge<'_, R> {
     /// A message left over a connection of a centre to a train.
     pub fn to_train(
         &mut self,

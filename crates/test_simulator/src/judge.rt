@@ -12,7 +12,7 @@ use rbc_msgs::TrackMsg;
 use rbc_node::{Node, Share};
 use serve_control::print_commit;
 use std::alloc::Global;
-use std::sync::Mutex;
+use std::sync::{Mutex, Wait};
 use text_journal::{Entry, first_line};
 use text_script::print::print_section;
 use text_script::{SectionView, WorldEvent, mark_of};
@@ -27,8 +27,8 @@ pub struct Said {
 
 /// The centres as their journals have them, and what has left.
 #[derive(Drop)]
-pub struct Judge<'a> {
-    rt: &'a HostRuntime,
+pub struct Judge<'a, R> {
+    rt: &'a R,
     alloc: Global,
     pub line: &'a Line,
     nodes: Vec<Node>,
@@ -49,9 +49,9 @@ pub struct Judge<'a> {
     begun: Vec<usize>,
 }
 
-impl<'a> Judge<'a> {
+impl<'a, R: Wait + AllocGlobal> Judge<'a, R> {
     /// No event has happened.
-    pub fn new(rt: &'a HostRuntime, line: &'a Line) -> Done<Judge<'a>> {
+    pub fn new(rt: &'a R, line: &'a Line) -> Done<Judge<'a, R>> {
         let alloc = rt.alloc();
         let (nodes, shares) = nodes_of(alloc, line)?;
         let mut judge = Judge {

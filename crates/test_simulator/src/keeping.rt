@@ -63,8 +63,8 @@ pub struct Keeper<'a> {
 
 impl<'a> Keeper<'a> {
     /// The journal has the events of its node at the start.
-    pub fn new(
-        rt: &HostRuntime,
+    pub fn new<R: Wait + AllocGlobal>(
+        rt: &R,
         file: JournalFile<Disk<'a>>,
         platter: &'a Mutex<Platter>,
         node: &Node,
@@ -91,7 +91,7 @@ impl<'a> Keeper<'a> {
     }
 }
 
-impl Program<'_> {
+impl<R: Wait> Program<'_, R> {
     /// The thread of a journal copies the next events, writes them, or reports that they are written. After an error
     /// none of them counts as written; after `stop` the journal is given up then.
     pub fn keep(&mut self, centre: usize, now: u32, fate: Fate) -> Done<bool> {

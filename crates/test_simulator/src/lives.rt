@@ -5,8 +5,9 @@ use crate::simulation::{COUNT, Simulation};
 use crate::starting::{lock_all, read_all, resume, set_locked};
 use crate::trouble::{Done, Trouble};
 use cli_storm::{below, in_hundred};
+use std::sync::Wait;
 
-impl Simulation<'_> {
+impl<R: Wait + AllocGlobal> Simulation<'_, R> {
     /// The machine crashes, perhaps while a journal is written.
     pub fn kill(&mut self) -> Done<()> {
         if let Some(mut program) = self.program.take() {

@@ -34,8 +34,9 @@ use crate::trouble::{Done, Trouble};
 use anyhow::bail;
 use cli_storm::{Draws, below};
 use rbc_line::Line;
-use std::env;
-use std::sync::Mutex;
+use std::io::Write;
+use std::{env, io};
+use std::sync::{Mutex, Wait};
 
 // The forms of the arguments.
 const FORMS: &str = "SEED, or FIRST COUNT, or counts FIRST COUNT";
@@ -62,11 +63,12 @@ struct Played {
 
 fn main(rt: HostRuntime) -> anyhow::Result<()> {
     let words: Vec<String> = env::args(&rt)?.collect(rt.alloc())?;
+    let mut out = io::writer(&rt);
     match words.get(1..).unwrap_or_default() {
-        [seed] => play_all(&rt, number_in(seed), 1, Print::Steps),
-        [first, count] => play_all(&rt, number_in(first), number_in(count), Print::Runs),
+        [seed] => play_all(&rt, &mut out, number_in(seed), 1, Print::Steps),
+        [first, count] => play_all(&rt, &mut out, number_in(first), number_in(count), Print::Runs),
         [what, first, count] if what.as_str() == "counts" => {
-            play_all(&rt, number_in(first), number_in(count), Print::Counts)
+            play_all(&rt, &mut out, number_in(first), number_in(count), Print::Counts)
         }
         _ => bail!("{FORMS}"),
     }
@@ -77,12 +79,12 @@ fn number_in(word: &String) -> u64 {
 }
 
 // Plays the runs of seeds, and prints their number. A fault ends the program.
-fn play_all(rt: &HostRuntime, first: u64, count: u64, print: Print) -> anyhow::Result<()> {
+fn play_all<R: Wait + AllocGlobal, W: Write>(rt: &R, out: &mut W, first: u64, count: u64, print: Print) -> anyhow::Result<()> {
     let (mut steps, mut kills) = (0u64, 0u64);
     for turn in 0..count {
         let seed = first.saturating_add(turn);
         let played = play(rt, seed)?;
-        print_marks(rt, &played, print)?;
+        print_marks(out, &played, print)?;
         match played.trouble {
             Some(Trouble::Wrong(why)) => bail!("seed {seed}, step {}: {why}", played.steps),
             Some(Trouble::Memory) => bail!("seed {seed}: memory ran out"),
@@ -92,15 +94,15 @@ fn play_all(rt: &HostRuntime, first: u64, count: u64, print: Print) -> anyhow::R
         kills = kills.saturating_add(u64::from(played.kills));
     }
     if print == Print::Counts {
-        println!(rt; "{count} runs, {steps} steps, {kills} kills, 0 faults")?;
+        writeln!(out, "{count} runs, {steps} steps, {kills} kills, 0 faults")?;
     } else {
-        println!(rt; "{count} runs, 0 faults")?;
+        writeln!(out, "{count} runs, 0 faults")?;
     }
     Ok(())
 }
 
 // Prints the steps of a run; the last, if it ended with a fault; or none.
-fn print_marks(rt: &HostRuntime, played: &Played, print: Print) -> anyhow::Result<()> {
+fn print_marks<W: Write>(out: &mut W, played: &Played, print: Print) -> anyhow::Result<()> {
     let count = played.marks.len();
     let first = match (print, played.trouble) {
         (Print::Steps, _) => 0,
@@ -108,13 +110,13 @@ fn print_marks(rt: &HostRuntime, played: &Played, print: Print) -> anyhow::Resul
         (_, None) => count,
     };
     for mark in played.marks.iter().skip(first) {
-        println!(rt; "{}: {} {}", mark.step, mark.what, mark.which)?;
+        writeln!(out, "{}: {} {}", mark.step, mark.what, mark.which)?;
     }
     Ok(())
 }
 
 // Plays the run of a seed.
-fn play(rt: &HostRuntime, seed: u64) -> anyhow::Result<Played> {
+fn play<R: Wait + AllocGlobal>(rt: &R, seed: u64) -> anyhow::Result<Played> {
     let mut draws = Draws { x: seed };
     for _ in 0..4 {
         draws.draw();
@@ -145,7 +147,7 @@ fn play(rt: &HostRuntime, seed: u64) -> anyhow::Result<Played> {
     })
 }
 
-fn take_steps(simulation: &mut Simulation<'_>) -> Done<()> {
+fn take_steps<R: Wait + AllocGlobal>(simulation: &mut Simulation<'_, R>) -> Done<()> {
     for _ in 0..400 + below(&mut simulation.draws, 1_600) {
         simulation.take_step()?;
     }

@@ -5,8 +5,9 @@ use crate::simulation::{Call, Simulation};
 use crate::trouble::Done;
 use cli_storm::{below, in_hundred};
 use text_script::print::name_of;
+use std::sync::Wait;
 
-impl Simulation<'_> {
+impl<R: Wait + AllocGlobal> Simulation<'_, R> {
     // The place of the call of a train to a centre.
     fn call_at(&self, train: usize, centre: u8) -> usize {
         train

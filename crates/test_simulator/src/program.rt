@@ -19,6 +19,7 @@ pub const RATE: Rate = Rate {
     per_second: 4,
     burst: 8,
 };
+use std::sync::Wait;
 
 /// How many control connections there are.
 pub const CONTROLS: usize = 2;
@@ -86,8 +87,8 @@ pub struct Bells {
 
 /// The centres that run in one process.
 #[derive(Drop)]
-pub struct Program<'a> {
-    pub rt: &'a HostRuntime,
+pub struct Program<'a, R> {
+    pub rt: &'a R,
     pub alloc: Global,
     pub line: &'a Line,
     pub nodes: Vec<Node>,
@@ -107,15 +108,15 @@ pub struct Program<'a> {
     pub is_stopped: bool,
 }
 
-impl<'a> Program<'a> {
+impl<'a, R: Wait + AllocGlobal> Program<'a, R> {
     /// Centres that go on from their nodes, and keep these journals.
     pub fn new(
-        rt: &'a HostRuntime,
+        rt: &'a R,
         line: &'a Line,
         nodes: Vec<Node>,
         begun: Vec<Share>,
         keepers: Vec<Keeper<'a>>,
-    ) -> Done<Program<'a>> {
+    ) -> Done<Program<'a, R>> {
         let alloc = rt.alloc();
         let bells = bells_of(rt, alloc, &nodes)?;
         let mut program = Program {
@@ -240,7 +241,7 @@ impl<'a> Program<'a> {
 }
 
 // Signals of workers that have ended: neither finds a frame.
-fn bells_of(rt: &HostRuntime, alloc: Global, nodes: &[Node]) -> Result<Bells, AllocError> {
+fn bells_of<R: Wait>(rt: &R, alloc: Global, nodes: &[Node]) -> Result<Bells, AllocError> {
     let bells = Bells {
         ends: LinkEnds::new(),
         waker: Parker::new(),

@@ -5,6 +5,7 @@ use crate::trouble::{Done, Trouble};
 use rbc_centre::Saying;
 use rbc_msgs::TrackBody;
 use serve_workers::writing::{Release, Reply};
+use std::sync::Wait;
 
 /// The most replies that wait for one connection.
 const REPLIES: usize = 32;
@@ -12,7 +13,7 @@ const REPLIES: usize = 32;
 /// The most events that may wait to be written before the centre's peers wait for them, whatever the answer.
 const MOST_UNWRITTEN: u32 = 4_096;
 
-impl Program<'_> {
+impl<R: Wait> Program<'_, R> {
     /// A thread that commits events hands in the next part of an answer, if it may leave. An answer with a reply to the
     /// interlocking waits for its event here.
     pub fn hand_in(&mut self, at: usize) -> Done<bool> {

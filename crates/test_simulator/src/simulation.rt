@@ -9,7 +9,7 @@ use crate::trouble::Done;
 use cli_storm::{Draws, below};
 use rbc_line::{Line, Section};
 use std::alloc::Global;
-use std::sync::Mutex;
+use std::sync::{Mutex, Wait};
 
 /// An engine that is no train of the line.
 const STRANGER: u32 = 99;
@@ -51,15 +51,15 @@ pub struct Call {
 
 /// The state of a run.
 #[derive(Drop)]
-pub struct Simulation<'a> {
-    pub rt: &'a HostRuntime,
+pub struct Simulation<'a, R> {
+    pub rt: &'a R,
     pub alloc: Global,
     pub line: &'a Line,
     pub platters: &'a [Mutex<Platter>],
     pub draws: Draws,
     /// In units of 10 ms.
     pub now: u32,
-    pub program: Option<Program<'a>>,
+    pub program: Option<Program<'a, R>>,
     /// A start has locked the journals.
     pub has_lock: bool,
     /// The journals that a start has read.
@@ -68,7 +68,7 @@ pub struct Simulation<'a> {
     pub trains: Vec<Train>,
     /// By train and centre.
     pub calls: Vec<Option<Call>>,
-    pub judge: Judge<'a>,
+    pub judge: Judge<'a, R>,
     /// No fault is drawn.
     pub is_calm: bool,
     pub step: u32,
@@ -76,14 +76,14 @@ pub struct Simulation<'a> {
     pub marks: Vec<Mark>,
 }
 
-impl<'a> Simulation<'a> {
+impl<'a, R: Wait + AllocGlobal> Simulation<'a, R> {
     /// Before the first start of the centres.
     pub fn new(
-        rt: &'a HostRuntime,
+        rt: &'a R,
         line: &'a Line,
         platters: &'a [Mutex<Platter>],
         draws: Draws,
-    ) -> Done<Simulation<'a>> {
+    ) -> Done<Simulation<'a, R>> {
         let alloc = rt.alloc();
         let mut simulation = Simulation {
             rt,
@@ -214,7 +214,7 @@ impl<'a> Simulation<'a> {
     }
 
     // The thread that writes a connection takes a step.
-    fn write(&mut self, program: &mut Program<'a>, number: usize) -> Done<bool> {
+    fn write(&mut self, program: &mut Program<'a, R>, number: usize) -> Done<bool> {
         let Some(bytes) = program.write(number)? else {
             return Ok(false);
         };

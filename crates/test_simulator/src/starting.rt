@@ -13,7 +13,7 @@ use rbc_node::{Node, Open, Share};
 use serve_journal::JournalFile;
 use std::alloc::{AllocError, Global};
 use std::str::from_utf8;
-use std::sync::Mutex;
+use std::sync::{Mutex, Wait};
 use text_journal::{Entry, first_fallen, first_line, in_order, read_journal, whole_length};
 use text_script::WorldEvent;
 
@@ -96,12 +96,12 @@ pub fn nodes_of(alloc: Global, line: &Line) -> Result<(Vec<Node>, Vec<Share>), A
 }
 
 /// The centres resume from the journals that were found, and go on.
-pub fn resume<'a>(
-    rt: &'a HostRuntime,
+pub fn resume<'a, R: Wait + AllocGlobal>(
+    rt: &'a R,
     line: &'a Line,
     platters: &'a [Mutex<Platter>],
     found: Found,
-) -> Done<Program<'a>> {
+) -> Done<Program<'a, R>> {
     let alloc = rt.alloc();
     let (nodes, mut shares) = nodes_of(alloc, line)?;
     let Found { entries, lengths } = found;
@@ -138,8 +138,8 @@ fn begun<'a>(
 }
 
 /// Commits an event of a journal at its centre. Its answer must have the stamp of the entry.
-pub fn commit_entry(
-    rt: &HostRuntime,
+pub fn commit_entry<R: Wait>(
+    rt: &R,
     alloc: Global,
     nodes: &[Node],
     shares: &mut [Share],
@@ -159,7 +159,7 @@ pub fn commit_entry(
 }
 
 // The event in the form in which its centre takes it. `None` if its bytes are not a message, or its frame was not sent.
-fn event_of(rt: &HostRuntime, alloc: Global, nodes: &[Node], entry: &Entry) -> Option<Event> {
+fn event_of<R: Wait>(rt: &R, alloc: Global, nodes: &[Node], entry: &Entry) -> Option<Event> {
     match &entry.event {
         WorldEvent::Train { bytes, .. } => Some(Event::Train(decode_train(alloc, bytes).ok()?)),
         WorldEvent::Set { section, .. } => Some(Event::Set(*section)),

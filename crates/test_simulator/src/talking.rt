@@ -9,11 +9,12 @@ use serve_workers::reading::Reads;
 use serve_workers::writing::{Release, run_held_writer};
 use serve_workers::{NoSink, SessionEnd, run_session};
 use std::io::Read;
+use std::sync::Wait;
 
 /// The number of bytes of the first fields of a message.
 const HEAD: usize = 10;
 
-impl Program<'_> {
+impl<R: Wait> Program<'_, R> {
     /// The thread that reads a connection: it reads the next message, if its train may send one, and commits it. At the
     /// end of the bytes the connection ends.
     pub fn read(&mut self, number: usize, now: u32, draws: &mut Draws) -> Done<bool> {
