@@ -11,8 +11,8 @@ use serve_journal::{Kept, Sealed};
 use serve_workers::writing::Release;
 use serve_workers::{Committer, NoSink};
 use std::alloc::Global;
-use text_script::WorldEvent;
 use std::sync::Wait;
+use text_script::WorldEvent;
 
 /// The answer to a line if a journal can't be written.
 pub const JOURNAL_FAULT: &str = "journal fault\n";

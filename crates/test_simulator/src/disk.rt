@@ -1,6 +1,7 @@
 //! The disks of the journals, in memory.
 
-use cli_storm::{Draws, below, in_hundred};
+use crate::lots::{below, in_hundred};
+use rand_pcg::Pcg32;
 use serve_journal::DurableFile;
 use std::alloc::{AllocError, Global};
 use std::io;
@@ -41,7 +42,7 @@ impl Platter {
     }
 
     /// The machine crashes. A drawn part of the bytes that are not durable stays, perhaps with other bytes after it.
-    pub fn crash(&mut self, draws: &mut Draws) -> Result<(), AllocError> {
+    pub fn crash(&mut self, draws: &mut Pcg32) -> Result<(), AllocError> {
         let rest = self.bytes.len().saturating_sub(self.durable);
         let kept = below(draws, rest.saturating_add(1).max(1));
         self.bytes.truncate(self.durable.saturating_add(kept));

@@ -3,20 +3,20 @@
 use crate::answering::{JOURNAL_FAULT, SCRIPT_FAULT};
 use crate::judge::{Judge, Said};
 use crate::trouble::{Done, Trouble};
-use rbc_msgs::{TrackBody, decode_track};
+use rbc_msgs::{TrackBody, TrackMsg, decode_track};
 use std::sync::Wait;
 
 const TOO_EARLY: Trouble = Trouble::Wrong("an answer left before its event was durable");
 
 impl<R: Wait + AllocGlobal> Judge<'_, R> {
-    /// A message left over a connection of a centre to a train.
+    /// A message left over a connection of a centre to a train. The result is the message.
     pub fn to_train(
         &mut self,
         number: usize,
         centre: u8,
         nid_engine: u32,
         bytes: &[u8],
-    ) -> Done<()> {
+    ) -> Done<TrackMsg> {
         let Ok(message) = decode_track(bytes) else {
             return Err(Trouble::Wrong("a train got bytes that are no message"));
         };
@@ -41,7 +41,7 @@ impl<R: Wait + AllocGlobal> Judge<'_, R> {
         if let Some(heard) = self.heard.get_mut(number) {
             *heard = Some(message.t_train());
         }
-        Ok(())
+        Ok(message)
     }
 
     fn heard_over(&self, number: usize) -> Option<u32> {

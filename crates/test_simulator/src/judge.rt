@@ -3,15 +3,17 @@
 use crate::disk::Platter;
 use crate::program::RATE;
 use crate::starting::{commit_entry, entries_in, nodes_of};
+use crate::tally::Tally;
 use crate::trouble::{Done, Trouble};
 use crate::watching::Promise;
 use rbc_centre::{Event, Outcome};
 use rbc_line::Line;
 use rbc_log::CentreLog;
 use rbc_msgs::TrackMsg;
-use rbc_node::{Node, Share};
-use serve_control::print_commit;
+use rbc_node::{Node, Share, gather};
+use serve_control::{print_commit, print_family};
 use std::alloc::Global;
+use std::io::Write;
 use std::sync::{Mutex, Wait};
 use text_journal::{Entry, first_line};
 use text_script::print::print_section;
@@ -36,6 +38,7 @@ pub struct Judge<'a, R> {
     // By the centres' numbers: the number of bytes of the journal that were read.
     read: Vec<usize>,
     promise: Promise,
+    pub tally: Tally,
     /// The messages to trains, in order.
     pub said: Vec<Said>,
     /// The answers to events of the interlocking that have not left.
@@ -62,6 +65,7 @@ impl<'a, R: Wait + AllocGlobal> Judge<'a, R> {
             shares,
             read: Vec::new(alloc),
             promise: Promise::new(alloc, line)?,
+            tally: Tally::default(),
             said: Vec::new(alloc),
             answers: Vec::new(alloc),
             shown: Vec::new(alloc),
@@ -134,6 +138,7 @@ impl<'a, R: Wait + AllocGlobal> Judge<'a, R> {
     fn take(&mut self, centre: u8, entry: &Entry, now: u32) -> Done<()> {
         let outcome = commit_entry(self.rt, self.alloc, &self.nodes, &mut self.shares, entry)?;
         self.promise.holds_after(&entry.event, &outcome)?;
+        self.tally.count(&entry.event, &outcome);
         self.count(centre, now)?;
         for saying in outcome.sayings.as_slice() {
             self.said.push(Said {
@@ -202,6 +207,24 @@ impl<'a, R: Wait + AllocGlobal> Judge<'a, R> {
         add_sections(self.line, node.look(self.rt).log(), &mut text)?;
         self.shown.push((centre, text))?;
         Ok(())
+    }
+
+    /// Prints the events of the journals, each with its effects.
+    pub fn print<W: Write>(self, out: &mut W) -> Done<()> {
+        let Judge {
+            alloc,
+            line,
+            nodes,
+            shares,
+            ..
+        } = self;
+        let Ok(family) = gather(alloc, nodes, shares) else {
+            return Err(Trouble::Wrong("the journals are not those of a run"));
+        };
+        match print_family(alloc, line, &family, out) {
+            Ok(()) => Ok(()),
+            Err(_) => Err(Trouble::Wrong("the journals can't be printed")),
+        }
     }
 
     /// Whether the centres have the events of the journals, and no others.

@@ -1,10 +1,10 @@
 //! The lives of the centres in a run: their starts and ends, and the end of the run.
 
 use crate::disk::Fate;
+use crate::lots::{below, in_hundred};
 use crate::simulation::{COUNT, Simulation};
 use crate::starting::{lock_all, read_all, resume, set_locked};
 use crate::trouble::{Done, Trouble};
-use cli_storm::{below, in_hundred};
 use std::sync::Wait;
 
 impl<R: Wait + AllocGlobal> Simulation<'_, R> {

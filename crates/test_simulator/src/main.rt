@@ -17,6 +17,8 @@ mod judge;
 mod keeping;
 mod lines;
 mod lives;
+mod lots;
+mod obeying;
 mod outside;
 mod peers;
 mod program;
@@ -24,25 +26,32 @@ mod routing;
 mod simulation;
 mod starting;
 mod talking;
+mod tally;
 mod trouble;
 mod watching;
 
 use crate::disk::Platter;
 use crate::lines::LINES;
+use crate::lots::below;
 use crate::simulation::{Mark, Simulation};
+use crate::tally::Tally;
 use crate::trouble::{Done, Trouble};
 use anyhow::bail;
-use cli_storm::{Draws, below};
+use rand::SeedableRng;
+use rand_pcg::Pcg32;
 use rbc_line::Line;
 use std::io::Write;
-use std::{env, io};
 use std::sync::{Mutex, Wait};
+use std::{env, io};
 
 // The forms of the arguments.
-const FORMS: &str = "SEED, or FIRST COUNT, or counts FIRST COUNT";
+const FORMS: &str = "FIRST COUNT, counts FIRST COUNT, steps SEED, or events SEED";
 
 // How many steps are printed at a fault.
 const LAST: usize = 40;
+
+// The most steps of a run, before it comes to its end.
+const MOST_STEPS: u32 = 200_000;
 
 // What is printed of runs.
 #[derive(Clone, Copy, PartialEq, Eq)]
@@ -50,6 +59,7 @@ enum Print {
     Runs,
     Counts,
     Steps,
+    Events,
 }
 
 // A run that was played.
@@ -57,6 +67,7 @@ enum Print {
 struct Played {
     steps: u32,
     kills: u32,
+    tally: Tally,
     marks: Vec<Mark>,
     trouble: Option<Trouble>,
 }
@@ -65,10 +76,27 @@ fn main(rt: HostRuntime) -> anyhow::Result<()> {
     let words: Vec<String> = env::args(&rt)?.collect(rt.alloc())?;
     let mut out = io::writer(&rt);
     match words.get(1..).unwrap_or_default() {
-        [seed] => play_all(&rt, &mut out, number_in(seed), 1, Print::Steps),
-        [first, count] => play_all(&rt, &mut out, number_in(first), number_in(count), Print::Runs),
+        [what, seed] if what.as_str() == "steps" => {
+            play_all(&rt, &mut out, number_in(seed), 1, Print::Steps)
+        }
+        [what, seed] if what.as_str() == "events" => {
+            play_all(&rt, &mut out, number_in(seed), 1, Print::Events)
+        }
+        [first, count] => play_all(
+            &rt,
+            &mut out,
+            number_in(first),
+            number_in(count),
+            Print::Runs,
+        ),
         [what, first, count] if what.as_str() == "counts" => {
-            play_all(&rt, &mut out, number_in(first), number_in(count), Print::Counts)
+            play_all(
+                &rt,
+                &mut out,
+                number_in(first),
+                number_in(count),
+                Print::Counts,
+            )
         }
         _ => bail!("{FORMS}"),
     }
@@ -79,11 +107,17 @@ fn number_in(word: &String) -> u64 {
 }
 
 // Plays the runs of seeds, and prints their number. A fault ends the program.
-fn play_all<R: Wait + AllocGlobal, W: Write>(rt: &R, out: &mut W, first: u64, count: u64, print: Print) -> anyhow::Result<()> {
-    let (mut steps, mut kills) = (0u64, 0u64);
+fn play_all<R: Wait + AllocGlobal, W: Write>(
+    rt: &R,
+    out: &mut W,
+    first: u64,
+    count: u64,
+    print: Print,
+) -> anyhow::Result<()> {
+    let (mut steps, mut kills, mut tally) = (0u64, 0u64, Tally::default());
     for turn in 0..count {
         let seed = first.saturating_add(turn);
-        let played = play(rt, seed)?;
+        let played = play(rt, out, seed, print)?;
         print_marks(out, &played, print)?;
         match played.trouble {
             Some(Trouble::Wrong(why)) => bail!("seed {seed}, step {}: {why}", played.steps),
@@ -92,12 +126,36 @@ fn play_all<R: Wait + AllocGlobal, W: Write>(rt: &R, out: &mut W, first: u64, co
         }
         steps = steps.saturating_add(u64::from(played.steps));
         kills = kills.saturating_add(u64::from(played.kills));
+        tally.add(played.tally);
     }
     if print == Print::Counts {
-        writeln!(out, "{count} runs, {steps} steps, {kills} kills, 0 faults")?;
+        writeln!(
+            out,
+            "{count} runs, {steps} steps, {kills} crashes, 0 faults"
+        )?;
+        print_tally(out, tally)?;
     } else {
         writeln!(out, "{count} runs, 0 faults")?;
     }
+    Ok(())
+}
+
+fn print_tally<W: Write>(out: &mut W, tally: Tally) -> anyhow::Result<()> {
+    let Tally {
+        events,
+        frames,
+        authorities,
+        shortenings,
+        handovers,
+    } = tally;
+    writeln!(
+        out,
+        "{events} events, {frames} frames, {authorities} authorities"
+    )?;
+    writeln!(
+        out,
+        "{shortenings} requests to shorten, {handovers} handovers"
+    )?;
     Ok(())
 }
 
@@ -116,11 +174,13 @@ fn print_marks<W: Write>(out: &mut W, played: &Played, print: Print) -> anyhow::
 }
 
 // Plays the run of a seed.
-fn play<R: Wait + AllocGlobal>(rt: &R, seed: u64) -> anyhow::Result<Played> {
-    let mut draws = Draws { x: seed };
-    for _ in 0..4 {
-        draws.draw();
-    }
+fn play<R: Wait + AllocGlobal, W: Write>(
+    rt: &R,
+    out: &mut W,
+    seed: u64,
+    print: Print,
+) -> anyhow::Result<Played> {
+    let mut draws = Pcg32::seed_from_u64(seed);
     let text = LINES.get(below(&mut draws, 3)).copied().unwrap_or("");
     let Ok(line) = Line::from_toml(rt.alloc(), text) else {
         bail!("the line has a fault");
@@ -136,19 +196,32 @@ fn play<R: Wait + AllocGlobal>(rt: &R, seed: u64) -> anyhow::Result<Played> {
     let Simulation {
         step,
         kills,
+        judge,
         marks,
         ..
     } = simulation;
+    let tally = judge.tally;
+    if print == Print::Events {
+        write!(out, "{text}")?;
+        if judge.print(out).is_err() {
+            bail!("the events can't be printed");
+        }
+    }
     Ok(Played {
         steps: step,
         kills,
+        tally,
         marks,
         trouble,
     })
 }
 
 fn take_steps<R: Wait + AllocGlobal>(simulation: &mut Simulation<'_, R>) -> Done<()> {
-    for _ in 0..400 + below(&mut simulation.draws, 1_600) {
+    let happenings = 200 + below(&mut simulation.draws, 800);
+    for _ in 0..MOST_STEPS {
+        if simulation.happenings >= happenings {
+            break;
+        }
         simulation.take_step()?;
     }
     simulation.calm_down()

@@ -1,11 +1,12 @@
 //! What is outside the centres: trains call, speak and lose their connections, and the interlocking sends lines.
 
+use crate::lots::{below, in_hundred};
+use crate::outside::Turn;
 use crate::program::CONTROLS;
 use crate::simulation::{Call, Simulation};
 use crate::trouble::Done;
-use cli_storm::{below, in_hundred};
-use text_script::print::name_of;
 use std::sync::Wait;
+use text_script::print::name_of;
 
 impl<R: Wait + AllocGlobal> Simulation<'_, R> {
     // The place of the call of a train to a centre.
@@ -15,42 +16,60 @@ impl<R: Wait + AllocGlobal> Simulation<'_, R> {
             .saturating_add(usize::from(centre))
     }
 
-    /// A drawn train runs, and speaks to a drawn centre. It calls the centre first, if it has no connection.
+    /// A drawn train runs, and speaks to the first centre from a drawn one on that a message is due to. It calls the centre
+    /// first, if it has no connection.
     pub fn speak(&mut self) -> Done<()> {
         let train = below(&mut self.draws, self.trains.len().max(1));
-        let centre = below(&mut self.draws, self.platters.len().max(1)).min(255) as u8;
-        let passes = below(&mut self.draws, 60).min(60) as u32;
+        let first = below(&mut self.draws, self.platters.len().max(1));
+        let passes = below(&mut self.draws, 400).min(400) as u32;
         self.now = self.now.saturating_add(passes);
         if let Some(train) = self.trains.get_mut(train) {
             train.run(&mut self.draws, &self.sections);
         }
-        self.speak_to(train, centre)
+        let centres = self.platters.len().max(1);
+        for turn in 0..centres {
+            let centre = (first.saturating_add(turn) % centres).min(255) as u8;
+            if self.speak_to(train, centre, false)? {
+                break;
+            }
+        }
+        Ok(())
     }
 
-    fn speak_to(&mut self, train: usize, centre: u8) -> Done<()> {
+    // Whether a message was due.
+    fn speak_to(&mut self, train: usize, centre: u8, repeats: bool) -> Done<bool> {
         let at = self.call_at(train, centre);
         let (Some(speaker), Some(call), Some(program)) = (
             self.trains.get_mut(train),
             self.calls.get_mut(at),
             &mut self.program,
         ) else {
-            return Ok(());
+            return Ok(false);
         };
         if call.is_none() {
             let number = program.accept(centre, speaker.nid_engine)?;
             *call = number.map(|number| Call { number, spoken: 0 });
         }
         let Some(call) = call else {
-            return Ok(());
+            return Ok(false);
         };
         let Some(connection) = program.connections.get_mut(call.number) else {
-            return Ok(());
+            return Ok(false);
         };
-        let order = call.spoken;
-        let bytes = speaker.speak(self.alloc, self.line, &self.sections, order, self.now)?;
-        connection.inbox.extend_from_slice(&bytes)?;
+        let turn = Turn {
+            line: self.line,
+            sections: &self.sections,
+            centre,
+            order: call.spoken,
+            now: self.now,
+            repeats,
+        };
+        if !speaker.speak(self.alloc, &mut connection.inbox, &turn)? {
+            return Ok(false);
+        }
         call.spoken = call.spoken.saturating_add(1);
-        self.mark("speaks, train", train)
+        self.mark("speaks, train", train)?;
+        Ok(true)
     }
 
     /// The interlocking sends a drawn line.
@@ -63,8 +82,8 @@ impl<R: Wait + AllocGlobal> Simulation<'_, R> {
         let name = name_of(self.line, home);
         let alloc = self.alloc;
         let row = match below(&mut self.draws, 24) {
-            0..=14 => format!(in alloc; "set {name} {section}")?,
-            15..=18 => format!(in alloc; "unset {name} {section}")?,
+            0..=16 => format!(in alloc; "set {name} {section}")?,
+            17..=18 => format!(in alloc; "unset {name} {section}")?,
             19..=22 => format!(in alloc; "show")?,
             _ => format!(in alloc; "set {section}")?,
         };
@@ -83,28 +102,28 @@ impl<R: Wait + AllocGlobal> Simulation<'_, R> {
         self.mark("sends a line, control connection", number)
     }
 
-    /// A fault by lot: a connection is lost, with or without an end; a train calls again, or floods a centre; a train
-    /// reads nothing; the machine crashes; `stop`.
+    /// A fault by lot, or none: a connection is lost, with or without an end; a train calls again, or floods a centre; a
+    /// train reads nothing; the machine crashes; `stop`.
     pub fn trouble(&mut self) -> Done<()> {
         let train = below(&mut self.draws, self.trains.len().max(1));
         let centre = below(&mut self.draws, self.platters.len().max(1)).min(255) as u8;
         match below(&mut self.draws, 100) {
-            0..=24 => self.lose(train, centre),
-            25..=59 => {
+            0..=19 => self.lose(train, centre),
+            20..=34 => {
                 for _ in 0..2 {
                     let _ = self.hang_up(train, centre);
-                    self.speak_to(train, centre)?;
+                    self.speak_to(train, centre, true)?;
                 }
                 Ok(())
             }
-            60..=69 => {
+            35..=39 => {
                 for _ in 0..14 {
-                    self.speak_to(train, centre)?;
+                    self.speak_to(train, centre, true)?;
                 }
                 Ok(())
             }
-            70..=82 => self.kill(),
-            83..=88 => {
+            40..=44 => self.kill(),
+            45..=49 => {
                 let alloc = self.alloc;
                 let row = format!(in alloc; "stop")?;
                 self.say_row(row)

@@ -19,6 +19,7 @@ pub const RATE: Rate = Rate {
     per_second: 4,
     burst: 8,
 };
+
 use std::sync::Wait;
 
 /// How many control connections there are.

@@ -2,14 +2,16 @@
 
 use crate::disk::{Fate, Platter};
 use crate::judge::Judge;
+use crate::lots::{below, in_hundred};
 use crate::outside::Train;
 use crate::program::{CONTROLS, Program};
 use crate::starting::Found;
 use crate::trouble::Done;
-use cli_storm::{Draws, below};
+use rand_pcg::Pcg32;
 use rbc_line::{Line, Section};
 use std::alloc::Global;
 use std::sync::{Mutex, Wait};
+use train_unit::driving::placed_on;
 
 /// An engine that is no train of the line.
 const STRANGER: u32 = 99;
@@ -34,6 +36,12 @@ pub const COUNT: usize = 7;
 /// How often each of these steps is drawn.
 static WEIGHTS: [usize; 14] = [0, 0, 0, 1, 1, 1, 1, 2, 2, 3, 4, 5, 5, 6];
 
+/// How many of a thousand steps are not those of the centres' threads: a run draws one of these numbers.
+static SHARES: [usize; 4] = [5, 20, 60, 200];
+
+/// The most faults of a hundred steps that are not those of the centres' threads.
+const MOST_TROUBLES: usize = 20;
+
 /// A step that did something: its number, what it did, and which thread.
 #[derive(Clone, Copy)]
 pub struct Mark {
@@ -56,7 +64,7 @@ pub struct Simulation<'a, R> {
     pub alloc: Global,
     pub line: &'a Line,
     pub platters: &'a [Mutex<Platter>],
-    pub draws: Draws,
+    pub draws: Pcg32,
     /// In units of 10 ms.
     pub now: u32,
     pub program: Option<Program<'a, R>>,
@@ -71,6 +79,13 @@ pub struct Simulation<'a, R> {
     pub judge: Judge<'a, R>,
     /// No fault is drawn.
     pub is_calm: bool,
+    /// How many of a thousand steps are not those of the centres' threads: with few of them the centres are idle often,
+    /// and with many they are busy.
+    pub share: usize,
+    /// How many of a hundred of these steps are faults.
+    pub troubles: usize,
+    /// The number of these steps.
+    pub happenings: usize,
     pub step: u32,
     pub kills: u32,
     pub marks: Vec<Mark>,
@@ -82,7 +97,7 @@ impl<'a, R: Wait + AllocGlobal> Simulation<'a, R> {
         rt: &'a R,
         line: &'a Line,
         platters: &'a [Mutex<Platter>],
-        draws: Draws,
+        draws: Pcg32,
     ) -> Done<Simulation<'a, R>> {
         let alloc = rt.alloc();
         let mut simulation = Simulation {
@@ -100,28 +115,50 @@ impl<'a, R: Wait + AllocGlobal> Simulation<'a, R> {
             calls: Vec::new(alloc),
             judge: Judge::new(rt, line)?,
             is_calm: false,
+            share: 0,
+            troubles: 0,
+            happenings: 0,
             step: 0,
             kills: 0,
             marks: Vec::new(alloc),
         };
+        let lot = below(&mut simulation.draws, SHARES.len());
+        simulation.share = SHARES.get(lot).copied().unwrap_or(0);
+        simulation.troubles = below(&mut simulation.draws, MOST_TROUBLES);
         for s in 0..line.section_count() {
             if let Some(section) = line.section(s) {
                 simulation.sections.push(section)?;
             }
         }
-        for i in 0..line.train_count() {
-            if let Some(train) = line.train(i) {
-                let section = below(&mut simulation.draws, simulation.sections.len().max(1));
-                simulation
-                    .trains
-                    .push(Train::new(train.nid_engine, section))?;
-            }
-        }
-        simulation.trains.push(Train::new(STRANGER, 0))?;
+        simulation.add_trains()?;
         for _ in 0..simulation.trains.len().saturating_mul(platters.len()) {
             simulation.calls.push(None)?;
         }
         Ok(simulation)
+    }
+
+    // Three quarters of the trains keep the rules, if there is room for them on the line.
+    fn add_trains(&mut self) -> Done<()> {
+        let (alloc, line) = (self.alloc, self.line);
+        let places = placed_on(alloc, line, &self.sections, line.train_count())?;
+        for i in 0..line.train_count() {
+            let Some(train) = line.train(i) else {
+                continue;
+            };
+            let place = places
+                .iter()
+                .find(|place| place.nid_engine == train.nid_engine);
+            let train = match place {
+                Some(place) if !in_hundred(&mut self.draws, 25) => Train::obedient(alloc, *place),
+                _ => {
+                    let section = below(&mut self.draws, self.sections.len().max(1));
+                    Train::babbler(alloc, train.nid_engine, section)
+                }
+            };
+            self.trains.push(train)?;
+        }
+        self.trains.push(Train::babbler(alloc, STRANGER, 0))?;
+        Ok(())
     }
 
     /// Notes that a step did something.
@@ -134,13 +171,18 @@ impl<'a, R: Wait + AllocGlobal> Simulation<'a, R> {
     /// A drawn thread, peer or fault takes a step.
     pub fn take_step(&mut self) -> Done<()> {
         self.step = self.step.saturating_add(1);
-        match below(&mut self.draws, 100) {
-            0..=79 => {
-                self.take_turn()?;
+        if below(&mut self.draws, 1_000) >= self.share {
+            self.take_turn()?;
+        } else {
+            self.happenings = self.happenings.saturating_add(1);
+            let lot = below(&mut self.draws, 100);
+            if lot < self.troubles {
+                self.trouble()?;
+            } else if lot < 35 {
+                self.command()?;
+            } else {
+                self.speak()?;
             }
-            80..=92 => self.speak()?,
-            93..=95 => self.command()?,
-            _ => self.trouble()?,
         }
         let is_ending = match &self.program {
             Some(program) => program.is_stopped,
@@ -226,7 +268,15 @@ impl<'a, R: Wait + AllocGlobal> Simulation<'a, R> {
             return Ok(true);
         }
         let (centre, nid_engine) = (connection.centre, connection.nid_engine);
-        self.judge.to_train(number, centre, nid_engine, &bytes)?;
+        let message = self.judge.to_train(number, centre, nid_engine, &bytes)?;
+        let (draws, line, now) = (&mut self.draws, self.line, self.now);
+        if let Some(train) = self
+            .trains
+            .iter_mut()
+            .find(|train| train.nid_engine == nid_engine)
+        {
+            train.hear(draws, line, centre, &message, now);
+        }
         Ok(true)
     }
 

@@ -1,9 +1,10 @@
 //! The threads of a train's connection: one reads and commits, one writes.
 
+use crate::lots::below;
 use crate::program::Program;
 use crate::trouble::{Done, Trouble};
-use cli_storm::{Draws, below};
 use crossbeam_channel::bounded;
+use rand_pcg::Pcg32;
 use rbc_node::Open;
 use serve_workers::reading::Reads;
 use serve_workers::writing::{Release, run_held_writer};
@@ -17,7 +18,7 @@ const HEAD: usize = 10;
 impl<R: Wait> Program<'_, R> {
     /// The thread that reads a connection: it reads the next message, if its train may send one, and commits it. At the
     /// end of the bytes the connection ends.
-    pub fn read(&mut self, number: usize, now: u32, draws: &mut Draws) -> Done<bool> {
+    pub fn read(&mut self, number: usize, now: u32, draws: &mut Pcg32) -> Done<bool> {
         let Some(connection) = self.connections.get(number) else {
             return Ok(false);
         };
@@ -60,7 +61,7 @@ impl<R: Wait> Program<'_, R> {
     }
 
     // Reads a message in two pieces, and commits it.
-    fn read_message(&mut self, number: usize, length: usize, draws: &mut Draws) -> Done<bool> {
+    fn read_message(&mut self, number: usize, length: usize, draws: &mut Pcg32) -> Done<bool> {
         let Some(connection) = self.connections.get_mut(number) else {
             return Ok(false);
         };
