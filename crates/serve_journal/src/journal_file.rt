@@ -3,7 +3,7 @@ ghost use Rattle.std.specs.List.{flat_map};
 ghost use Rattle.std.specs.Io.KnownBytes.{append_known};
 ghost use Rattle.text_journal.specs.Journal.{entry_line};
 ghost use Rattle.serve_journal.specs.Bytes.{cut_to};
-ghost use Rattle.serve_journal.specs.Last.{last_stamp};
+ghost use Rattle.serve_journal.specs.Shown.{last_kept};
 
 use crate::durable_file::DurableFile;
 use crate::kept::Kept;
@@ -71,8 +71,8 @@ impl<F: DurableFile + Drop> JournalFile<F> {
         Ok(())
     }
 
-    /// Appends the lines of entries, and waits until they are durable: the result shows it. It is `None` without an
-    /// entry. After an error the durable bytes are as before.
+    /// Appends the lines of entries, and waits until they are durable. The result shows the last of them, and is `None`
+    /// without an entry. After an error the durable bytes are as before.
     pub fn keep(
         &mut self,
         alloc: Global,
@@ -80,7 +80,7 @@ impl<F: DurableFile + Drop> JournalFile<F> {
         entries: &[Entry],
     ) -> io::Result<Option<Kept>>
         ensures ok { OnOk result (self.new ≡ append_known self.old (flat_map (entry_line line.now) entries.now)) }
-        ensures stamp { IfOk result (λ kept. kept ≡ last_stamp entries.now) }
+        ensures last { IfOk result (λ kept. kept ≡ last_kept entries.now) }
         ensures err { OnErr result (self.new ≡ self.old) }
     {
         let Some(last) = entries.last() else {
@@ -90,7 +90,10 @@ impl<F: DurableFile + Drop> JournalFile<F> {
             return Err(io::Error::from(ErrorKind::OutOfMemory));
         };
         self.add(&text)?;
-        Ok(Some(Kept { stamp: last.stamp }))
+        Ok(Some(Kept {
+            centre: last.centre(),
+            stamp: last.stamp,
+        }))
     }
 }
 

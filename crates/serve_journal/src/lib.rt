@@ -1,9 +1,9 @@
 //! The journal of a centre on a disk: appended entries stay, also over a crash.
 //!
 //! A [`DurableFile`] is a file that grows at its end. A [`JournalFile`] appends the lines of entries to it, and waits
-//! until they are durable. Only that makes a [`Kept`]: with it, the answers to these events may leave the centre. A
-//! [`Sealed`] answer comes out only with such a `Kept`. A [`SystemFile`] is a file of the system; `open_journal` and
-//! `make_journal` open it and lock it.
+//! until they are durable. Only that makes a [`Kept`]: with it, the answers to these events may leave their centre. A
+//! [`Sealed`] answer comes out only with a `Kept` of its own centre. A [`SystemFile`] is a file of the system;
+//! `open_journal` and `make_journal` open it and lock it.
 //!
 //! Contracts see the bytes of a `DurableFile` that reports them, such as one in memory. The bytes of a file of the
 //! system are in no contract: that it meets `DurableFile` is trusted.
@@ -13,7 +13,7 @@
 //! let mut journal = JournalFile::open(SystemFile::new(file, true), 0)?;
 //! journal.add(b"journal 2 A ..\n")?;
 //! if let Some(kept) = journal.keep(alloc, &line, &entries)? {
-//!     // each event up to kept.stamp() is on the disk
+//!     // each event of centre kept.centre() up to kept.stamp() is on the disk
 //! }
 //! ```
 #![tactic(auto)]

@@ -1,12 +1,15 @@
-ghost use Rattle.std.specs.Prelude.{◌≡◌, ◌≤◌, ◌<◌, ◌++◌, [], IfSome, IfNone, OnOk, OnErr};
+ghost use Rattle.std.specs.Prelude.{◌≡◌, ◌++◌, [], false, true, IfSome, IfNone, OnOk, OnErr};
+ghost use Rattle.serve_journal.specs.Shown.{shows};
 
 use crate::kept::Kept;
 use std::alloc::{AllocError, Global};
 
-/// An answer that leaves its centre once the centre's journal keeps an event.
+/// An answer that leaves its centre once the journal of a centre keeps an event.
 #[derive(Debug, Drop)]
 pub struct Sealed<T: Drop> {
     answer: T,
+    // The number of that centre.
+    centre: u8,
     // The stamp of that event; 0 if the answer waits for none.
     stamp: u32,
 }
@@ -18,12 +21,24 @@ pub struct Opened<T: Drop> {
 }
 
 impl<T: Drop> Sealed<T> {
-    /// An answer that waits for the event with this stamp; it waits for none if the stamp is 0.
-    pub fn new(answer: T, stamp: u32) -> Sealed<T>
+    /// An answer that waits for the event of this centre with this stamp; it waits for none if the stamp is 0.
+    pub fn new(answer: T, centre: u8, stamp: u32) -> Sealed<T>
         ensures answer { result.answer ≡ answer }
+        ensures centre { result.centre ≡ centre }
         ensures stamp { result.stamp ≡ stamp }
     {
-        Sealed { answer, stamp }
+        Sealed {
+            answer,
+            centre,
+            stamp,
+        }
+    }
+
+    /// The number of the centre of that event.
+    pub fn centre(&self) -> u8
+        ensures { result ≡ self.now.centre }
+    {
+        self.centre
     }
 
     /// The stamp of the event for which it waits; 0 if it waits for none.
@@ -33,12 +48,13 @@ impl<T: Drop> Sealed<T> {
         self.stamp
     }
 
-    /// Opens the answer if the journal keeps its event. `None` if it does not.
+    /// Opens the answer if `kept` shows its event: the journal of that very centre keeps it. `None` if it does not.
     pub fn open(self, kept: &Kept) -> Option<Opened<T>>
-        ensures some { IfSome result (λ opened. (opened.answer ≡ self.answer) × (self.stamp ≤ kept.now)) }
-        ensures none { IfNone result (kept.now < self.stamp) }
+        ensures some { IfSome result
+            (λ opened. (opened.answer ≡ self.answer) × (shows kept.now self.centre self.stamp ≡ true)) }
+        ensures none { IfNone result (shows kept.now self.centre self.stamp ≡ false) }
     {
-        if self.stamp > kept.stamp() {
+        if !kept.shows(self.centre, self.stamp) {
             return None;
         }
         let Sealed { answer, .. } = self;
@@ -47,13 +63,14 @@ impl<T: Drop> Sealed<T> {
 }
 
 impl<T: Drop> Opened<T> {
-    /// The same answer, which waits for one event more: the event with this stamp.
-    pub fn sealed(self, stamp: u32) -> Sealed<T>
+    /// The same answer, which waits for one event more: the event of this centre with this stamp.
+    pub fn sealed(self, centre: u8, stamp: u32) -> Sealed<T>
         ensures answer { result.answer ≡ self.answer }
+        ensures centre { result.centre ≡ centre }
         ensures stamp { result.stamp ≡ stamp }
     {
         let Opened { answer } = self;
-        Sealed { answer, stamp }
+        Sealed::new(answer, centre, stamp)
     }
 
     /// The answer.

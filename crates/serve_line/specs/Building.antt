@@ -1,8 +1,8 @@
 -- The shared state of running centres as it is built.
 use Rattle.std.specs.List.{range_with_len}
 use Rattle.std.specs.Option.{option_map_or}
-use Rattle.std.specs.Prelude.{[], ◌+◌, ◌++◌, ◌∷◌, Bool, false, is_some, length, List, map, Option, option_map}
-use Rattle.std.specs.Prelude.{slice_get, true, ℕ}
+use Rattle.std.specs.Prelude.{[], ◌+◌, ◌++◌, ◌∷◌, Bool, false, if◌then◌else◌, is_some, length, List, map, None, Option}
+use Rattle.std.specs.Prelude.{option_map, slice_get, Some, true, ℕ}
 use Rattle.rbc_node.specs.declared.node.Node.{Node}
 use Rattle.rbc_node.specs.Node.{centre_of}
 use Rattle.rbc_spec.specs.Line.{Line}
@@ -43,7 +43,11 @@ slot_places line nodes number =
     option_map_or (λ node. map (λ n. (n, false)) (range_with_len 0 (length line.trains + 8))) (slice_get nodes number)
     control_places
 
--- ## Sinks
+-- ## Connections and sinks
+
+-- the centre whose journal keeps the events of the replies of centre n before they leave: its own, if it keeps one
+abbrev pub awaited_journal : Bool → ℕ → Option ℕ
+awaited_journal is_journaled n = if is_journaled then Some n else None
 
 -- the journal for which the answers of a sink wait
 abbrev pub journal_in : CentreSink → Option Journal

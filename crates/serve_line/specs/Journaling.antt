@@ -4,3 +4,4 @@ pub mod Noting
 pub mod Resuming
 pub mod Times
 pub mod Waiting
+pub mod Written

@@ -21,7 +21,7 @@ pub struct Sent<S> {
     pub seen: S,
     /// The number of frames that it put: those with the numbers from 1 to this one.
     pub frames: u32,
-    /// Shows that the journal keeps the events of those frames that wait for it.
+    /// Shows that the journal of the sending centre keeps the events of those frames that wait for it.
     pub kept: Kept,
 }
 
@@ -59,10 +59,11 @@ pub fn send_kept_frames<R: Wait, C: Carrier, L: Release>(
     requires { C.is_of carrier.now seen }
     ensures link { C.is_of carrier.now result.seen }
     ensures puts { PutsInOrder (C.known result.seen) (centre_of node.now) to result.frames }
-    ensures kept { AreKept (L.awaits release.now) (C.known result.seen) result.frames result.kept }
+    ensures kept { AreKept (L.awaits release.now) (C.known result.seen) result.frames result.kept.stamp }
+    ensures own { result.kept.centre ≡ centre_of node.now }
 {
     let mut frames = 0;
-    let mut kept = Kept::no_event();
+    let mut kept = Kept::no_event(node.share().centre());
     let mut patience = Patience::new();
     for _ in rt.forever() {
         let stage = signals.stage();
@@ -85,8 +86,8 @@ pub fn send_kept_frames<R: Wait, C: Carrier, L: Release>(
     Sent { seen, frames, kept }
 }
 
-// Puts a frame once the journal keeps its event, if the frame waits for it. Then `kept` shows that. The frame is
-// returned if the link does not take it, or the journal never keeps its event.
+// Puts a frame once the journal of its centre keeps its event, if the frame waits for it. Then `kept` shows that. The
+// frame is returned if the link does not take it, or the journal never keeps its event.
 fn put_kept<R: Wait, C: Carrier, L: Release>(
     rt: &R,
     release: &L,
@@ -100,13 +101,14 @@ fn put_kept<R: Wait, C: Carrier, L: Release>(
     ensures link { C.is_of carrier.now seen.new }
     ensures ok { OnOk result (C.known seen.new number ≡ Some frame) }
     ensures own { OnOk result (frame.number ≡ number) }
-    ensures event { OnOk result (L.awaits release.now frame.stamp ≤ kept.new) }
-    ensures kept { kept.old ≤ kept.new }
+    ensures event { OnOk result (L.awaits release.now frame.stamp ≤ kept.new.stamp) }
+    ensures kept { kept.old.stamp ≤ kept.new.stamp }
+    ensures centre { kept.new.centre ≡ kept.old.centre }
     ensures keeps { (n : ℕ) (f : Frame) → C.known seen.old n ≡ Some f → C.known seen.new n ≡ Some f }
 {
     let stamp = release.awaited(frame.stamp());
     if kept.stamp() < stamp {
-        let Some(more) = release.release(rt, stamp) else {
+        let Some(more) = release.release(rt, kept.centre(), stamp) else {
             return Err(frame);
         };
         *kept = more;

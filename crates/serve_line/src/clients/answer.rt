@@ -128,6 +128,7 @@ fn sealed_answer(
     answer: &Result<Outcome, ShareFault>,
 ) -> Result<Sealed<Vec<u8>>, PrintFault>
     ensures print { IfOk result (λ sealed. IsCommitPrint line.now centre event.now answer.now sealed.answer.items) }
+    ensures centre { IfOk result (λ sealed. sealed.centre ≡ centre) }
     ensures stamp { IfOk result (λ sealed. IfOk answer.now
         (λ outcome. sealed.stamp ≡ awaited (option_map (λ j. j.now.begun) sink.now.journal) outcome.stamp)) }
 {
@@ -137,5 +138,5 @@ fn sealed_answer(
         Ok(outcome) => sink.awaited(outcome.stamp),
         Err(_) => 0,
     };
-    Ok(Sealed::new(text, stamp))
+    Ok(Sealed::new(text, centre, stamp))
 }

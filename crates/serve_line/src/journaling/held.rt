@@ -23,10 +23,10 @@ impl Release for Journaled<'_> {
         }
     }
 
-    fn release<R: Wait>(&self, rt: &R, stamp: u32) -> Option<Kept> {
+    fn release<R: Wait>(&self, rt: &R, centre: u8, stamp: u32) -> Option<Kept> {
         match self.journal {
-            Some(journal) => journal.reaches(rt, stamp),
-            None => AtOnce.release(rt, stamp),
+            Some(journal) => journal.reaches(rt, centre, stamp),
+            None => AtOnce.release(rt, centre, stamp),
         }
     }
 }

@@ -1,5 +1,6 @@
-ghost use Rattle.std.specs.Prelude.{◌≡◌, ◌+◌, ◌-◌, ◌<◌, ◌≤◌, ◌^◌, false, if◌then◌else◌};
+ghost use Rattle.std.specs.Prelude.{◌≡◌, ◌+◌, ◌-◌, ◌^◌, false, true, if◌then◌else◌};
 ghost use Rattle.std.specs.Prelude.{IfNone, IfSome, min, nat_le, Some};
+ghost use Rattle.serve_journal.specs.Shown.{shows};
 ghost use Rattle.serve_line.specs.Journaling.Waiting.{awaited};
 
 use crate::journaling::write_times::{TimedWrite, WriteTimes};
@@ -18,6 +19,8 @@ const REST_MS: u64 = 50;
 /// The reach of a centre's journal. Each thread that releases an answer checks it first.
 #[derive(Drop)]
 pub struct Journal {
+    /// The number of the centre.
+    centre: u8,
     /// The number of the centre's events in the journal at the start.
     begins: usize,
     /// The stamp of the last of these; 0 if there are none.
@@ -47,14 +50,13 @@ struct Reach {
 }
 
 impl Reach {
-    // Shows the events that the journal keeps, if that with this stamp is one of them.
-    fn shows(&self, stamp: u32) -> Option<Kept>
-        ensures some { IfSome result (λ kept. (kept ≡ self.now.kept) × (stamp ≤ kept)) }
-        ensures none { IfNone result (self.now.kept < stamp) }
+    // Shows the events that the journal keeps, if that of this centre with this stamp is one of them.
+    fn shows(&self, centre: u8, stamp: u32) -> Option<Kept>
+        ensures some { IfSome result (λ kept. (kept ≡ self.now.kept) × (shows kept centre stamp ≡ true)) }
+        ensures none { IfNone result (shows self.now.kept centre stamp ≡ false) }
     {
-        let kept = self.kept.again();
-        if kept.stamp() >= stamp {
-            Some(kept)
+        if self.kept.shows(centre, stamp) {
+            Some(self.kept.again())
         } else {
             None
         }
@@ -82,18 +84,20 @@ impl Reach {
 }
 
 impl Journal {
-    /// A journal that has the first `begins` events of its centre, the last with this stamp; 0 if it has none. The last
-    /// of them were written at these times.
-    pub fn new(begins: usize, stamp: u32, times: WriteTimes) -> Journal
+    /// The journal of a centre. It has the first `begins` events of the centre, the last with this stamp; 0 if it has
+    /// none. The last of them were written at these times.
+    pub fn new(centre: u8, begins: usize, stamp: u32, times: WriteTimes) -> Journal
+        ensures centre { result.centre ≡ centre }
         ensures begins { result.begins ≡ begins }
         ensures begun { result.begun ≡ stamp }
     {
         Journal {
+            centre,
             begins,
             begun: stamp,
             waker: Parker::new(),
             reach: Mutex::new(Reach {
-                kept: Kept::no_event(),
+                kept: Kept::no_event(centre),
                 written: begins,
                 times,
                 is_stuck: false,
@@ -119,22 +123,24 @@ impl Journal {
         if stamp <= self.begun { 0 } else { stamp }
     }
 
-    /// Waits until the journal keeps the event with this stamp. `None` if the journal was closed first.
-    pub fn reaches<R: Wait>(&self, rt: &R, stamp: u32) -> Option<Kept>
-        ensures { IfSome result (λ kept. stamp ≤ kept) }
+    /// Waits until the journal keeps the event of this centre with this stamp. `None` if it was closed first, or is the
+    /// journal of another centre.
+    pub fn reaches<R: Wait>(&self, rt: &R, centre: u8, stamp: u32) -> Option<Kept>
+        ensures { IfSome result (λ kept. shows kept centre stamp ≡ true) }
     {
         self.waker.unpark();
-        self.wait_for(rt, stamp)
+        self.wait_for(rt, centre, stamp)
     }
 
-    /// Waits after a commit with this stamp whose answer need not wait for its event. It waits only if the journal is
-    /// 4096 stamps late, or can't be written. `None` if the journal was closed.
-    pub fn keeps_up<R: Wait>(&self, rt: &R, stamp: u32) -> Option<Kept>
-        ensures { IfSome result (λ kept. awaited (Some self.now.begun) (stamp - 4096) ≤ kept) }
+    /// Waits after a commit of this centre with this stamp whose answer need not wait for its event. It waits only if
+    /// the journal is 4096 stamps late, or can't be written. `None` if the journal was closed, or is that of another
+    /// centre.
+    pub fn keeps_up<R: Wait>(&self, rt: &R, centre: u8, stamp: u32) -> Option<Kept>
+        ensures { IfSome result (λ kept. shows kept centre (awaited (Some self.now.begun) (stamp - 4096)) ≡ true) }
     {
         self.waker.unpark();
         let is_stuck = self.reach.lock(rt).is_stuck;
-        self.wait_for(rt, self.needed(stamp, is_stuck))
+        self.wait_for(rt, centre, self.needed(stamp, is_stuck))
     }
 
     // The stamp that the journal has to keep before an answer leaves that need not wait for its event. The event has
@@ -149,18 +155,17 @@ impl Journal {
         }
     }
 
-    /// Waits until the journal keeps the event with this stamp. `None` if the journal can't be written now, or was
-    /// closed first.
-    pub fn comes_to<R: Wait>(&self, rt: &R, stamp: u32) -> Option<Kept>
-        ensures { IfSome result (λ kept. stamp ≤ kept) }
+    /// As `reaches`. It is also `None` if the journal can't be written now.
+    pub fn comes_to<R: Wait>(&self, rt: &R, centre: u8, stamp: u32) -> Option<Kept>
+        ensures { IfSome result (λ kept. shows kept centre stamp ≡ true) }
     {
         self.waker.unpark();
         let mut reach = self.reach.lock(rt);
         for _ in rt.forever() {
-            if let Some(kept) = reach.shows(stamp) {
+            if let Some(kept) = reach.shows(centre, stamp) {
                 return Some(kept);
             }
-            if reach.is_closed || reach.is_stuck {
+            if self.centre != centre || reach.is_closed || reach.is_stuck {
                 return None;
             }
             reach = self.moved.wait(rt, reach);
@@ -174,15 +179,15 @@ impl Journal {
         reach.is_stuck || reach.is_closed
     }
 
-    fn wait_for<R: Wait>(&self, rt: &R, stamp: u32) -> Option<Kept>
-        ensures { IfSome result (λ kept. stamp ≤ kept) }
+    fn wait_for<R: Wait>(&self, rt: &R, centre: u8, stamp: u32) -> Option<Kept>
+        ensures { IfSome result (λ kept. shows kept centre stamp ≡ true) }
     {
         let mut reach = self.reach.lock(rt);
         for _ in rt.forever() {
-            if let Some(kept) = reach.shows(stamp) {
+            if let Some(kept) = reach.shows(centre, stamp) {
                 return Some(kept);
             }
-            if reach.is_closed {
+            if self.centre != centre || reach.is_closed {
                 return None;
             }
             reach = self.moved.wait(rt, reach);

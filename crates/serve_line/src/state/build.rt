@@ -1,8 +1,8 @@
 ghost use Rattle.std.specs.List.{AllZip, filter, range_with_len};
-ghost use Rattle.std.specs.Prelude.{◌≡◌, All, IfOk, length, map, slice_get};
+ghost use Rattle.std.specs.Prelude.{◌≡◌, IfOk, length, map, slice_get};
 ghost use Rattle.rbc_node.specs.Node.{centre_of};
 ghost use Rattle.text_script.specs.Print.Rows.{name_at};
-ghost use Rattle.serve_line.specs.Building.{direction_of, has_node, journal_in};
+ghost use Rattle.serve_line.specs.Building.{awaited_journal, direction_of, has_node, journal_in};
 ghost use Rattle.serve_line.specs.Directions.{directions_of};
 ghost use Rattle.serve_line.specs.Journaling.Beginning.{BeginsAfter};
 
@@ -101,22 +101,34 @@ fn wakers_from(alloc: Global, line: &Line) -> Result<Vec<Parker>, AllocError>
     Ok(wakers)
 }
 
-/// For each centre the connections of its trains. If the centres keep journals, each reply waits for its event.
+/// For each centre the connections of its trains. If the centres keep journals, each reply waits until the journal of
+/// its own centre keeps its event.
 pub fn connections_of<'a>(
     alloc: Global,
     line: &'a Line,
     wakers: &'a [Vec<Parker>],
     is_journaled: bool,
 ) -> Result<Vec<TrainConnections<'a>>, AllocError>
-    ensures { IfOk result (λ all. All (λ connections. connections.is_held ≡ is_journaled) all.items) }
+    ensures { IfOk result (λ all. map (λ connections. connections.journal) all.items
+        ≡ map (awaited_journal is_journaled) (range_with_len 0 (length line.now.centres))) }
 {
     let mut connections = Vec::new(alloc);
-    for row in wakers {
-        let places = most_trains(line);
-        let at_once = TrainConnections::new(alloc, line, places, row.as_slice())?;
-        connections.push(at_once.held(is_journaled))?;
+    for centre in 0..line.centre_count() {
+        let links: &[Parker] = match wakers.get(centre as usize) {
+            Some(links) => links.as_slice(),
+            None => &[],
+        };
+        let own = TrainConnections::new(alloc, line, most_trains(line), links)?;
+        connections.push(own.held(awaited_journal(is_journaled, centre)))?;
     }
     Ok(connections)
+}
+
+// The centre whose journal keeps the events of a centre's replies before they leave.
+fn awaited_journal(is_journaled: bool, centre: u8) -> Option<u8>
+    ensures { result ≡ awaited_journal is_journaled centre }
+{
+    if is_journaled { Some(centre) } else { None }
 }
 
 /// For each centre its journal. It begins after the events that the node has. The times are those of the last of these,
@@ -145,9 +157,10 @@ pub fn journals_of<R: Wait>(
 fn journal_of<R: Wait>(rt: &R, node: &Node, times: WriteTimes) -> Journal
     ensures { BeginsAfter node.now result }
 {
+    let centre = node.share().centre();
     let look = node.look(rt);
     let entries = look.log().entries();
-    Journal::new(entries.len(), last_stamp(entries), times)
+    Journal::new(centre, entries.len(), last_stamp(entries), times)
 }
 
 /// For each centre the sink of its answers.
@@ -195,6 +208,7 @@ impl<'a> SinkParts<'a> {
         connections: &'a TrainConnections<'a>,
     ) -> Result<CentreSink<'a>, AllocError>
         ensures journal { IfOk result (λ sink. journal_in sink ≡ slice_get self.now.journals.now centre) }
+        ensures centre { IfOk result (λ sink. sink.centre ≡ centre) }
         ensures name { IfOk result (λ sink. sink.name.now ≡ name_at self.now.line.now centre) }
     {
         Ok(CentreSink {
@@ -204,6 +218,7 @@ impl<'a> SinkParts<'a> {
             journal: self.journals.get(centre as usize),
             queue: Queue::new(),
             paces: Paces::new(self.alloc, self.line, self.rate)?,
+            centre,
             name: name_of(self.line, centre),
         })
     }

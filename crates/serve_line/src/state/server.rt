@@ -1,6 +1,7 @@
 ghost use Rattle.std.specs.Prelude.{◌≡◌, IfSome, option_map, slice_get};
 ghost use Rattle.rbc_log.specs.Log.{LogValue};
 ghost use Rattle.rbc_node.specs.Node.{centre_of, IsLogOf};
+ghost use Rattle.serve_line.specs.Journaling.Written.{IsWritten};
 ghost use Rattle.serve_line.specs.Stamps.{last_stamp};
 ghost use Rattle.serve_line.specs.Peers.{about_centre, at_peer, peer_centre, peer_name};
 
@@ -138,6 +139,22 @@ fn last_stamp_of<R: Wait>(rt: &R, node: &Node) -> u32
     last_stamp(look.log().entries())
 }
 
+// Opens an answer once more, after the journal of a centre has each event that its node has now. `None` if the journal
+// can't be written now.
+fn open_again<R: Wait, T: Drop>(
+    rt: &R,
+    node: &Node,
+    sink: &CentreSink<'_>,
+    opened: Opened<T>,
+) -> Option<Opened<T>>
+    ensures answer { IfSome result (λ again. again.answer ≡ opened.answer) }
+    ensures kept { IfSome result (λ again. IsWritten node.now sink.now) }
+{
+    let sealed = opened.sealed(sink.centre, sink.awaited(last_stamp_of(rt, node)));
+    let kept = sink.comes_to(rt, sealed.stamp())?;
+    sealed.open(&kept)
+}
+
 /// The shared state of all workers of a running line.
 #[derive(Drop)]
 pub struct Server<'a> {
@@ -200,11 +217,9 @@ impl Server<'_> {
     pub fn open_kept<R: Wait, T: Drop>(&self, rt: &R, answer: T) -> Option<Opened<T>>
         ensures { IfSome result (λ opened. opened.answer ≡ answer) }
     {
-        let mut opened = Sealed::new(answer, 0).open(&Kept::no_event())?;
+        let mut opened = Sealed::new(answer, 0, 0).open(&Kept::no_event(0))?;
         for (node, sink) in self.nodes.iter().zip(self.sinks.iter()) {
-            let sealed = opened.sealed(sink.awaited(last_stamp_of(rt, node)));
-            let kept = sink.comes_to(rt, sealed.stamp())?;
-            opened = sealed.open(&kept)?;
+            opened = open_again(rt, node, sink, opened)?;
         }
         Some(opened)
     }

@@ -1,4 +1,5 @@
-ghost use Rattle.std.specs.Prelude.{◌≡◌, ◌≤◌, option_map, IfSome};
+ghost use Rattle.std.specs.Prelude.{◌≡◌, true, option_map, IfSome};
+ghost use Rattle.serve_journal.specs.Shown.{shows};
 ghost use Rattle.serve_line.specs.Journaling.Waiting.{awaited};
 
 use crate::journaling::{Journal, Journaled};
@@ -31,6 +32,8 @@ pub struct CentreSink<'a> {
     pub queue: Queue,
     /// The message rates of the centre.
     pub paces: Paces,
+    /// The number of the centre.
+    pub centre: u8,
     /// The name of the centre.
     pub name: &'a str,
 }
@@ -44,37 +47,37 @@ impl CentreSink<'_> {
             return self.reaches(rt, self.awaited(outcome.stamp));
         }
         let Some(journal) = self.journal else {
-            return Some(Kept::no_event());
+            return Some(Kept::no_event(self.centre));
         };
         self.queue.enter();
-        let kept = journal.keeps_up(rt, outcome.stamp);
+        let kept = journal.keeps_up(rt, self.centre, outcome.stamp);
         self.queue.leave(kept.is_some());
         kept
     }
 
-    /// Waits until the journal keeps the event with this stamp. `None` if the journal was given up first. Without a
-    /// journal only stamp 0 is kept, which is that of no event.
+    /// Waits until the journal keeps the centre's event with this stamp. `None` if the journal was given up first.
+    /// Without a journal only stamp 0 is kept, which is that of no event.
     pub fn reaches<R: Wait>(&self, rt: &R, stamp: u32) -> Option<Kept>
-        ensures { IfSome result (λ kept. stamp ≤ kept) }
+        ensures { IfSome result (λ kept. shows kept self.now.centre stamp ≡ true) }
     {
         let Some(journal) = self.journal else {
-            return AtOnce.release(rt, stamp);
+            return AtOnce.release(rt, self.centre, stamp);
         };
         self.queue.enter();
-        let kept = journal.reaches(rt, stamp);
+        let kept = journal.reaches(rt, self.centre, stamp);
         self.queue.leave(kept.is_some());
         kept
     }
 
     /// As `reaches`, but it is also `None` if the journal can't be written now.
     pub(crate) fn comes_to<R: Wait>(&self, rt: &R, stamp: u32) -> Option<Kept>
-        ensures { IfSome result (λ kept. stamp ≤ kept) }
+        ensures { IfSome result (λ kept. shows kept self.now.centre stamp ≡ true) }
     {
         let Some(journal) = self.journal else {
-            return AtOnce.release(rt, stamp);
+            return AtOnce.release(rt, self.centre, stamp);
         };
         self.queue.enter();
-        let kept = journal.comes_to(rt, stamp);
+        let kept = journal.comes_to(rt, self.centre, stamp);
         self.queue.leave(kept.is_some());
         kept
     }
@@ -101,12 +104,13 @@ impl CentreSink<'_> {
     // The notification that the event with this stamp shut a section. It waits for that event. `None` if memory runs
     // out.
     fn notification(&self, section: u16, stamp: u32) -> Option<Sealed<Vec<u8>>>
-        ensures { IfSome result
+        ensures centre { IfSome result (λ text. text.centre ≡ self.now.centre) }
+        ensures stamp { IfSome result
             (λ text. text.stamp ≡ awaited (option_map (λ j. j.now.begun) self.now.journal) stamp) }
     {
         let mut text = Vec::new(self.alloc);
         writeln!(text, "{} {section} Told", self.name).ok()?;
-        Some(Sealed::new(text, self.awaited(stamp)))
+        Some(Sealed::new(text, self.centre, self.awaited(stamp)))
     }
 }
 
@@ -133,7 +137,10 @@ impl Release for CentreSink<'_> {
     }
 
     // A message to a train may be written when its event is in the journal.
-    fn release<R: Wait>(&self, rt: &R, stamp: u32) -> Option<Kept> {
+    fn release<R: Wait>(&self, rt: &R, centre: u8, stamp: u32) -> Option<Kept> {
+        if centre != self.centre {
+            return AtOnce.release(rt, centre, stamp);
+        }
         self.reaches(rt, stamp)
     }
 }

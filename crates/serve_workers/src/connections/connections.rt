@@ -1,4 +1,4 @@
-ghost use Rattle.std.specs.Prelude.{◌≡◌, false, if◌then◌else◌, length, IfErr, IfOk, IfSome, IsTrue, Some};
+ghost use Rattle.std.specs.Prelude.{◌≡◌, length, IfErr, IfNone, IfOk, IfSome, IsTrue, None, Some};
 ghost use Rattle.serve_workers.specs.Writing.Lane.{early_after, kept, serving_after, turn_after};
 
 use crate::AnswerSink;
@@ -23,8 +23,8 @@ pub struct TrainConnections<'a> {
     // In the order of the trains in the line file.
     lanes: Vec<Mutex<Lane>>,
     links: &'a [Parker],
-    // Whether the replies wait for their events.
-    is_held: bool,
+    // The centre whose journal keeps the event of each reply before it leaves. `None` if no reply waits.
+    journal: Option<u8>,
 }
 
 impl<'a> TrainConnections<'a> {
@@ -36,7 +36,7 @@ impl<'a> TrainConnections<'a> {
         links: &'a [Parker],
     ) -> Result<TrainConnections<'a>, AllocError>
         ensures lanes { IfOk result (λ c. length c.lanes.items ≡ length line.now.trains) }
-        ensures held { IfOk result (λ c. c.is_held ≡ false) }
+        ensures journal { IfOk result (λ c. c.journal ≡ None) }
     {
         let board = RoutingTable::new(alloc, connections)?;
         Ok(TrainConnections {
@@ -45,17 +45,17 @@ impl<'a> TrainConnections<'a> {
             board: Mutex::new(board),
             lanes: lanes_of(alloc, line.train_count())?,
             links,
-            is_held: false,
+            journal: None,
         })
     }
 
-    /// The same connections, whose replies wait for their events or not. If they do, each leaves once a journal keeps
-    /// its event.
-    pub fn held(self, is_held: bool) -> TrainConnections<'a>
-        ensures { result.is_held ≡ is_held }
+    /// The same connections. Each reply leaves once the journal of this centre keeps its event, and at once if there is
+    /// none.
+    pub fn held(self, journal: Option<u8>) -> TrainConnections<'a>
+        ensures { result.journal ≡ journal }
     {
         let mut connections = self;
-        connections.is_held = is_held;
+        connections.journal = journal;
         connections
     }
 
@@ -66,7 +66,7 @@ impl<'a> TrainConnections<'a> {
         number: usize,
         connection: Connection,
     ) -> Result<(), AllocError> {
-        let connection = Arc::new(self.alloc, connection.held(self.is_held))?;
+        let connection = Arc::new(self.alloc, connection.held(self.journal.is_some()))?;
         self.board.lock(rt).enter(number, connection);
         Ok(())
     }
@@ -125,7 +125,7 @@ impl<'a> TrainConnections<'a> {
             return;
         };
         self.leave_other(rt, &route);
-        let reply = reply_to(self.alloc, saying, self.is_held, stamp);
+        let reply = reply_to(self.alloc, saying, self.journal, stamp);
         let mut lane = place.lock(rt);
         let begins = self.open(rt, route.begins);
         let is_taken = self.submit(rt, &mut lane, begins, reply);
@@ -227,13 +227,22 @@ impl<'a> TrainConnections<'a> {
     }
 }
 
-// The reply with a message of the event with this stamp. It waits for the event if replies are held.
-fn reply_to(alloc: Global, saying: &Saying, is_held: bool, stamp: u32) -> Result<Reply, EncodeFault>
+// The reply with a message of the event with this stamp. If a centre's journal is named, it waits for this event there.
+fn reply_to(
+    alloc: Global,
+    saying: &Saying,
+    journal: Option<u8>,
+    stamp: u32,
+) -> Result<Reply, EncodeFault>
     ensures message { IfOk result (λ reply. reply.message ≡ saying.now.message) }
-    ensures stamp { IfOk result (λ reply. reply.stamp ≡ (if is_held then stamp else 0)) }
+    ensures held { IfOk result (λ reply. IfSome journal (λ centre. (reply.centre ≡ centre) × (reply.stamp ≡ stamp))) }
+    ensures free { IfOk result (λ reply. IfNone journal (reply.stamp ≡ 0)) }
 {
     let reply = Reply::new(alloc, saying.message)?;
-    Ok(reply.answering(if is_held { stamp } else { 0 }))
+    match journal {
+        Some(centre) => Ok(reply.answering(centre, stamp)),
+        None => Ok(reply),
+    }
 }
 
 // The lanes of the trains, before the first message.

@@ -1,4 +1,5 @@
-ghost use Rattle.std.specs.Prelude.{◌≡◌, ◌≤◌, ℕ, IfSome};
+ghost use Rattle.std.specs.Prelude.{◌≡◌, true, ℕ, IfSome};
+ghost use Rattle.serve_journal.specs.Shown.{shows};
 
 use serve_journal::Kept;
 use std::sync::Wait;
@@ -13,9 +14,10 @@ pub trait Release {
     fn awaited(&self, stamp: u32) -> u32
         ensures { result ≡ awaits self.now stamp };
 
-    /// Waits until the journal keeps the event with this stamp. `None` if it never will.
-    fn release<R: Wait>(&self, rt: &R, stamp: u32) -> Option<Kept>
-        ensures { IfSome result (λ kept. stamp ≤ kept) };
+    /// Waits until the journal keeps the event of this centre with this stamp. `None` if it never will, or is the
+    /// journal of another centre. Stamp 0 is that of no event: nothing waits for it.
+    fn release<R: Wait>(&self, rt: &R, centre: u8, stamp: u32) -> Option<Kept>
+        ensures { IfSome result (λ kept. shows kept centre stamp ≡ true) };
 }
 
 /// No journal is kept: no answer waits.
@@ -29,9 +31,9 @@ impl Release for AtOnce {
         0
     }
 
-    fn release<R: Wait>(&self, _rt: &R, stamp: u32) -> Option<Kept> {
+    fn release<R: Wait>(&self, _rt: &R, centre: u8, stamp: u32) -> Option<Kept> {
         if stamp == 0 {
-            Some(Kept::no_event())
+            Some(Kept::no_event(centre))
         } else {
             None
         }

@@ -26,7 +26,8 @@ pub struct Turn<'a, W: Drop> {
 impl<W: Write + Drop> Turn<'_, W> {
     /// Writes a reply that waits for no event: another is not written. After a failed write nothing more is written.
     pub fn write(mut self, reply: &Reply) -> Result<(), WriteFailed> {
-        let (Some(out), Some(bytes)) = (&mut *self.out, reply.open(&Kept::no_event())) else {
+        let none = Kept::no_event(reply.centre());
+        let (Some(out), Some(bytes)) = (&mut *self.out, reply.open(&none)) else {
             return Err(WriteFailed);
         };
         if write_whole(out, bytes).is_err() {

@@ -27,8 +27,8 @@ pub fn run_writer<R: Wait, W: Write>(
     run_held_writer(rt, replies, &AtOnce, out)
 }
 
-/// The same, but each reply that waits for an event is written once a journal keeps that. It ends at the first reply
-/// whose event the journal will never keep.
+/// The same, but each reply that waits for an event is written once the journal of its centre keeps that. It ends at
+/// the first reply whose event the journal will never keep.
 pub fn run_held_writer<R: Wait, L: Release, W: Write>(
     rt: &R,
     replies: &Receiver<Reply>,
@@ -44,7 +44,7 @@ pub fn run_held_writer<R: Wait, L: Release, W: Write>(
         let Ok(reply) = replies.recv(rt) else {
             break;
         };
-        let Some(kept) = release.release(rt, reply.stamp()) else {
+        let Some(kept) = release.release(rt, reply.centre(), reply.stamp()) else {
             break;
         };
         let Some(bytes) = reply.open(&kept) else {

@@ -1,4 +1,5 @@
-//! An initiation that came over a connection before its centre ended it. The connection serves no train again.
+//! Connections that ended: one that its centre ended after an initiation serves no train again, and one whose train is
+//! too slow is cut.
 
 use crate::codec::bytes::bytes_of;
 use crate::line::{A, INITIATION, VERSION, two_centres};
@@ -62,17 +63,18 @@ fn pair<R: Net<Stream = TcpStream, Listener = TcpListener>>(
     Ok((train, stream))
 }
 
-// A connection of this number.
+// A connection of this number, with room for this many replies that wait.
 fn entered<R: Net<Stream = TcpStream, Listener = TcpListener> + Wait>(
     rt: &R,
     alloc: Global,
     connections: &TrainConnections<'_>,
     number: usize,
+    room: usize,
 ) -> Result<Ends, Fail> {
     let (train, stream) = pair(rt)?;
     let stream = Arc::new(alloc, stream)?;
     let shared_writer = Arc::new(alloc, SharedWriter::new(Shared(Arc::try_clone(&stream)?)))?;
-    let (sender, replies) = bounded(alloc, 8)?;
+    let (sender, replies) = bounded(alloc, room)?;
     let writer = Arc::try_clone(&shared_writer)?;
     let connection = Connection::new(sender, writer, Arc::try_clone(&stream)?);
     connections.enter(rt, number, connection)?;
@@ -120,8 +122,8 @@ fn brought_by_two<R: Net<Stream = TcpStream, Listener = TcpListener> + Wait>(
     connections: &TrainConnections<'_>,
     outcomes: &[Outcome],
 ) -> Result<(Vec<u8>, Vec<u8>), Fail> {
-    let first = entered(rt, alloc, connections, 0)?;
-    let second = entered(rt, alloc, connections, 1)?;
+    let first = entered(rt, alloc, connections, 0, 8)?;
+    let second = entered(rt, alloc, connections, 1, 8)?;
     hand_in(rt, connections, outcomes);
     let first = brought(rt, alloc, connections, 0, first)?;
     let second = brought(rt, alloc, connections, 1, second)?;
@@ -145,5 +147,38 @@ fn a_connection_that_was_ended_serves_no_train_again(rt: HostRuntime) -> Result<
     let version = bytes_of(rt.alloc(), VERSION)?;
     let later = bytes_of(rt.alloc(), LATER_VERSIONS)?;
     assert!(rt; (first.as_slice(), second.as_slice()) == (version.as_slice(), later.as_slice()));
+    Ok(())
+}
+
+// Whether a connection with room for one reply is kept after all answers were submitted, and the bytes at its train.
+// Its replies wait for the journal of A, so nothing is written meanwhile.
+fn left_by_a_slow_train<R: Net<Stream = TcpStream, Listener = TcpListener> + Wait>(
+    rt: &R,
+    alloc: Global,
+    connections: &TrainConnections<'_>,
+    outcomes: &[Outcome],
+) -> Result<(bool, Vec<u8>), Fail> {
+    let ends = entered(rt, alloc, connections, 0, 1)?;
+    for outcome in outcomes {
+        let sink = ConnectionSink {
+            connections,
+            number: 0,
+        };
+        sink.answered(rt, outcome);
+    }
+    let is_kept = connections.leave(rt, 0);
+    let mut bytes = Vec::new(alloc);
+    let mut train = &ends.train;
+    train.read_to_end(&mut bytes)?;
+    Ok((is_kept, bytes))
+}
+
+#[test]
+fn a_connection_whose_train_is_too_slow_is_cut(rt: HostRuntime) -> Result<(), Fail> {
+    let outcomes = answers(&rt, rt.alloc())?;
+    let line = two_centres(rt.alloc())?;
+    let connections = TrainConnections::new(rt.alloc(), &line, 2, &[])?.held(Some(A));
+    let (is_kept, bytes) = left_by_a_slow_train(&rt, rt.alloc(), &connections, &outcomes)?;
+    assert!(rt; (is_kept, bytes.as_slice()) == (false, [].as_slice()));
     Ok(())
 }

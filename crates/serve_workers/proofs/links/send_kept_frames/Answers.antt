@@ -17,12 +17,13 @@ loop-preserved-in-Ok g c =
     (c.loop.frames + 1) c.in-Some-frame.frame refl c.loop.invariant.1
     c.in-Ok.ensures.keeps c.in-Ok.ensures.ok c.in-Some-frame.ensures in
     let kept = kept-one awaits (known c.loop.seen) (known c.put_kept.new.seen) c.loop.frames (c.loop.frames + 1)
-    c.loop.kept c.put_kept.new.kept c.in-Some-frame.frame refl c.loop.invariant.2
+    c.loop.kept.stamp c.put_kept.new.kept.stamp c.in-Some-frame.frame refl c.loop.invariant.2
     c.in-Ok.ensures.keeps c.in-Ok.ensures.kept c.in-Ok.ensures.ok c.in-Ok.ensures.event in (
       c.in-Ok.ensures.link,
       subst (PutsInOrder (known c.put_kept.new.seen) centre c.args.to) (sym counted) puts,
-      subst (λ n. AreKept awaits (known c.put_kept.new.seen) n c.put_kept.new.kept) (sym counted) kept,
+      subst (λ n. AreKept awaits (known c.put_kept.new.seen) n c.put_kept.new.kept.stamp) (sym counted) kept,
       c.number-frames.ensures.range.1,
+      c.in-Ok.ensures.centre ∙ c.loop.invariant.4,
     )
 
 pub loop-preserved : goal.loop-preserved
@@ -35,9 +36,10 @@ loop-preserved g c =
         w.put_kept.ensures.link,
         puts-keeps (known c.loop.seen) (known w.put_kept.new.seen) centre c.args.to c.loop.frames c.loop.invariant.1
             w.put_kept.ensures.keeps,
-        kept-keeps awaits (known c.loop.seen) (known w.put_kept.new.seen) c.loop.frames c.loop.kept w.put_kept.new.kept
-            c.loop.invariant.2 w.put_kept.ensures.keeps w.put_kept.ensures.kept,
+        kept-keeps awaits (known c.loop.seen) (known w.put_kept.new.seen) c.loop.frames c.loop.kept.stamp
+            w.put_kept.new.kept.stamp c.loop.invariant.2 w.put_kept.ensures.keeps w.put_kept.ensures.kept,
         c.loop.invariant.3,
+        w.put_kept.ensures.centre ∙ c.loop.invariant.4,
       )
       | in_default+else-ne w ↦ rw (w.seen-is, w.kept-is) c.loop.invariant
     ]
@@ -67,7 +69,19 @@ returns-clause-kept g c =
       | in-Some+then-not-rests w ↦ rw (w.seen-is, w.kept-is) (elim w.match-frame.branch [
         | in-Some-frame+in_default-put_kept v ↦
             rw (v.seen-is, v.kept-is) (kept-keeps awaits (known c.loop.seen) (known v.put_kept.new.seen) c.loop.frames
-            c.loop.kept v.put_kept.new.kept c.loop.invariant.2 v.put_kept.ensures.keeps v.put_kept.ensures.kept)
+            c.loop.kept.stamp v.put_kept.new.kept.stamp c.loop.invariant.2 v.put_kept.ensures.keeps
+            v.put_kept.ensures.kept)
         | in_default+else-ne v ↦ rw (v.seen-is, v.kept-is) c.loop.invariant.2
+      ])
+    ]
+
+pub returns-clause-own : goal.returns-clause-own
+returns-clause-own g c =
+    elim c.match-next.branch [
+      | in-None w ↦ rw w.kept-is c.loop.invariant.4
+      | in-Some+in_default+then-ne w ↦ rw w.kept-is c.loop.invariant.4
+      | in-Some+then-not-rests w ↦ rw w.kept-is (elim w.match-frame.branch [
+        | in-Some-frame+in_default-put_kept v ↦ rw v.kept-is (v.put_kept.ensures.centre ∙ c.loop.invariant.4)
+        | in_default+else-ne v ↦ rw v.kept-is c.loop.invariant.4
       ])
     ]

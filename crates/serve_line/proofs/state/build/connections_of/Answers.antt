@@ -1,14 +1,11 @@
-use Rattle.std.proofs.Common.{◌≡◌, All, subst, sym}
-use Rattle.std.proofs.lemmas.List.Elements.{All-push}
+use Rattle.std.proofs.Common.{◌∙◌}
+use Rattle.serve_line.proofs.Ranges.{map_next}
 use Rattle.serve_line.proofs.state.build.connections_of.Goals as goal
+use Rattle.serve_line.specs.Building.{awaited_journal}
 use Rattle.serve_workers.specs.declared.connections.connections.TrainConnections.{TrainConnections}
 
-pub loop-row-preserved : goal.loop-row-preserved
-loop-row-preserved c =
-    let before = c.loop-row.connections.items in
-    let all : All (λ (connections : TrainConnections). connections.is_held ≡ c.args.is_journaled) before =
-    c.loop-row.invariant in
-    subst (All (λ (connections : TrainConnections). connections.is_held ≡ c.args.is_journaled))
-    (sym c.in_ok-push.ensures.items)
-    (All-push (λ (connections : TrainConnections). connections.is_held ≡ c.args.is_journaled) before c.held.result all
-    c.held.ensures)
+pub loop-centre-preserved : goal.loop-centre-preserved
+loop-centre-preserved c =
+    map_next (λ (connections : TrainConnections). connections.journal) (awaited_journal c.args.is_journaled)
+    c.loop-centre.centre c.loop-centre.connections.items c.push.new.self.items c.held.result c.in_ok-push.ensures.items
+    (c.held.ensures ∙ c.awaited_journal.ensures) c.loop-centre.invariant

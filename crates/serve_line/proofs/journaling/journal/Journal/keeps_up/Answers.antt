@@ -1,5 +1,8 @@
-use Rattle.std.proofs.Common.{◌-◌, ◌<◌, ◌≡◌, ◌≤◌, arith, Bool, false, if◌then◌else◌, IfSome, leb-false, leb-true}
-use Rattle.std.proofs.Common.{nat_le, None, Option, refl, Some, subst, sym, true, ℕ}
+use Rattle.std.proofs.Common.{◌&&◌, ◌-◌, ◌<◌, ◌==◌, ◌≡◌, ◌≤◌, arith, Bool, false, if◌then◌else◌, IfSome, leb-false}
+use Rattle.std.proofs.Common.{leb-true, nat_le, None, Option, refl, Some, subst, sym, true, ℕ}
+use Rattle.std.proofs.lemmas.Bool.{le-leb}
+use Rattle.serve_journal.specs.declared.kept.Kept.{Kept}
+use Rattle.serve_journal.specs.Shown.{shows}
 use Rattle.serve_line.proofs.journaling.journal.Journal.keeps_up.Goals as goal
 use Rattle.serve_line.specs.Journaling.Waiting.{awaited}
 
@@ -20,13 +23,22 @@ needs : (is_stuck : Bool) (b s : ℕ) → awaited (Some b) (s - 4096) ≤ awaite
 needs true b s = later b (s - 4096) s (omega arith)
 needs false b s = later b (s - 4096) (s - 4096) (omega arith)
 
-more : (kept : Option ℕ) (m n : ℕ) → m ≤ n → IfSome kept (λ k. n ≤ k) → IfSome kept (λ k. m ≤ k)
-more None m n le shows = tt
-more (Some k) m n le shows = omega (arith, shows)
+fewer : (p : Bool) (k m n : ℕ) → m ≤ n → (p && nat_le n k) ≡ true → (p && nat_le m k) ≡ true
+fewer true k m n le shown =
+    let high : n ≤ k = leb-true n k shown in
+    le-leb m k (omega arith)
+fewer false k m n le shown = shown
+
+-- a token that shows an event shows each earlier one too
+more :
+    (kept : Option Kept) (c m n : ℕ) → m ≤ n → IfSome kept (λ k. shows k c n ≡ true)
+    → IfSome kept (λ k. shows k c m ≡ true)
+more None c m n le shown = tt
+more (Some k) c m n le shown = fewer (k.centre == c) k.stamp m n le shown
 
 pub returns : goal.returns
 returns g c =
-    more c.wait_for.result (awaited (Some c.args.self.now.begun) (c.args.stamp - 4096)) c.needed.result
+    more c.wait_for.result c.args.centre (awaited (Some c.args.self.now.begun) (c.args.stamp - 4096)) c.needed.result
     (subst (λ (n : ℕ). awaited (Some c.args.self.now.begun) (c.args.stamp - 4096) ≤ n) (sym c.needed.ensures)
     (needs _ c.args.self.now.begun c.args.stamp))
     c.wait_for.ensures
