@@ -1,5 +1,9 @@
 //! Draws the sections of trains, and the trains' numbers at the start of their missions.
 
+ghost use Rattle.std.specs.Prelude.{◌≡◌, List, option_map, ℕ};
+ghost use Rattle.cli_picture.specs.Looks.{use_of};
+ghost use Rattle.cli_picture.specs.Texts.{wish_class};
+
 use crate::run::{Run, nid_engine_of, track_of};
 use crate::scale::Scale;
 use crate::style::{colour_of, dashes_of};
@@ -30,7 +34,9 @@ pub fn draw_bars(
 }
 
 /// The look of a section's use, its description, and its train. `None` if the section is unused.
-fn use_of(mark: Mark) -> Option<(&'static str, &'static str, u32)> {
+fn use_of(mark: Mark) -> Option<(&'static str, &'static str, u32)>
+    ensures { use_of mark ≡ option_map {U = List ℕ × List ℕ × ℕ} (λ u. (u.0.now, u.1.now, u.2)) result }
+{
     match mark {
         Mark::Given { nid_engine } => Some(("", "", nid_engine)),
         Mark::Kept { nid_engine } => Some((" kept", "kept for ", nid_engine)),
@@ -50,11 +56,7 @@ fn draw_stretch(
     };
     match run.line.train_number(nid_engine) {
         Some(train) if run.wants(train) => {
-            let wish = if stretch.seen.is_wished {
-                " wished"
-            } else {
-                ""
-            };
+            let wish = wish_class(stretch.seen.is_wished);
             let colour = colour_of(train);
             let dashes = dashes_of(train);
             write!(svg, "<rect class=\"bar{look}{wish} c{colour} d{dashes}\"")?;
@@ -65,6 +67,13 @@ fn draw_stretch(
         }
         _ => Ok(()),
     }
+}
+
+// The class of a section that is wished back.
+fn wish_class(is_wished: bool) -> &'static str
+    ensures { result.now ≡ wish_class is_wished }
+{
+    if is_wished { " wished" } else { "" }
 }
 
 fn draw_box(
