@@ -22,16 +22,9 @@ impl<R: Net<Stream = TcpStream> + Clock> Running<'_, R> {
     }
 
     fn collect_one(&mut self, train: usize, centre: u8) -> Result<(), TrainsFault> {
-        let Some(connection) = self.calls.of(train, centre) else {
-            return Ok(());
-        };
-        connection.read()?;
+        self.calls.read(train, centre)?;
         for _ in 0..u64::MAX {
-            let came = match self.calls.of(train, centre) {
-                Some(connection) => connection.inbox.message()?,
-                None => Came::Nothing,
-            };
-            match came {
+            match self.calls.message(train, centre)? {
                 Came::Message(bytes) => self.put_down(train, centre, bytes)?,
                 Came::Nothing => break,
                 Came::Garbage => {
