@@ -1,0 +1,100 @@
+//! Judges what leaves the centres, when it leaves.
+
+use crate::answering::{JOURNAL_FAULT, SCRIPT_FAULT};
+use crate::judge::{Judge, Said};
+use crate::trouble::{Done, Trouble};
+use rbc_msgs::{TrackBody, TrackMsg, decode_track};
+use std::sync::Wait;
+
+const TOO_EARLY: Trouble = Trouble::Wrong("an answer left before its event was durable");
+
+impl<R: Wait + AllocGlobal> Judge<'_, R> {
+    /// A message left over a connection of a centre to a train. The result is the message.
+    pub fn to_train(
+        &mut self,
+        number: usize,
+        centre: u8,
+        nid_engine: u32,
+        bytes: &[u8],
+    ) -> Done<TrackMsg> {
+        let Ok(message) = decode_track(bytes) else {
+            return Err(Trouble::Wrong("a train got bytes that are no message"));
+        };
+        let said = Said {
+            centre,
+            nid_engine,
+            message,
+        };
+        if !self.said.iter().any(|other| *other == said) {
+            return Err(TOO_EARLY);
+        }
+        let is_next = match self.heard_over(number) {
+            Some(last) => message.t_train() == last.saturating_add(1),
+            None => message.body() == TrackBody::SystemVersion,
+        };
+        if !is_next {
+            return Err(Trouble::Wrong("a message was left out, or came out of order"));
+        }
+        for _ in self.heard.len()..number.saturating_add(1) {
+            self.heard.push(None)?;
+        }
+        if let Some(heard) = self.heard.get_mut(number) {
+            *heard = Some(message.t_train());
+        }
+        Ok(message)
+    }
+
+    fn heard_over(&self, number: usize) -> Option<u32> {
+        *self.heard.get(number)?
+    }
+
+    /// Whether the last message of a centre to a train left over this connection.
+    pub fn is_complete(&self, number: usize, centre: u8, nid_engine: u32) -> bool {
+        let mut last = None;
+        for said in &self.said {
+            if said.centre == centre && said.nid_engine == nid_engine {
+                last = Some(said.message.t_train());
+            }
+        }
+        self.heard_over(number) == last
+    }
+
+    /// A text left over a control connection.
+    pub fn to_control(&mut self, text: &[u8]) -> Done<()> {
+        if text == JOURNAL_FAULT.as_bytes() || text == SCRIPT_FAULT.as_bytes() {
+            return Ok(());
+        }
+        if let Some(shown) = text.strip_prefix("> show\n".as_bytes()) {
+            return self.is_shown(shown);
+        }
+        match self
+            .answers
+            .iter()
+            .position(|answer| answer.as_slice() == text)
+        {
+            Some(place) if place < self.answers.len() => {
+                let _ = self.answers.remove(place);
+                Ok(())
+            }
+            _ => Err(TOO_EARLY),
+        }
+    }
+
+    // Whether each centre's part of a shown line is one that its journal had.
+    fn is_shown(&self, text: &[u8]) -> Done<()> {
+        let mut rest = text;
+        for centre in 0..self.line.centre_count() {
+            let mut after = None;
+            for (other, shown) in &self.shown {
+                if *other == centre && after.is_none() {
+                    after = rest.strip_prefix(shown.as_slice());
+                }
+            }
+            let Some(after) = after else {
+                return Err(Trouble::Wrong("a line was shown that no journal has"));
+            };
+            rest = after;
+        }
+        Ok(())
+    }
+}

@@ -1,0 +1,149 @@
+//! The lives of the centres in a run: their starts and ends, and the end of the run.
+
+use crate::disk::Fate;
+use crate::lots::{below, in_hundred};
+use crate::simulation::{COUNT, Simulation};
+use crate::starting::{lock_all, read_all, resume, set_locked};
+use crate::trouble::{Done, Trouble};
+use std::sync::Wait;
+
+impl<R: Wait + AllocGlobal> Simulation<'_, R> {
+    /// The machine crashes, perhaps while a journal is written.
+    pub fn kill(&mut self) -> Done<()> {
+        if let Some(mut program) = self.program.take() {
+            for centre in 0..self.platters.len() {
+                let fate = Fate::Torn(below(&mut self.draws, 600));
+                program.keep(centre, self.now, fate)?;
+            }
+        }
+        self.judge.catch_up(self.platters, self.now)?;
+        for platter in self.platters {
+            if let Some(mut platter) = platter.try_lock() {
+                platter.crash(&mut self.draws)?;
+            }
+        }
+        self.has_lock = false;
+        self.found = None;
+        self.kills = self.kills.saturating_add(1);
+        self.hang_up_all();
+        self.mark("crashes, machine", 0)
+    }
+
+    fn hang_up_all(&mut self) {
+        for call in &mut self.calls {
+            *call = None;
+        }
+    }
+
+    /// The centres go on to their end after `stop`, and then with the next start.
+    pub fn start_or_end(&mut self) -> Done<bool> {
+        let Some(program) = &mut self.program else {
+            return self.start();
+        };
+        if !program.is_stopped {
+            return Ok(false);
+        }
+        if self.is_calm || in_hundred(&mut self.draws, 5) {
+            for connection in &mut program.connections {
+                connection.is_shut = true;
+            }
+        }
+        if program.has_ended() {
+            return self.finish();
+        }
+        self.start()
+    }
+
+    // The centres have ended: their logs are gathered, and the journals have all events.
+    fn finish(&mut self) -> Done<bool> {
+        let Some(program) = self.program.take() else {
+            return Ok(false);
+        };
+        self.judge.catch_up(self.platters, self.now)?;
+        let has_lost = program.keepers.iter().any(|keeper| keeper.reach.is_closed);
+        if !has_lost && !self.judge.is_same(&program.nodes) {
+            return Err(Trouble::Wrong("the journals lack events of the centres"));
+        }
+        if !program.is_gathered()? {
+            return Err(Trouble::Wrong("the receipts do not make up the logs"));
+        }
+        set_locked(self.platters, false);
+        self.hang_up_all();
+        self.mark("have ended, centres", 0)?;
+        Ok(true)
+    }
+
+    // A start locks the journals, reads them, or resumes from them. It can't lock them while another program has them.
+    fn start(&mut self) -> Done<bool> {
+        if let Some(found) = self.found.take() {
+            if self.program.is_some() {
+                self.found = Some(found);
+                return Ok(false);
+            }
+            let program = resume(self.rt, self.line, self.platters, found)?;
+            self.has_lock = false;
+            self.judge.catch_up(self.platters, self.now)?;
+            if !self.judge.is_same(&program.nodes) {
+                return Err(Trouble::Wrong("the centres lack events of their journals"));
+            }
+            self.program = Some(program);
+            self.judge.begin(self.now)?;
+        } else if self.has_lock {
+            self.found = Some(read_all(self.alloc, self.line, self.platters)?);
+        } else {
+            self.has_lock = lock_all(self.platters);
+            return Ok(self.has_lock);
+        }
+        self.mark("goes on, start", 0)?;
+        Ok(true)
+    }
+
+    /// No fault is drawn any more. The centres come to rest, each question is answered, and `stop` ends them.
+    pub fn calm_down(&mut self) -> Done<()> {
+        self.is_calm = true;
+        self.settle(true)?;
+        let Some(program) = &self.program else {
+            return Err(Trouble::Wrong("the centres do not start"));
+        };
+        if !program.is_at_rest() || program.is_stopped {
+            return Err(Trouble::Wrong("an event, a frame or a line is left"));
+        }
+        for (number, connection) in program.connections.iter().enumerate() {
+            let is_complete = self
+                .judge
+                .is_complete(number, connection.centre, connection.nid_engine);
+            if !connection.is_slow && program.serves(number) && !is_complete {
+                return Err(Trouble::Wrong("a train lacks the last answers"));
+            }
+        }
+        let alloc = self.alloc;
+        let row = format!(in alloc; "stop")?;
+        self.say_row(row)?;
+        self.settle(false)?;
+        match &self.program {
+            None => Ok(()),
+            Some(_) => Err(Trouble::Wrong("the centres do not end after stop")),
+        }
+    }
+
+    // Lets each thread take steps in turn until none can for two seconds.
+    fn settle(&mut self, starts: bool) -> Done<()> {
+        let mut rests = 0u32;
+        for _ in 0..4_000 {
+            self.now = self.now.saturating_add(10);
+            self.step = self.step.saturating_add(1);
+            let mut did = (starts || self.program.is_some()) && self.start_or_end()?;
+            for what in 0..COUNT {
+                for which in 0..self.count(what) {
+                    did |= self.turn(what, which)?;
+                }
+                self.judge.catch_up(self.platters, self.now)?;
+            }
+            rests = if did { 0 } else { rests.saturating_add(1) };
+            if rests >= 20 {
+                return Ok(());
+            }
+        }
+        Err(Trouble::Wrong("the centres do not come to rest"))
+    }
+}

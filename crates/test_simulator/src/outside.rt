@@ -1,0 +1,173 @@
+//! The trains of a run. Some keep the rules. The others send messages in a fixed order, and do not listen.
+
+use crate::lots::{below, in_hundred};
+use crate::obeying::Obedient;
+use crate::trouble::{Done, Trouble};
+use rand_pcg::Pcg32;
+use rbc_line::{Line, Section};
+use rbc_msgs::{TrackMsg, encode_train};
+use std::alloc::Global;
+use train_unit::NextMessage;
+use train_unit::driving::{Place, Speech, message, position};
+
+/// The messages of a train that does not listen, over a connection. After the last it goes on from the sixth.
+static SPEECHES: [Speech; 9] = [
+    Speech::Next(NextMessage::InitiationOfSession),
+    Speech::Next(NextMessage::SessionEstablished),
+    Speech::Next(NextMessage::StartOfMission),
+    Speech::Next(NextMessage::TrainData),
+    Speech::Next(NextMessage::Request),
+    Speech::Report,
+    Speech::Next(NextMessage::Request),
+    Speech::Report,
+    Speech::EndOfMission,
+];
+
+/// A train, or a stranger.
+#[derive(Drop)]
+pub struct Train {
+    pub nid_engine: u32,
+    conduct: Conduct,
+    // Its last message.
+    last: Vec<u8>,
+}
+
+#[derive(Drop)]
+enum Conduct {
+    Obeys(Obedient),
+    Babbles(Babbler),
+}
+
+impl Train {
+    /// A train at this place that keeps the rules.
+    pub fn obedient(alloc: Global, place: Place) -> Train {
+        Train {
+            nid_engine: place.nid_engine,
+            conduct: Conduct::Obeys(Obedient::new(place)),
+            last: Vec::new(alloc),
+        }
+    }
+
+    /// A train in this section that does not listen.
+    pub fn babbler(alloc: Global, nid_engine: u32, section: usize) -> Train {
+        let babbler = Babbler {
+            clock: 0,
+            section,
+            front: 1_000,
+        };
+        Train {
+            nid_engine,
+            conduct: Conduct::Babbles(babbler),
+            last: Vec::new(alloc),
+        }
+    }
+
+    /// It runs on.
+    pub fn run(&mut self, draws: &mut Pcg32, sections: &[Section]) {
+        match &mut self.conduct {
+            Conduct::Obeys(train) => train.run(draws),
+            Conduct::Babbles(train) => train.run(draws, sections),
+        }
+    }
+
+    /// Its next message to a centre, of this order over the connection, or its last message again. The result is
+    /// whether it sends one. The time is in units of 10 ms.
+    pub fn speak(&mut self, alloc: Global, to: &mut Vec<u8>, turn: &Turn<'_>) -> Done<bool> {
+        let next = match &mut self.conduct {
+            Conduct::Obeys(train) => train.speak(
+                alloc,
+                turn.line,
+                turn.sections,
+                turn.centre,
+                turn.now,
+            )?,
+            Conduct::Babbles(train) => Some(train.speak(alloc, self.nid_engine, turn)?),
+        };
+        match next {
+            Some(bytes) => self.last = bytes,
+            None if turn.repeats && !self.last.is_empty() => {}
+            None => return Ok(false),
+        }
+        to.extend_from_slice(&self.last)?;
+        Ok(true)
+    }
+
+    /// It receives a message of a centre, or it does not, by lot.
+    pub fn hear(
+        &mut self,
+        draws: &mut Pcg32,
+        line: &Line,
+        centre: u8,
+        message: &TrackMsg,
+        now: u32,
+    ) {
+        if let Conduct::Obeys(train) = &mut self.conduct
+            && !in_hundred(draws, 5)
+        {
+            train.hear(line, centre, message, now);
+        }
+    }
+}
+
+/// A message that a train is to send.
+#[derive(Clone, Copy)]
+pub struct Turn<'a> {
+    pub line: &'a Line,
+    pub sections: &'a [Section],
+    pub centre: u8,
+    /// Its order over the connection.
+    pub order: usize,
+    /// In units of 10 ms.
+    pub now: u32,
+    /// If no message is due, the last one is sent again.
+    pub repeats: bool,
+}
+
+// A train that sends messages in a fixed order.
+#[derive(Clone, Copy)]
+struct Babbler {
+    // T_TRAIN of its last message.
+    clock: u32,
+    // The place of the section of its front end, and how far its front end is in it, in decimetres.
+    section: usize,
+    front: u32,
+}
+
+impl Babbler {
+    fn speak(&mut self, alloc: Global, nid_engine: u32, turn: &Turn<'_>) -> Done<Vec<u8>> {
+        let order = turn.order;
+        let place = if order < SPEECHES.len() {
+            order
+        } else {
+            5 + order % 4
+        };
+        let (Some(section), Some(speech)) = (turn.sections.get(self.section), SPEECHES.get(place))
+        else {
+            return Err(Trouble::Wrong("a train is on no section"));
+        };
+        self.clock = turn.now.max(self.clock.saturating_add(1));
+        let front = (section.start.min(1_000_000) * 10).saturating_add(self.front);
+        let position = position(turn.line.nid_c(), *section, front, false);
+        let message = message(alloc, self.clock, nid_engine, *speech, position)?;
+        match encode_train(alloc, &message) {
+            Ok(bytes) => Ok(bytes),
+            Err(_) => Err(Trouble::Memory),
+        }
+    }
+
+    // It runs on, perhaps to the next section.
+    fn run(&mut self, draws: &mut Pcg32, sections: &[Section]) {
+        self.front = self.front.saturating_add(below(draws, 1_500) as u32);
+        let next = self.section.saturating_add(1);
+        let has_next = match (sections.get(self.section), sections.get(next)) {
+            (Some(one), Some(other)) => one.track == other.track,
+            _ => false,
+        };
+        if self.front >= 4_000 {
+            self.front = if has_next { self.front - 4_000 } else { 4_000 };
+            if has_next {
+                self.section = next;
+            }
+        }
+    }
+}

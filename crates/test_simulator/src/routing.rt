@@ -1,0 +1,158 @@
+//! The ways of the answers: to the lanes of trains, and from there to connections.
+
+use crate::program::Program;
+use crate::trouble::{Done, Trouble};
+use rbc_centre::Saying;
+use rbc_msgs::TrackBody;
+use serve_workers::writing::{Release, Reply};
+use std::sync::Wait;
+
+/// The most replies that wait for one connection.
+const REPLIES: usize = 32;
+
+/// The most events that may wait to be written before the centre's peers wait for them, whatever the answer.
+const MOST_UNWRITTEN: u32 = 4_096;
+
+impl<R: Wait> Program<'_, R> {
+    /// A thread that commits events hands in the next part of an answer, if it may leave. An answer with a reply to the
+    /// interlocking waits for its event here.
+    pub fn hand_in(&mut self, at: usize) -> Done<bool> {
+        let Some(worker) = self.workers.get_mut(at) else {
+            return Ok(false);
+        };
+        let Some(receipt) = worker.share.receipts().get(worker.handed) else {
+            return Ok(false);
+        };
+        let (outcome, centre) = (&receipt.outcome, worker.share.centre());
+        let Some(keeper) = self.keepers.get(usize::from(centre)) else {
+            return Ok(false);
+        };
+        let (stamp, reach) = (outcome.stamp, &keeper.reach);
+        let waits = if outcome.words().is_empty() && !reach.is_stuck {
+            stamp.saturating_sub(MOST_UNWRITTEN)
+        } else {
+            stamp
+        };
+        if reach.kept.stamp() < reach.awaited(waits) && !reach.is_closed {
+            return Ok(false);
+        }
+        match outcome.sayings.as_slice().get(worker.said).copied() {
+            Some(saying) if !reach.is_closed => {
+                let own = worker.own;
+                worker.said = worker.said.saturating_add(1);
+                self.say(own, centre, saying, stamp)?;
+            }
+            _ => {
+                worker.handed = worker.handed.saturating_add(1);
+                worker.said = 0;
+            }
+        }
+        Ok(true)
+    }
+
+    // Submits a message to the lane of its train, and releases the messages whose turn has come.
+    fn say(&mut self, own: Option<usize>, centre: u8, saying: Saying, stamp: u32) -> Done<()> {
+        let Some(train) = self.line.train_number(saying.nid_engine) else {
+            return Ok(());
+        };
+        let train = usize::from(train);
+        let is_version = matches!(saying.message.body(), TrackBody::SystemVersion);
+        let begins = self.opened(if is_version { own } else { None }, centre, train);
+        let Ok(reply) = Reply::new(self.alloc, saying.message) else {
+            return Err(Trouble::Memory);
+        };
+        let at = self.lane_at(centre, train);
+        let Some(lane) = self.lanes.get_mut(at) else {
+            return Ok(());
+        };
+        let said = lane.say(begins, reply.answering(stamp));
+        let serving = lane.serving();
+        self.shut(said.ended);
+        if said.taken.is_err() {
+            self.shut(serving);
+        }
+        self.release(at, serving, train)
+    }
+
+    // The place of the lane of a train at a centre.
+    fn lane_at(&self, centre: u8, train: usize) -> usize {
+        usize::from(centre)
+            .saturating_mul(usize::from(self.line.train_count()))
+            .saturating_add(train)
+    }
+
+    // The connection whose initiation is answered serves no other train any more. It begins to serve this one, if it is
+    // there and was not ended.
+    fn opened(&mut self, begins: Option<usize>, centre: u8, train: usize) -> Option<usize> {
+        let number = begins?;
+        let connection = self.connections.get_mut(number)?;
+        let is_open = connection.is_read && !connection.is_shut;
+        let before = connection.serves.replace(train);
+        if before != Some(train) {
+            self.leave_lane(number, centre, before);
+        }
+        is_open.then_some(number)
+    }
+
+    /// The connection of this number serves this train of a centre no more.
+    pub fn leave_lane(&mut self, number: usize, centre: u8, train: Option<usize>) {
+        let Some(train) = train else {
+            return;
+        };
+        let at = self.lane_at(centre, train);
+        if let Some(lane) = self.lanes.get_mut(at) {
+            lane.leave(number);
+        }
+    }
+
+    // The centre ends a connection.
+    fn shut(&mut self, ended: Option<usize>) {
+        let Some(number) = ended else {
+            return;
+        };
+        if let Some(connection) = self.connections.get_mut(number) {
+            connection.is_shut = true;
+        }
+    }
+
+    // Sends the messages whose turn has come to the writer of the connection that serves the train. If there is none,
+    // they are dropped. If too many wait, the connection is cut.
+    fn release(&mut self, at: usize, serving: Option<usize>, train: usize) -> Done<()> {
+        let Some(lane) = self.lanes.get_mut(at) else {
+            return Ok(());
+        };
+        for _ in 0..lane.waiting() {
+            let Some(reply) = lane.release() else {
+                break;
+            };
+            let Some(number) = serving else {
+                continue;
+            };
+            match self.connections.get_mut(number) {
+                Some(to) if to.is_read && to.serves == Some(train) => {
+                    if to.replies.len() < REPLIES {
+                        to.replies.push(reply)?;
+                    } else {
+                        to.is_shut = true;
+                    }
+                }
+                _ => {}
+            }
+        }
+        Ok(())
+    }
+
+    /// Whether a connection serves its train, by the train's lane.
+    pub fn serves(&self, number: usize) -> bool {
+        let Some(connection) = self.connections.get(number) else {
+            return false;
+        };
+        let Some(train) = connection.serves else {
+            return false;
+        };
+        match self.lanes.get(self.lane_at(connection.centre, train)) {
+            Some(lane) => lane.serves(number),
+            None => false,
+        }
+    }
+}

@@ -1,0 +1,25 @@
+use std::alloc::{AllocError, AllocFailed};
+
+/// Why a run ends early.
+#[derive(Clone, Copy, Debug, PartialEq, Eq)]
+pub enum Trouble {
+    /// Memory ran out.
+    Memory,
+    /// The running centres broke this rule.
+    Wrong(&'static str),
+}
+
+impl From<AllocError> for Trouble {
+    fn from(_error: AllocError) -> Trouble {
+        Trouble::Memory
+    }
+}
+
+impl<T: Drop> From<AllocFailed<T>> for Trouble {
+    fn from(_error: AllocFailed<T>) -> Trouble {
+        Trouble::Memory
+    }
+}
+
+/// The result of a step.
+pub type Done<T> = Result<T, Trouble>;
