@@ -64,7 +64,13 @@ impl<R: Wait> Program<'_, R> {
         let row = control.rows.remove(0);
         match command_of(self.alloc, self.line, row.as_str()) {
             Ok(Command::Nothing) => {}
-            Ok(Command::Stop | Command::StopNow) => self.is_stopped = true,
+            Ok(Command::Stop) => self.is_stopped = true,
+            Ok(Command::StopNow) => {
+                self.is_stopped = true;
+                for connection in &mut self.connections {
+                    connection.is_shut = true;
+                }
+            }
             Ok(Command::Show) => self.show(number)?,
             Ok(Command::Set { centre, section }) => {
                 let event = WorldEvent::Set { centre, section };

@@ -1,7 +1,9 @@
 //! The two threads of a link.
 
+use crate::lots::some_below;
 use crate::program::Program;
 use crate::trouble::Done;
+use rand_pcg::Pcg32;
 use rbc_board::CellBoard;
 use rbc_node::{Node, Open};
 use serve_workers::{Committer, InOrder, NoSink, Order, receive_frames, send_kept_frames};
@@ -9,6 +11,16 @@ use std::sync::Wait;
 
 /// The most frames of a link.
 const MOST_FRAMES: u32 = 65_536;
+
+/// The frame that a link gives before the next.
+#[derive(Clone, Copy, PartialEq, Eq)]
+pub enum Stray {
+    Nothing,
+    /// One with this number, which it has given.
+    Late(u32),
+    /// The one after the next: the link waits for it.
+    Early,
+}
 
 /// The link from one centre to another.
 #[derive(Drop)]
@@ -18,8 +30,9 @@ pub struct Passage {
     /// The place of the receiving thread.
     worker: usize,
     order: InOrder,
-    // The link, while a frame on it was not received.
-    board: Option<CellBoard>,
+    // The link, while a frame on it was not received, and the number of that frame.
+    board: Option<(CellBoard, u32)>,
+    pub stray: Stray,
 }
 
 impl Passage {
@@ -32,6 +45,26 @@ impl Passage {
             worker,
             order: InOrder::after(look.log().core().taken(from)),
             board: None,
+            stray: Stray::Nothing,
+        }
+    }
+
+    /// It gives a drawn frame before the next.
+    pub fn stray(&mut self, draws: &mut Pcg32) {
+        let number = some_below(draws, self.order.number());
+        self.stray = if number == 0 {
+            Stray::Early
+        } else {
+            Stray::Late(number)
+        };
+    }
+
+    // The number of the frame that it gives now.
+    fn number(&self) -> u32 {
+        match self.stray {
+            Stray::Nothing => self.order.number(),
+            Stray::Late(number) => number,
+            Stray::Early => self.order.number().saturating_add(1),
         }
     }
 }
@@ -63,7 +96,7 @@ impl<R: Wait> Program<'_, R> {
         let (Some(node), Some(keeper)) = (self.nodes.get(from), self.keepers.get(from)) else {
             return Ok(false);
         };
-        let number = link.order.number();
+        let number = link.number();
         if link.board.is_some() || number == 0 || number > MOST_FRAMES {
             return Ok(false);
         }
@@ -76,7 +109,8 @@ impl<R: Wait> Program<'_, R> {
             .of_sender(&self.bells.waker, &self.bells.is_over);
         let sent = send_kept_frames(self.rt, node, link.to, &board, seen, signals, &keeper.reach);
         if sent.frames == number {
-            link.board = Some(board);
+            link.board = Some((board, number));
+            link.stray = Stray::Nothing;
         }
         Ok(link.board.is_some())
     }
@@ -95,9 +129,10 @@ impl<R: Wait> Program<'_, R> {
         if !worker.is_idle() {
             return Ok(false);
         }
-        let Some(board) = link.board.take() else {
+        let Some((board, number)) = link.board.take() else {
             return Ok(false);
         };
+        let mut other = InOrder::after(number.saturating_sub(1));
         let seen = board.seen()?;
         let committer = Committer {
             node,
@@ -108,7 +143,11 @@ impl<R: Wait> Program<'_, R> {
             .bells
             .ends
             .of_receiver(&self.bells.waker, &self.bells.is_over);
-        let (share, order) = (&mut worker.share, &mut link.order);
+        let share = &mut worker.share;
+        let order = match number == link.order.number() {
+            true => &mut link.order,
+            false => &mut other,
+        };
         let _ = receive_frames(
             self.rt, &committer, share, link.from, &board, seen, order, signals,
         );

@@ -1,6 +1,7 @@
 //! The disks of the journals, in memory.
 
 use crate::lots::{below, in_hundred};
+use crate::tally::{Count, Tally};
 use rand_pcg::Pcg32;
 use serve_journal::DurableFile;
 use std::alloc::{AllocError, Global};
@@ -9,7 +10,7 @@ use std::io::ErrorKind;
 use std::sync::Mutex;
 
 /// What the disk does with the next write.
-#[derive(Clone, Copy, Debug, PartialEq, Eq)]
+#[derive(Clone, Copy, PartialEq, Eq)]
 pub enum Fate {
     /// All of it is durable.
     Good,
@@ -28,6 +29,7 @@ pub struct Platter {
     pub fate: Fate,
     /// Whether a program has locked the file.
     pub is_locked: bool,
+    pub tally: Tally,
 }
 
 impl Platter {
@@ -38,13 +40,14 @@ impl Platter {
             durable: 0,
             fate: Fate::Good,
             is_locked: false,
+            tally: Tally::new(),
         }
     }
 
     /// The machine crashes. A drawn part of the bytes that are not durable stays, perhaps with other bytes after it.
     pub fn crash(&mut self, draws: &mut Pcg32) -> Result<(), AllocError> {
         let rest = self.bytes.len().saturating_sub(self.durable);
-        let kept = below(draws, rest.saturating_add(1).max(1));
+        let kept = below(draws, rest.saturating_add(1));
         self.bytes.truncate(self.durable.saturating_add(kept));
         if kept > 0 && in_hundred(draws, 30) {
             self.bytes.extend_from_slice(&[0xFF, 0x00, b'7'])?;
@@ -72,6 +75,7 @@ impl DurableFile for Disk<'_> {
         let Fate::Torn(count) = platter.fate else {
             return Ok(platter.bytes.extend_from_slice(bytes)?);
         };
+        platter.tally.add(Count::Torn);
         let front = bytes.get(..count).unwrap_or(bytes);
         platter.bytes.extend_from_slice(front)?;
         Err(io::Error::from(ErrorKind::StorageFull))
@@ -80,6 +84,7 @@ impl DurableFile for Disk<'_> {
     fn sync(&mut self) -> io::Result<()> {
         let mut platter = self.platter.try_lock().ok_or(busy())?;
         if platter.fate == Fate::Unsynced {
+            platter.tally.add(Count::Failed);
             return Err(io::Error::from(ErrorKind::Other));
         }
         platter.durable = platter.bytes.len();

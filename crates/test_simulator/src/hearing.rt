@@ -44,19 +44,15 @@ impl<R: Wait + AllocGlobal> Judge<'_, R> {
         Ok(message)
     }
 
-    fn heard_over(&self, number: usize) -> Option<u32> {
+    /// T_TRAIN of the last message that left over this connection.
+    pub fn heard_over(&self, number: usize) -> Option<u32> {
         *self.heard.get(number)?
     }
 
     /// Whether the last message of a centre to a train left over this connection.
     pub fn is_complete(&self, number: usize, centre: u8, nid_engine: u32) -> bool {
-        let mut last = None;
-        for said in &self.said {
-            if said.centre == centre && said.nid_engine == nid_engine {
-                last = Some(said.message.t_train());
-            }
-        }
-        self.heard_over(number) == last
+        let last = self.last_said(centre, nid_engine);
+        self.heard_over(number) == last.map(|message| message.t_train())
     }
 
     /// A text left over a control connection.

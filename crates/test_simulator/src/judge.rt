@@ -3,17 +3,16 @@
 use crate::disk::Platter;
 use crate::program::RATE;
 use crate::starting::{commit_entry, entries_in, nodes_of};
-use crate::tally::Tally;
+use crate::tally::{Count, Tally};
 use crate::trouble::{Done, Trouble};
 use crate::watching::Promise;
-use rbc_centre::{Event, Outcome};
+use rbc_centre::{Body, Event, Outcome};
 use rbc_line::Line;
 use rbc_log::CentreLog;
 use rbc_msgs::TrackMsg;
-use rbc_node::{Node, Share, gather};
-use serve_control::{print_commit, print_family};
+use rbc_node::{Node, Share};
+use serve_control::print_commit;
 use std::alloc::Global;
-use std::io::Write;
 use std::sync::{Mutex, Wait};
 use text_journal::{Entry, first_line};
 use text_script::print::print_section;
@@ -65,7 +64,7 @@ impl<'a, R: Wait + AllocGlobal> Judge<'a, R> {
             shares,
             read: Vec::new(alloc),
             promise: Promise::new(alloc, line)?,
-            tally: Tally::default(),
+            tally: Tally::new(),
             said: Vec::new(alloc),
             answers: Vec::new(alloc),
             shown: Vec::new(alloc),
@@ -139,8 +138,13 @@ impl<'a, R: Wait + AllocGlobal> Judge<'a, R> {
         let outcome = commit_entry(self.rt, self.alloc, &self.nodes, &mut self.shares, entry)?;
         self.promise.holds_after(&entry.event, &outcome)?;
         self.tally.count(&entry.event, &outcome);
+        self.count_rights(centre, &outcome);
         self.count(centre, now)?;
         for saying in outcome.sayings.as_slice() {
+            let before = self.last_said(centre, saying.nid_engine);
+            let body = saying.message.body();
+            self.tally
+                .count_message(body, before.map(|message| message.body()));
             self.said.push(Said {
                 centre,
                 nid_engine: saying.nid_engine,
@@ -151,6 +155,30 @@ impl<'a, R: Wait + AllocGlobal> Judge<'a, R> {
             self.expect(centre, &entry.event, outcome)?;
         }
         self.show(centre)
+    }
+
+    // Counts a right that a centre gives while its train talks to a third one.
+    fn count_rights(&mut self, centre: u8, outcome: &Outcome) {
+        for sent in outcome.frames.as_slice() {
+            if let Body::GiveRight { engine } = sent.frame.body()
+                && self.said.iter().any(|said| {
+                    said.nid_engine == engine && said.centre != centre && said.centre != sent.to
+                })
+            {
+                self.tally.add(Count::ThirdRights);
+            }
+        }
+    }
+
+    /// The last message of a centre to a train.
+    pub fn last_said(&self, centre: u8, nid_engine: u32) -> Option<TrackMsg> {
+        let mut last = None;
+        for said in &self.said {
+            if said.centre == centre && said.nid_engine == nid_engine {
+                last = Some(said.message);
+            }
+        }
+        last
     }
 
     // No engine has more messages than its rate allows.
@@ -173,7 +201,12 @@ impl<'a, R: Wait + AllocGlobal> Judge<'a, R> {
             }
         }
         let gone = u64::from(now.saturating_sub(self.since));
-        if count > u64::from(RATE.burst) + gone * u64::from(RATE.per_second) / 100 + 1 {
+        let gained = gone.saturating_mul(u64::from(RATE.per_second)) / 100;
+        if count
+            > gained
+                .saturating_add(u64::from(RATE.burst))
+                .saturating_add(1)
+        {
             return Err(Trouble::Wrong("an engine sends faster than its rate"));
         }
         Ok(())
@@ -209,22 +242,21 @@ impl<'a, R: Wait + AllocGlobal> Judge<'a, R> {
         Ok(())
     }
 
-    /// Prints the events of the journals, each with its effects.
-    pub fn print<W: Write>(self, out: &mut W) -> Done<()> {
-        let Judge {
-            alloc,
-            line,
-            nodes,
-            shares,
-            ..
-        } = self;
-        let Ok(family) = gather(alloc, nodes, shares) else {
-            return Err(Trouble::Wrong("the journals are not those of a run"));
-        };
-        match print_family(alloc, line, &family, out) {
-            Ok(()) => Ok(()),
-            Err(_) => Err(Trouble::Wrong("the journals can't be printed")),
+    /// Whether each centre has taken all frames to it.
+    pub fn has_all_frames(&self) -> bool {
+        for to in &self.nodes {
+            let centre = to.share().centre();
+            for from in &self.nodes {
+                let taken = to.look(self.rt).log().core().taken(from.share().centre());
+                if from
+                    .frame(self.rt, centre, taken.saturating_add(1))
+                    .is_some()
+                {
+                    return false;
+                }
+            }
         }
+        true
     }
 
     /// Whether the centres have the events of the journals, and no others.

@@ -46,13 +46,13 @@ section = [
 ]
 [[train]]
 engine = 1
-registrar = \"A\"
+registrar = \"C\"
 [[train]]
 engine = 2
 registrar = \"A\"
 [[train]]
 engine = 3
-registrar = \"C\"
+registrar = \"B\"
 ",
     "nid_c = 5
 [[centre]]

@@ -1,16 +1,20 @@
 //! The lives of the centres in a run: their starts and ends, and the end of the run.
 
+use crate::carrying::Stray;
 use crate::disk::Fate;
 use crate::lots::{below, in_hundred};
-use crate::simulation::{COUNT, Simulation};
+use crate::simulation::{KINDS, Simulation};
 use crate::starting::{lock_all, read_all, resume, set_locked};
+use crate::tally::{Count, Tally};
 use crate::trouble::{Done, Trouble};
 use std::sync::Wait;
 
 impl<R: Wait + AllocGlobal> Simulation<'_, R> {
     /// The machine crashes, perhaps while a journal is written.
     pub fn kill(&mut self) -> Done<()> {
+        let mut tally = Tally::new();
         if let Some(mut program) = self.program.take() {
+            tally = program.tally;
             for centre in 0..self.platters.len() {
                 let fate = Fate::Torn(below(&mut self.draws, 600));
                 program.keep(centre, self.now, fate)?;
@@ -24,15 +28,8 @@ impl<R: Wait + AllocGlobal> Simulation<'_, R> {
         }
         self.has_lock = false;
         self.found = None;
-        self.kills = self.kills.saturating_add(1);
-        self.hang_up_all();
+        self.ends(Count::Crashes, &tally);
         self.mark("crashes, machine", 0)
-    }
-
-    fn hang_up_all(&mut self) {
-        for call in &mut self.calls {
-            *call = None;
-        }
     }
 
     /// The centres go on to their end after `stop`, and then with the next start.
@@ -60,6 +57,7 @@ impl<R: Wait + AllocGlobal> Simulation<'_, R> {
             return Ok(false);
         };
         self.judge.catch_up(self.platters, self.now)?;
+        let tally = program.tally;
         let has_lost = program.keepers.iter().any(|keeper| keeper.reach.is_closed);
         if !has_lost && !self.judge.is_same(&program.nodes) {
             return Err(Trouble::Wrong("the journals lack events of the centres"));
@@ -68,7 +66,7 @@ impl<R: Wait + AllocGlobal> Simulation<'_, R> {
             return Err(Trouble::Wrong("the receipts do not make up the logs"));
         }
         set_locked(self.platters, false);
-        self.hang_up_all();
+        self.ends(Count::Stops, &tally);
         self.mark("have ended, centres", 0)?;
         Ok(true)
     }
@@ -88,10 +86,14 @@ impl<R: Wait + AllocGlobal> Simulation<'_, R> {
             }
             self.program = Some(program);
             self.judge.begin(self.now)?;
+            self.release_all()?;
         } else if self.has_lock {
             self.found = Some(read_all(self.alloc, self.line, self.platters)?);
         } else {
             self.has_lock = lock_all(self.platters);
+            if !self.has_lock {
+                self.tally.add(Count::Locked);
+            }
             return Ok(self.has_lock);
         }
         self.mark("goes on, start", 0)?;
@@ -101,6 +103,14 @@ impl<R: Wait + AllocGlobal> Simulation<'_, R> {
     /// No fault is drawn any more. The centres come to rest, each question is answered, and `stop` ends them.
     pub fn calm_down(&mut self) -> Done<()> {
         self.is_calm = true;
+        if let Some(program) = &mut self.program {
+            for connection in &mut program.connections {
+                connection.is_slow = false;
+            }
+            for link in &mut program.links {
+                link.stray = Stray::Nothing;
+            }
+        }
         self.settle(true)?;
         let Some(program) = &self.program else {
             return Err(Trouble::Wrong("the centres do not start"));
@@ -108,17 +118,19 @@ impl<R: Wait + AllocGlobal> Simulation<'_, R> {
         if !program.is_at_rest() || program.is_stopped {
             return Err(Trouble::Wrong("an event, a frame or a line is left"));
         }
+        if !self.judge.has_all_frames() {
+            return Err(Trouble::Wrong("a frame was sent and not taken"));
+        }
         for (number, connection) in program.connections.iter().enumerate() {
+            let has_begun = program.serves(number) || self.judge.heard_over(number).is_some();
             let is_complete = self
                 .judge
                 .is_complete(number, connection.centre, connection.nid_engine);
-            if !connection.is_slow && program.serves(number) && !is_complete {
+            if connection.is_read && !connection.is_shut && has_begun && !is_complete {
                 return Err(Trouble::Wrong("a train lacks the last answers"));
             }
         }
-        let alloc = self.alloc;
-        let row = format!(in alloc; "stop")?;
-        self.say_row(row)?;
+        self.say_row("stop")?;
         self.settle(false)?;
         match &self.program {
             None => Ok(()),
@@ -133,7 +145,7 @@ impl<R: Wait + AllocGlobal> Simulation<'_, R> {
             self.now = self.now.saturating_add(10);
             self.step = self.step.saturating_add(1);
             let mut did = (starts || self.program.is_some()) && self.start_or_end()?;
-            for what in 0..COUNT {
+            for what in 0..KINDS {
                 for which in 0..self.count(what) {
                     did |= self.turn(what, which)?;
                 }

@@ -1,16 +1,27 @@
 //! Draws by lot.
 
-ghost use Rattle.std.specs.Prelude.{◌<◌};
-
 use rand::RngExt;
 use rand_pcg::Pcg32;
 
-/// A number below the bound.
-pub fn below(draws: &mut Pcg32, bound: usize) -> usize
-    requires { 0 < bound }
-    ensures { result < bound }
-{
+/// A number below the bound; 0 if there is none.
+pub fn below(draws: &mut Pcg32, bound: usize) -> usize {
+    if bound == 0 {
+        return 0;
+    }
     draws.random_range(0..bound)
+}
+
+/// A number below the bound; 0 if there is none.
+pub fn some_below(draws: &mut Pcg32, bound: u32) -> u32 {
+    if bound == 0 {
+        return 0;
+    }
+    draws.random_range(0..bound)
+}
+
+/// A place below the bound, for a list of at most 256; 0 if there is none.
+pub fn place_below(draws: &mut Pcg32, bound: usize) -> u8 {
+    u8::try_from(below(draws, bound)).unwrap_or(0)
 }
 
 /// True with this chance, in per cent.

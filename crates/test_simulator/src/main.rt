@@ -1,7 +1,7 @@
 //! Simulates running centres. Centres, links, trains, the interlocking, disks and the clock are in memory, and one
 //! thread lets them take their steps. A seed draws the line, the order of the steps and the faults. `test_simulator
 //! FIRST COUNT` plays the runs of COUNT seeds from FIRST on, and prints their number. `test_simulator counts FIRST
-//! COUNT` also prints the steps and the crashes. `test_simulator SEED` prints the steps of one run. At a fault the
+//! COUNT` also prints what happened in them. `test_simulator steps SEED` prints the steps of one run. At a fault the
 //! program prints the last steps, the seed and the reason, and ends with status 1.
 //!
 //! The parts of the running centres are those of the program: nodes, journals, lanes, buckets, links, sessions and
@@ -44,29 +44,16 @@ use std::io::Write;
 use std::sync::{Mutex, Wait};
 use std::{env, io};
 
-// The forms of the arguments.
-const FORMS: &str = "FIRST COUNT, counts FIRST COUNT, steps SEED, or events SEED";
-
 // How many steps are printed at a fault.
 const LAST: usize = 40;
 
 // The most steps of a run, before it comes to its end.
 const MOST_STEPS: u32 = 200_000;
 
-// What is printed of runs.
-#[derive(Clone, Copy, PartialEq, Eq)]
-enum Print {
-    Runs,
-    Counts,
-    Steps,
-    Events,
-}
-
 // A run that was played.
 #[derive(Drop)]
 struct Played {
-    steps: u32,
-    kills: u32,
+    step: u32,
     tally: Tally,
     marks: Vec<Mark>,
     trouble: Option<Trouble>,
@@ -77,28 +64,22 @@ fn main(rt: HostRuntime) -> anyhow::Result<()> {
     let mut out = io::writer(&rt);
     match words.get(1..).unwrap_or_default() {
         [what, seed] if what.as_str() == "steps" => {
-            play_all(&rt, &mut out, number_in(seed), 1, Print::Steps)
+            let played = play(&rt, number_in(seed))?;
+            print_marks(&mut out, &played, usize::MAX)?;
+            judged(&played, number_in(seed))
         }
-        [what, seed] if what.as_str() == "events" => {
-            play_all(&rt, &mut out, number_in(seed), 1, Print::Events)
+        [first, count] => {
+            let _ = play_all(&rt, &mut out, number_in(first), number_in(count))?;
+            writeln!(out, "{count} runs, 0 faults")?;
+            Ok(())
         }
-        [first, count] => play_all(
-            &rt,
-            &mut out,
-            number_in(first),
-            number_in(count),
-            Print::Runs,
-        ),
         [what, first, count] if what.as_str() == "counts" => {
-            play_all(
-                &rt,
-                &mut out,
-                number_in(first),
-                number_in(count),
-                Print::Counts,
-            )
+            let (steps, tally) = play_all(&rt, &mut out, number_in(first), number_in(count))?;
+            writeln!(out, "{count} runs, {steps} steps, 0 faults")?;
+            tally.print(&mut out)?;
+            Ok(())
         }
-        _ => bail!("{FORMS}"),
+        _ => bail!("FIRST COUNT, counts FIRST COUNT, or steps SEED"),
     }
 }
 
@@ -106,67 +87,39 @@ fn number_in(word: &String) -> u64 {
     word.as_str().parse().unwrap_or(0)
 }
 
-// Plays the runs of seeds, and prints their number. A fault ends the program.
+// Plays the runs of seeds. The result is the number of their steps, and their counts. A fault ends the program.
 fn play_all<R: Wait + AllocGlobal, W: Write>(
     rt: &R,
     out: &mut W,
     first: u64,
     count: u64,
-    print: Print,
-) -> anyhow::Result<()> {
-    let (mut steps, mut kills, mut tally) = (0u64, 0u64, Tally::default());
+) -> anyhow::Result<(u64, Tally)> {
+    let (mut steps, mut tally) = (0u64, Tally::new());
     for turn in 0..count {
         let seed = first.saturating_add(turn);
-        let played = play(rt, out, seed, print)?;
-        print_marks(out, &played, print)?;
-        match played.trouble {
-            Some(Trouble::Wrong(why)) => bail!("seed {seed}, step {}: {why}", played.steps),
-            Some(Trouble::Memory) => bail!("seed {seed}: memory ran out"),
-            None => {}
+        let played = play(rt, seed)?;
+        if played.trouble.is_some() {
+            print_marks(out, &played, LAST)?;
         }
-        steps = steps.saturating_add(u64::from(played.steps));
-        kills = kills.saturating_add(u64::from(played.kills));
-        tally.add(played.tally);
+        judged(&played, seed)?;
+        steps = steps.saturating_add(u64::from(played.step));
+        tally.add_all(&played.tally);
     }
-    if print == Print::Counts {
-        writeln!(
-            out,
-            "{count} runs, {steps} steps, {kills} crashes, 0 faults"
-        )?;
-        print_tally(out, tally)?;
-    } else {
-        writeln!(out, "{count} runs, 0 faults")?;
-    }
-    Ok(())
+    Ok((steps, tally))
 }
 
-fn print_tally<W: Write>(out: &mut W, tally: Tally) -> anyhow::Result<()> {
-    let Tally {
-        events,
-        frames,
-        authorities,
-        shortenings,
-        handovers,
-    } = tally;
-    writeln!(
-        out,
-        "{events} events, {frames} frames, {authorities} authorities"
-    )?;
-    writeln!(
-        out,
-        "{shortenings} requests to shorten, {handovers} handovers"
-    )?;
-    Ok(())
+// It is an error if the run ended with a fault.
+fn judged(played: &Played, seed: u64) -> anyhow::Result<()> {
+    match played.trouble {
+        Some(Trouble::Wrong(why)) => bail!("seed {seed}, step {}: {why}", played.step),
+        Some(Trouble::Memory) => bail!("seed {seed}: memory ran out"),
+        None => Ok(()),
+    }
 }
 
-// Prints the steps of a run; the last, if it ended with a fault; or none.
-fn print_marks<W: Write>(out: &mut W, played: &Played, print: Print) -> anyhow::Result<()> {
-    let count = played.marks.len();
-    let first = match (print, played.trouble) {
-        (Print::Steps, _) => 0,
-        (_, Some(_)) => count.saturating_sub(LAST),
-        (_, None) => count,
-    };
+// Prints the last steps of a run.
+fn print_marks<W: Write>(out: &mut W, played: &Played, last: usize) -> io::Result<()> {
+    let first = played.marks.len().saturating_sub(last);
     for mark in played.marks.iter().skip(first) {
         writeln!(out, "{}: {} {}", mark.step, mark.what, mark.which)?;
     }
@@ -174,15 +127,10 @@ fn print_marks<W: Write>(out: &mut W, played: &Played, print: Print) -> anyhow::
 }
 
 // Plays the run of a seed.
-fn play<R: Wait + AllocGlobal, W: Write>(
-    rt: &R,
-    out: &mut W,
-    seed: u64,
-    print: Print,
-) -> anyhow::Result<Played> {
+fn play<R: Wait + AllocGlobal>(rt: &R, seed: u64) -> anyhow::Result<Played> {
     let mut draws = Pcg32::seed_from_u64(seed);
-    let text = LINES.get(below(&mut draws, 3)).copied().unwrap_or("");
-    let Ok(line) = Line::from_toml(rt.alloc(), text) else {
+    let text = LINES.get(below(&mut draws, LINES.len())).copied();
+    let Ok(line) = Line::from_toml(rt.alloc(), text.unwrap_or("")) else {
         bail!("the line has a fault");
     };
     let mut platters = Vec::new(rt.alloc());
@@ -193,23 +141,10 @@ fn play<R: Wait + AllocGlobal, W: Write>(
         bail!("memory ran out");
     };
     let trouble = take_steps(&mut simulation).err();
-    let Simulation {
-        step,
-        kills,
-        judge,
-        marks,
-        ..
-    } = simulation;
-    let tally = judge.tally;
-    if print == Print::Events {
-        write!(out, "{text}")?;
-        if judge.print(out).is_err() {
-            bail!("the events can't be printed");
-        }
-    }
+    let tally = simulation.tally();
+    let Simulation { step, marks, .. } = simulation;
     Ok(Played {
-        steps: step,
-        kills,
+        step,
         tally,
         marks,
         trouble,
@@ -217,7 +152,7 @@ fn play<R: Wait + AllocGlobal, W: Write>(
 }
 
 fn take_steps<R: Wait + AllocGlobal>(simulation: &mut Simulation<'_, R>) -> Done<()> {
-    let happenings = 200 + below(&mut simulation.draws, 800);
+    let happenings = below(&mut simulation.draws, 450).saturating_add(150);
     for _ in 0..MOST_STEPS {
         if simulation.happenings >= happenings {
             break;

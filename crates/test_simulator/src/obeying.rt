@@ -1,6 +1,6 @@
 //! Trains that keep the rules of `law_trains`: they run as their authority allows, and follow the orders of centres.
 
-use crate::lots::below;
+use crate::lots::some_below;
 use crate::trouble::{Done, Trouble};
 use rand_pcg::Pcg32;
 use rbc_line::{Line, Section};
@@ -37,7 +37,7 @@ impl Obedient {
         let front = self
             .ends
             .front
-            .saturating_add(below(draws, 2_000) as u32)
+            .saturating_add(some_below(draws, 2_000))
             .min(most);
         if front > self.ends.front && front <= 20_000_000 {
             self.ends.front = front;

@@ -1,6 +1,6 @@
 //! The trains of a run. Some keep the rules. The others send messages in a fixed order, and do not listen.
 
-use crate::lots::{below, in_hundred};
+use crate::lots::{in_hundred, some_below};
 use crate::obeying::Obedient;
 use crate::trouble::{Done, Trouble};
 use rand_pcg::Pcg32;
@@ -157,7 +157,7 @@ impl Babbler {
 
     // It runs on, perhaps to the next section.
     fn run(&mut self, draws: &mut Pcg32, sections: &[Section]) {
-        self.front = self.front.saturating_add(below(draws, 1_500) as u32);
+        self.front = self.front.saturating_add(some_below(draws, 1_500));
         let next = self.section.saturating_add(1);
         let has_next = match (sections.get(self.section), sections.get(next)) {
             (Some(one), Some(other)) => one.track == other.track,

@@ -3,6 +3,7 @@
 use crate::answering::Control;
 use crate::carrying::Passage;
 use crate::keeping::Keeper;
+use crate::tally::Tally;
 use crate::trouble::Done;
 use rbc_board::CellBoard;
 use rbc_line::Line;
@@ -107,6 +108,7 @@ pub struct Program<'a, R> {
     pub bells: Bells,
     /// Whether no further connection is accepted.
     pub is_stopped: bool,
+    pub tally: Tally,
 }
 
 impl<'a, R: Wait + AllocGlobal> Program<'a, R> {
@@ -135,6 +137,7 @@ impl<'a, R: Wait + AllocGlobal> Program<'a, R> {
             controls: Vec::new(alloc),
             bells,
             is_stopped: false,
+            tally: Tally::new(),
         };
         program.add_threads()?;
         program.add_lanes()?;

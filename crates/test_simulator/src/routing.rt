@@ -1,6 +1,7 @@
 //! The ways of the answers: to the lanes of trains, and from there to connections.
 
 use crate::program::Program;
+use crate::tally::Count;
 use crate::trouble::{Done, Trouble};
 use rbc_centre::Saying;
 use rbc_msgs::TrackBody;
@@ -8,7 +9,7 @@ use serve_workers::writing::{Release, Reply};
 use std::sync::Wait;
 
 /// The most replies that wait for one connection.
-const REPLIES: usize = 32;
+const REPLIES: usize = 6;
 
 /// The most events that may wait to be written before the centre's peers wait for them, whatever the answer.
 const MOST_UNWRITTEN: u32 = 4_096;
@@ -65,8 +66,17 @@ impl<R: Wait> Program<'_, R> {
         let Some(lane) = self.lanes.get_mut(at) else {
             return Ok(());
         };
+        let before = lane.serving();
         let said = lane.say(begins, reply.answering(stamp));
         let serving = lane.serving();
+        if begins.is_some() && before.is_some() {
+            let is_same = before == begins;
+            self.tally.add(if is_same {
+                Count::Again
+            } else {
+                Count::Elsewhere
+            });
+        }
         self.shut(said.ended);
         if said.taken.is_err() {
             self.shut(serving);
@@ -134,6 +144,7 @@ impl<R: Wait> Program<'_, R> {
                         to.replies.push(reply)?;
                     } else {
                         to.is_shut = true;
+                        self.tally.add(Count::Cut);
                     }
                 }
                 _ => {}

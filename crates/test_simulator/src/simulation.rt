@@ -2,10 +2,11 @@
 
 use crate::disk::{Fate, Platter};
 use crate::judge::Judge;
-use crate::lots::{below, in_hundred};
+use crate::lots::{below, in_hundred, place_below};
 use crate::outside::Train;
 use crate::program::{CONTROLS, Program};
 use crate::starting::Found;
+use crate::tally::{Count, Tally};
 use crate::trouble::Done;
 use rand_pcg::Pcg32;
 use rbc_line::{Line, Section};
@@ -16,11 +17,11 @@ use train_unit::driving::placed_on;
 /// An engine that is no train of the line.
 const STRANGER: u32 = 99;
 
-/// How many of the first and of the last threads of a kind are drawn most often.
-const FEW: usize = 6;
+/// How many threads of a kind are asked in turn whether they can take a step.
+const FEW: usize = 8;
 
 /// The steps of the threads of the centres.
-static THREADS: [&str; 7] = [
+static THREADS: [&str; KINDS] = [
     "reads a message, connection",
     "hands an answer in, thread",
     "writes a message, connection",
@@ -30,16 +31,16 @@ static THREADS: [&str; 7] = [
     "answers a line, control connection",
 ];
 
-/// The number of steps of the threads.
-pub const COUNT: usize = 7;
+/// The number of kinds of threads.
+pub const KINDS: usize = 7;
 
-/// How often each of these steps is drawn.
-static WEIGHTS: [usize; 14] = [0, 0, 0, 1, 1, 1, 1, 2, 2, 3, 4, 5, 5, 6];
+/// How often each kind is drawn.
+static WEIGHTS: [usize; 12] = [0, 0, 1, 1, 1, 2, 2, 3, 4, 5, 5, 6];
 
-/// How many of a thousand steps are not those of the centres' threads: a run draws one of these numbers.
-static SHARES: [usize; 4] = [5, 20, 60, 200];
+/// In how many of a hundred steps something happens outside though the centres are busy: a run draws one of these.
+static SHARES: [usize; 4] = [1, 5, 15, 40];
 
-/// The most faults of a hundred steps that are not those of the centres' threads.
+/// The most faults of a hundred happenings.
 const MOST_TROUBLES: usize = 20;
 
 /// A step that did something: its number, what it did, and which thread.
@@ -79,15 +80,15 @@ pub struct Simulation<'a, R> {
     pub judge: Judge<'a, R>,
     /// No fault is drawn.
     pub is_calm: bool,
-    /// How many of a thousand steps are not those of the centres' threads: with few of them the centres are idle often,
-    /// and with many they are busy.
+    /// In how many of a hundred steps something happens outside though the centres are busy.
     pub share: usize,
-    /// How many of a hundred of these steps are faults.
+    /// How many of a hundred happenings are faults.
     pub troubles: usize,
-    /// The number of these steps.
+    /// The kind of threads that take a step only if it is drawn.
+    pub lazy: usize,
     pub happenings: usize,
     pub step: u32,
-    pub kills: u32,
+    pub tally: Tally,
     pub marks: Vec<Mark>,
 }
 
@@ -97,10 +98,15 @@ impl<'a, R: Wait + AllocGlobal> Simulation<'a, R> {
         rt: &'a R,
         line: &'a Line,
         platters: &'a [Mutex<Platter>],
-        draws: Pcg32,
+        mut draws: Pcg32,
     ) -> Done<Simulation<'a, R>> {
         let alloc = rt.alloc();
-        let mut simulation = Simulation {
+        let share = SHARES.get(below(&mut draws, SHARES.len())).copied();
+        let troubles = below(&mut draws, MOST_TROUBLES);
+        let sections = sections_of(alloc, line)?;
+        let trains = trains_on(alloc, line, &sections, &mut draws)?;
+        let calls = vec![in alloc; None; trains.len().saturating_mul(platters.len())]?;
+        Ok(Simulation {
             rt,
             alloc,
             line,
@@ -110,55 +116,34 @@ impl<'a, R: Wait + AllocGlobal> Simulation<'a, R> {
             program: None,
             has_lock: false,
             found: None,
-            sections: Vec::new(alloc),
-            trains: Vec::new(alloc),
-            calls: Vec::new(alloc),
+            sections,
+            trains,
+            calls,
             judge: Judge::new(rt, line)?,
             is_calm: false,
-            share: 0,
-            troubles: 0,
+            share: share.unwrap_or(0),
+            troubles,
+            lazy: KINDS,
             happenings: 0,
             step: 0,
-            kills: 0,
+            tally: Tally::new(),
             marks: Vec::new(alloc),
-        };
-        let lot = below(&mut simulation.draws, SHARES.len());
-        simulation.share = SHARES.get(lot).copied().unwrap_or(0);
-        simulation.troubles = below(&mut simulation.draws, MOST_TROUBLES);
-        for s in 0..line.section_count() {
-            if let Some(section) = line.section(s) {
-                simulation.sections.push(section)?;
-            }
-        }
-        simulation.add_trains()?;
-        for _ in 0..simulation.trains.len().saturating_mul(platters.len()) {
-            simulation.calls.push(None)?;
-        }
-        Ok(simulation)
+        })
     }
 
-    // Three quarters of the trains keep the rules, if there is room for them on the line.
-    fn add_trains(&mut self) -> Done<()> {
-        let (alloc, line) = (self.alloc, self.line);
-        let places = placed_on(alloc, line, &self.sections, line.train_count())?;
-        for i in 0..line.train_count() {
-            let Some(train) = line.train(i) else {
-                continue;
-            };
-            let place = places
-                .iter()
-                .find(|place| place.nid_engine == train.nid_engine);
-            let train = match place {
-                Some(place) if !in_hundred(&mut self.draws, 25) => Train::obedient(alloc, *place),
-                _ => {
-                    let section = below(&mut self.draws, self.sections.len().max(1));
-                    Train::babbler(alloc, train.nid_engine, section)
-                }
-            };
-            self.trains.push(train)?;
+    /// The counts of the run.
+    pub fn tally(&self) -> Tally {
+        let mut tally = self.tally;
+        tally.add_all(&self.judge.tally);
+        if let Some(program) = &self.program {
+            tally.add_all(&program.tally);
         }
-        self.trains.push(Train::babbler(alloc, STRANGER, 0))?;
-        Ok(())
+        for platter in self.platters {
+            if let Some(platter) = platter.try_lock() {
+                tally.add_all(&platter.tally);
+            }
+        }
+        tally
     }
 
     /// Notes that a step did something.
@@ -168,21 +153,12 @@ impl<'a, R: Wait + AllocGlobal> Simulation<'a, R> {
         Ok(())
     }
 
-    /// A drawn thread, peer or fault takes a step.
+    /// A drawn thread takes a step. If none can, and sometimes besides, something happens outside.
     pub fn take_step(&mut self) -> Done<()> {
         self.step = self.step.saturating_add(1);
-        if below(&mut self.draws, 1_000) >= self.share {
-            self.take_turn()?;
-        } else {
+        if in_hundred(&mut self.draws, self.share) || !self.take_turn()? {
             self.happenings = self.happenings.saturating_add(1);
-            let lot = below(&mut self.draws, 100);
-            if lot < self.troubles {
-                self.trouble()?;
-            } else if lot < 35 {
-                self.command()?;
-            } else {
-                self.speak()?;
-            }
+            self.happen()?;
         }
         let is_ending = match &self.program {
             Some(program) => program.is_stopped,
@@ -194,21 +170,47 @@ impl<'a, R: Wait + AllocGlobal> Simulation<'a, R> {
         self.judge.catch_up(self.platters, self.now)
     }
 
-    // A drawn thread of the centres takes a step: one of the first of its kind, of the last, or of all.
+    fn happen(&mut self) -> Done<()> {
+        let lot = below(&mut self.draws, 100);
+        if lot < self.troubles {
+            self.trouble()
+        } else if lot < 32 {
+            self.command()
+        } else {
+            self.speak()
+        }
+    }
+
+    // A thread of a drawn kind takes a step; if none of it can, one of the next kind. The result is whether one did.
     fn take_turn(&mut self) -> Done<bool> {
-        let lot = below(&mut self.draws, 14);
-        let what = WEIGHTS.get(lot).copied().unwrap_or(0);
+        let lot = below(&mut self.draws, WEIGHTS.len());
+        let first = WEIGHTS.get(lot).copied().unwrap_or(0);
+        if self.take_turn_of(first)? {
+            return Ok(true);
+        }
+        for more in 1..KINDS {
+            let what = first.saturating_add(more) % KINDS;
+            if what != self.lazy && self.take_turn_of(what)? {
+                return Ok(true);
+            }
+        }
+        Ok(false)
+    }
+
+    // A thread of this kind takes a step: one of the last of its kind, or of all.
+    fn take_turn_of(&mut self, what: usize) -> Done<bool> {
         let count = self.count(what);
-        let first = match below(&mut self.draws, 2) {
-            0 => count.saturating_sub(FEW),
-            _ => 0,
-        };
         let places = match below(&mut self.draws, 2) {
             0 => count.min(FEW),
             _ => count,
         };
-        let which = below(&mut self.draws, places.max(1));
-        self.turn(what, first.saturating_add(which))
+        let first = count.saturating_sub(below(&mut self.draws, places).saturating_add(1));
+        for more in 0..count.min(FEW) {
+            if self.turn(what, first.saturating_add(more) % count.max(1))? {
+                return Ok(true);
+            }
+        }
+        Ok(false)
     }
 
     /// How many threads take steps of this kind.
@@ -230,29 +232,34 @@ impl<'a, R: Wait + AllocGlobal> Simulation<'a, R> {
         let Some(mut program) = self.program.take() else {
             return Ok(false);
         };
-        let did = match what {
-            0 => program.read(which, self.now, &mut self.draws)?,
-            1 => program.hand_in(which)?,
-            2 => self.write(&mut program, which)?,
-            3 => program.send(which)?,
-            4 => program.receive(which)?,
+        let did = self.turn_in(&mut program, what, which);
+        self.program = Some(program);
+        let did = did?;
+        if did {
+            self.mark(THREADS.get(what).copied().unwrap_or(""), which)?;
+        }
+        Ok(did)
+    }
+
+    fn turn_in(&mut self, program: &mut Program<'a, R>, what: usize, which: usize) -> Done<bool> {
+        match what {
+            0 => program.read(which, self.now, &mut self.draws),
+            1 => program.hand_in(which),
+            2 => self.write(program, which),
+            3 => program.send(which),
+            4 => program.receive(which),
             5 => {
                 let fate = self.fate();
-                program.keep(which, self.now, fate)?
+                program.keep(which, self.now, fate)
             }
             _ => {
                 let (did, text) = program.answer(which)?;
                 if !text.is_empty() {
                     self.judge.to_control(&text)?;
                 }
-                did
+                Ok(did)
             }
-        };
-        self.program = Some(program);
-        if did {
-            self.mark(THREADS.get(what).copied().unwrap_or(""), which)?;
         }
-        Ok(did)
     }
 
     // The thread that writes a connection takes a step.
@@ -269,26 +276,65 @@ impl<'a, R: Wait + AllocGlobal> Simulation<'a, R> {
         }
         let (centre, nid_engine) = (connection.centre, connection.nid_engine);
         let message = self.judge.to_train(number, centre, nid_engine, &bytes)?;
-        let (draws, line, now) = (&mut self.draws, self.line, self.now);
-        if let Some(train) = self
-            .trains
-            .iter_mut()
-            .find(|train| train.nid_engine == nid_engine)
-        {
-            train.hear(draws, line, centre, &message, now);
+        for train in &mut self.trains {
+            if train.nid_engine == nid_engine {
+                train.hear(&mut self.draws, self.line, centre, &message, self.now);
+            }
         }
         Ok(true)
     }
 
     // What the disk does with the next write.
     fn fate(&mut self) -> Fate {
-        if self.is_calm {
-            return Fate::Good;
-        }
         match below(&mut self.draws, 100) {
+            _ if self.is_calm => Fate::Good,
             0..=9 => Fate::Torn(below(&mut self.draws, 200)),
             10..=14 => Fate::Unsynced,
             _ => Fate::Good,
         }
     }
+
+    /// The centres have ended or crashed, with these counts.
+    pub fn ends(&mut self, how: Count, tally: &Tally) {
+        self.tally.add(how);
+        self.tally.add_all(tally);
+        for call in &mut self.calls {
+            *call = None;
+        }
+    }
+}
+
+fn sections_of(alloc: Global, line: &Line) -> Done<Vec<Section>> {
+    let mut sections = Vec::new(alloc);
+    for s in 0..line.section_count() {
+        if let Some(section) = line.section(s) {
+            sections.push(section)?;
+        }
+    }
+    Ok(sections)
+}
+
+// The trains that have a place keep the rules. Some of the others do not, and one is no train of the line.
+fn trains_on(
+    alloc: Global,
+    line: &Line,
+    sections: &[Section],
+    draws: &mut Pcg32,
+) -> Done<Vec<Train>> {
+    let most = place_below(draws, usize::from(line.train_count())).saturating_add(1);
+    let mut trains = Vec::new(alloc);
+    let places = placed_on(alloc, line, sections, most)?;
+    for place in &places {
+        trains.push(Train::obedient(alloc, *place))?;
+    }
+    for i in most..line.train_count() {
+        if let Some(train) = line.train(i)
+            && in_hundred(draws, 40)
+        {
+            let section = below(draws, sections.len());
+            trains.push(Train::babbler(alloc, train.nid_engine, section))?;
+        }
+    }
+    trains.push(Train::babbler(alloc, STRANGER, 0))?;
+    Ok(trains)
 }

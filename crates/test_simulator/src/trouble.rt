@@ -1,7 +1,9 @@
+//! The reasons why a run ends.
+
 use std::alloc::{AllocError, AllocFailed};
 
-/// Why a run ends early.
-#[derive(Clone, Copy, Debug, PartialEq, Eq)]
+/// A run can't go on.
+#[derive(Clone, Copy)]
 pub enum Trouble {
     /// Memory ran out.
     Memory,
