@@ -25,8 +25,11 @@ impl<R: Wait + AllocGlobal> Judge<'_, R> {
             nid_engine,
             message,
         };
-        if !self.said.iter().any(|other| *other == said) {
-            return Err(TOO_EARLY);
+        if !self.has_said(&said) {
+            self.catch_up()?;
+            if !self.has_said(&said) {
+                return Err(TOO_EARLY);
+            }
         }
         let is_next = match self.heard_over(number) {
             Some(last) => message.t_train() == last.saturating_add(1),
@@ -55,29 +58,45 @@ impl<R: Wait + AllocGlobal> Judge<'_, R> {
         self.heard_over(number) == last.map(|message| message.t_train())
     }
 
+    fn has_said(&self, said: &Said) -> bool {
+        self.said.iter().any(|other| *other == *said)
+    }
+
     /// A text left over a control connection.
     pub fn to_control(&mut self, text: &[u8]) -> Done<()> {
         if text == JOURNAL_FAULT.as_bytes() || text == SCRIPT_FAULT.as_bytes() {
             return Ok(());
         }
+        if self.may_leave(text) {
+            return Ok(());
+        }
+        self.catch_up()?;
+        if self.may_leave(text) {
+            return Ok(());
+        }
+        Err(TOO_EARLY)
+    }
+
+    // Whether the text shows a line that the journals had, or answers an event that they have. An answer leaves once.
+    fn may_leave(&mut self, text: &[u8]) -> bool {
         if let Some(shown) = text.strip_prefix("> show\n".as_bytes()) {
             return self.is_shown(shown);
         }
-        match self
+        let place = self
             .answers
             .iter()
-            .position(|answer| answer.as_slice() == text)
-        {
+            .position(|answer| answer.as_slice() == text);
+        match place {
             Some(place) if place < self.answers.len() => {
                 let _ = self.answers.remove(place);
-                Ok(())
+                true
             }
-            _ => Err(TOO_EARLY),
+            _ => false,
         }
     }
 
     // Whether each centre's part of a shown line is one that its journal had.
-    fn is_shown(&self, text: &[u8]) -> Done<()> {
+    fn is_shown(&self, text: &[u8]) -> bool {
         let mut rest = text;
         for centre in 0..self.line.centre_count() {
             let mut after = None;
@@ -87,10 +106,10 @@ impl<R: Wait + AllocGlobal> Judge<'_, R> {
                 }
             }
             let Some(after) = after else {
-                return Err(Trouble::Wrong("a line was shown that no journal has"));
+                return false;
             };
             rest = after;
         }
-        Ok(())
+        true
     }
 }

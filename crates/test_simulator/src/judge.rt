@@ -14,7 +14,7 @@ use rbc_node::{Node, Share};
 use serve_control::print_commit;
 use std::alloc::Global;
 use std::sync::{Mutex, Wait};
-use text_journal::{Entry, first_line};
+use text_journal::{Entry, first_line, in_order};
 use text_script::print::print_section;
 use text_script::{SectionView, WorldEvent, mark_of};
 
@@ -32,6 +32,7 @@ pub struct Judge<'a, R> {
     rt: &'a R,
     alloc: Global,
     pub line: &'a Line,
+    platters: &'a [Mutex<Platter>],
     nodes: Vec<Node>,
     shares: Vec<Share>,
     // By the centres' numbers: the number of bytes of the journal that were read.
@@ -46,20 +47,21 @@ pub struct Judge<'a, R> {
     pub shown: Vec<(u8, Vec<u8>)>,
     /// By the connections' numbers: T_TRAIN of the last message.
     pub heard: Vec<Option<u32>>,
-    // When the centres started, in units of 10 ms, and by their numbers how many events they had.
-    since: u32,
+    // When the centres started, in milliseconds, and by their numbers how many events they had.
+    since: u64,
     begun: Vec<usize>,
 }
 
 impl<'a, R: Wait + AllocGlobal> Judge<'a, R> {
     /// No event has happened.
-    pub fn new(rt: &'a R, line: &'a Line) -> Done<Judge<'a, R>> {
+    pub fn new(rt: &'a R, line: &'a Line, platters: &'a [Mutex<Platter>]) -> Done<Judge<'a, R>> {
         let alloc = rt.alloc();
         let (nodes, shares) = nodes_of(alloc, line)?;
         let mut judge = Judge {
             rt,
             alloc,
             line,
+            platters,
             nodes,
             shares,
             read: Vec::new(alloc),
@@ -83,7 +85,7 @@ impl<'a, R: Wait + AllocGlobal> Judge<'a, R> {
     pub fn begin(&mut self, now: u32) -> Done<()> {
         self.heard.clear();
         self.answers.clear();
-        self.since = now;
+        self.since = u64::from(now) * 10;
         self.begun.clear();
         for node in &self.nodes {
             self.begun.push(node.look(self.rt).log().entries().len())?;
@@ -92,19 +94,19 @@ impl<'a, R: Wait + AllocGlobal> Judge<'a, R> {
     }
 
     /// Reads what the journals have gained.
-    pub fn catch_up(&mut self, platters: &[Mutex<Platter>], now: u32) -> Done<()> {
-        let line = self.line;
+    pub fn catch_up(&mut self) -> Done<()> {
+        let (line, platters) = (self.line, self.platters);
+        let mut entries = Vec::new(self.alloc);
         for centre in 0..line.centre_count() {
-            let Some(platter) = platters.get(usize::from(centre)) else {
-                continue;
-            };
-            let lines = self.new_lines(platter, centre)?;
-            if lines.is_empty() {
-                continue;
+            if let Some(platter) = platters.get(usize::from(centre)) {
+                let lines = self.new_lines(platter, centre)?;
+                if !lines.is_empty() {
+                    entries.push(entries_in(self.alloc, line, centre, &lines)?)?;
+                }
             }
-            for entry in entries_in(self.alloc, line, centre, &lines)? {
-                self.take(centre, &entry, now)?;
-            }
+        }
+        for entry in in_order(self.alloc, entries)? {
+            self.take(&entry)?;
         }
         Ok(())
     }
@@ -134,12 +136,13 @@ impl<'a, R: Wait + AllocGlobal> Judge<'a, R> {
     }
 
     // Takes an event of a journal.
-    fn take(&mut self, centre: u8, entry: &Entry, now: u32) -> Done<()> {
+    fn take(&mut self, entry: &Entry) -> Done<()> {
+        let centre = entry.centre();
         let outcome = commit_entry(self.rt, self.alloc, &self.nodes, &mut self.shares, entry)?;
         self.promise.holds_after(&entry.event, &outcome)?;
         self.tally.count(&entry.event, &outcome);
         self.count_rights(centre, &outcome);
-        self.count(centre, now)?;
+        self.count(centre, entry.time_ms.unwrap_or(0))?;
         for saying in outcome.sayings.as_slice() {
             let before = self.last_said(centre, saying.nid_engine);
             let body = saying.message.body();
@@ -182,7 +185,7 @@ impl<'a, R: Wait + AllocGlobal> Judge<'a, R> {
     }
 
     // No engine has more messages than its rate allows.
-    fn count(&self, centre: u8, now: u32) -> Done<()> {
+    fn count(&self, centre: u8, time_ms: u64) -> Done<()> {
         let at = usize::from(centre);
         let (Some(node), Some(begun)) = (self.nodes.get(at), self.begun.get(at)) else {
             return Ok(());
@@ -200,8 +203,8 @@ impl<'a, R: Wait + AllocGlobal> Judge<'a, R> {
                 count = count.saturating_add(1);
             }
         }
-        let gone = u64::from(now.saturating_sub(self.since));
-        let gained = gone.saturating_mul(u64::from(RATE.per_second)) / 100;
+        let gone = time_ms.saturating_sub(self.since);
+        let gained = gone.saturating_mul(u64::from(RATE.per_second)) / 1_000;
         if count
             > gained
                 .saturating_add(u64::from(RATE.burst))
@@ -238,7 +241,15 @@ impl<'a, R: Wait + AllocGlobal> Judge<'a, R> {
         };
         let mut text = Vec::new(self.alloc);
         add_sections(self.line, node.look(self.rt).log(), &mut text)?;
-        self.shown.push((centre, text))?;
+        let mut is_new = true;
+        for (other, shown) in &self.shown {
+            if *other == centre {
+                is_new = shown.as_slice() != text.as_slice();
+            }
+        }
+        if is_new {
+            self.shown.push((centre, text))?;
+        }
         Ok(())
     }
 

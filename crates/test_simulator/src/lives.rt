@@ -20,7 +20,7 @@ impl<R: Wait + AllocGlobal> Simulation<'_, R> {
                 program.keep(centre, self.now, fate)?;
             }
         }
-        self.judge.catch_up(self.platters, self.now)?;
+        self.judge.catch_up()?;
         for platter in self.platters {
             if let Some(mut platter) = platter.try_lock() {
                 platter.crash(&mut self.draws)?;
@@ -56,13 +56,13 @@ impl<R: Wait + AllocGlobal> Simulation<'_, R> {
         let Some(program) = self.program.take() else {
             return Ok(false);
         };
-        self.judge.catch_up(self.platters, self.now)?;
+        self.judge.catch_up()?;
         let tally = program.tally;
         let has_lost = program.keepers.iter().any(|keeper| keeper.reach.is_closed);
         if !has_lost && !self.judge.is_same(&program.nodes) {
             return Err(Trouble::Wrong("the journals lack events of the centres"));
         }
-        if !program.is_gathered()? {
+        if !Box::into_inner(program).is_gathered()? {
             return Err(Trouble::Wrong("the receipts do not make up the logs"));
         }
         set_locked(self.platters, false);
@@ -78,13 +78,14 @@ impl<R: Wait + AllocGlobal> Simulation<'_, R> {
                 self.found = Some(found);
                 return Ok(false);
             }
+            self.judge.catch_up()?;
             let program = resume(self.rt, self.line, self.platters, found)?;
             self.has_lock = false;
-            self.judge.catch_up(self.platters, self.now)?;
+            self.judge.catch_up()?;
             if !self.judge.is_same(&program.nodes) {
                 return Err(Trouble::Wrong("the centres lack events of their journals"));
             }
-            self.program = Some(program);
+            self.program = Some(Box::new(self.alloc, program)?);
             self.judge.begin(self.now)?;
             self.release_all()?;
         } else if self.has_lock {
@@ -110,8 +111,10 @@ impl<R: Wait + AllocGlobal> Simulation<'_, R> {
             for link in &mut program.links {
                 link.stray = Stray::Nothing;
             }
+            program.held = None;
         }
         self.settle(true)?;
+        self.judge.catch_up()?;
         let Some(program) = &self.program else {
             return Err(Trouble::Wrong("the centres do not start"));
         };
@@ -149,7 +152,6 @@ impl<R: Wait + AllocGlobal> Simulation<'_, R> {
                 for which in 0..self.count(what) {
                     did |= self.turn(what, which)?;
                 }
-                self.judge.catch_up(self.platters, self.now)?;
             }
             rests = if did { 0 } else { rests.saturating_add(1) };
             if rests >= 20 {

@@ -123,7 +123,7 @@ impl<R: Wait + AllocGlobal> Simulation<'_, R> {
 
     /// A fault by lot: a connection is lost, with or without an end; a train reads nothing; a train calls again, begins
     /// again, or floods a centre; nothing happens for long; the machine crashes; the centres are stopped; a frame comes
-    /// late or early; a kind of threads is seldom drawn.
+    /// late or early; some threads wait.
     pub fn trouble(&mut self) -> Done<()> {
         let train = below(&mut self.draws, self.trains.len());
         let centre = place_below(&mut self.draws, self.platters.len());
@@ -131,7 +131,10 @@ impl<R: Wait + AllocGlobal> Simulation<'_, R> {
             0..=14 => self.lose(train, centre),
             15..=26 => self.turn_deaf(train, centre),
             27..=41 => self.speak_often(train, centre, 2, true),
-            42..=50 => self.speak_often(train, centre, 14, false),
+            42..=50 => {
+                let hangs_up = in_hundred(&mut self.draws, 50);
+                self.speak_often(train, centre, 14, hangs_up)
+            }
             51..=58 => self.begin_again(train, centre),
             59..=63 => {
                 self.now = self.now.saturating_add(3_100);
@@ -142,9 +145,21 @@ impl<R: Wait + AllocGlobal> Simulation<'_, R> {
             73..=75 => self.say_row("stop now"),
             76..=89 => self.stray(),
             _ => {
-                self.lazy = below(&mut self.draws, KINDS + 1);
+                self.hold();
                 Ok(())
             }
+        }
+    }
+
+    // From now on a drawn kind of threads is seldom drawn, and a drawn thread of a link or of the interlocking hands no
+    // answer in. Perhaps nothing happens for long then.
+    fn hold(&mut self) {
+        self.lazy = below(&mut self.draws, KINDS + 1);
+        if let Some(program) = &mut self.program {
+            program.held = Some(below(&mut self.draws, 12));
+        }
+        if in_hundred(&mut self.draws, 50) {
+            self.now = self.now.saturating_add(3_100);
         }
     }
 

@@ -108,6 +108,8 @@ pub struct Program<'a, R> {
     pub bells: Bells,
     /// Whether no further connection is accepted.
     pub is_stopped: bool,
+    /// A thread that hands no answer in for now.
+    pub held: Option<usize>,
     pub tally: Tally,
 }
 
@@ -137,6 +139,7 @@ impl<'a, R: Wait + AllocGlobal> Program<'a, R> {
             controls: Vec::new(alloc),
             bells,
             is_stopped: false,
+            held: None,
             tally: Tally::new(),
         };
         program.add_threads()?;

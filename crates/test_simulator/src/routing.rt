@@ -21,6 +21,9 @@ impl<R: Wait> Program<'_, R> {
         let Some(worker) = self.workers.get_mut(at) else {
             return Ok(false);
         };
+        if self.held == Some(at) {
+            return Ok(false);
+        }
         let Some(receipt) = worker.share.receipts().get(worker.handed) else {
             return Ok(false);
         };

@@ -68,7 +68,7 @@ pub struct Simulation<'a, R> {
     pub draws: Pcg32,
     /// In units of 10 ms.
     pub now: u32,
-    pub program: Option<Program<'a, R>>,
+    pub program: Option<Box<Program<'a, R>, Global>>,
     /// A start has locked the journals.
     pub has_lock: bool,
     /// The journals that a start has read.
@@ -119,7 +119,7 @@ impl<'a, R: Wait + AllocGlobal> Simulation<'a, R> {
             sections,
             trains,
             calls,
-            judge: Judge::new(rt, line)?,
+            judge: Judge::new(rt, line, platters)?,
             is_calm: false,
             share: share.unwrap_or(0),
             troubles,
@@ -167,7 +167,7 @@ impl<'a, R: Wait + AllocGlobal> Simulation<'a, R> {
         if is_ending {
             self.start_or_end()?;
         }
-        self.judge.catch_up(self.platters, self.now)
+        Ok(())
     }
 
     fn happen(&mut self) -> Done<()> {
@@ -232,7 +232,7 @@ impl<'a, R: Wait + AllocGlobal> Simulation<'a, R> {
         let Some(mut program) = self.program.take() else {
             return Ok(false);
         };
-        let did = self.turn_in(&mut program, what, which);
+        let did = self.turn_in(&mut *program, what, which);
         self.program = Some(program);
         let did = did?;
         if did {
