@@ -2,6 +2,7 @@
 
 use crate::answering::{JOURNAL_FAULT, SCRIPT_FAULT};
 use crate::judge::{Judge, Said};
+use crate::program::Connection;
 use crate::trouble::{Done, Trouble};
 use rbc_msgs::{TrackBody, TrackMsg, decode_track};
 use std::sync::Wait;
@@ -47,15 +48,17 @@ impl<R: Wait + AllocGlobal> Judge<'_, R> {
         Ok(message)
     }
 
-    /// T_TRAIN of the last message that left over this connection.
-    pub fn heard_over(&self, number: usize) -> Option<u32> {
+    // T_TRAIN of the last message that left over this connection.
+    fn heard_over(&self, number: usize) -> Option<u32> {
         *self.heard.get(number)?
     }
 
-    /// Whether the last message of a centre to a train left over this connection.
-    pub fn is_complete(&self, number: usize, centre: u8, nid_engine: u32) -> bool {
-        let last = self.last_said(centre, nid_engine);
-        self.heard_over(number) == last.map(|message| message.t_train())
+    /// Whether the last message of a centre to a train left over this connection, if the train is served over it or got
+    /// a message over it.
+    pub fn is_complete(&self, number: usize, connection: &Connection, is_served: bool) -> bool {
+        let heard = self.heard_over(number);
+        let last = self.last_said(connection.centre, connection.nid_engine);
+        !is_served && heard.is_none() || heard == last.map(|message| message.t_train())
     }
 
     fn has_said(&self, said: &Said) -> bool {

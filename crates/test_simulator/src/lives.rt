@@ -1,6 +1,5 @@
 //! The lives of the centres in a run: their starts and ends, and the end of the run.
 
-use crate::carrying::Stray;
 use crate::disk::Fate;
 use crate::lots::{below, in_hundred};
 use crate::simulation::{KINDS, Simulation};
@@ -105,17 +104,22 @@ impl<R: Wait + AllocGlobal> Simulation<'_, R> {
     pub fn calm_down(&mut self) -> Done<()> {
         self.is_calm = true;
         if let Some(program) = &mut self.program {
-            for connection in &mut program.connections {
-                connection.is_slow = false;
-            }
-            for link in &mut program.links {
-                link.stray = Stray::Nothing;
-            }
-            program.held = None;
+            program.calm_down();
         }
         self.settle(true)?;
         self.judge.catch_up()?;
-        let Some(program) = &self.program else {
+        self.judge_rest()?;
+        self.say_row("stop")?;
+        self.settle(false)?;
+        match &self.program {
+            None => Ok(()),
+            Some(_) => Err(Trouble::Wrong("the centres do not end after stop")),
+        }
+    }
+
+    // Nothing is left at rest: no event, no frame, no line of the interlocking, and no message to a train.
+    fn judge_rest(&mut self) -> Done<()> {
+        let Some(program) = &mut self.program else {
             return Err(Trouble::Wrong("the centres do not start"));
         };
         if !program.is_at_rest() || program.is_stopped {
@@ -124,21 +128,20 @@ impl<R: Wait + AllocGlobal> Simulation<'_, R> {
         if !self.judge.has_all_frames() {
             return Err(Trouble::Wrong("a frame was sent and not taken"));
         }
-        for (number, connection) in program.connections.iter().enumerate() {
-            let has_begun = program.serves(number) || self.judge.heard_over(number).is_some();
-            let is_complete = self
-                .judge
-                .is_complete(number, connection.centre, connection.nid_engine);
-            if connection.is_read && !connection.is_shut && has_begun && !is_complete {
+        for number in 0..program.connections.len() {
+            let is_served = match program.lane_of(number) {
+                Some(lane) => lane.serves(number),
+                None => false,
+            };
+            if let Some(connection) = program.connections.get(number)
+                && connection.is_read
+                && !connection.is_shut
+                && !self.judge.is_complete(number, connection, is_served)
+            {
                 return Err(Trouble::Wrong("a train lacks the last answers"));
             }
         }
-        self.say_row("stop")?;
-        self.settle(false)?;
-        match &self.program {
-            None => Ok(()),
-            Some(_) => Err(Trouble::Wrong("the centres do not end after stop")),
-        }
+        Ok(())
     }
 
     // Lets each thread take steps in turn until none can for two seconds.

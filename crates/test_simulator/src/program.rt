@@ -1,7 +1,7 @@
 //! The running centres: what their threads share.
 
 use crate::answering::Control;
-use crate::carrying::Passage;
+use crate::carrying::{Passage, Stray};
 use crate::keeping::Keeper;
 use crate::tally::Tally;
 use crate::trouble::Done;
@@ -67,8 +67,6 @@ pub struct Connection {
     pub inbox: Vec<u8>,
     /// The replies that wait for its writer.
     pub replies: Vec<Reply>,
-    /// The train of the line that it may serve, by the routing table.
-    pub serves: Option<usize>,
     /// Whether a thread reads it.
     pub is_read: bool,
     /// Whether the centre ended it.
@@ -169,14 +167,13 @@ impl<'a, R: Wait + AllocGlobal> Program<'a, R> {
         Ok(())
     }
 
-    // For each centre a lane and a bucket of each train, and a bucket of all other engines.
+    // For each centre a lane and a bucket of each train, and of all other engines together.
     fn add_lanes(&mut self) -> Result<(), AllocError> {
         for _ in 0..self.line.centre_count() {
-            for _ in 0..self.line.train_count() {
+            for _ in 0..=self.line.train_count() {
                 self.lanes.push(Lane::new(self.alloc))?;
                 self.buckets.push(Bucket::new(RATE))?;
             }
-            self.buckets.push(Bucket::new(RATE))?;
         }
         Ok(())
     }
@@ -199,13 +196,23 @@ impl<'a, R: Wait + AllocGlobal> Program<'a, R> {
             worker,
             inbox: Vec::new(self.alloc),
             replies: Vec::new(self.alloc),
-            serves: None,
             is_read: true,
             is_shut: false,
             is_closed: false,
             is_slow: false,
         })?;
         Ok(Some(number))
+    }
+
+    /// No fault is drawn any more: trains read, and no frame and no thread is held.
+    pub fn calm_down(&mut self) {
+        for connection in &mut self.connections {
+            connection.is_slow = false;
+        }
+        for link in &mut self.links {
+            link.stray = Stray::Nothing;
+        }
+        self.held = None;
     }
 
     /// Whether no thread has anything to do: each answer was handed in, each line of the interlocking is answered, no

@@ -5,7 +5,7 @@ use crate::tally::Count;
 use crate::trouble::{Done, Trouble};
 use rbc_centre::Saying;
 use rbc_msgs::TrackBody;
-use serve_workers::writing::{Release, Reply};
+use serve_workers::writing::{Lane, Release, Reply};
 use std::sync::Wait;
 
 /// The most replies that wait for one connection.
@@ -56,16 +56,12 @@ impl<R: Wait> Program<'_, R> {
 
     // Submits a message to the lane of its train, and releases the messages whose turn has come.
     fn say(&mut self, own: Option<usize>, centre: u8, saying: Saying, stamp: u32) -> Done<()> {
-        let Some(train) = self.line.train_number(saying.nid_engine) else {
-            return Ok(());
-        };
-        let train = usize::from(train);
         let is_version = matches!(saying.message.body(), TrackBody::SystemVersion);
-        let begins = self.opened(if is_version { own } else { None }, centre, train);
+        let begins = self.open(if is_version { own } else { None });
         let Ok(reply) = Reply::new(self.alloc, saying.message) else {
             return Err(Trouble::Memory);
         };
-        let at = self.lane_at(centre, train);
+        let at = self.lane_at(centre, saying.nid_engine);
         let Some(lane) = self.lanes.get_mut(at) else {
             return Ok(());
         };
@@ -73,8 +69,7 @@ impl<R: Wait> Program<'_, R> {
         let said = lane.say(begins, reply.answering(stamp));
         let serving = lane.serving();
         if begins.is_some() && before.is_some() {
-            let is_same = before == begins;
-            self.tally.add(if is_same {
+            self.tally.add(if before == begins {
                 Count::Again
             } else {
                 Count::Elsewhere
@@ -84,38 +79,30 @@ impl<R: Wait> Program<'_, R> {
         if said.taken.is_err() {
             self.shut(serving);
         }
-        self.release(at, serving, train)
+        self.release(at, serving)
     }
 
-    // The place of the lane of a train at a centre.
-    fn lane_at(&self, centre: u8, train: usize) -> usize {
+    /// The place of the lane of a train at a centre, and of its bucket. Other engines share one.
+    pub fn lane_at(&self, centre: u8, nid_engine: u32) -> usize {
+        let trains = self.line.train_count();
+        let train = self.line.train_number(nid_engine).unwrap_or(trains);
         usize::from(centre)
-            .saturating_mul(usize::from(self.line.train_count()))
-            .saturating_add(train)
+            .saturating_mul(usize::from(trains).saturating_add(1))
+            .saturating_add(usize::from(train))
     }
 
-    // The connection whose initiation is answered serves no other train any more. It begins to serve this one, if it is
-    // there and was not ended.
-    fn opened(&mut self, begins: Option<usize>, centre: u8, train: usize) -> Option<usize> {
+    // The connection that begins to serve a train, if it is there and was not ended.
+    fn open(&self, begins: Option<usize>) -> Option<usize> {
         let number = begins?;
-        let connection = self.connections.get_mut(number)?;
-        let is_open = connection.is_read && !connection.is_shut;
-        let before = connection.serves.replace(train);
-        if before != Some(train) {
-            self.leave_lane(number, centre, before);
-        }
-        is_open.then_some(number)
+        let connection = self.connections.get(number)?;
+        (connection.is_read && !connection.is_shut).then_some(number)
     }
 
-    /// The connection of this number serves this train of a centre no more.
-    pub fn leave_lane(&mut self, number: usize, centre: u8, train: Option<usize>) {
-        let Some(train) = train else {
-            return;
-        };
-        let at = self.lane_at(centre, train);
-        if let Some(lane) = self.lanes.get_mut(at) {
-            lane.leave(number);
-        }
+    /// The lane of the train of a connection.
+    pub fn lane_of(&mut self, number: usize) -> Option<&mut Lane> {
+        let connection = self.connections.get(number)?;
+        let at = self.lane_at(connection.centre, connection.nid_engine);
+        self.lanes.get_mut(at)
     }
 
     // The centre ends a connection.
@@ -130,7 +117,7 @@ impl<R: Wait> Program<'_, R> {
 
     // Sends the messages whose turn has come to the writer of the connection that serves the train. If there is none,
     // they are dropped. If too many wait, the connection is cut.
-    fn release(&mut self, at: usize, serving: Option<usize>, train: usize) -> Done<()> {
+    fn release(&mut self, at: usize, serving: Option<usize>) -> Done<()> {
         let Some(lane) = self.lanes.get_mut(at) else {
             return Ok(());
         };
@@ -142,31 +129,14 @@ impl<R: Wait> Program<'_, R> {
                 continue;
             };
             match self.connections.get_mut(number) {
-                Some(to) if to.is_read && to.serves == Some(train) => {
-                    if to.replies.len() < REPLIES {
-                        to.replies.push(reply)?;
-                    } else {
-                        to.is_shut = true;
-                        self.tally.add(Count::Cut);
-                    }
+                Some(to) if to.replies.len() < REPLIES => to.replies.push(reply)?,
+                Some(to) => {
+                    to.is_shut = true;
+                    self.tally.add(Count::Cut);
                 }
-                _ => {}
+                None => {}
             }
         }
         Ok(())
-    }
-
-    /// Whether a connection serves its train, by the train's lane.
-    pub fn serves(&self, number: usize) -> bool {
-        let Some(connection) = self.connections.get(number) else {
-            return false;
-        };
-        let Some(train) = connection.serves else {
-            return false;
-        };
-        match self.lanes.get(self.lane_at(connection.centre, train)) {
-            Some(lane) => lane.serves(number),
-            None => false,
-        }
     }
 }

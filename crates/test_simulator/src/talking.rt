@@ -31,33 +31,22 @@ impl<R: Wait> Program<'_, R> {
         }
         let (centre, arrived) = (connection.centre, connection.inbox.len());
         let is_over = connection.is_shut || connection.is_closed;
-        match head_of(&connection.inbox) {
-            Some((length, nid_engine)) if length <= arrived && !connection.is_shut => {
-                if !self.admits(centre, nid_engine, now) {
-                    return Ok(false);
-                }
-                self.read_message(number, length, draws)
+        if !connection.is_shut
+            && let Some((length, nid_engine)) = head_of(&connection.inbox)
+            && length <= arrived
+        {
+            let at = self.lane_at(centre, nid_engine);
+            if let Some(bucket) = self.buckets.get_mut(at)
+                && bucket.ask(u64::from(now) * 10).is_err()
+            {
+                return Ok(false);
             }
-            _ => {
-                if is_over {
-                    self.leave(number);
-                }
-                Ok(is_over)
-            }
+            return self.read_message(number, length, draws);
         }
-    }
-
-    // Whether the engine may send one more message.
-    fn admits(&mut self, centre: u8, nid_engine: u32, now: u32) -> bool {
-        let trains = self.line.train_count();
-        let place = self.line.train_number(nid_engine).unwrap_or(trains);
-        let at = usize::from(centre)
-            .saturating_mul(usize::from(trains).saturating_add(1))
-            .saturating_add(usize::from(place));
-        match self.buckets.get_mut(at) {
-            Some(bucket) => bucket.ask(u64::from(now) * 10).is_ok(),
-            None => true,
+        if is_over {
+            self.leave(number);
         }
+        Ok(is_over)
     }
 
     // Reads a message in two pieces, and commits it.
@@ -98,12 +87,12 @@ impl<R: Wait> Program<'_, R> {
 
     // A connection is read no more. It serves no train any more.
     fn leave(&mut self, number: usize) {
-        let Some(connection) = self.connections.get_mut(number) else {
-            return;
-        };
-        connection.is_read = false;
-        let (centre, served) = (connection.centre, connection.serves.take());
-        self.leave_lane(number, centre, served);
+        if let Some(connection) = self.connections.get_mut(number) {
+            connection.is_read = false;
+        }
+        if let Some(lane) = self.lane_of(number) {
+            lane.leave(number);
+        }
     }
 
     /// The thread that writes a connection: it writes the next reply, once the journal has its event. The result is its
