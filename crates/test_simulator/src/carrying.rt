@@ -100,7 +100,7 @@ impl<R: Wait> Program<'_, R> {
         if link.board.is_some() || number == 0 || number > MOST_FRAMES {
             return Ok(false);
         }
-        // There is no room for the frames after it.
+        // The frames after it have no room.
         let board = CellBoard::new(self.alloc, number)?;
         let seen = board.seen()?;
         let signals = self

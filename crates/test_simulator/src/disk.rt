@@ -9,7 +9,7 @@ use std::io;
 use std::io::ErrorKind;
 use std::sync::Mutex;
 
-/// What the disk does with the next write.
+/// The fate of the next write.
 #[derive(Clone, Copy, PartialEq, Eq)]
 pub enum Fate {
     /// All of it is durable.

@@ -1,4 +1,4 @@
-//! Judges what leaves the centres, when it leaves.
+//! Judges bytes that leave the centres, at that time.
 
 use crate::answering::{JOURNAL_FAULT, SCRIPT_FAULT};
 use crate::judge::{Judge, Said};
@@ -53,8 +53,8 @@ impl<R: Wait + AllocGlobal> Judge<'_, R> {
         *self.heard.get(number)?
     }
 
-    /// Whether the last message of a centre to a train left over this connection, if the train is served over it or got
-    /// a message over it.
+    /// Whether the last message of a centre to a train left over this connection. It need not if the train is not
+    /// served over it, and got no message over it.
     pub fn is_complete(&self, number: usize, connection: &Connection, is_served: bool) -> bool {
         let heard = self.heard_over(number);
         let last = self.last_said(connection.centre, connection.nid_engine);

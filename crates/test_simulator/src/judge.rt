@@ -1,4 +1,4 @@
-//! Judges what left the centres by the durable bytes of the journals alone.
+//! Judges the bytes that left the centres by the durable bytes of the journals, and by nothing else.
 
 use crate::disk::Platter;
 use crate::program::RATE;
@@ -14,7 +14,7 @@ use rbc_node::{Node, Share};
 use serve_control::print_commit;
 use std::alloc::Global;
 use std::sync::{Mutex, Wait};
-use text_journal::{Entry, first_line, in_order};
+use text_journal::{Entry, in_order};
 use text_script::print::print_section;
 use text_script::{SectionView, WorldEvent, mark_of};
 
@@ -26,7 +26,7 @@ pub struct Said {
     pub message: TrackMsg,
 }
 
-/// The centres as their journals have them, and what has left.
+/// The centres as their journals have them, and the messages that have left.
 #[derive(Drop)]
 pub struct Judge<'a, R> {
     rt: &'a R,
@@ -93,7 +93,7 @@ impl<'a, R: Wait + AllocGlobal> Judge<'a, R> {
         Ok(())
     }
 
-    /// Reads what the journals have gained.
+    /// Reads the new bytes of the journals.
     pub fn catch_up(&mut self) -> Done<()> {
         let (line, platters) = (self.line, self.platters);
         let mut entries = Vec::new(self.alloc);
@@ -126,9 +126,11 @@ impl<'a, R: Wait + AllocGlobal> Judge<'a, R> {
         if rest.is_empty() {
             return Ok(lines);
         }
-        if *read > 0 {
-            lines.extend_from_slice(first_line(self.alloc, self.line, centre)?.as_bytes())?;
-            lines.push(b'\n')?;
+        if *read > 0
+            && let Some(end) = platter.bytes.iter().position(|byte| *byte == b'\n')
+            && let Some(first) = platter.bytes.get(..end.saturating_add(1))
+        {
+            lines.extend_from_slice(first)?;
         }
         lines.extend_from_slice(rest)?;
         *read = platter.durable;

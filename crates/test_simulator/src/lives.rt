@@ -100,7 +100,7 @@ impl<R: Wait + AllocGlobal> Simulation<'_, R> {
         Ok(true)
     }
 
-    /// No fault is drawn any more. The centres come to rest, each question is answered, and `stop` ends them.
+    /// No fault is drawn any more. The centres rest, each question is answered, and `stop` ends them.
     pub fn calm_down(&mut self) -> Done<()> {
         self.is_calm = true;
         if let Some(program) = &mut self.program {
@@ -144,11 +144,11 @@ impl<R: Wait + AllocGlobal> Simulation<'_, R> {
         Ok(())
     }
 
-    // Lets each thread take steps in turn until none can for two seconds.
+    // Lets each thread take steps in turn until none can for three seconds.
     fn settle(&mut self, starts: bool) -> Done<()> {
         let mut rests = 0u32;
         for _ in 0..4_000 {
-            self.now = self.now.saturating_add(10);
+            self.now = self.now.saturating_add(100);
             self.step = self.step.saturating_add(1);
             let mut did = (starts || self.program.is_some()) && self.start_or_end()?;
             for what in 0..KINDS {
@@ -157,7 +157,7 @@ impl<R: Wait + AllocGlobal> Simulation<'_, R> {
                 }
             }
             rests = if did { 0 } else { rests.saturating_add(1) };
-            if rests >= 20 {
+            if rests >= 3 {
                 return Ok(());
             }
         }

@@ -1,12 +1,12 @@
 //! Simulates running centres. Centres, links, trains, the interlocking, disks and the clock are in memory, and one
 //! thread lets them take their steps. A seed draws the line, the order of the steps and the faults. `test_simulator
 //! FIRST COUNT` plays the runs of COUNT seeds from FIRST on, and prints their number. `test_simulator counts FIRST
-//! COUNT` also prints what happened in them. `test_simulator steps SEED` prints the steps of one run. At a fault the
-//! program prints the last steps, the seed and the reason, and ends with status 1.
+//! COUNT` also prints counts of their steps and events. `test_simulator steps SEED` prints the steps of one run. At a
+//! fault the program prints the last steps, the seed and the reason, and ends with status 1.
 //!
 //! The parts of the running centres are those of the program: nodes, journals, lanes, buckets, links, sessions and
-//! answers. The loops of the threads in `serve_line` are written again, as steps of a schedule. What leaves the
-//! centres is judged by the durable bytes of the journals.
+//! answers. The loops of the threads in `serve_line` are written again, as steps of a schedule. The bytes that leave the
+//! centres are judged by the durable bytes of the journals.
 #![tactic(auto)]
 
 mod answering;
@@ -47,7 +47,7 @@ use std::{env, io};
 // How many steps are printed at a fault.
 const LAST: usize = 40;
 
-// The most steps of a run, before it comes to its end.
+// The most steps of a run, before its end.
 const MOST_STEPS: u32 = 200_000;
 
 // A run that was played.
@@ -152,7 +152,7 @@ fn play<R: Wait + AllocGlobal>(rt: &R, seed: u64) -> anyhow::Result<Played> {
 }
 
 fn take_steps<R: Wait + AllocGlobal>(simulation: &mut Simulation<'_, R>) -> Done<()> {
-    let happenings = below(&mut simulation.draws, 450).saturating_add(150);
+    let happenings = below(&mut simulation.draws, 300).saturating_add(60);
     for _ in 0..MOST_STEPS {
         if simulation.happenings >= happenings {
             break;

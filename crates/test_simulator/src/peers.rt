@@ -1,4 +1,4 @@
-//! What is outside the centres: trains call, speak and lose their connections, and the interlocking sends lines.
+//! The outside of the centres: trains call, speak and lose their connections, and the interlocking sends lines.
 
 use crate::lots::{below, in_hundred, place_below, some_below};
 use crate::outside::Turn;
@@ -17,8 +17,8 @@ impl<R: Wait + AllocGlobal> Simulation<'_, R> {
             .saturating_add(usize::from(centre))
     }
 
-    /// A drawn train runs, and speaks to the first centre from a drawn one on that a message is due to. It calls the centre
-    /// first, if it has no connection.
+    /// A drawn train runs, and speaks to the first centre from a drawn one on that a message is due to. It calls the
+    /// centre first, if it has no connection.
     pub fn speak(&mut self) -> Done<()> {
         let train = below(&mut self.draws, self.trains.len());
         let first = below(&mut self.draws, self.platters.len());
@@ -73,8 +73,11 @@ impl<R: Wait + AllocGlobal> Simulation<'_, R> {
         Ok(true)
     }
 
-    /// The interlocking releases all sections.
+    /// The interlocking releases all sections, once.
     pub fn release_all(&mut self) -> Done<()> {
+        if std::mem::replace(&mut self.has_released, true) {
+            return Ok(());
+        }
         for s in 0..self.sections.len() {
             self.say_for("set", s)?;
         }
@@ -121,9 +124,8 @@ impl<R: Wait + AllocGlobal> Simulation<'_, R> {
         self.mark("sends a line, control connection", number)
     }
 
-    /// A fault by lot: a connection is lost, with or without an end; a train reads nothing; a train calls again, begins
-    /// again, or floods a centre; nothing happens for long; the machine crashes; the centres are stopped; a frame comes
-    /// late or early; some threads wait.
+    /// A fault by lot. A train loses a connection, reads nothing, calls or begins again, or sends too much. The machine
+    /// crashes, or the centres are stopped. A frame comes late or early. Threads wait, or nothing happens for long.
     pub fn trouble(&mut self) -> Done<()> {
         let train = below(&mut self.draws, self.trains.len());
         let centre = place_below(&mut self.draws, self.platters.len());
@@ -151,8 +153,8 @@ impl<R: Wait + AllocGlobal> Simulation<'_, R> {
         }
     }
 
-    // From now on a drawn kind of threads is seldom drawn, and a drawn thread of a link or of the interlocking hands no
-    // answer in. Perhaps nothing happens for long then.
+    // From now on a kind of threads is seldom drawn. One thread of a link or of the interlocking hands no answer in.
+    // Perhaps nothing happens for long then.
     fn hold(&mut self) {
         self.lazy = below(&mut self.draws, KINDS + 1);
         if let Some(program) = &mut self.program {

@@ -1,4 +1,4 @@
-//! The running centres: what their threads share.
+//! The running centres: the values that their threads share.
 
 use crate::answering::Control;
 use crate::carrying::{Passage, Stray};
@@ -215,8 +215,8 @@ impl<'a, R: Wait + AllocGlobal> Program<'a, R> {
         self.held = None;
     }
 
-    /// Whether no thread has anything to do: each answer was handed in, each line of the interlocking is answered, no
-    /// frame is on its way, and the journals have all events. A journal that was given up holds nothing up.
+    /// Whether each answer was handed in, each line of the interlocking is answered, and no frame is on its way. The
+    /// journals have all events, too. A journal that was given up holds nothing up.
     pub fn is_at_rest(&self) -> bool {
         for at in 0..self.links.len() {
             if self.has_frame(at) {

@@ -115,7 +115,7 @@ impl<R: Wait> Program<'_, R> {
         }
     }
 
-    // Sends the messages whose turn has come to the writer of the connection that serves the train. If there is none,
+    // Sends each message whose turn it is to the writer of the connection that serves the train. If there is none,
     // they are dropped. If too many wait, the connection is cut.
     fn release(&mut self, at: usize, serving: Option<usize>) -> Done<()> {
         let Some(lane) = self.lanes.get_mut(at) else {

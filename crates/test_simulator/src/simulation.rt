@@ -1,4 +1,4 @@
-//! A run: the centres, their disks, and what is outside them. The order of the steps and the faults are drawn.
+//! A run: the centres, their disks, the trains and the interlocking. The order of the steps and the faults are drawn.
 
 use crate::disk::{Fate, Platter};
 use crate::judge::Judge;
@@ -14,7 +14,7 @@ use std::alloc::Global;
 use std::sync::{Mutex, Wait};
 use train_unit::driving::placed_on;
 
-/// An engine that is no train of the line.
+/// An engine that the line does not have.
 const STRANGER: u32 = 99;
 
 /// How many threads of a kind are asked in turn whether they can take a step.
@@ -43,7 +43,7 @@ static SHARES: [usize; 4] = [1, 5, 15, 40];
 /// The most faults of a hundred happenings.
 const MOST_TROUBLES: usize = 20;
 
-/// A step that did something: its number, what it did, and which thread.
+/// A step that did something: its number, its kind, and its thread.
 #[derive(Clone, Copy)]
 pub struct Mark {
     pub step: u32,
@@ -71,6 +71,8 @@ pub struct Simulation<'a, R> {
     pub program: Option<Box<Program<'a, R>, Global>>,
     /// A start has locked the journals.
     pub has_lock: bool,
+    /// The interlocking has released all sections once.
+    pub has_released: bool,
     /// The journals that a start has read.
     pub found: Option<Found>,
     pub sections: Vec<Section>,
@@ -115,6 +117,7 @@ impl<'a, R: Wait + AllocGlobal> Simulation<'a, R> {
             now: 1_000,
             program: None,
             has_lock: false,
+            has_released: false,
             found: None,
             sections,
             trains,
@@ -227,7 +230,7 @@ impl<'a, R: Wait + AllocGlobal> Simulation<'a, R> {
         }
     }
 
-    /// A thread of the centres takes a step. The result is whether it could. What leaves is judged.
+    /// A thread of the centres takes a step. The result is whether it could. Bytes that leave are judged.
     pub fn turn(&mut self, what: usize, which: usize) -> Done<bool> {
         let Some(mut program) = self.program.take() else {
             return Ok(false);
@@ -284,7 +287,7 @@ impl<'a, R: Wait + AllocGlobal> Simulation<'a, R> {
         Ok(true)
     }
 
-    // What the disk does with the next write.
+    // The fate of the next write.
     fn fate(&mut self) -> Fate {
         match below(&mut self.draws, 100) {
             _ if self.is_calm => Fate::Good,
@@ -314,7 +317,7 @@ fn sections_of(alloc: Global, line: &Line) -> Done<Vec<Section>> {
     Ok(sections)
 }
 
-// The trains that have a place keep the rules. Some of the others do not, and one is no train of the line.
+// The trains that have a place keep the rules. Some of the others do not, and one is not of the line.
 fn trains_on(
     alloc: Global,
     line: &Line,

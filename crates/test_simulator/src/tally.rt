@@ -6,7 +6,7 @@ use std::io;
 use std::io::Write;
 use text_script::WorldEvent;
 
-/// What is counted.
+/// The things that are counted.
 #[derive(Clone, Copy)]
 pub enum Count {
     Events,
