@@ -64,13 +64,8 @@ impl<R: Wait> Program<'_, R> {
         let row = control.rows.remove(0);
         match command_of(self.alloc, self.line, row.as_str()) {
             Ok(Command::Nothing) => {}
-            Ok(Command::Stop) => self.is_stopped = true,
-            Ok(Command::StopNow) => {
-                self.is_stopped = true;
-                for connection in &mut self.connections {
-                    connection.is_shut = true;
-                }
-            }
+            Ok(Command::Stop) => self.stop(false),
+            Ok(Command::StopNow) => self.stop(true),
             Ok(Command::Show) => self.show(number)?,
             Ok(Command::Set { centre, section }) => {
                 let event = WorldEvent::Set { centre, section };
@@ -83,6 +78,15 @@ impl<R: Wait> Program<'_, R> {
             Err(_) => return self.fixed(SCRIPT_FAULT),
         }
         Ok((true, nothing))
+    }
+
+    // No further connection is accepted. Perhaps all sessions end at once.
+    fn stop(&mut self, ends_sessions: bool) {
+        self.is_stopped = true;
+        self.let_go();
+        for connection in &mut self.connections {
+            connection.is_shut |= ends_sessions;
+        }
     }
 
     fn fixed(&self, text: &'static str) -> Done<(bool, Vec<u8>)> {

@@ -5,8 +5,8 @@
 //! fault the program prints the last steps, the seed and the reason, and ends with status 1.
 //!
 //! The parts of the running centres are those of the program: nodes, journals, lanes, buckets, links, sessions and
-//! answers. The loops of the threads in `serve_line` are written again, as steps of a schedule. The bytes that leave the
-//! centres are judged by the durable bytes of the journals.
+//! answers. The loops of the threads in `serve_line` are written again, as steps of a schedule. The bytes that leave
+//! the centres are judged by the durable bytes of the journals.
 #![tactic(auto)]
 
 mod answering;

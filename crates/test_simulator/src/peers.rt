@@ -157,7 +157,9 @@ impl<R: Wait + AllocGlobal> Simulation<'_, R> {
     // Perhaps nothing happens for long then.
     fn hold(&mut self) {
         self.lazy = below(&mut self.draws, KINDS + 1);
-        if let Some(program) = &mut self.program {
+        if let Some(program) = &mut self.program
+            && !program.is_stopped
+        {
             program.held = Some(below(&mut self.draws, 12));
         }
         if in_hundred(&mut self.draws, 50) {
@@ -192,7 +194,9 @@ impl<R: Wait + AllocGlobal> Simulation<'_, R> {
             return Ok(());
         };
         let at = below(&mut self.draws, program.links.len());
-        if let Some(link) = program.links.get_mut(at) {
+        if let Some(link) = program.links.get_mut(at)
+            && !program.is_stopped
+        {
             link.stray(&mut self.draws);
         }
         Ok(())

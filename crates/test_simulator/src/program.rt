@@ -1,7 +1,7 @@
 //! The running centres: the values that their threads share.
 
 use crate::answering::Control;
-use crate::carrying::{Passage, Stray};
+use crate::carrying::Passage;
 use crate::keeping::Keeper;
 use crate::tally::Tally;
 use crate::trouble::Done;
@@ -204,11 +204,179 @@ impl<'a, R: Wait + AllocGlobal> Program<'a, R> {
         Ok(Some(number))
     }
 
-    /// No fault is drawn any more: trains read, and no frame and no thread is held.
+    /// No fault is drawn any more.
     pub fn calm_down(&mut self) {
         for connection in &mut self.connections {
             connection.is_slow = false;
         }
+        self.let_go();
+    }
+
+    /// Whether each answer was handed in.
+    pub fn is_idle(&self) -> bool {
+        self.handed >= self.share.receipts().len()
+    }
+}
+
+/// The connection of a train, as its centre has it.
+#[derive(Drop)]
+pub struct Connection {
+    pub centre: u8,
+    /// NID_ENGINE of the train at its other end.
+    pub nid_engine: u32,
+    /// The place of the thread that reads it.
+    pub worker: usize,
+    /// The bytes that its train sent and that were not read.
+    pub inbox: Vec<u8>,
+    /// The replies that wait for its writer.
+    pub replies: Vec<Reply>,
+    /// Whether a thread reads it.
+    pub is_read: bool,
+    /// Whether the centre ended it.
+    pub is_shut: bool,
+    /// Whether its train has closed it.
+    pub is_closed: bool,
+    /// Whether its train reads nothing now.
+    pub is_slow: bool,
+}
+
+/// The signals of all links. Both workers of a link have ended, so that none of them waits for the other.
+#[derive(Drop)]
+pub struct Bells {
+    pub ends: LinkEnds,
+    pub waker: Parker,
+    pub is_over: AtomicBool,
+}
+
+/// The centres that run in one process.
+#[derive(Drop)]
+pub struct Program<'a, R> {
+    pub rt: &'a R,
+    pub alloc: Global,
+    pub line: &'a Line,
+    pub nodes: Vec<Node>,
+    /// The threads that commit events: for each link one, for each control connection one a centre, for each connection
+    /// one.
+    pub workers: Vec<Worker>,
+    /// The receipts of the start.
+    pub begun: Vec<Share>,
+    pub keepers: Vec<Keeper<'a>>,
+    pub lanes: Vec<Lane>,
+    pub buckets: Vec<Bucket>,
+    pub connections: Vec<Connection>,
+    pub links: Vec<Passage>,
+    pub controls: Vec<Control>,
+    pub bells: Bells,
+    /// Whether no further connection is accepted.
+    pub is_stopped: bool,
+    /// A thread that hands no answer in for now.
+    pub held: Option<usize>,
+    pub tally: Tally,
+}
+
+impl<'a, R: Wait + AllocGlobal> Program<'a, R> {
+    /// Centres that go on from their nodes, and keep these journals.
+    pub fn new(
+        rt: &'a R,
+        line: &'a Line,
+        nodes: Vec<Node>,
+        begun: Vec<Share>,
+        keepers: Vec<Keeper<'a>>,
+    ) -> Done<Program<'a, R>> {
+        let alloc = rt.alloc();
+        let bells = bells_of(rt, alloc, &nodes)?;
+        let mut program = Program {
+            rt,
+            alloc,
+            line,
+            nodes,
+            workers: Vec::new(alloc),
+            begun,
+            keepers,
+            lanes: Vec::new(alloc),
+            buckets: Vec::new(alloc),
+            connections: Vec::new(alloc),
+            links: Vec::new(alloc),
+            controls: Vec::new(alloc),
+            bells,
+            is_stopped: false,
+            held: None,
+            tally: Tally::new(),
+        };
+        program.add_threads()?;
+        program.add_lanes()?;
+        Ok(program)
+    }
+
+    // The threads of the links and of the control connections.
+    fn add_threads(&mut self) -> Result<(), AllocError> {
+        for from in 0..self.line.centre_count() {
+            for node in &self.nodes {
+                let share = node.share();
+                if self.line.linked(from, share.centre()) {
+                    let worker = self.workers.len();
+                    self.links.push(Passage::new(self.rt, node, from, worker))?;
+                    self.workers.push(Worker::new(share, None))?;
+                }
+            }
+        }
+        for _ in 0..CONTROLS {
+            let first = self.workers.len();
+            for node in &self.nodes {
+                self.workers.push(Worker::new(node.share(), None))?;
+            }
+            self.controls.push(Control::new(self.alloc, first))?;
+        }
+        Ok(())
+    }
+
+    // For each centre a lane and a bucket of each train, and of all other engines together.
+    fn add_lanes(&mut self) -> Result<(), AllocError> {
+        for _ in 0..self.line.centre_count() {
+            for _ in 0..=self.line.train_count() {
+                self.lanes.push(Lane::new(self.alloc))?;
+                self.buckets.push(Bucket::new(RATE))?;
+            }
+        }
+        Ok(())
+    }
+
+    /// Accepts a connection of the train of this engine, and returns its number. `None` if it is refused.
+    pub fn accept(&mut self, centre: u8, nid_engine: u32) -> Result<Option<usize>, AllocError> {
+        let at = usize::from(centre);
+        let (Some(node), Some(keeper)) = (self.nodes.get(at), self.keepers.get(at)) else {
+            return Ok(None);
+        };
+        if self.is_stopped || keeper.reach.is_stuck {
+            return Ok(None);
+        }
+        let number = self.connections.len();
+        let worker = self.workers.len();
+        self.workers.push(Worker::new(node.share(), Some(number)))?;
+        self.connections.push(Connection {
+            centre,
+            nid_engine,
+            worker,
+            inbox: Vec::new(self.alloc),
+            replies: Vec::new(self.alloc),
+            is_read: true,
+            is_shut: false,
+            is_closed: false,
+            is_slow: false,
+        })?;
+        Ok(Some(number))
+    }
+
+    /// No fault is drawn any more.
+    pub fn calm_down(&mut self) {
+        for connection in &mut self.connections {
+            connection.is_slow = false;
+        }
+        self.let_go();
+    }
+
+    /// No frame and no thread is held any more.
+    pub fn let_go(&mut self) {
         for link in &mut self.links {
             link.stray = Stray::Nothing;
         }
