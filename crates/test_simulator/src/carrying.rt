@@ -70,6 +70,14 @@ impl Passage {
 }
 
 impl<R: Wait> Program<'_, R> {
+    /// No frame and no thread is held any more.
+    pub fn let_go(&mut self) {
+        for link in &mut self.links {
+            link.stray = Stray::Nothing;
+        }
+        self.held = None;
+    }
+
     /// Whether a frame is on its way, and the journal of its sender was not given up.
     pub fn has_frame(&self, at: usize) -> bool {
         let Some(link) = self.links.get(at) else {
