@@ -152,7 +152,7 @@ fn play<R: Wait + AllocGlobal>(rt: &R, seed: u64) -> anyhow::Result<Played> {
 }
 
 fn take_steps<R: Wait + AllocGlobal>(simulation: &mut Simulation<'_, R>) -> Done<()> {
-    let happenings = below(&mut simulation.draws, 300).saturating_add(60);
+    let happenings = below(&mut simulation.draws, 240).saturating_add(60);
     for _ in 0..MOST_STEPS {
         if simulation.happenings >= happenings {
             break;
