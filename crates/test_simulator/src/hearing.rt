@@ -3,7 +3,9 @@
 use crate::answering::{JOURNAL_FAULT, SCRIPT_FAULT};
 use crate::judge::{Judge, Said};
 use crate::program::Connection;
+use crate::tally::Count;
 use crate::trouble::{Done, Trouble};
+use rbc_centre::{Body, Outcome};
 use rbc_msgs::{TrackBody, TrackMsg, decode_track};
 use std::sync::Wait;
 
@@ -46,6 +48,30 @@ impl<R: Wait + AllocGlobal> Judge<'_, R> {
             *heard = Some(message.t_train());
         }
         Ok(message)
+    }
+
+    /// Counts a right that a centre gives while its train talks to a third one.
+    pub fn count_rights(&mut self, centre: u8, outcome: &Outcome) {
+        for sent in outcome.frames.as_slice() {
+            if let Body::GiveRight { engine } = sent.frame.body()
+                && self.said.iter().any(|said| {
+                    said.nid_engine == engine && said.centre != centre && said.centre != sent.to
+                })
+            {
+                self.tally.add(Count::ThirdRights);
+            }
+        }
+    }
+
+    /// The last message of a centre to a train.
+    pub fn last_said(&self, centre: u8, nid_engine: u32) -> Option<TrackMsg> {
+        let mut last = None;
+        for said in &self.said {
+            if said.centre == centre && said.nid_engine == nid_engine {
+                last = Some(said.message);
+            }
+        }
+        last
     }
 
     // T_TRAIN of the last message that left over this connection.

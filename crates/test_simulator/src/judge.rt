@@ -3,10 +3,10 @@
 use crate::disk::Platter;
 use crate::program::RATE;
 use crate::starting::{commit_entry, entries_in, nodes_of};
-use crate::tally::{Count, Tally};
+use crate::tally::Tally;
 use crate::trouble::{Done, Trouble};
 use crate::watching::Promise;
-use rbc_centre::{Body, Event, Outcome};
+use rbc_centre::{Event, Outcome};
 use rbc_line::Line;
 use rbc_log::CentreLog;
 use rbc_msgs::TrackMsg;
@@ -144,7 +144,7 @@ impl<'a, R: Wait + AllocGlobal> Judge<'a, R> {
         self.promise.holds_after(&entry.event, &outcome)?;
         self.tally.count(&entry.event, &outcome);
         self.count_rights(centre, &outcome);
-        self.count(centre, entry.time_ms.unwrap_or(0))?;
+        self.judge_rate(centre, entry.time_ms.unwrap_or(0))?;
         for saying in outcome.sayings.as_slice() {
             let before = self.last_said(centre, saying.nid_engine);
             let body = saying.message.body();
@@ -162,32 +162,8 @@ impl<'a, R: Wait + AllocGlobal> Judge<'a, R> {
         self.show(centre)
     }
 
-    // Counts a right that a centre gives while its train talks to a third one.
-    fn count_rights(&mut self, centre: u8, outcome: &Outcome) {
-        for sent in outcome.frames.as_slice() {
-            if let Body::GiveRight { engine } = sent.frame.body()
-                && self.said.iter().any(|said| {
-                    said.nid_engine == engine && said.centre != centre && said.centre != sent.to
-                })
-            {
-                self.tally.add(Count::ThirdRights);
-            }
-        }
-    }
-
-    /// The last message of a centre to a train.
-    pub fn last_said(&self, centre: u8, nid_engine: u32) -> Option<TrackMsg> {
-        let mut last = None;
-        for said in &self.said {
-            if said.centre == centre && said.nid_engine == nid_engine {
-                last = Some(said.message);
-            }
-        }
-        last
-    }
-
     // No engine has more messages than its rate allows.
-    fn count(&self, centre: u8, time_ms: u64) -> Done<()> {
+    fn judge_rate(&self, centre: u8, time_ms: u64) -> Done<()> {
         let at = usize::from(centre);
         let (Some(node), Some(begun)) = (self.nodes.get(at), self.begun.get(at)) else {
             return Ok(());

@@ -31,6 +31,15 @@ impl<R: Wait + AllocGlobal> Simulation<'_, R> {
         self.mark("crashes, machine", 0)
     }
 
+    // The centres have ended or crashed, with these counts.
+    fn ends(&mut self, how: Count, tally: &Tally) {
+        self.tally.add(how);
+        self.tally.add_all(tally);
+        for call in &mut self.calls {
+            *call = None;
+        }
+    }
+
     /// The centres go on to their end after `stop`, and then with the next start.
     pub fn start_or_end(&mut self) -> Done<bool> {
         let Some(program) = &mut self.program else {

@@ -1,6 +1,6 @@
 //! The trains of a run. Some keep the rules. The others send messages in a fixed order, and do not listen.
 
-use crate::lots::{in_hundred, some_below};
+use crate::lots::{below, in_hundred, place_below, some_below};
 use crate::obeying::Obedient;
 use crate::trouble::{Done, Trouble};
 use rand_pcg::Pcg32;
@@ -8,7 +8,10 @@ use rbc_line::{Line, Section};
 use rbc_msgs::{TrackMsg, encode_train};
 use std::alloc::Global;
 use train_unit::NextMessage;
-use train_unit::driving::{Place, Speech, message, position};
+use train_unit::driving::{Place, Speech, message, placed_on, position};
+
+/// An engine that the line does not have.
+const STRANGER: u32 = 99;
 
 /// The messages of a train that does not listen, over a connection. After the last it goes on from the sixth.
 static SPEECHES: [Speech; 9] = [
@@ -170,4 +173,40 @@ impl Babbler {
             }
         }
     }
+}
+
+/// The sections of the line.
+pub fn sections_of(alloc: Global, line: &Line) -> Done<Vec<Section>> {
+    let mut sections = Vec::new(alloc);
+    for s in 0..line.section_count() {
+        if let Some(section) = line.section(s) {
+            sections.push(section)?;
+        }
+    }
+    Ok(sections)
+}
+
+/// The trains that have a place keep the rules. Some of the others do not, and one is not of the line.
+pub fn trains_on(
+    alloc: Global,
+    line: &Line,
+    sections: &[Section],
+    draws: &mut Pcg32,
+) -> Done<Vec<Train>> {
+    let most = place_below(draws, usize::from(line.train_count())).saturating_add(1);
+    let mut trains = Vec::new(alloc);
+    let places = placed_on(alloc, line, sections, most)?;
+    for place in &places {
+        trains.push(Train::obedient(alloc, *place))?;
+    }
+    for i in most..line.train_count() {
+        if let Some(train) = line.train(i)
+            && in_hundred(draws, 40)
+        {
+            let section = below(draws, sections.len());
+            trains.push(Train::babbler(alloc, train.nid_engine, section))?;
+        }
+    }
+    trains.push(Train::babbler(alloc, STRANGER, 0))?;
+    Ok(trains)
 }

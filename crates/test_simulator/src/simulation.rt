@@ -2,20 +2,16 @@
 
 use crate::disk::{Fate, Platter};
 use crate::judge::Judge;
-use crate::lots::{below, in_hundred, place_below};
-use crate::outside::Train;
+use crate::lots::{below, in_hundred};
+use crate::outside::{Train, sections_of, trains_on};
 use crate::program::{CONTROLS, Program};
 use crate::starting::Found;
-use crate::tally::{Count, Tally};
+use crate::tally::Tally;
 use crate::trouble::Done;
 use rand_pcg::Pcg32;
 use rbc_line::{Line, Section};
 use std::alloc::Global;
 use std::sync::{Mutex, Wait};
-use train_unit::driving::placed_on;
-
-/// An engine that the line does not have.
-const STRANGER: u32 = 99;
 
 /// How many threads of a kind are asked in turn whether they can take a step.
 const FEW: usize = 8;
@@ -296,48 +292,4 @@ impl<'a, R: Wait + AllocGlobal> Simulation<'a, R> {
             _ => Fate::Good,
         }
     }
-
-    /// The centres have ended or crashed, with these counts.
-    pub fn ends(&mut self, how: Count, tally: &Tally) {
-        self.tally.add(how);
-        self.tally.add_all(tally);
-        for call in &mut self.calls {
-            *call = None;
-        }
-    }
-}
-
-fn sections_of(alloc: Global, line: &Line) -> Done<Vec<Section>> {
-    let mut sections = Vec::new(alloc);
-    for s in 0..line.section_count() {
-        if let Some(section) = line.section(s) {
-            sections.push(section)?;
-        }
-    }
-    Ok(sections)
-}
-
-// The trains that have a place keep the rules. Some of the others do not, and one is not of the line.
-fn trains_on(
-    alloc: Global,
-    line: &Line,
-    sections: &[Section],
-    draws: &mut Pcg32,
-) -> Done<Vec<Train>> {
-    let most = place_below(draws, usize::from(line.train_count())).saturating_add(1);
-    let mut trains = Vec::new(alloc);
-    let places = placed_on(alloc, line, sections, most)?;
-    for place in &places {
-        trains.push(Train::obedient(alloc, *place))?;
-    }
-    for i in most..line.train_count() {
-        if let Some(train) = line.train(i)
-            && in_hundred(draws, 40)
-        {
-            let section = below(draws, sections.len());
-            trains.push(Train::babbler(alloc, train.nid_engine, section))?;
-        }
-    }
-    trains.push(Train::babbler(alloc, STRANGER, 0))?;
-    Ok(trains)
 }

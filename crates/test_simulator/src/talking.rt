@@ -111,7 +111,8 @@ impl<R: Wait> Program<'_, R> {
         let Some(reply) = connection.replies.first() else {
             return Ok(None);
         };
-        if connection.is_slow || keeper.reach.release(self.rt, reply.stamp()).is_none() {
+        let waits = keeper.reach.release(self.rt, reply.stamp()).is_none();
+        if waits || connection.is_slow || connection.replies.is_empty() {
             return Ok(None);
         }
         // It is the last reply of its channel.
