@@ -141,9 +141,19 @@ impl<'a, R: Wait + AllocGlobal> Judge<'a, R> {
     fn take(&mut self, entry: &Entry) -> Done<()> {
         let centre = entry.centre();
         let outcome = commit_entry(self.rt, self.alloc, &self.nodes, &mut self.shares, entry)?;
-        self.promise.holds_after(&entry.event, &outcome)?;
-        self.tally.count(&entry.event, &outcome);
-        self.count_rights(centre, &outcome);
+        self.judge_event(entry, &outcome)?;
+        if let WorldEvent::Set { .. } | WorldEvent::Unset { .. } = &entry.event {
+            self.expect(centre, &entry.event, outcome)?;
+        }
+        self.show(centre)
+    }
+
+    // The promise holds after an event, and its engine keeps to its rate. Its messages may leave now.
+    fn judge_event(&mut self, entry: &Entry, outcome: &Outcome) -> Done<()> {
+        let centre = entry.centre();
+        self.promise.holds_after(&entry.event, outcome)?;
+        self.tally.count(&entry.event, outcome);
+        self.count_rights(centre, outcome);
         self.judge_rate(centre, entry.time_ms.unwrap_or(0))?;
         for saying in outcome.sayings.as_slice() {
             let before = self.last_said(centre, saying.nid_engine);
@@ -156,10 +166,7 @@ impl<'a, R: Wait + AllocGlobal> Judge<'a, R> {
                 message: saying.message,
             })?;
         }
-        if let WorldEvent::Set { .. } | WorldEvent::Unset { .. } = &entry.event {
-            self.expect(centre, &entry.event, outcome)?;
-        }
-        self.show(centre)
+        Ok(())
     }
 
     // No engine has more messages than its rate allows.

@@ -11,11 +11,9 @@ use std::sync::Wait;
 impl<R: Wait + AllocGlobal> Simulation<'_, R> {
     /// The machine crashes, perhaps while a journal is written.
     pub fn kill(&mut self) -> Done<()> {
-        let mut tally = Tally::new();
-        if let Some(mut program) = self.program.take() {
-            tally = program.tally;
-            for centre in 0..self.platters.len() {
-                let fate = Fate::Torn(below(&mut self.draws, 600));
+        for centre in 0..self.platters.len() {
+            let fate = Fate::Torn(below(&mut self.draws, 600));
+            if let Some(program) = &mut self.program {
                 program.keep(centre, self.now, fate)?;
             }
         }
@@ -27,7 +25,9 @@ impl<R: Wait + AllocGlobal> Simulation<'_, R> {
         }
         self.has_lock = false;
         self.found = None;
-        self.ends(Count::Crashes, &tally);
+        if let Some(program) = self.program.take() {
+            self.ends(Count::Crashes, &program.tally);
+        }
         self.mark("crashes, machine", 0)
     }
 
@@ -61,20 +61,21 @@ impl<R: Wait + AllocGlobal> Simulation<'_, R> {
 
     // The centres have ended: their logs are gathered, and the journals have all events.
     fn finish(&mut self) -> Done<bool> {
+        self.judge.catch_up()?;
         let Some(program) = self.program.take() else {
             return Ok(false);
         };
-        self.judge.catch_up()?;
-        let tally = program.tally;
         let has_lost = program.keepers.iter().any(|keeper| keeper.reach.is_closed);
-        if !has_lost && !self.judge.is_same(&program.nodes) {
+        let is_kept = has_lost || self.judge.is_same(&program.nodes);
+        self.ends(Count::Stops, &program.tally);
+        let is_gathered = Box::into_inner(program).is_gathered()?;
+        if !is_kept {
             return Err(Trouble::Wrong("the journals lack events of the centres"));
         }
-        if !Box::into_inner(program).is_gathered()? {
+        if !is_gathered {
             return Err(Trouble::Wrong("the receipts do not make up the logs"));
         }
         set_locked(self.platters, false);
-        self.ends(Count::Stops, &tally);
         self.mark("have ended, centres", 0)?;
         Ok(true)
     }
@@ -88,14 +89,9 @@ impl<R: Wait + AllocGlobal> Simulation<'_, R> {
             }
             self.judge.catch_up()?;
             let program = resume(self.rt, self.line, self.platters, found)?;
-            self.has_lock = false;
-            self.judge.catch_up()?;
-            if !self.judge.is_same(&program.nodes) {
-                return Err(Trouble::Wrong("the centres lack events of their journals"));
-            }
             self.program = Some(Box::new(self.alloc, program)?);
-            self.judge.begin(self.now)?;
-            self.release_all()?;
+            self.has_lock = false;
+            self.judge_start()?;
         } else if self.has_lock {
             self.found = Some(read_all(self.alloc, self.line, self.platters)?);
         } else {
@@ -107,6 +103,18 @@ impl<R: Wait + AllocGlobal> Simulation<'_, R> {
         }
         self.mark("goes on, start", 0)?;
         Ok(true)
+    }
+
+    // The centres have resumed: they have the events of their journals, and no others.
+    fn judge_start(&mut self) -> Done<()> {
+        self.judge.catch_up()?;
+        if let Some(program) = &self.program
+            && !self.judge.is_same(&program.nodes)
+        {
+            return Err(Trouble::Wrong("the centres lack events of their journals"));
+        }
+        self.judge.begin(self.now)?;
+        self.release_all()
     }
 
     /// No fault is drawn any more. The centres rest, each question is answered, and `stop` ends them.

@@ -133,11 +133,24 @@ fn play<R: Wait + AllocGlobal>(rt: &R, seed: u64) -> anyhow::Result<Played> {
     let Ok(line) = Line::from_toml(rt.alloc(), text.unwrap_or("")) else {
         bail!("the line has a fault");
     };
+    play_on(rt, &line, draws)
+}
+
+fn play_on<R: Wait + AllocGlobal>(rt: &R, line: &Line, draws: Pcg32) -> anyhow::Result<Played> {
     let mut platters = Vec::new(rt.alloc());
     for _ in 0..line.centre_count() {
         platters.push(Mutex::new(Platter::new(rt.alloc())))?;
     }
-    let Ok(mut simulation) = Simulation::new(rt, &line, &platters, draws) else {
+    play_over(rt, line, &platters, draws)
+}
+
+fn play_over<R: Wait + AllocGlobal>(
+    rt: &R,
+    line: &Line,
+    platters: &[Mutex<Platter>],
+    draws: Pcg32,
+) -> anyhow::Result<Played> {
+    let Ok(mut simulation) = Simulation::new(rt, line, platters, draws) else {
         bail!("memory ran out");
     };
     let trouble = take_steps(&mut simulation).err();

@@ -193,10 +193,11 @@ impl<R: Wait + AllocGlobal> Simulation<'_, R> {
         let Some(program) = &mut self.program else {
             return Ok(());
         };
+        if program.is_stopped {
+            return Ok(());
+        }
         let at = below(&mut self.draws, program.links.len());
-        if let Some(link) = program.links.get_mut(at)
-            && !program.is_stopped
-        {
+        if let Some(link) = program.links.get_mut(at) {
             link.stray(&mut self.draws);
         }
         Ok(())

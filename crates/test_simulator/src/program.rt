@@ -140,9 +140,13 @@ impl<'a, R: Wait + AllocGlobal> Program<'a, R> {
             held: None,
             tally: Tally::new(),
         };
-        program.add_threads()?;
-        program.add_lanes()?;
+        program.fill()?;
         Ok(program)
+    }
+
+    fn fill(&mut self) -> Result<(), AllocError> {
+        self.add_threads()?;
+        self.add_lanes()
     }
 
     // The threads of the links and of the control connections.

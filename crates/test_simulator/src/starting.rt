@@ -105,15 +105,40 @@ pub fn resume<'a, R: Wait + AllocGlobal>(
     let alloc = rt.alloc();
     let (nodes, mut shares) = nodes_of(alloc, line)?;
     let Found { entries, lengths } = found;
+    replay(rt, alloc, &nodes, &mut shares, entries)?;
+    let keepers = keepers_of(rt, line, platters, &nodes, &lengths)?;
+    Program::new(rt, line, nodes, shares, keepers)
+}
+
+// Commits the events of the journals again, in the order of their stamps.
+fn replay<R: Wait>(
+    rt: &R,
+    alloc: Global,
+    nodes: &[Node],
+    shares: &mut [Share],
+    entries: Vec<Vec<Entry>>,
+) -> Done<()> {
     for entry in in_order(alloc, entries)? {
-        commit_entry(rt, alloc, &nodes, &mut shares, &entry)?;
+        commit_entry(rt, alloc, nodes, shares, &entry)?;
     }
+    Ok(())
+}
+
+// Opens the journals for writing.
+fn keepers_of<'a, R: Wait + AllocGlobal>(
+    rt: &R,
+    line: &Line,
+    platters: &'a [Mutex<Platter>],
+    nodes: &[Node],
+    lengths: &[usize],
+) -> Done<Vec<Keeper<'a>>> {
+    let alloc = rt.alloc();
     let mut keepers = Vec::new(alloc);
     for (node, (platter, length)) in nodes.iter().zip(platters.iter().zip(lengths.iter())) {
         let file = begun(alloc, line, platter, node.share().centre(), *length)?;
         keepers.push(Keeper::new(rt, file, platter, node))?;
     }
-    Program::new(rt, line, nodes, shares, keepers)
+    Ok(keepers)
 }
 
 // Opens a journal, and writes its first line if there is none.
