@@ -1,25 +1,22 @@
+mod stages;
+
 use crate::browsers::PageEndpoint;
 use crate::clients::run_endpoint;
 use crate::fact_notes::note_facts;
-use crate::journaling::{WriteTimes, times_of};
-use crate::journals::{Record, keep, resume_noted};
+use crate::journals::{Record, keep};
 use crate::links::carry;
 use crate::pages::run_pages;
-use crate::printing::print_noted;
-use crate::state::{
-    DirectedLink, Endpoint, Endpoints, Peer, ServeOptions, Server, Slot, State, connections_of,
-    endpoints_of, journals_of, links_of, nodes_of, sinks_of, wakers_of,
-};
-use crate::status::MentionOrder;
+use crate::running::stages::Setting;
+use crate::state::{DirectedLink, Endpoint, Endpoints, Peer, ServeOptions, Server, Slot};
 use crossbeam_channel::bounded;
 use rbc_line::Line;
-use rbc_node::{Node, Share, gather};
+use rbc_node::Share;
 use serve_control::ServeFault;
 use serve_journal::{DurableFile, JournalFile};
 use serve_notes::{About, Backlog, Kind, Notes, QueuedNotes, write_notes};
 use std::alloc::{AllocError, Global};
 use std::io::Write;
-use std::sync::{Mutex, Wait};
+use std::sync::Wait;
 use std::thread;
 use std::thread::Threads;
 use std::time::Clock;
@@ -57,104 +54,15 @@ pub fn serve<
             return Err(ServeFault::from(AllocError));
         }
         let queued = QueuedNotes { rt, queue, backlog };
-        serve_noted(rt, alloc, line, endpoints, record, options, &queued, out)
+        let setting = Setting {
+            rt,
+            alloc,
+            line,
+            options,
+            notes: &queued,
+        };
+        setting.serve(record, endpoints, out)
     })
-}
-
-// The same, with notes that never wait to be written.
-fn serve_noted<
-    R: Threads + Wait + Sync + Clock,
-    N: Notes + Sync,
-    F: DurableFile + Drop + Send,
-    O: Write,
->(
-    rt: &R,
-    alloc: Global,
-    line: &Line,
-    endpoints: Endpoints,
-    record: Record<F>,
-    options: ServeOptions,
-    notes: &N,
-    out: &mut O,
-) -> Result<(), ServeFault> {
-    let nodes = nodes_of(alloc, line)?;
-    let Record { files, entries } = record;
-    let times = times_of(alloc, line.centre_count(), &entries)?;
-    let resumed = resume_noted(rt, alloc, line, &nodes, entries, notes)?;
-    let (listening, socket, page) = endpoints.all();
-    let endpoints = endpoints_of(alloc, line, &nodes, listening, socket)?;
-    let page = match page {
-        Some(port) => Some(PageEndpoint::new(rt, alloc, (line, &nodes), &endpoints, port)?),
-        None => None,
-    };
-    let links = links_of(alloc, line, &nodes)?;
-    let is_whole = run_centres(
-        rt,
-        alloc,
-        line,
-        &nodes,
-        &endpoints,
-        &links,
-        page.as_ref(),
-        (files, times),
-        options,
-        notes,
-    )?;
-    let shares = shares_of(resumed, endpoints, links)?;
-    notes.note(About::of(Kind::Stop), "all sessions have ended");
-    let family = gather(alloc, nodes, shares)?;
-    if options.prints_events {
-        print_noted(alloc, line, &family, notes, out)?;
-    }
-    if is_whole {
-        Ok(())
-    } else {
-        Err(ServeFault::Journal)
-    }
-}
-
-// Runs all workers to their ends. The result is whether the journals have all committed events.
-fn run_centres<R: Threads + Wait + Sync + Clock, N: Notes + Sync, F: DurableFile + Drop + Send>(
-    rt: &R,
-    alloc: Global,
-    line: &Line,
-    nodes: &[Node],
-    endpoints: &[Endpoint],
-    links: &[DirectedLink],
-    page: Option<&PageEndpoint>,
-    journals: (Vec<JournalFile<F>>, Vec<WriteTimes>),
-    options: ServeOptions,
-    notes: &N,
-) -> Result<bool, AllocError> {
-    let (files, times) = journals;
-    let wakers = wakers_of(alloc, line)?;
-    let connections = connections_of(alloc, line, &wakers, !files.is_empty())?;
-    let journals = if files.is_empty() {
-        Vec::new(alloc)
-    } else {
-        journals_of(rt, alloc, nodes, times)?
-    };
-    let sinks = sinks_of(alloc, line, &connections, endpoints, &journals, options)?;
-    let mentions = Mutex::new(MentionOrder::new(alloc, line)?);
-    let state = State::new(line.centre_count());
-    let server = Server {
-        alloc,
-        line,
-        nodes,
-        sinks: &sinks,
-        endpoints,
-        links,
-        wakers: &wakers,
-        journals: &journals,
-        mentions: &mentions,
-        state: &state,
-        options,
-    };
-    run_beside(rt, &server, page, files, notes);
-    if state.has_failed() {
-        return Err(AllocError);
-    }
-    Ok(!state.has_lost())
 }
 
 // Runs the links and the endpoints, and concurrently the page, the notes of the logs, and the journals.

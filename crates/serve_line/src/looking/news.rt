@@ -131,19 +131,25 @@ impl News {
     /// now have no time yet. No lock is held meanwhile.
     pub fn tell(&mut self, alloc: Global, line: &Line) -> Result<Vec<EventNow>, Fault<'static>> {
         self.fresh.sort_by_key(|fresh| fresh.entry.outcome.stamp)?;
-        let old = self.fresh.len().saturating_sub(TOLD);
-        for fresh in self.fresh.iter().skip(old) {
-            if self.told.len() >= TOLD {
-                self.told.pop();
-            }
-            self.told.insert(0, Told::new(alloc, line, fresh)?)?;
-        }
+        let mut newest = self.newest(alloc, line)?;
+        newest.append(&mut self.told)?;
+        newest.truncate(TOLD);
+        self.told = newest;
         self.fresh.clear();
         let mut last = Vec::new(alloc);
         for told in self.told.iter() {
             last.push(told.event(alloc)?)?;
         }
         Ok(last)
+    }
+
+    // The last copied events in words, the newest first.
+    fn newest(&self, alloc: Global, line: &Line) -> Result<Vec<Told>, Fault<'static>> {
+        let mut newest = Vec::new(alloc);
+        for fresh in self.fresh.iter().rev().take(TOLD) {
+            newest.push(Told::new(alloc, line, fresh)?)?;
+        }
+        Ok(newest)
     }
 
     /// Adds the times of writes to the result of the last `tell`, as far as the journals keep them. Returns whether a
