@@ -9,6 +9,7 @@ pub mod Grace
 pub mod Heads
 pub mod Journaling
 pub mod Lives
+pub mod Marks
 pub mod Meanings
 pub mod Mentions
 pub mod News
@@ -17,10 +18,12 @@ pub mod Peers
 pub mod Refusals
 pub mod Rooms
 pub mod Rows
+pub mod Sendings
 pub mod SessionEnds
 pub mod Silences
 pub mod Snapshots
 pub mod Stamps
+pub mod Tallies
 pub mod Usage
 pub mod Watches
 pub mod WriterSteps

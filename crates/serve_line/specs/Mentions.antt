@@ -1,8 +1,9 @@
 -- The trains that messages to the centres have named.
 use Rattle.std.specs.List.{fold}
+use Rattle.std.specs.List.Sorted.{IsNonDecreasingBy}
 use Rattle.std.specs.Option.{option_map_or}
-use Rattle.std.specs.Prelude.{[], ◌*◌, ◌+◌, drop, if◌then◌else◌, List, nat_le, None, Option, option_and_then, slice_get}
-use Rattle.std.specs.Prelude.{slice_set, Some, take, ℕ}
+use Rattle.std.specs.Prelude.{[], ◌*◌, ◌+◌, ◌∷◌, ◌≡◌, drop, if◌then◌else◌, IsPermutation, List, map}
+use Rattle.std.specs.Prelude.{nat_le, None, Option, option_and_then, slice_get, slice_set, Some, take, ℕ}
 use Rattle.rbc_log.specs.declared.entry.Entry.{Entry}
 use Rattle.rbc_log.specs.Log.{LogValue}
 use Rattle.rbc_spec.specs.Line.{Line, train_number}
@@ -40,3 +41,16 @@ named_in line first entries = fold (named_after line) first entries
 abbrev pub new_entries : List ℕ → LogValue → List Entry
 new_entries looked l =
     option_map_or (λ read. take 4096 (drop read l.entries)) (slice_get looked (number_of l.core)) []
+
+-- the first messages of the trains that were named, each with the place of its train; the first train is at place i
+abbrev pub heard_from : ℕ → List (Option Mention) → List (Mention × ℕ)
+heard_from i [] = []
+heard_from i (Some mention ∷ first) = (mention, i) ∷ heard_from (i + 1) first
+heard_from i (None ∷ first) = heard_from (i + 1) first
+
+-- the trains that were named, in the order of their first messages
+pub record AreInOrder (first : List (Option Mention)) (trains : List ℕ) : Type 0 where
+  pub heard : List (Mention × ℕ)
+  pub all : IsPermutation (heard_from 0 first) heard
+  pub sorted : IsNonDecreasingBy (λ item. place_of item.0) heard
+  pub are : trains ≡ map (λ item. item.1) heard

@@ -1,10 +1,13 @@
 -- The notable events of the page.
 use Rattle.std.specs.List.{list_any}
-use Rattle.std.specs.Prelude.{◌||◌, ◌++◌, ◌≡◌, Bool, false, is_some, List, not, true}
+use Rattle.std.specs.Option.{option_map_or}
+use Rattle.std.specs.Prelude.{◌||◌, ◌++◌, ◌≡◌, Bool, false, is_some, List, not, Option, option_map, slice_get, true, ℕ}
 use Rattle.rbc_log.specs.declared.entry.Entry.{Entry}
 use Rattle.rbc_spec.specs.Frame.{Announce, Body, Cancel, TakingOver, Yield}
 use Rattle.rbc_spec.specs.Message.{Report, Request, SessionEstablished, TrainBody, TrainData}
 use Rattle.rbc_spec.specs.Step.{Deliver, Event, Set, Train, Unset}
+use Rattle.serve_line.specs.declared.looking.news.Told.{Told}
+use Rattle.text_page.specs.declared.view.EventNow.{EventNow}
 use Rattle.text_script.specs.rbc_centre.declared.sent_frame.SentFrame.{SentFrame}
 use Rattle.text_script.specs.rbc_centre.Listed.{list_of}
 use Rattle.text_script.specs.rbc_centre.Views.{event_of}
@@ -44,3 +47,7 @@ is_news e =
 -- the new list is the old one, and after it further elements
 abbrev pub Continues : {X : Type 0} → List X → List X → Type 0
 Continues {X} old new = (more : List X) × (new ≡ old ++ more)
+
+-- the time that is known of the event at place i: that of these events, or else its own
+abbrev pub time_at : List Told → ℕ → Option EventNow → Option (Option ℕ)
+time_at told i event = option_map (λ e. option_map_or (λ t. t.time_ms) (slice_get told i) e.time_ms) event

@@ -4,6 +4,7 @@
 //!
 //! Bodies are free. docs/FORMATS.md fixes the shown data.
 
+mod marks;
 mod news;
 mod page_snapshot;
 mod seen;

@@ -1,4 +1,6 @@
+ghost use Rattle.std.specs.List.{fold};
 ghost use Rattle.std.specs.Prelude.{◌≡◌, true};
+ghost use Rattle.serve_line.specs.Tallies.{tallied, tally_of};
 
 use std::io;
 use std::io::Write;
@@ -32,7 +34,10 @@ impl<'a, O: Write> Tally<'a, O> {
     }
 
     // Counts the events among these sent bytes.
-    fn count(&mut self, bytes: &[u8]) {
+    fn count(&mut self, bytes: &[u8])
+        ensures { tally_of self.new.events self.new.is_new
+            ≡ fold tallied (tally_of self.old.events self.old.is_new) bytes.now }
+    {
         for byte in bytes {
             if self.is_new && *byte == b'>' {
                 self.events = self.events.saturating_add(1);

@@ -1,5 +1,7 @@
 //! The true places of trains that run in the process of the centres.
 
+ghost use Rattle.std.specs.Prelude.{◌≡◌, false, IfOk};
+
 use std::alloc::{AllocError, Global};
 use std::sync::{Arc, Mutex, Wait};
 use text_page::TruePlace;
@@ -36,7 +38,9 @@ impl TruePlaces {
         &self,
         rt: &R,
         shown: &mut Vec<TruePlace>,
-    ) -> Result<bool, AllocError> {
+    ) -> Result<bool, AllocError>
+        ensures { IfOk result (λ has_changed. has_changed ≡ false → shown.new.items ≡ shown.old.items) }
+    {
         let places = self.shared.lock(rt);
         if places.as_slice() == shown.as_slice() {
             return Ok(false);

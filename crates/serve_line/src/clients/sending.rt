@@ -1,3 +1,6 @@
+ghost use Rattle.std.specs.Prelude.{◌≡◌, ℕ, drop, IfSome};
+ghost use Rattle.serve_line.specs.Sendings.{is_late};
+
 use crate::clients::limits::PATIENCE_S;
 use crate::failures::is_rest;
 use crate::moments::seconds_between;
@@ -28,7 +31,7 @@ pub(crate) fn send<R: Clock>(rt: &R, stream: &PeerStream, text: &Opened<Vec<u8>>
             break;
         };
         rest = left;
-        if !rest.is_empty() && is_late(rt, begun) {
+        if !rest.is_empty() && is_late(begun, Instant::now(rt).ok()) {
             break;
         }
     }
@@ -36,7 +39,9 @@ pub(crate) fn send<R: Clock>(rt: &R, stream: &PeerStream, text: &Opened<Vec<u8>>
 }
 
 // Writes as many bytes as the connection takes now. The result is the rest; `None` if the connection failed.
-fn write_some<'a>(stream: &PeerStream, text: &'a [u8]) -> Option<&'a [u8]> {
+fn write_some<'a>(stream: &PeerStream, text: &'a [u8]) -> Option<&'a [u8]>
+    ensures { IfSome result (λ rest. (count : ℕ) × (rest.now ≡ drop count text.entry.now)) }
+{
     let mut out = stream;
     match out.write(text) {
         Ok(0) => None,
@@ -46,10 +51,12 @@ fn write_some<'a>(stream: &PeerStream, text: &'a [u8]) -> Option<&'a [u8]> {
     }
 }
 
-// Whether an answer that began at this time takes too long, or the clock fails.
-fn is_late<R: Clock>(rt: &R, begun: Instant) -> bool {
-    match Instant::now(rt) {
-        Ok(now) => seconds_between(begun, now) >= PATIENCE_S,
-        Err(_) => true,
+// Whether an answer that began at this time takes too long, or the clock gave no time.
+fn is_late(begun: Instant, now: Option<Instant>) -> bool
+    ensures { result ≡ is_late begun now }
+{
+    match now {
+        Some(now) => seconds_between(begun, now) >= PATIENCE_S,
+        None => true,
     }
 }

@@ -1,5 +1,6 @@
 ghost use Rattle.std.specs.List.{list_any};
-ghost use Rattle.std.specs.Prelude.{◌≡◌, [], IfOk, length, OnErr, OnOk, replicate, slice_set, string_bytes};
+ghost use Rattle.std.specs.Prelude.{◌≡◌, ℕ, [], false, IfOk, length, OnErr, OnOk, option_map, replicate, slice_get};
+ghost use Rattle.std.specs.Prelude.{slice_set, string_bytes};
 ghost use Rattle.rbc_msgs.specs.StepMessage.{step_body};
 ghost use Rattle.text_script.specs.rbc_centre.States.{number_of};
 ghost use Rattle.text_script.specs.rbc_centre.Views.{event_of};
@@ -160,16 +161,36 @@ impl News {
         journals: &[Journal],
         last: &mut [EventNow],
     ) -> bool {
-        let mut has_changed = false;
-        for (told, event) in self.told.iter_mut().zip(last.iter_mut()) {
+        for told in self.told.iter_mut() {
             told.find_time(rt, journals);
-            if event.time_ms != told.time_ms {
-                event.time_ms = told.time_ms;
+        }
+        set_times(&self.told, last)
+    }
+}
+
+// Sets the times of these events. Returns whether one has changed.
+fn set_times(told: &[Told], last: &mut [EventNow]) -> bool
+    ensures times { (i : ℕ) → option_map (λ e. e.time_ms) (slice_get last.new i)
+        ≡ spec.time_at told.now i (slice_get last.old i) }
+    ensures same { result ≡ false → last.new ≡ last.old }
+{
+    let mut has_changed = false;
+    for i in 0..last.len() {
+        if let Some(told) = told.get(i) {
+            if differs(&last[i], told) {
+                last[i].time_ms = told.time_ms;
                 has_changed = true;
             }
         }
-        has_changed
     }
+    has_changed
+}
+
+// Whether an event on the page has another time.
+fn differs(event: &EventNow, told: &Told) -> bool
+    ensures { result ≡ false → event.now.time_ms ≡ told.now.time_ms }
+{
+    event.time_ms != told.time_ms
 }
 
 impl Told {

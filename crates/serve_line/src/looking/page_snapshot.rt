@@ -4,6 +4,7 @@ ghost use Rattle.serve_line.specs.Pages.{unused_link};
 
 use crate::directions::directions_of;
 use crate::journaling::Journal;
+use crate::looking::marks::{copy_marks, copy_silent};
 use crate::looking::news::News;
 use crate::looking::seen::see_centre;
 use crate::looking::sent::Sent;
@@ -88,9 +89,7 @@ impl PageSnapshot {
         let has_changed = now.events != self.now.events;
         let mut before = std::mem::replace(&mut self.now, now);
         copy_marks(&mut before, &mut self.now);
-        for (place, counts) in self.counts.centres.iter_mut().zip(silent.iter()) {
-            place.silent = *counts;
-        }
+        copy_silent(&silent, &mut self.counts.centres);
         has_changed
     }
 
@@ -98,17 +97,6 @@ impl PageSnapshot {
     /// that of the last look.
     pub fn add_times<R: Wait>(&mut self, rt: &R, journals: &[Journal]) -> bool {
         self.news.add_times(rt, journals, &mut self.now.last)
-    }
-}
-
-// Takes the marks of the endpoints and the true places of trains from the earlier view.
-fn copy_marks(before: &mut LineNow, now: &mut LineNow) {
-    now.is_stopped = before.is_stopped;
-    std::mem::swap(&mut now.true_places, &mut before.true_places);
-    for (place, old) in now.centres.iter_mut().zip(before.centres.iter()) {
-        place.taken = old.taken;
-        place.seats = old.seats;
-        place.is_stuck = old.is_stuck;
     }
 }
 

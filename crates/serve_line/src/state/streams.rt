@@ -1,5 +1,5 @@
-ghost use Rattle.std.specs.Prelude.{◌≡◌, false, IfNone, IfSome};
-ghost use Rattle.serve_line.specs.Addresses.{is_port};
+ghost use Rattle.std.specs.Prelude.{◌≡◌, false, IfNone, IfOk, IfSome};
+ghost use Rattle.serve_line.specs.Addresses.{is_port, is_tcp, IsSameStream, listens_at_port, tcp_of};
 
 use crate::state::limits::ENDPOINT_REST_MS;
 use std::alloc::{AllocError, Global};
@@ -23,7 +23,9 @@ pub enum PeerStream {
 
 impl PeerStream {
     /// The same connection, for a further owner.
-    pub fn try_clone(&self) -> Result<PeerStream, AllocError> {
+    pub fn try_clone(&self) -> Result<PeerStream, AllocError>
+        ensures { IfOk result (λ copy. IsSameStream self.now copy) }
+    {
         match self {
             PeerStream::Tcp(stream) => Ok(PeerStream::Tcp(Arc::try_clone(stream)?)),
             PeerStream::Unix(stream) => Ok(PeerStream::Unix(Arc::try_clone(stream)?)),
@@ -31,7 +33,9 @@ impl PeerStream {
     }
 
     /// The connection over a port; `None` if it is over a Unix socket.
-    pub fn into_tcp(self) -> Option<Arc<TcpStream, Global>> {
+    pub fn into_tcp(self) -> Option<Arc<TcpStream, Global>>
+        ensures { result ≡ tcp_of self }
+    {
         match self {
             PeerStream::Tcp(stream) => Some(stream),
             PeerStream::Unix(_) => None,
@@ -116,7 +120,9 @@ pub enum Listener {
 
 impl Listener {
     /// The next connection. An error of the kind `WouldBlock` means that none came.
-    pub fn accept(&self, alloc: Global) -> io::Result<PeerStream> {
+    pub fn accept(&self, alloc: Global) -> io::Result<PeerStream>
+        ensures { IfOk result (λ stream. is_tcp stream ≡ listens_at_port self.now) }
+    {
         let stream = match self {
             Listener::Tcp(listener) => {
                 let (stream, _) = listener.accept()?;
@@ -137,7 +143,9 @@ impl Listener {
     }
 
     /// A further open file of the same source.
-    pub fn try_clone(&self) -> io::Result<Listener> {
+    pub fn try_clone(&self) -> io::Result<Listener>
+        ensures { IfOk result (λ copy. listens_at_port copy ≡ listens_at_port self.now) }
+    {
         match self {
             Listener::Tcp(listener) => Ok(Listener::Tcp(listener.try_clone()?)),
             Listener::Unix(listener) => Ok(Listener::Unix(listener.try_clone()?)),

@@ -1,4 +1,4 @@
-ghost use Rattle.std.specs.Prelude.{◌≡◌, IfOk, length, replicate};
+ghost use Rattle.std.specs.Prelude.{◌≡◌, IfOk, length, map, replicate};
 ghost use Rattle.text_script.specs.rbc_centre.Views.{event_of};
 ghost use Rattle.serve_line.specs.Mentions as spec;
 
@@ -80,20 +80,33 @@ impl MentionOrder {
     }
 
     /// The named trains, by their places in the line file, in the order of their first messages.
-    pub fn order(&self, alloc: Global) -> Result<Vec<usize>, AllocError> {
+    pub fn order(&self, alloc: Global) -> Result<Vec<usize>, AllocError>
+        ensures { IfOk result (λ trains. spec.AreInOrder self.now.first.items trains.items) }
+    {
+        let mut heard = self.heard(alloc)?;
+        heard.sort_by_key(|item| item.0.place())?;
+        trains_of(alloc, &heard)
+    }
+
+    // The first message of each named train, with the train's place in the line file.
+    fn heard(&self, alloc: Global) -> Result<Vec<(Mention, usize)>, AllocError>
+        ensures { IfOk result (λ heard. heard.items ≡ spec.heard_from 0 self.now.first.items) }
+    {
         let mut heard = Vec::new(alloc);
         for (train, first) in self.first.iter().enumerate() {
             if let Some(first) = first {
                 heard.push((*first, train))?;
             }
         }
-        heard.sort_by_key(|item| item.0.place())?;
-        let mut trains = Vec::with_capacity(alloc, heard.len())?;
-        for (_, train) in heard.iter() {
-            trains.push(*train)?;
-        }
-        Ok(trains)
+        Ok(heard)
     }
+}
+
+// The trains of these messages.
+fn trains_of(alloc: Global, heard: &[(Mention, usize)]) -> Result<Vec<usize>, AllocError>
+    ensures { IfOk result (λ trains. trains.items ≡ map (λ item. item.1) heard.now) }
+{
+    heard.iter().map(|item| item.1).collect(alloc)
 }
 
 // The place in the line file of the train that a message to a centre names.
