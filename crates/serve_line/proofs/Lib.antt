@@ -1,3 +1,4 @@
+pub mod FactLemmas
 pub mod JournalingLemmas
 pub mod Ranges
 pub mod RoomLemmas

@@ -1,5 +1,11 @@
 //! Notes of the missions, of the handovers and of the sections that are given back, read off the centres' logs.
 
+ghost use Rattle.std.specs.List.{flat_map};
+ghost use Rattle.std.specs.Prelude.{[], ◌≡◌, map};
+ghost use Rattle.text_script.specs.rbc_centre.Views.{word_of};
+ghost use Rattle.serve_line.specs.Facts as spec;
+ghost use Rattle.serve_line.specs.Facts.{Adds, fact_list, facts_of};
+
 use crate::journaling::next_of;
 use crate::state::Server;
 use crate::status::{Fact, fact_of_event, fact_of_frame, fact_of_message, fact_of_word};
@@ -9,6 +15,7 @@ use rbc_node::Node;
 use serve_notes::{About, Kind, Notes};
 use std::sync::Wait;
 use text_script::print::name_of;
+use text_script::{Saying, SentFrame, Word};
 
 /// The most centres of a line.
 const MOST_CENTRES: usize = 8;
@@ -72,28 +79,59 @@ impl Facts<'_> {
     fn read_piece<R: Wait>(&mut self, rt: &R, node: &Node, read: usize) -> usize {
         let look = node.look(rt);
         let piece = next_of(look.log().entries(), read);
-        for entry in piece {
-            self.add_all(entry);
-        }
+        self.add_piece(piece);
         piece.len()
     }
 
+    // Adds the facts of these entries.
+    fn add_piece(&mut self, piece: &[Entry])
+        ensures { Adds (flat_map facts_of piece.now) self.old self.new }
+    {
+        for entry in piece {
+            self.add_all(entry);
+        }
+    }
+
     // Adds the facts of an entry.
-    fn add_all(&mut self, entry: &Entry) {
+    fn add_all(&mut self, entry: &Entry)
+        ensures { Adds (facts_of entry.now) self.old self.new }
+    {
         let outcome = &entry.outcome;
         self.add(fact_of_event(&entry.event, outcome));
-        for saying in outcome.sayings.as_slice() {
+        self.add_messages(outcome.sayings.as_slice());
+        self.add_frames(outcome.frames.as_slice());
+        self.add_words(outcome.words().as_slice());
+    }
+
+    fn add_messages(&mut self, sayings: &[Saying])
+        ensures { Adds (flat_map (λ s. fact_list (spec.fact_of_message s.nid_engine s.message.body)) sayings.now)
+            self.old self.new }
+    {
+        for saying in sayings {
             self.add(fact_of_message(saying));
         }
-        for sent in outcome.frames.as_slice() {
+    }
+
+    fn add_frames(&mut self, frames: &[SentFrame])
+        ensures { Adds (flat_map (λ f. fact_list (spec.fact_of_frame f.to f.frame.body)) frames.now)
+            self.old self.new }
+    {
+        for sent in frames {
             self.add(fact_of_frame(sent));
         }
-        for word in outcome.words().as_slice() {
+    }
+
+    fn add_words(&mut self, words: &[Word])
+        ensures { Adds (flat_map (λ w. fact_list (spec.fact_of_word w)) (map word_of words.now)) self.old self.new }
+    {
+        for word in words {
             self.add(fact_of_word(word));
         }
     }
 
-    fn add(&mut self, fact: Option<Fact>) {
+    fn add(&mut self, fact: Option<Fact>)
+        ensures { Adds (fact_list fact) self.old self.new }
+    {
         if let Some(fact) = fact {
             if self.found.push(fact).is_err() {
                 self.lost = self.lost.saturating_add(1);
@@ -102,7 +140,9 @@ impl Facts<'_> {
     }
 
     // Notes the facts of the centre of this number, and forgets them.
-    fn note_all<N: Notes>(&mut self, notes: &N, centre: u8) {
+    fn note_all<N: Notes>(&mut self, notes: &N, centre: u8)
+        ensures { (self.new.found.items ≡ []) × (self.new.lost ≡ 0) }
+    {
         let line = self.line;
         let name = name_of(line, centre);
         for fact in self.found.iter() {
@@ -116,34 +156,87 @@ impl Facts<'_> {
     }
 }
 
+// The text of the note of a fact, after the name of the centre.
+#[derive(Clone, Copy)]
+struct FactText<'a> {
+    // The thing that the fact is about, and its number.
+    thing: &'static str,
+    number: u32,
+    told: &'static str,
+    // The name of the other centre of a handover.
+    other: Option<&'a str>,
+}
+
 // Notes a fact of the centre of this name.
 fn note_fact<N: Notes>(notes: &N, line: &Line, name: &str, fact: Fact) {
+    let about = about_fact(name, fact);
+    let FactText {
+        thing,
+        number,
+        told,
+        other,
+    } = text_of(line, fact);
+    match other {
+        Some(other) => notes.note(
+            about,
+            format_args!("{name}: {thing} {number} {told} {other}"),
+        ),
+        None => notes.note(about, format_args!("{name}: {thing} {number} {told}")),
+    }
+}
+
+// The subject of the note of a fact of the centre of this name.
+fn about_fact(name: &str, fact: Fact) -> About<'_>
+    ensures { result ≡ record {
+      kind = spec.kind_of fact;
+      centre = Some name.entry;
+      engine = spec.engine_of fact;
+      peer = None;
+    } }
+{
     match fact {
-        Fact::Begun(train) => notes.note(
-            About::centre(Kind::MissionBegin, name).train(train),
-            format_args!("{name}: train {train} begins its mission"),
-        ),
-        Fact::Ended(train) => notes.note(
-            About::centre(Kind::MissionEnd, name).train(train),
-            format_args!("{name}: train {train} ends its mission"),
-        ),
-        Fact::HandedOver(train, to) => {
-            let other = name_of(line, to);
-            notes.note(
-                About::centre(Kind::Handover, name).train(train),
-                format_args!("{name}: train {train} is handed over to {other}"),
-            );
+        Fact::Begun(train) => About::centre(Kind::MissionBegin, name).train(train),
+        Fact::Ended(train) => About::centre(Kind::MissionEnd, name).train(train),
+        Fact::HandedOver(train, _) | Fact::TakenOver(train, _) => {
+            About::centre(Kind::Handover, name).train(train)
         }
-        Fact::TakenOver(train, from) => {
-            let other = name_of(line, from);
-            notes.note(
-                About::centre(Kind::Handover, name).train(train),
-                format_args!("{name}: train {train} is taken over from {other}"),
-            );
-        }
-        Fact::Told(section) => notes.note(
-            About::centre(Kind::Section, name),
-            format_args!("{name}: section {section} was wished back, and is shut now"),
-        ),
+        Fact::Told(_) => About::centre(Kind::Section, name),
+    }
+}
+
+fn text_of(line: &Line, fact: Fact) -> FactText<'_>
+    ensures { spec.parts_of result ≡ spec.text_of line.now fact }
+{
+    match fact {
+        Fact::Begun(train) => FactText {
+            thing: "train",
+            number: train,
+            told: "begins its mission",
+            other: None,
+        },
+        Fact::Ended(train) => FactText {
+            thing: "train",
+            number: train,
+            told: "ends its mission",
+            other: None,
+        },
+        Fact::HandedOver(train, to) => FactText {
+            thing: "train",
+            number: train,
+            told: "is handed over to",
+            other: Some(name_of(line, to)),
+        },
+        Fact::TakenOver(train, from) => FactText {
+            thing: "train",
+            number: train,
+            told: "is taken over from",
+            other: Some(name_of(line, from)),
+        },
+        Fact::Told(section) => FactText {
+            thing: "section",
+            number: u32::from(section),
+            told: "was wished back, and is shut now",
+            other: None,
+        },
     }
 }
