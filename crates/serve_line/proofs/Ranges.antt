@@ -1,7 +1,8 @@
 -- Lists over the first numbers, and over the elements that pass a test.
-use Rattle.std.proofs.Common.{[], ◌++◌, ◌+◌, ◌<◌, ◌∙◌, ◌∷◌, ◌≡◌, ap, append-nil, arith, Bool, cond, false, get_or}
-use Rattle.std.proofs.Common.{length, List, map, suc, sym, take, true, zero, ℕ}
-use Rattle.std.proofs.lemmas.List.{map-append}
+use Rattle.std.proofs.Common.{[], ◌++◌, ◌+◌, ◌<◌, ◌∙◌, ◌∷◌, ◌≡◌}
+use Rattle.std.proofs.Common.{ap, append-nil, append_assoc, arith, Bool, cond, false, get_or}
+use Rattle.std.proofs.Common.{length, List, map, refl, suc, sym, take, true, zero, ℕ}
+use Rattle.std.proofs.lemmas.List.{flat_map_more, map-append, take_more}
 use Rattle.std.proofs.lemmas.List.Concat.{flat_map-append}
 use Rattle.std.proofs.lemmas.List.Elements.{filter_more}
 use Rattle.std.proofs.lemmas.List.FromFn.{map-range_with_len_more}
@@ -41,6 +42,28 @@ flat_next {Y} f n xs next ys put is so_far =
     ∙ sym
     (ap (flat_map f) (range_more 0 n n here) ∙ flat_map-append f (range_with_len 0 n) (n ∷ [])
     ∙ ap (λ (zs : List Y). flat_map f (range_with_len 0 n) ++ zs) (append-nil (f n)))
+
+-- the list of the next number, after a first part and those of the first n
+pub flat_after :
+    {Y : Type 0} (f : ℕ → List Y) (n : ℕ) (first xs next ys : List Y)
+    → ys ≡ xs ++ next → next ≡ f n → xs ≡ first ++ flat_map f (range_with_len 0 n)
+    → ys ≡ first ++ flat_map f (range_with_len 0 (n + 1))
+flat_after {Y} f n first xs next ys put is so_far =
+    put ∙ ap (λ (zs : List Y). zs ++ next) so_far
+    ∙ append_assoc first (flat_map f (range_with_len 0 n)) next
+    ∙ ap (λ (zs : List Y). first ++ zs) (flat_next f n (flat_map f (range_with_len 0 n)) next _ refl is refl)
+
+-- the list of the next element, after a first part and those of the first i
+pub flat_item :
+    {X Y : Type 0} (f : X → List Y) (items : List X) (i : ℕ) (x : X) (first xs ys : List Y)
+    → i < length items → x ≡ get_or items i x → ys ≡ xs ++ f x → xs ≡ first ++ flat_map f (take i items)
+    → ys ≡ first ++ flat_map f (take (i + 1) items)
+flat_item {X} {Y} f items i x first xs ys low is put so_far =
+    let front : take (i + 1) items ≡ take i items ++ x ∷ [] =
+    take_more items i x low ∙ ap (λ (y : X). take i items ++ y ∷ []) (sym is)
+    in
+    put ∙ ap (λ (zs : List Y). zs ++ f x) so_far ∙ flat_map_more f first (take i items) x
+    ∙ ap (λ (zs : List X). first ++ flat_map f zs) (sym front)
 
 -- the next element passes the test, and is put after those of the first i that pass it
 pub filter_put :

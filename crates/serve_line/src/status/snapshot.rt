@@ -1,7 +1,9 @@
-ghost use Rattle.std.specs.Prelude.{◌≡◌, IfOk, length, replicate, slice_set, false, None, Some};
+ghost use Rattle.std.specs.List.{flat_map, range_with_len};
+ghost use Rattle.std.specs.Prelude.{◌≡◌, ◌++◌, ℕ, IfOk, length, List, OnOk, replicate, slice_set, false, None, Some};
 ghost use Rattle.rbc_book.specs.declared.page.Entry.TheVariants.{Shut};
 ghost use Rattle.text_script.specs.rbc_world.View.{mark_shown, mark_by};
-ghost use Rattle.serve_line.specs.Snapshots.{page_in, mission_in, is_given_in};
+ghost use Rattle.serve_line.specs.Snapshots.{is_given_in, IsShown, mission_in, page_in, section_row_in};
+ghost use Rattle.serve_line.specs.Snapshots.{train_row_in};
 
 use crate::status::mention_order::MentionOrder;
 use rbc_book::{Entry, Page};
@@ -133,28 +135,46 @@ impl Snapshot {
         line: &Line,
         mention_order: &MentionOrder,
         text: &mut Vec<u8>,
-    ) -> Result<(), Fault<'static>> {
+    ) -> Result<(), Fault<'static>>
+        ensures { OnOk result ((rows : List ℕ) × IsShown line.now self.now mention_order.now rows
+            × (text.new.items ≡ text.old.items ++ rows)) }
+    {
         self.print_sections(line, text)?;
-        for i in mention_order.order(alloc)?.iter() {
+        self.print_trains(line, &mention_order.order(alloc)?, text)
+    }
+
+    fn print_trains(
+        &self,
+        line: &Line,
+        trains: &[usize],
+        text: &mut Vec<u8>,
+    ) -> Result<(), Fault<'static>>
+        ensures { OnOk result (text.new.items
+            ≡ text.old.items ++ flat_map (train_row_in line.now self.now) trains.now) }
+    {
+        for i in trains {
             self.print_mission(line, *i, text)?;
         }
         Ok(())
     }
 
-    fn print_sections(&self, line: &Line, text: &mut Vec<u8>) -> Result<(), Fault<'static>> {
+    fn print_sections(&self, line: &Line, text: &mut Vec<u8>) -> Result<(), Fault<'static>>
+        ensures { OnOk result (text.new.items ≡ text.old.items
+            ++ flat_map (section_row_in line.now self.now) (range_with_len 0 (length line.now.sections))) }
+    {
         for s in 0..line.section_count() {
             print_section(text, line, s as usize, &self.section(line, s))?;
         }
         Ok(())
     }
 
-    fn print_mission(
-        &self,
-        line: &Line,
-        i: usize,
-        text: &mut Vec<u8>,
-    ) -> Result<(), Fault<'static>> {
-        let Some(train) = u8::try_from(i).ok().and_then(|number| line.train(number)) else {
+    fn print_mission(&self, line: &Line, i: usize, text: &mut Vec<u8>) -> Result<(), Fault<'static>>
+        ensures { OnOk result (text.new.items ≡ text.old.items ++ train_row_in line.now self.now i) }
+    {
+        if i >= line.train_count() as usize {
+            return Ok(());
+        }
+        let Some(train) = line.train(i as u8) else {
             return Ok(());
         };
         let supervisor = self.mission(i).map(|mission| mission.supervisor);
