@@ -8,6 +8,8 @@ pub mod Failures
 pub mod Grace
 pub mod Heads
 pub mod Journaling
+pub mod Listening
+pub mod Lists
 pub mod Lives
 pub mod Marks
 pub mod Meanings
@@ -21,6 +23,7 @@ pub mod Rows
 pub mod Sendings
 pub mod SessionEnds
 pub mod Silences
+pub mod Slots
 pub mod Snapshots
 pub mod Stamps
 pub mod Tallies

@@ -1,7 +1,7 @@
 -- The notable events of the page.
 use Rattle.std.specs.List.{list_any}
 use Rattle.std.specs.Option.{option_map_or}
-use Rattle.std.specs.Prelude.{◌||◌, ◌++◌, ◌≡◌, Bool, false, is_some, List, not, Option, option_map, slice_get, true, ℕ}
+use Rattle.std.specs.Prelude.{◌||◌, Bool, false, is_some, List, not, Option, option_map, slice_get, true, ℕ}
 use Rattle.rbc_log.specs.declared.entry.Entry.{Entry}
 use Rattle.rbc_spec.specs.Frame.{Announce, Body, Cancel, TakingOver, Yield}
 use Rattle.rbc_spec.specs.Message.{Report, Request, SessionEstablished, TrainBody, TrainData}
@@ -43,10 +43,6 @@ abbrev pub is_news : Entry → Bool
 is_news e =
     (is_some e.outcome.silence || list_any is_sent_for_handover (list_of e.outcome.frames.list))
     || is_notable (event_of e.event)
-
--- the new list is the old one, and after it further elements
-abbrev pub Continues : {X : Type 0} → List X → List X → Type 0
-Continues {X} old new = (more : List X) × (new ≡ old ++ more)
 
 -- the time that is known of the event at place i: that of these events, or else its own
 abbrev pub time_at : List Told → ℕ → Option EventNow → Option (Option ℕ)

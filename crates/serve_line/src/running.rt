@@ -1,5 +1,8 @@
 mod stages;
 
+ghost use Rattle.std.specs.Prelude.{IfOk, OnOk};
+ghost use Rattle.serve_line.specs.Lists.{Continues};
+
 use crate::browsers::PageEndpoint;
 use crate::clients::run_endpoint;
 use crate::fact_notes::note_facts;
@@ -167,7 +170,9 @@ fn shares_of(
     begun: Vec<Share>,
     endpoints: Vec<Endpoint>,
     links: Vec<DirectedLink>,
-) -> Result<Vec<Share>, AllocError> {
+) -> Result<Vec<Share>, AllocError>
+    ensures { IfOk result (λ all. Continues begun.items all.items) }
+{
     let mut all = begun;
     for endpoint in endpoints {
         add_shares(&mut all, endpoint.slots)?;
@@ -179,7 +184,9 @@ fn shares_of(
 }
 
 // Adds the receipts of these slots.
-fn add_shares(all: &mut Vec<Share>, slots: Vec<Slot>) -> Result<(), AllocError> {
+fn add_shares(all: &mut Vec<Share>, slots: Vec<Slot>) -> Result<(), AllocError>
+    ensures { OnOk result (Continues all.old.items all.new.items) }
+{
     for slot in slots {
         let mut shares = slot.shares.into_inner();
         all.append(&mut shares)?;

@@ -1,3 +1,6 @@
+ghost use Rattle.std.specs.Prelude.{◌≡◌, IfSome, true};
+ghost use Rattle.serve_line.specs.Slots.{IsSlotOf};
+
 use crate::clients::connection_refusal::ConnectionRefusal;
 use crate::clients::control::serve_control;
 use crate::clients::entrance::{Entrance, accept, rest, rest_after};
@@ -118,7 +121,9 @@ fn reserve_for<'a, R: Wait>(
     rt: &R,
     endpoint: &'a Endpoint,
     stream: Option<PeerStream>,
-) -> Option<(PeerStream, &'a Slot)> {
+) -> Option<(PeerStream, &'a Slot)>
+    ensures { IfSome result (λ next. IsSlotOf endpoint.now next.1.now × (next.1.now.is_reserve ≡ true)) }
+{
     let stream = stream?;
     let shared = stream.try_clone().ok()?;
     let slot = endpoint.reserve_slot(rt)?;

@@ -4,6 +4,7 @@ ghost use Rattle.std.specs.Prelude.{slice_set, string_bytes};
 ghost use Rattle.rbc_msgs.specs.StepMessage.{step_body};
 ghost use Rattle.text_script.specs.rbc_centre.States.{number_of};
 ghost use Rattle.text_script.specs.rbc_centre.Views.{event_of};
+ghost use Rattle.serve_line.specs.Lists.{Continues};
 ghost use Rattle.serve_line.specs.News as spec;
 
 use crate::journaling::Journal;
@@ -109,7 +110,7 @@ impl News {
         looked: usize,
     ) -> Result<(), AllocError>
         ensures looked { self.new.looked.items ≡ self.old.looked.items }
-        ensures fresh { spec.Continues self.old.fresh.items self.new.fresh.items }
+        ensures fresh { Continues self.old.fresh.items self.new.fresh.items }
     {
         let from = looked.max(entries.len().saturating_sub(OLDEST));
         let Some(entries) = entries.get(from..) else {

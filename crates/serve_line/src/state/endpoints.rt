@@ -1,4 +1,5 @@
-ghost use Rattle.std.specs.Prelude.{◌≡◌, option_map, slice_get};
+ghost use Rattle.std.specs.Prelude.{◌≡◌, ◌++◌, ◌<◌, ◌^◌, ◌∷◌, [], IfOk, option_map, slice_get};
+ghost use Rattle.serve_line.specs.Listening.{page_with, socket_path};
 
 use crate::state::control_socket::listen_at_path;
 use crate::state::hosts::{port_of, this_host};
@@ -96,7 +97,11 @@ impl Endpoints {
         line: &Line,
         first: u16,
         notes: &N,
-    ) -> Result<Endpoints, ServeFault> {
+    ) -> Result<Endpoints, ServeFault>
+        ensures ports { IfOk result
+            (λ all. (port : Listening) × (all.ports.items ≡ self.ports.items ++ port ∷ [])) }
+        ensures others { IfOk result (λ all. (all.socket ≡ self.socket) × (all.page ≡ self.page)) }
+    {
         let port = port_of(first, line.centre_count());
         let about = About::of(Kind::Refused);
         self.ports.push(listen_noted(rt, about, "control", (this_host(), port), notes)?)?;
@@ -110,7 +115,10 @@ impl Endpoints {
         alloc: Global,
         path: &str,
         notes: &N,
-    ) -> Result<Endpoints, ServeFault> {
+    ) -> Result<Endpoints, ServeFault>
+        ensures socket { IfOk result (λ all. socket_path all.socket ≡ Some path.now) }
+        ensures others { IfOk result (λ all. (all.ports ≡ self.ports) × (all.page ≡ self.page)) }
+    {
         let name = String::from_str(alloc, path)?;
         match listen_at_path(rt, path) {
             Ok(listener) => Ok(Endpoints {
@@ -136,7 +144,10 @@ impl Endpoints {
         rt: &R,
         address: SocketAddr,
         notes: &N,
-    ) -> Result<Endpoints, ServeFault> {
+    ) -> Result<Endpoints, ServeFault>
+        ensures page { IfOk result (λ all. option_map (λ page. page.true_places) all.page ≡ Some None) }
+        ensures others { IfOk result (λ all. (all.ports ≡ self.ports) × (all.socket ≡ self.socket)) }
+    {
         let place = (address.ip(), u32::from(address.port()));
         let listening = listen_noted(rt, About::of(Kind::Refused), "page", place, notes)?;
         Ok(Endpoints {
@@ -149,7 +160,9 @@ impl Endpoints {
     }
 
     /// The page shows these true places of trains too, if there is a page.
-    pub fn and_true_places(mut self, places: TruePlaces) -> Endpoints {
+    pub fn and_true_places(mut self, places: TruePlaces) -> Endpoints
+        ensures { result ≡ record self { page = option_map (page_with places) self.page } }
+    {
         if let Some(page) = &mut self.page {
             page.true_places = Some(places);
         }
@@ -184,9 +197,12 @@ fn listen_noted<R: Net<Stream = TcpStream, Listener = TcpListener>, N: Notes>(
     rt: &R,
     about: About<'_>,
     name: &str,
-    (ip, port): (IpAddr, u32),
+    place: (IpAddr, u32),
     notes: &N,
-) -> Result<Listening, ServeFault> {
+) -> Result<Listening, ServeFault>
+    ensures { IfOk result (λ listening. place.1 < 2 ^ 16) }
+{
+    let (ip, port) = place;
     match listen_at(rt, ip, port) {
         Ok(listening) => Ok(listening),
         Err(error) => {
@@ -203,7 +219,9 @@ fn listen_at<R: Net<Stream = TcpStream, Listener = TcpListener>>(
     rt: &R,
     ip: IpAddr,
     port: u32,
-) -> io::Result<Listening> {
+) -> io::Result<Listening>
+    ensures { IfOk result (λ listening. port < 2 ^ 16) }
+{
     let Ok(port) = u16::try_from(port) else {
         return Err(io::Error::from(ErrorKind::InvalidInput));
     };

@@ -1,4 +1,6 @@
-ghost use Rattle.std.specs.Prelude.{◌++◌, ◌<◌, ◌≡◌, false, IsTrue, vec_len};
+ghost use Rattle.std.specs.Prelude.{◌++◌, ◌<◌, ◌≡◌, ◌≤◌, false, IfNone};
+ghost use Rattle.std.specs.Prelude.{IfSome, IsTrue, length, slice_get, true, vec_len};
+ghost use Rattle.serve_line.specs.Slots.{IsSlotOf};
 
 use crate::state::limits::MOST_TOLD;
 use crate::state::peer::Peer;
@@ -110,7 +112,10 @@ pub struct Endpoint {
 
 impl Endpoint {
     /// Takes the slot at a place, which is free. Only the thread of the endpoint calls it.
-    pub fn take<R: Wait>(&self, rt: &R, place: usize) -> Option<&Slot> {
+    pub fn take<R: Wait>(&self, rt: &R, place: usize) -> Option<&Slot>
+        ensures some { IfSome result (λ slot. slice_get self.now.slots.items place ≡ Some slot.now) }
+        ensures none { IfNone result (length self.now.slots.items ≤ place) }
+    {
         let slot = self.slots.get(place)?;
         slot.told.lock(rt).clear();
         slot.is_leaving.store(false, Ordering::SeqCst);
@@ -119,7 +124,9 @@ impl Endpoint {
     }
 
     /// Takes the reserve slot, if the endpoint has one and it is free. Only the thread of the endpoint calls it.
-    pub fn reserve_slot<R: Wait>(&self, rt: &R) -> Option<&Slot> {
+    pub fn reserve_slot<R: Wait>(&self, rt: &R) -> Option<&Slot>
+        ensures { IfSome result (λ slot. IsSlotOf self.now slot.now × (slot.now.is_reserve ≡ true)) }
+    {
         for (place, slot) in self.slots.iter().enumerate() {
             if slot.is_reserve && !slot.is_taken.load(Ordering::SeqCst) {
                 return self.take(rt, place);

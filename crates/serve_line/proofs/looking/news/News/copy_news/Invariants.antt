@@ -1,6 +1,6 @@
 use Rattle.std.proofs.Common.{◌≡◌}
 use Rattle.serve_line.proofs.looking.news.News.copy_news.Given as goal
-use Rattle.serve_line.specs.News.{Continues}
+use Rattle.serve_line.specs.Lists.{Continues}
 
 abbrev pub invariant-loop-i : goal.invariant-loop-i
 invariant-loop-i l = record {
