@@ -1,7 +1,9 @@
 pub mod Addresses
 pub mod Admissions
 pub mod Answering
+pub mod Browsers
 pub mod Building
+pub mod Commits
 pub mod Directions
 pub mod Facts
 pub mod Failures

@@ -1,3 +1,6 @@
+ghost use Rattle.std.specs.Prelude.{◌≡◌, ◌≤◌, length};
+ghost use Rattle.serve_line.specs.Browsers.{IsPart};
+
 use crate::browsers::{PageEndpoint, Seen};
 use crate::counting::mark_counts;
 use crate::failures::{is_idle, is_rest};
@@ -113,7 +116,9 @@ fn serve_browser<R: Wait + Clock, N: Notes>(
 }
 
 // The whole answer, or only its head with the empty line.
-fn part_of(text: &str, has_body: bool) -> &str {
+fn part_of(text: &str, has_body: bool) -> &str
+    ensures { IsPart text.now has_body result.now }
+{
     if has_body {
         return text;
     }
@@ -230,7 +235,9 @@ fn mark_endpoints<R: Wait>(rt: &R, server: &Server<'_>, now: &mut LineNow) -> bo
 }
 
 // The number of taken slots of an endpoint.
-fn taken_in(endpoint: &Endpoint) -> u64 {
+fn taken_in(endpoint: &Endpoint) -> u64
+    ensures { result ≤ length endpoint.now.slots.items }
+{
     let mut taken = 0u64;
     for slot in &endpoint.slots {
         if slot.is_taken.load(Ordering::SeqCst) {

@@ -1,6 +1,9 @@
 -- The times of the last writes to a journal.
-use Rattle.std.specs.Prelude.{ℕ, ◌+◌, ◌-◌, ◌^◌, ◌&&◌, Bool, drop, if◌then◌else◌, length, List, min, nat_le, nat_lt}
-use Rattle.std.specs.Prelude.{Option, option_map, slice_get, unwrap_or}
+use Rattle.std.specs.Prelude.{ℕ, [], ◌++◌, ◌+◌, ◌∷◌, ◌-◌, ◌^◌, ◌&&◌, Bool, drop, if◌then◌else◌, length, List, min, nat_le, nat_lt}
+use Rattle.std.specs.Prelude.{Option, option_map, slice_get, slice_set, unwrap_or}
+use Rattle.std.specs.Option.{option_map_or}
+use Rattle.text_journal.specs.declared.entry.Entry.{Entry}
+use Rattle.text_journal.specs.Order.{taken_at}
 use Rattle.serve_line.specs.declared.journaling.write_times.TimedWrite.{TimedWrite}
 
 -- whether a write has the event at this place of the log
@@ -22,3 +25,10 @@ next_write writes time_ms = record {
   after = min (end_of writes + 1) (2 ^ 64 - 1);
   time_ms = time_ms;
 }
+
+-- The writes of each centre after an event of a journal. The event is written by itself, after those of its centre.
+abbrev pub with_time : List (List TimedWrite) → Entry → List (List TimedWrite)
+with_time times e =
+    option_map_or
+    (λ writes. slice_set times (taken_at e) (kept_of writes ++ next_write writes e.time_ms ∷ []))
+    (slice_get times (taken_at e)) times

@@ -1,5 +1,6 @@
-ghost use Rattle.std.specs.Prelude.{◌≡◌, ◌++◌, [], ◌∷◌, find, option_and_then, OnOk};
-ghost use Rattle.serve_line.specs.Journaling.Times.{end_of, has_place, kept_of, next_write};
+ghost use Rattle.std.specs.List.{fold};
+ghost use Rattle.std.specs.Prelude.{◌≡◌, ◌++◌, [], ◌∷◌, find, IfOk, map, option_and_then, OnOk, replicate};
+ghost use Rattle.serve_line.specs.Journaling.Times.{end_of, has_place, kept_of, next_write, with_time};
 
 use std::alloc::{AllocError, Global};
 use text_journal::Entry;
@@ -82,17 +83,37 @@ pub fn times_of(
     alloc: Global,
     centres: u8,
     entries: &[Entry],
-) -> Result<Vec<WriteTimes>, AllocError> {
+) -> Result<Vec<WriteTimes>, AllocError>
+    ensures { IfOk result (λ times. map (λ t. t.writes.items) times.items
+        ≡ fold with_time (replicate centres []) entries.now) }
+{
+    let mut times = no_times(alloc, centres)?;
+    for entry in entries {
+        add_time(&mut times, entry)?;
+    }
+    Ok(times)
+}
+
+// For each centre no time.
+fn no_times(alloc: Global, centres: u8) -> Result<Vec<WriteTimes>, AllocError>
+    ensures { IfOk result (λ times. map (λ t. t.writes.items) times.items ≡ replicate centres []) }
+{
     let mut times = Vec::new(alloc);
     for _ in 0..centres {
         times.push(WriteTimes::new(alloc))?;
     }
-    for entry in entries {
-        if let Some(times) = times.get_mut(entry.centre() as usize) {
-            times.add_next(entry.time_ms)?;
-        }
-    }
     Ok(times)
+}
+
+// Adds the time of an event of a journal to those of its centre.
+fn add_time(times: &mut [WriteTimes], entry: &Entry) -> Result<(), AllocError>
+    ensures { OnOk result (map (λ t. t.writes.items) times.new
+        ≡ with_time (map (λ t. t.writes.items) times.old) entry.now) }
+{
+    match times.get_mut(entry.centre() as usize) {
+        Some(times) => times.add_next(entry.time_ms),
+        None => Ok(()),
+    }
 }
 
 // The place after the last event of these writes; 0 if there is none.

@@ -1,6 +1,6 @@
 ghost use Rattle.std.specs.List.{list_any};
-ghost use Rattle.std.specs.Prelude.{◌≡◌, ℕ, [], false, IfOk, length, OnErr, OnOk, option_map, replicate, slice_get};
-ghost use Rattle.std.specs.Prelude.{slice_set, string_bytes};
+ghost use Rattle.std.specs.Prelude.{◌≡◌, ℕ, [], false, IfOk, length, OnErr, OnOk, replicate, slice_get, slice_set};
+ghost use Rattle.std.specs.Prelude.{option_map, string_bytes};
 ghost use Rattle.rbc_msgs.specs.StepMessage.{step_body};
 ghost use Rattle.text_script.specs.rbc_centre.States.{number_of};
 ghost use Rattle.text_script.specs.rbc_centre.Views.{event_of};
@@ -161,7 +161,11 @@ impl News {
         rt: &R,
         journals: &[Journal],
         last: &mut [EventNow],
-    ) -> bool {
+    ) -> bool
+        ensures times { (i : ℕ) → option_map (λ e. e.time_ms) (slice_get last.new i)
+            ≡ spec.time_at self.new.told.items i (slice_get last.old i) }
+        ensures same { result ≡ false → last.new ≡ last.old }
+    {
         for told in self.told.iter_mut() {
             told.find_time(rt, journals);
         }
@@ -220,7 +224,9 @@ impl Told {
     }
 
     // Reads the time of its write, if it is not known yet.
-    fn find_time<R: Wait>(&mut self, rt: &R, journals: &[Journal]) {
+    fn find_time<R: Wait>(&mut self, rt: &R, journals: &[Journal])
+        ensures { spec.KeepsEvent self.old self.new }
+    {
         if self.time_ms.is_some() {
             return;
         }

@@ -1,7 +1,8 @@
 //! The stages of a running line: its nodes go on from the journals, its threads run, and its logs are printed.
 
-ghost use Rattle.std.specs.Prelude.{IfOk, map};
+ghost use Rattle.std.specs.Prelude.{◌≡◌, IfOk, map, OnOk, true};
 ghost use Rattle.serve_line.specs.Journaling.Resuming.{AreResumed, first_share};
+ghost use Rattle.serve_line.specs.Lists.{Continues};
 
 use crate::browsers::PageEndpoint;
 use crate::journaling::{Journal, WriteTimes, times_of};
@@ -106,7 +107,10 @@ impl<R: Threads + Wait + Sync + Clock, N: Notes + Sync> Setting<'_, R, N> {
         &self,
         begun: Begun<F>,
         endpoints: Endpoints,
-    ) -> Result<Ended, ServeFault> {
+    ) -> Result<Ended, ServeFault>
+        ensures nodes { IfOk result (λ ended. ended.nodes ≡ begun.nodes) }
+        ensures receipts { IfOk result (λ ended. Continues begun.receipts.items ended.receipts.items) }
+    {
         let Begun {
             nodes,
             receipts,
@@ -207,7 +211,9 @@ impl<R: Threads + Wait + Sync + Clock, N: Notes + Sync> Setting<'_, R, N> {
 
     // Gathers the logs, and prints their events, unless the options forbid it. If a journal lacks an event, that is
     // the fault.
-    fn print<O: Write>(&self, ended: Ended, out: &mut O) -> Result<(), ServeFault> {
+    fn print<O: Write>(&self, ended: Ended, out: &mut O) -> Result<(), ServeFault>
+        ensures { OnOk result (ended.is_whole ≡ true) }
+    {
         let Ended {
             nodes,
             receipts,

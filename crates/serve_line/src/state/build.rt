@@ -158,7 +158,12 @@ pub fn sinks_of<'a>(
     endpoints: &'a [Endpoint],
     journals: &'a [Journal],
     options: ServeOptions,
-) -> Result<Vec<CentreSink<'a>>, AllocError> {
+) -> Result<Vec<CentreSink<'a>>, AllocError>
+    ensures journals { IfOk result (λ sinks. map journal_in sinks.items
+        ≡ map (slice_get journals.entry.now) (range_with_len 0 (length sinks.items))) }
+    ensures names { IfOk result (λ sinks. map (λ sink. sink.name.now) sinks.items
+        ≡ map (name_at line.entry.now) (range_with_len 0 (length sinks.items))) }
+{
     let parts = SinkParts {
         alloc,
         line,
@@ -171,8 +176,12 @@ pub fn sinks_of<'a>(
         rate: options.rate,
     };
     let mut sinks = Vec::new(alloc);
-    for (connections, centre) in connections.iter().zip(0..line.centre_count()) {
-        sinks.push(parts.sink(centre, connections)?)?;
+    for centre in 0..line.centre_count() {
+        let Some(connections) = connections.get(centre as usize) else {
+            break;
+        };
+        let sink = parts.sink(centre, connections)?;
+        sinks.push(sink)?;
     }
     Ok(sinks)
 }

@@ -2,7 +2,7 @@ ghost use Rattle.std.specs.List.{flat_map, range_with_len};
 ghost use Rattle.std.specs.Prelude.{◌≡◌, ◌++◌, ℕ, IfOk, length, List, OnOk, replicate, slice_set, false, None, Some};
 ghost use Rattle.rbc_book.specs.declared.page.Entry.TheVariants.{Shut};
 ghost use Rattle.text_script.specs.rbc_world.View.{mark_shown, mark_by};
-ghost use Rattle.serve_line.specs.Snapshots.{is_given_in, IsShown, mission_in, page_in, section_row_in};
+ghost use Rattle.serve_line.specs.Snapshots.{is_given_in, IsShow, IsShown, mission_in, page_in, section_row_in};
 ghost use Rattle.serve_line.specs.Snapshots.{train_row_in};
 
 use crate::status::mention_order::MentionOrder;
@@ -11,9 +11,8 @@ use rbc_line::Line;
 use rbc_log::{CentreLog, MOST_ENTRIES};
 use rbc_node::Node;
 use std::alloc::{AllocError, Global};
-use std::io::Write;
 use std::sync::{Mutex, Wait};
-use text_script::print::{print_section, print_train};
+use text_script::print::{print_section, print_show, print_train};
 use text_script::status::Fault;
 use text_script::{Mark, SectionRun, SectionView, mark_of};
 
@@ -41,7 +40,9 @@ pub fn show<R: Wait>(
     nodes: &[Node],
     mentions: &Mutex<MentionOrder>,
     text: &mut Vec<u8>,
-) -> Result<(), Fault<'static>> {
+) -> Result<(), Fault<'static>>
+    ensures { OnOk result ((shown : List ℕ) × IsShow line.now shown × (text.new.items ≡ text.old.items ++ shown)) }
+{
     let mut snapshot = Snapshot::new(alloc, line)?;
     let mut mention_order = mentions.lock(rt);
     for node in nodes {
@@ -52,7 +53,7 @@ pub fn show<R: Wait>(
         snapshot.add(line, look.log());
         mention_order.read_on(line, look.log());
     }
-    writeln!(text, "> show")?;
+    print_show(text)?;
     snapshot.print(alloc, line, &mention_order, text)
 }
 
