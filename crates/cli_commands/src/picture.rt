@@ -1,5 +1,8 @@
 //! Prints a line for a reader: its centres, its tracks with their sections and borders, and its trains.
 
+ghost use Rattle.std.specs.Prelude.{◌+◌, ◌-◌, ◌==◌, ◌^◌, ◌≡◌, if◌then◌else◌, min, None, option_and_then, Some};
+ghost use Rattle.rbc_line.specs.Views.{placed_section};
+
 use rbc_line::{Line, Section};
 use std::io;
 use std::io::Write;
@@ -125,13 +128,19 @@ fn print_train<W: Write>(out: &mut W, line: &Line, number: u8) -> io::Result<()>
 }
 
 /// The section of this number, if it is on the track.
-fn section_on(line: &Line, track: u8, number: u16) -> Option<Section> {
+fn section_on(line: &Line, track: u8, number: u16) -> Option<Section>
+    ensures { result ≡ option_and_then (λ s. if s.track == track then Some s else None)
+        (placed_section line.now number) }
+{
     match line.section(number) {
         Some(section) if section.track == track => Some(section),
         _ => None,
     }
 }
 
-fn end_of(section: &Section) -> u32 {
+// The end of a section, in metres from the start of its track.
+fn end_of(section: &Section) -> u32
+    ensures { result ≡ min (section.now.start + section.now.metres) (2 ^ 32 - 1) }
+{
     section.start.saturating_add(u32::from(section.metres))
 }

@@ -1,6 +1,7 @@
 //! The reason why a line of a script is refused.
 
-ghost use Rattle.std.specs.Prelude.{◌≡◌, ◌↔◌, IfOk, IsSome, None};
+ghost use Rattle.std.specs.Prelude.{◌≡◌, ◌↔◌, IfOk, IsSome, None, option_map};
+ghost use Rattle.cli_commands.specs.Forms.{form_of};
 ghost use Rattle.text_script.specs.Script.{row_asks};
 
 use crate::nearest::{Nearest, nearest_centre, nearest_of};
@@ -100,15 +101,24 @@ fn fault_of_words<'a>(
 
 // The fault of a line with another form than its event has.
 fn fault_of_form<'a>(alloc: Global, verb: &'a str) -> Result<RowFault<'a>, AllocError> {
-    let form = match verb {
-        "show" => "show",
-        "train" => "train CENTRE BYTES",
-        "set" => "set CENTRE SECTION",
-        "unset" => "unset CENTRE SECTION",
-        "deliver" => "deliver CENTRE CENTRE FRAME",
-        _ => return Ok(RowFault::Verb(verb, nearest_of(alloc, verb, &VERBS)?)),
-    };
-    Ok(RowFault::Form(form))
+    match form_of(verb) {
+        Some(form) => Ok(RowFault::Form(form)),
+        None => Ok(RowFault::Verb(verb, nearest_of(alloc, verb, &VERBS)?)),
+    }
+}
+
+// The form of an event. None if no event has this name.
+fn form_of(verb: &str) -> Option<&'static str>
+    ensures { option_map (λ form. form.now) result ≡ form_of verb.now }
+{
+    match verb {
+        "show" => Some("show"),
+        "train" => Some("train CENTRE BYTES"),
+        "set" => Some("set CENTRE SECTION"),
+        "unset" => Some("unset CENTRE SECTION"),
+        "deliver" => Some("deliver CENTRE CENTRE FRAME"),
+        _ => None,
+    }
 }
 
 // The fault of a centre's name. If the line has the centre, it is the other fault.

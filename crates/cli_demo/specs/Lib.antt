@@ -2,3 +2,5 @@ pub mod Commands
 pub mod Deliveries
 pub mod Flights
 pub mod Safe
+pub mod Running
+pub mod Script

@@ -89,7 +89,7 @@ impl Demo {
 
     // The centres answered an event: their messages and frames are on the way.
     fn answered(&mut self, event: Option<&WorldEvent>) -> Result<(), DemoFault> {
-        self.tally.events = self.tally.events.saturating_add(1);
+        self.tally.happen();
         let Some(number) = self.railway.answers().len().checked_sub(1) else {
             return Ok(());
         };

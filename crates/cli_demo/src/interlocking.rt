@@ -1,14 +1,14 @@
 //! The interlocking: it releases the sections ahead of trains, and takes one back by lot.
 
 ghost use Rattle.std.specs.Prelude.{◌≡◌, false, option_map, slice_get, slice_set, unwrap_or};
-ghost use Rattle.cli_demo.specs.Commands.{command_for};
+ghost use Rattle.cli_demo.specs.Commands.{command_for, done_by};
 
 use rbc_line::{Line, Section};
 use std::alloc::{AllocError, Global};
 use text_script::{Outcome, Word, WorldEvent};
 
 /// The sections of a line, and which of them are released, by the answers of the centres.
-#[derive(Debug, Drop)]
+#[derive(Drop)]
 pub(crate) struct Interlocking {
     pub(crate) sections: Vec<Section>,
     pub(crate) released: Vec<bool>,
@@ -49,10 +49,8 @@ impl Interlocking {
 
     /// The replies of a centre to an event.
     pub(crate) fn replied(&mut self, event: &WorldEvent, outcome: &Outcome) {
-        match (event, outcome.word) {
-            (WorldEvent::Set { .. }, Some(Word::Done(s))) => self.mark(s, true),
-            (WorldEvent::Unset { .. }, Some(Word::Done(s))) => self.mark(s, false),
-            _ => {}
+        if let Some((section, is_released)) = done_by(event, outcome.word) {
+            self.mark(section, is_released);
         }
         let told = outcome.told.sections();
         for s in told.as_slice() {
@@ -67,5 +65,16 @@ impl Interlocking {
         if let Some(released) = self.released.get_mut(section as usize) {
             *released = is_released;
         }
+    }
+}
+
+// The section that a command has released or taken back, by the reply of its home.
+fn done_by(event: &WorldEvent, word: Option<Word>) -> Option<(u16, bool)>
+    ensures { result ≡ done_by event.now word }
+{
+    match (event, word) {
+        (WorldEvent::Set { .. }, Some(Word::Done(section))) => Some((section, true)),
+        (WorldEvent::Unset { .. }, Some(Word::Done(section))) => Some((section, false)),
+        _ => None,
     }
 }

@@ -1,6 +1,6 @@
 //! The links between centres: frames are delivered out of order, and again.
 
-ghost use Rattle.std.specs.Prelude.{◌<◌, ◌≡◌, ◌≤◌, IfSome, slice_get, Some};
+ghost use Rattle.std.specs.Prelude.{◌<◌, ◌≡◌, ◌≤◌, IfSome, length, slice_get, Some};
 ghost use Rattle.cli_demo.specs.Deliveries.{IsSentOn};
 ghost use Rattle.cli_demo.specs.declared.links.Link.{Link as Way};
 
@@ -10,7 +10,7 @@ use std::alloc::{AllocError, Global};
 use text_script::{Frames, LinkAnswer, WorldEvent};
 
 /// A link from one centre to another: how many frames were sent, and how many were taken.
-#[derive(Clone, Copy, Debug)]
+#[derive(Clone, Copy)]
 struct Link {
     from: u8,
     to: u8,
@@ -19,7 +19,7 @@ struct Link {
 }
 
 /// The links of a line.
-#[derive(Debug, Drop)]
+#[derive(Drop)]
 pub(crate) struct Links {
     links: Vec<Link>,
 }
@@ -41,7 +41,9 @@ impl Links {
     }
 
     /// How many links there are.
-    pub(crate) fn count(&self) -> usize {
+    pub(crate) fn count(&self) -> usize
+        ensures { result ≡ length self.now.links.items }
+    {
         self.links.len()
     }
 

@@ -1,13 +1,13 @@
 //! The radio: messages between trains and centres are on the way for any time. They arrive in any order, some twice.
 
-ghost use Rattle.std.specs.Prelude.{[], ◌++◌, ◌≡◌, ◌≤◌, ◌∷◌, OnErr, OnOk};
+ghost use Rattle.std.specs.Prelude.{[], ◌++◌, ◌≡◌, ◌≤◌, ◌∷◌, length, OnErr, OnOk};
 ghost use Rattle.cli_demo.specs.Flights.{Arrives};
 
 use cli_storm::{Draws, below, in_hundred};
 use std::alloc::{AllocError, Global};
 
 /// A message on the way, by its place in the railway.
-#[derive(Clone, Copy, Debug)]
+#[derive(Clone, Copy)]
 pub(crate) enum Flight {
     /// A message of a train to a centre.
     Up { message: usize },
@@ -16,7 +16,7 @@ pub(crate) enum Flight {
 }
 
 /// The messages on the way.
-#[derive(Debug, Drop)]
+#[derive(Drop)]
 pub(crate) struct Radio {
     flights: Vec<Flight>,
     loss: u8,
@@ -39,7 +39,9 @@ impl Radio {
     }
 
     /// How many messages are on the way.
-    pub(crate) fn count(&self) -> usize {
+    pub(crate) fn count(&self) -> usize
+        ensures { result ≡ length self.now.flights.items }
+    {
         self.flights.len()
     }
 

@@ -1,5 +1,8 @@
 //! The commands of the interlocking in a demo.
 
+ghost use Rattle.std.specs.Option.{option_map_or};
+ghost use Rattle.std.specs.Prelude.{◌≡◌, false, slice_get};
+
 use crate::demo::Demo;
 use crate::fault::DemoFault;
 use cli_storm::{below, in_hundred};
@@ -49,7 +52,10 @@ impl Demo {
         Ok(())
     }
 
-    pub(crate) fn is_accepted(&self, train: usize) -> bool {
+    pub(crate) fn is_accepted(&self, train: usize) -> bool
+        ensures { result
+            ≡ option_map_or (λ driver. driver.is_accepted) (slice_get self.entry.now.drivers.items train) false }
+    {
         match self.drivers.get(train) {
             Some(driver) => driver.is_accepted,
             None => false,

@@ -1,6 +1,7 @@
 //! The seconds of a demo.
 
-ghost use Rattle.std.specs.Prelude.{OnOk};
+ghost use Rattle.std.specs.Prelude.{◌≡◌, ◌≤◌, IfSome, OnOk};
+ghost use Rattle.cli_demo.specs.Running.{next_front};
 ghost use Rattle.rbc_railway.specs.Railways.{IsSafeRailway};
 
 use crate::check::is_safe;
@@ -97,12 +98,9 @@ impl Demo {
         let Some(limit) = running.unit().may_reach(ends.front) else {
             return Ok(());
         };
-        let most = (limit.min(20_000_000) as u32)
-            .min(driver.goal)
-            .saturating_sub(MARGIN);
+        let goal = driver.goal;
         let speed = below(&mut self.draws, 400) as u32 + 200;
-        let front = ends.front.saturating_add(speed).min(most);
-        if front > ends.front {
+        if let Some(front) = next_front(ends.front, limit, goal, speed) {
             let rear = front as i32 - LENGTH as i32;
             happened(self.railway.run_to(train, front, rear))?;
         }
@@ -203,9 +201,20 @@ impl Demo {
             }
         }
         let Interlocking { sections, released } = &self.interlocking;
-        if !is_safe(sections, released, &all, &accepted) {
-            self.tally.is_safe = false;
-        }
+        let was_safe = is_safe(sections, released, &all, &accepted);
+        self.tally.check(was_safe);
         Ok(())
     }
+}
+
+// The place of a front end after a second at this speed, in decimetres. None if the train stays.
+fn next_front(front: u32, limit: u64, goal: u32, speed: u32) -> Option<u32>
+    ensures exact { result ≡ next_front front limit goal speed }
+    ensures range { IfSome result (λ next. next ≤ 20000000) }
+{
+    let most = (limit.min(20_000_000) as u32)
+        .min(goal)
+        .saturating_sub(MARGIN);
+    let next = front.saturating_add(speed).min(most);
+    if next > front { Some(next) } else { None }
 }

@@ -1,1 +1,4 @@
+pub mod Looks
+pub mod Missions
+pub mod Scale
 pub mod Time

@@ -1,5 +1,8 @@
 //! Draws the sections of trains, and the trains' numbers at the start of their missions.
 
+ghost use Rattle.std.specs.Prelude.{◌≡◌, List, option_map, ℕ};
+ghost use Rattle.cli_picture.specs.Looks.{use_of};
+
 use crate::run::{Run, nid_engine_of, track_of};
 use crate::scale::Scale;
 use crate::style::{colour_of, dashes_of};
@@ -30,7 +33,9 @@ pub fn draw_bars(
 }
 
 /// The look of a section's use, its description, and its train. `None` if the section is unused.
-fn use_of(mark: Mark) -> Option<(&'static str, &'static str, u32)> {
+fn use_of(mark: Mark) -> Option<(&'static str, &'static str, u32)>
+    ensures { use_of mark ≡ option_map {U = List ℕ × List ℕ × ℕ} (λ u. (u.0.now, u.1.now, u.2)) result }
+{
     match mark {
         Mark::Given { nid_engine } => Some(("", "", nid_engine)),
         Mark::Kept { nid_engine } => Some((" kept", "kept for ", nid_engine)),

@@ -1,5 +1,8 @@
 //! Describes an event, with the messages of trains in it and the messages to trains.
 
+ghost use Rattle.std.specs.Prelude.{◌≡◌, option_map};
+ghost use Rattle.cli_picture.specs.Looks.{is_silent, order_of, reported};
+
 use crate::run::{Border, Event, Kind, Report, track_of};
 use rbc_line::Line;
 use rbc_msgs::{MsgFault, TrackBody, TrainBody, TrainMsg, decode_train};
@@ -38,7 +41,9 @@ fn kind_of(
 }
 
 // The kind of an order of the interlocking, or of a frame.
-fn kind_of_other(event: &WorldEvent) -> Kind {
+fn kind_of_other(event: &WorldEvent) -> Kind
+    ensures { result ≡ order_of event.now }
+{
     match event {
         WorldEvent::Train { .. } => Kind::NoMessage,
         WorldEvent::Set { centre, section } => Kind::Set {
@@ -83,7 +88,9 @@ fn report_in(line: &Line, message: &TrainMsg) -> Option<Report> {
 }
 
 // The place that a train reports. A start of mission counts by the line's state, since it may be rejected.
-fn position_in(body: &TrainBody) -> Option<&Position> {
+fn position_in(body: &TrainBody) -> Option<&Position>
+    ensures { option_map (λ position. position.now) result ≡ reported body.now }
+{
     match body {
         TrainBody::TrainData { position, .. }
         | TrainBody::Request { position, .. }
@@ -98,7 +105,9 @@ fn position_in(body: &TrainBody) -> Option<&Position> {
     }
 }
 
-fn is_silent(answer: &Answer) -> bool {
+fn is_silent(answer: &Answer) -> bool
+    ensures { result ≡ is_silent answer.now }
+{
     match answer {
         Answer::Outcome(outcome) => outcome.silence.is_some(),
         Answer::NoCentre | Answer::NotSent | Answer::Fault(_) => true,

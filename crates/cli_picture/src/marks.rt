@@ -1,5 +1,8 @@
 //! Draws the requests to a train, and their results, as signs.
 
+ghost use Rattle.std.specs.Prelude.{◌≡◌, ◌/◌};
+ghost use Rattle.cli_picture.specs.Missions.{end_of, goes_on, last_kept_in, shape_of};
+
 use crate::run::{Run, track_of};
 use crate::scale::Scale;
 use crate::style::colour_of;
@@ -22,7 +25,9 @@ pub enum Sign {
 }
 
 /// The class of a sign, and its path from the point that it marks.
-pub fn shape_of(sign: Sign) -> (&'static str, &'static str) {
+pub fn shape_of(sign: Sign) -> (&'static str, &'static str)
+    ensures { shape_of sign ≡ (result.0.now, result.1.now) }
+{
     match sign {
         Sign::Asked => ("sign hollow", "l-6 -10h12z"),
         Sign::Granted => ("sign", "l-6 -10h12z"),
@@ -101,14 +106,18 @@ fn draw_requests(
 }
 
 /// The pending request: its stamp, and the last section to keep.
-fn last_kept_in(mission: Option<MissionView>) -> Option<(u32, u16)> {
+fn last_kept_in(mission: Option<MissionView>) -> Option<(u32, u16)>
+    ensures { result ≡ last_kept_in mission }
+{
     let proposal = mission?.facts.proposal?;
     Some((proposal.stamp, proposal.last_kept))
 }
 
 /// The number of the section in advance of a hand: the end of a train's authority. The end of a train without a
 /// mission is the highest number.
-fn end_of(mission: Option<MissionView>) -> u32 {
+fn end_of(mission: Option<MissionView>) -> u32
+    ensures { result ≡ end_of mission }
+{
     match mission {
         Some(mission) => mission.hand.next_after(),
         None => u32::MAX,
@@ -162,14 +171,19 @@ fn draw_end(
     }
 }
 
-fn goes_on(mission: Option<MissionView>) -> bool {
+fn goes_on(mission: Option<MissionView>) -> bool
+    ensures { result ≡ goes_on mission }
+{
     match mission {
         Some(mission) => !mission.facts.is_ended,
         None => false,
     }
 }
 
-fn point_of(train: u8, event: usize, place: &Place) -> Point {
+fn point_of(train: u8, event: usize, place: &Place) -> Point
+    ensures { result
+        ≡ record { train = train; event = event; track = place.now.track; metres = place.now.front / 10 } }
+{
     Point {
         train,
         event,

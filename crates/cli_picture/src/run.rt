@@ -1,6 +1,11 @@
 //! The data of a run in a diagram. Events are numbered from 0, from the first drawn one. Sections and tracks have the
 //! numbers of the line, and trains their place in the line file.
 
+ghost use Rattle.std.specs.Prelude.{◌≡◌, ◌==◌, ◌+◌, ◌-◌, ◌^◌, None, Some, if◌then◌else◌, is_some, length, min};
+ghost use Rattle.std.specs.Prelude.{option_and_then, option_map, slice_get, true, unwrap_or};
+ghost use Rattle.std.specs.Option.{option_map_or};
+ghost use Rattle.rbc_line.specs.Views.{listed_train, placed_section};
+
 use crate::time::TimeAxis;
 use rbc_line::Line;
 use rbc_place::Place;
@@ -74,7 +79,9 @@ pub struct Run<'a> {
 
 impl Run<'_> {
     /// Whether a train may be drawn.
-    pub fn wants(&self, train: u8) -> bool {
+    pub fn wants(&self, train: u8) -> bool
+        ensures { result ≡ option_map_or (λ only. only == train) self.now.only true }
+    {
         match self.only {
             Some(only) => only == train,
             None => true,
@@ -82,7 +89,10 @@ impl Run<'_> {
     }
 
     /// The number of events of the run that are drawn.
-    pub fn drawn(&self) -> usize {
+    pub fn drawn(&self) -> usize
+        ensures { result ≡ (if is_some self.now.axis then length self.now.events.items - 1
+            else length self.now.events.items) }
+    {
         match self.axis {
             Some(_) => self.events.len().saturating_sub(1),
             None => self.events.len(),
@@ -90,12 +100,17 @@ impl Run<'_> {
     }
 
     /// The number of an event in the run, from 1.
-    pub fn number(&self, event: usize) -> usize {
+    pub fn number(&self, event: usize) -> usize
+        ensures { result ≡ min (2 ^ 64 - 1) (event + self.now.skipped + 1) }
+    {
         event.saturating_add(self.skipped).saturating_add(1)
     }
 
     /// The reported place of a train in an event.
-    pub fn report(&self, event: usize, train: u8) -> Option<Place> {
+    pub fn report(&self, event: usize, train: u8) -> Option<Place>
+        ensures { result ≡ option_and_then (λ r. if r.train == train then Some r.place else None)
+            (option_and_then (λ e. e.report) (slice_get self.now.events.items event)) }
+    {
         let report = self.events.get(event)?.report?;
         if report.train == train {
             Some(report.place)
@@ -133,7 +148,9 @@ impl Run<'_> {
 }
 
 /// The NID_ENGINE of a train by its place in the line file.
-pub fn nid_engine_of(line: &Line, train: u8) -> u32 {
+pub fn nid_engine_of(line: &Line, train: u8) -> u32
+    ensures { result ≡ unwrap_or (option_map (λ t. t.nid_engine) (listed_train line.now train)) 0 }
+{
     match line.train(train) {
         Some(train) => train.nid_engine,
         None => 0,
@@ -141,7 +158,9 @@ pub fn nid_engine_of(line: &Line, train: u8) -> u32 {
 }
 
 /// The track of a section.
-pub fn track_of(line: &Line, section: u16) -> u8 {
+pub fn track_of(line: &Line, section: u16) -> u8
+    ensures { result ≡ unwrap_or (option_map (λ s. s.track) (placed_section line.now section)) 0 }
+{
     match line.section(section) {
         Some(section) => section.track,
         None => 0,

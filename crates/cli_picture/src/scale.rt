@@ -1,6 +1,7 @@
 //! Maps metres, events and times to places on the page, in pixels from its left and its upper edge.
 
-ghost use Rattle.std.specs.Prelude.{◌≤◌};
+ghost use Rattle.std.specs.Prelude.{◌≡◌, ◌≤◌, if◌then◌else◌, IfSome, is_some};
+ghost use Rattle.cli_picture.specs.Scale.{below, height, place_in, time_of};
 
 use crate::time::TimeAxis;
 use rbc_line::Line;
@@ -75,24 +76,37 @@ impl<'a> Scale<'a> {
 
     /// The height of all events.
     pub fn height(&self) -> u64
-        ensures { result ≤ 3400 }
+        ensures bound { result ≤ 3400 }
+        ensures exact { result ≡ height self.now }
     {
         let count = self.event_count as u64;
-        let least = if self.axis.is_some() {
+        count
+            .saturating_mul(ROW)
+            .max(self.least_height())
+            .min(MOST_HEIGHT)
+    }
+
+    fn least_height(&self) -> u64
+        ensures { result ≡ (if is_some self.now.axis then 400 else 24) }
+    {
+        if self.axis.is_some() {
             LEAST_OF_TIME
         } else {
             ROW
-        };
-        count.saturating_mul(ROW).max(least).min(MOST_HEIGHT)
+        }
     }
 
     /// The lower edge of the events.
-    pub fn bottom(&self) -> u64 {
+    pub fn bottom(&self) -> u64
+        ensures { result ≡ below self.now (height self.now) }
+    {
         self.top.saturating_add(self.height())
     }
 
     /// The place of an event: that of its time, or the middle of its line.
-    pub fn y(&self, event: usize) -> u64 {
+    pub fn y(&self, event: usize) -> u64
+        ensures { IfSome self.now.axis (λ axis. result ≡ place_in self.now axis (time_of axis event)) }
+    {
         match &self.axis {
             Some(axis) => self.at(axis, axis.time_ms(event)),
             None => self.middle(event),
@@ -100,7 +114,9 @@ impl<'a> Scale<'a> {
     }
 
     /// The place of a time.
-    pub fn at(&self, axis: &TimeAxis<'_>, time_ms: u64) -> u64 {
+    pub fn at(&self, axis: &TimeAxis<'_>, time_ms: u64) -> u64
+        ensures { result ≡ place_in self.now axis.now time_ms }
+    {
         self.top.saturating_add(axis.place(time_ms, self.height()))
     }
 
@@ -113,7 +129,9 @@ impl<'a> Scale<'a> {
     }
 
     /// The end of a mark: at an event, or after the last one at the lower edge.
-    pub fn until(&self, event: usize) -> u64 {
+    pub fn until(&self, event: usize) -> u64
+        ensures { self.now.event_count ≤ event → result ≡ below self.now (height self.now) }
+    {
         if event < self.event_count {
             self.y(event)
         } else {

@@ -1,5 +1,8 @@
 //! Draws the supervisor of each train, and the starts of mission that wait for the right to supervise it.
 
+ghost use Rattle.std.specs.Prelude.{◌≡◌, option_and_then};
+ghost use Rattle.cli_picture.specs.Missions.{centre_of, way_at};
+
 use crate::fronts::has_left;
 use crate::run::Run;
 use crate::scale::Scale;
@@ -22,19 +25,25 @@ pub fn draw_seats(svg: &mut String, scale: &Scale<'_>, run: &Run<'_>) -> Result<
 }
 
 /// The centre that supervises a mission. `None` while the mission is on the way to the next centre.
-fn centre_of(mission: &MissionView) -> Option<u8> {
+fn centre_of(mission: &MissionView) -> Option<u8>
+    ensures { result ≡ centre_of mission.now.supervisor }
+{
     match mission.supervisor {
         Supervisor::At { centre } => Some(centre),
         Supervisor::Parted { .. } => None,
     }
 }
 
-fn centre_in(mission: Option<MissionView>) -> Option<u8> {
+fn centre_in(mission: Option<MissionView>) -> Option<u8>
+    ensures { result ≡ option_and_then (λ m. centre_of m.supervisor) mission }
+{
     centre_of(&mission?)
 }
 
 /// The place of a mission that is on the way.
-fn way_in(mission: Option<MissionView>) -> Option<Place> {
+fn way_in(mission: Option<MissionView>) -> Option<Place>
+    ensures { result ≡ option_and_then (λ m. way_at m.supervisor m.facts.place) mission }
+{
     let mission = mission?;
     match mission.supervisor {
         Supervisor::At { .. } => None,

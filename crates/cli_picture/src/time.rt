@@ -2,8 +2,10 @@
 
 ghost use Rattle.std.specs.Int.{div_ceil};
 ghost use Rattle.std.specs.List.{find};
-ghost use Rattle.std.specs.Prelude.{◌≡◌, ◌<◌, ◌≤◌, ◌+◌, ◌-◌, ◌*◌, ◌%◌, ◌^◌, if◌then◌else◌, ℕ, nat_le, nat_lt, max, min};
+ghost use Rattle.std.specs.Prelude.{◌≡◌, ◌<◌, ◌≤◌, ◌+◌, ◌-◌, ◌*◌, ◌/◌, ◌%◌, ◌^◌, if◌then◌else◌, ℕ, nat_le, nat_lt};
+ghost use Rattle.std.specs.Prelude.{max, min};
 ghost use Rattle.std.specs.Prelude.{count_by, unwrap_or, IfSome, None, Some};
+ghost use Rattle.cli_picture.specs.Scale.{time_at, time_of};
 ghost use Rattle.cli_picture.specs.Time.{after_place, first_place, is_before, place_at, share_at, step_from};
 
 /// The steps from one tick to the next. They are 1, 2, 5, 10, 15 and 30 seconds, as many minutes, and 1, 2, 3, 6 and 12
@@ -87,7 +89,13 @@ pub struct TimeAxis<'a> {
 impl<'a> TimeAxis<'a> {
     /// The axis of the events of a part, from the place `first` to the one before `after`. An end that is not given is
     /// the tick next to the events.
-    pub fn new(part: &TimePart<'a>, first: usize, after: usize) -> TimeAxis<'a> {
+    pub fn new(part: &TimePart<'a>, first: usize, after: usize) -> TimeAxis<'a>
+        ensures begins { result.from_ms ≡ unwrap_or part.now.since_ms
+            (time_at result.times_ms.now 0 - time_at result.times_ms.now 0 % result.step_ms) }
+        ensures given { (until_ms : ℕ) → part.now.until_ms ≡ Some until_ms → result.to_ms ≡ until_ms }
+        ensures ticks { result.first_tick ≡ div_ceil result.from_ms result.step_ms }
+        ensures last { result.last_tick ≡ result.to_ms / result.step_ms }
+    {
         let times_ms = part.times_ms.get(first..after).unwrap_or(&[]);
         let first_ms = time_at(times_ms, 0);
         let last_ms = time_at(times_ms, times_ms.len().saturating_sub(1));
@@ -107,7 +115,9 @@ impl<'a> TimeAxis<'a> {
     }
 
     /// The time of an event.
-    pub fn time_ms(&self, event: usize) -> u64 {
+    pub fn time_ms(&self, event: usize) -> u64
+        ensures { result ≡ time_of self.now event }
+    {
         match event.checked_sub(1) {
             Some(place) => time_at(self.times_ms, place),
             None => self.from_ms,
@@ -124,7 +134,9 @@ impl<'a> TimeAxis<'a> {
 }
 
 // The time at this place; 0 if it is not known.
-fn time_at(times_ms: &[Option<u64>], place: usize) -> u64 {
+fn time_at(times_ms: &[Option<u64>], place: usize) -> u64
+    ensures { result ≡ time_at times_ms.now place }
+{
     match times_ms.get(place) {
         Some(Some(time_ms)) => *time_ms,
         _ => 0,

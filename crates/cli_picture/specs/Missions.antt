@@ -1,0 +1,41 @@
+-- The missions of a diagram.
+use Rattle.std.specs.Option.{option_map_or}
+use Rattle.std.specs.Prelude.{◌+◌, ◌-◌, ◌^◌, Bool, codes, false, List, None, not, Option, option_and_then, option_map}
+use Rattle.std.specs.Prelude.{Some, unwrap_or, ℕ}
+use Rattle.cli_picture.specs.declared.marks.Sign.{Sign}
+use Rattle.cli_picture.specs.declared.marks.Sign.TheVariants.{Asked, Dropped, Ended, Granted, Handover}
+use Rattle.rbc_place.specs.declared.place.Place.{Place}
+use Rattle.text_script.specs.rbc_world.declared.view.MissionView.{MissionView}
+use Rattle.text_script.specs.rbc_world.declared.view.Supervisor.{Supervisor}
+use Rattle.text_script.specs.rbc_world.declared.view.Supervisor.TheVariants.{At, Parted}
+
+-- the centre of a supervisor; none while the mission is on the way to the next centre
+abbrev pub centre_of : Supervisor → Option ℕ
+centre_of (At centre) = Some centre
+centre_of (Parted heard) = None
+
+-- the place of a mission that is on the way
+abbrev pub way_at : Supervisor → Place → Option Place
+way_at (At centre) place = None
+way_at (Parted heard) place = Some place
+
+-- the pending request to shorten: its stamp, and the last section to keep
+abbrev pub last_kept_in : Option MissionView → Option (ℕ × ℕ)
+last_kept_in mission =
+    option_and_then (λ m. option_map {U = ℕ × ℕ} (λ p. (p.stamp, p.last_kept)) m.facts.proposal) mission
+
+-- the number of the section in advance of a mission's hand; without a mission the highest number
+abbrev pub end_of : Option MissionView → ℕ
+end_of mission = unwrap_or (option_map (λ m. m.hand.first + m.hand.count) mission) (2 ^ 32 - 1)
+
+-- a mission that is not ended
+abbrev pub goes_on : Option MissionView → Bool
+goes_on mission = option_map_or (λ m. not m.facts.is_ended) mission false
+
+-- the class of a sign, and its path from the point that it marks
+abbrev pub shape_of : Sign → List ℕ × List ℕ
+shape_of Asked = (codes "sign hollow", codes "l-6 -10h12z")
+shape_of Granted = (codes "sign", codes "l-6 -10h12z")
+shape_of Dropped = (codes "sign hollow", codes "m-5 -5l10 10m0 -10l-10 10")
+shape_of Handover = (codes "sign hollow", codes "m0 -7l7 7l-7 7l-7 -7z")
+shape_of Ended = (codes "sign", codes "m-4 -4h8v8h-8z")
