@@ -1,4 +1,5 @@
 -- The faults of journals as they are reported.
+use Rattle.std.specs.declared.alloc.Global.{Global}
 use Rattle.std.specs.List.{starts_with}
 use Rattle.std.specs.Prelude.{◌==◌, ◌||◌, ◌≡◌, Bool, codes, false, List, String, string_bytes, true}
 use Rattle.std.specs.Prelude.{ℕ}
@@ -19,7 +20,7 @@ IsUnfit name row other = ⊥
 
 -- The report on the journal of this name and of these bytes. A damaged line is named. Bytes that begin as a journal of
 -- a known version are of another centre or line, and others are not a journal.
-abbrev pub IsFaultOf : String → List ℕ → JournalFault → Fault → Type 0
+abbrev pub IsFaultOf : String Global → List ℕ → JournalFault → Fault → Type 0
 IsFaultOf name bytes (journal.Damaged row) reported = reported ≡ fault.Damaged name row
 IsFaultOf name bytes journal.Foreign (fault.Foreign named) = (named ≡ name) × (is_of_known_version bytes ≡ true)
 IsFaultOf name bytes journal.Foreign (fault.NoJournal named) = is_of_known_version bytes ≡ false
