@@ -1,9 +1,33 @@
 -- Places on the page, in pixels.
-use Rattle.std.specs.Prelude.{◌*◌, ◌+◌, ◌-◌, ◌==◌, ◌^◌, if◌then◌else◌, is_some, List, max, min, Option}
-use Rattle.std.specs.Prelude.{option_and_then, slice_get, unwrap_or, ℕ}
+use Rattle.std.specs.Prelude.{◌*◌, ◌+◌, ◌-◌, ◌/◌, ◌==◌, ◌^◌, if◌then◌else◌, is_some, length, List, max, min, negsuc}
+use Rattle.std.specs.Prelude.{Option, option_and_then, pos, slice_get, suc, unwrap_or, zero, ℕ, ℤ}
 use Rattle.cli_picture.specs.declared.scale.Scale.{Scale}
 use Rattle.cli_picture.specs.declared.time.TimeAxis.{TimeAxis}
 use Rattle.cli_picture.specs.Time.{place_at}
+use Rattle.rbc_spec.specs.Line.{Line}
+use Rattle.rbc_spec.specs.Sections.{track_end}
+
+-- ## To the right
+
+-- the length of the first tracks, this many, in metres
+abbrev pub metres_before : Line → ℕ → ℕ
+metres_before line zero = 0
+metres_before line (suc t) = metres_before line t + track_end line t
+
+-- the length of the line up to a point of a track; a point past the track's end is at the end
+abbrev pub metres_to : Line → ℕ → ℕ → ℕ
+metres_to line track metres = metres_before line track + min metres (track_end line track)
+
+-- the room of the tracks from 180 to 1180, without the 30 between two tracks
+abbrev pub room_of : Line → ℕ
+room_of line = 1000 - (length line.tracks - 1) * 30
+
+-- a safe rear end in metres, from decimetres; 0 before the start of the track
+abbrev pub rear_metres : ℤ → ℕ
+rear_metres (pos n) = n / 10
+rear_metres (negsuc n) = 0
+
+-- ## Downward
 
 -- the time at a place; 0 if it is not known
 abbrev pub time_at : List (Option ℕ) → ℕ → ℕ

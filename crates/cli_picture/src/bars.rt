@@ -2,6 +2,7 @@
 
 ghost use Rattle.std.specs.Prelude.{◌≡◌, List, option_map, ℕ};
 ghost use Rattle.cli_picture.specs.Looks.{use_of};
+ghost use Rattle.cli_picture.specs.Texts.{wish_class};
 
 use crate::run::{Run, nid_engine_of, track_of};
 use crate::scale::Scale;
@@ -55,11 +56,7 @@ fn draw_stretch(
     };
     match run.line.train_number(nid_engine) {
         Some(train) if run.wants(train) => {
-            let wish = if stretch.seen.is_wished {
-                " wished"
-            } else {
-                ""
-            };
+            let wish = wish_class(stretch.seen.is_wished);
             let colour = colour_of(train);
             let dashes = dashes_of(train);
             write!(svg, "<rect class=\"bar{look}{wish} c{colour} d{dashes}\"")?;
@@ -70,6 +67,13 @@ fn draw_stretch(
         }
         _ => Ok(()),
     }
+}
+
+// The class of a section that is wished back.
+fn wish_class(is_wished: bool) -> &'static str
+    ensures { result.now ≡ wish_class is_wished }
+{
+    if is_wished { " wished" } else { "" }
 }
 
 fn draw_box(

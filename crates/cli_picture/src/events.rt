@@ -1,10 +1,15 @@
 //! Draws the events, with their numbers and descriptions, as far as there is room.
 
+ghost use Rattle.std.specs.Prelude.{◌≡◌, OnOk};
+ghost use Rattle.cli_picture.specs.Texts.{Draws, order_text, words_class};
+ghost use Rattle.text_script.specs.Print.Rows.{name_at};
+
 use crate::run::{Event, Kind, Run};
 use crate::scale::{LEFT, RIGHT, Scale};
 use crate::ticks::draw_time;
 use rbc_line::Line;
 use std::alloc::{AllocError, Global};
+use text_script::print::name_of;
 use text_words::name_of_number;
 
 // The most letters of centres' names beside an event.
@@ -68,14 +73,17 @@ pub fn draw_words(
         WORDS
     };
     let y = scale.y(e).saturating_add(4);
-    let class = if event.is_silent {
-        "small silent"
-    } else {
-        "small"
-    };
+    let class = words_class(event.is_silent);
     write!(svg, "<text x=\"{x}\" y=\"{y}\" class=\"{class}\">")?;
     draw_kind(svg, scale.line, event.kind)?;
     writeln!(svg, "</text>")
+}
+
+// The class of a description.
+fn words_class(is_silent: bool) -> &'static str
+    ensures { result.now ≡ words_class is_silent }
+{
+    if is_silent { "small silent" } else { "small" }
 }
 
 fn draw_kind(svg: &mut String, line: &Line, kind: Kind) -> Result<(), AllocError> {
@@ -99,8 +107,10 @@ fn draw_order(
     centre: u8,
     word: &str,
     section: u16,
-) -> Result<(), AllocError> {
-    let name = line.centre_name(centre).unwrap_or("?");
+) -> Result<(), AllocError>
+    ensures { OnOk result (Draws svg.old svg.new (order_text (name_at line.now centre) word.now section)) }
+{
+    let name = name_of(line, centre);
     if name.len() <= MOST_NAMES {
         write!(svg, "{name} {word} {section}")
     } else {

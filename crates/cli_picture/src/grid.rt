@@ -1,9 +1,17 @@
 //! Draws the line: its tracks, sections, homes, and the borders between them.
 
+ghost use Rattle.std.specs.Prelude.{◌≡◌, ◌==◌, if◌then◌else◌, length, None, OnOk, option_and_then, option_map, Some};
+ghost use Rattle.std.specs.Prelude.{unwrap_or};
+ghost use Rattle.rbc_line.specs.Views.{placed_section};
+ghost use Rattle.cli_picture.specs.Scale.{height};
+ghost use Rattle.cli_picture.specs.Homes.{longer, stretch_of};
+ghost use Rattle.cli_picture.specs.Texts.{centre_text, Draws, home_box, small_number, tint_of};
+
 use crate::scale::Scale;
 use rbc_line::{Line, Section};
 use rbc_place::{section_end, track_end};
 use std::alloc::AllocError;
+use text_script::print::name_of;
 
 // The least distances of section numbers, of metres, and of lines between sections.
 const NUMBER_ROOM: u64 = 26;
@@ -46,38 +54,80 @@ fn draw_home(
     };
     let x = scale.x(track, start);
     let width = scale.x(track, end).saturating_sub(x);
+    draw_home_box(svg, scale, home, x, width)?;
+    let name = name_of(scale.line, home);
+    let middle = x.saturating_add(width / 2);
+    draw_centre(svg, name, middle, axis.saturating_add(34))
+}
+
+/// Draws the tinted box of a home, as high as all events.
+fn draw_home_box(
+    svg: &mut String,
+    scale: &Scale<'_>,
+    home: u8,
+    x: u64,
+    width: u64,
+) -> Result<(), AllocError>
+    ensures { OnOk result (Draws svg.old svg.new (home_box home x width scale.now.top (height scale.now))) }
+{
     let top = scale.top;
     let height = scale.height();
-    let class = if home % 2 == 0 { "odd" } else { "even" };
+    let class = tint_of(home);
     writeln!(
         svg,
         "<rect class=\"{class}\" x=\"{x}\" y=\"{top}\" width=\"{width}\" height=\"{height}\"/>"
-    )?;
-    let name = scale.line.centre_name(home).unwrap_or("?");
-    let middle = x.saturating_add(width / 2);
-    let y = axis.saturating_add(34);
+    )
+}
+
+/// The class of the box of a home: the tints take turns.
+fn tint_of(home: u8) -> &'static str
+    ensures { result.now ≡ tint_of home }
+{
+    if home % 2 == 0 { "odd" } else { "even" }
+}
+
+/// Writes the name of a home above its stretch.
+fn draw_centre(svg: &mut String, name: &str, x: u64, y: u64) -> Result<(), AllocError>
+    ensures { OnOk result (Draws svg.old svg.new (centre_text name.now x y)) }
+{
     writeln!(
         svg,
-        "<text x=\"{middle}\" y=\"{y}\" text-anchor=\"middle\">centre {name}</text>"
+        "<text x=\"{x}\" y=\"{y}\" text-anchor=\"middle\">centre {name}</text>"
     )
 }
 
 /// The start and the end of a home's sections on a track, in metres.
-fn stretch_of(line: &Line, track: u8, home: u8) -> Option<(u32, u32)> {
+fn stretch_of(line: &Line, track: u8, home: u8) -> Option<(u32, u32)>
+    ensures { result ≡ stretch_of line.now track home (length line.now.sections) }
+{
     let mut stretch = None;
     for s in 0..line.section_count() {
-        match line.section(s) {
-            Some(section) if section.track == track && section.home == home => {
-                let end = section_end(line, s.into());
-                stretch = match stretch {
-                    Some((start, _)) => Some((start, end)),
-                    None => Some((section.start, end)),
-                };
-            }
-            _ => {}
-        }
+        stretch = longer(line, stretch, (track, home), s);
     }
     stretch
+}
+
+/// The stretch with one more section, if that is of the home and on the track. `of` has the track and the home.
+fn longer(line: &Line, stretch: Option<(u32, u32)>, of: (u8, u8), s: u16) -> Option<(u32, u32)>
+    ensures { result ≡ longer line.now of.0 of.1 stretch s }
+{
+    match line.section(s) {
+        Some(section) if section.track == of.0 && section.home == of.1 => {
+            let end = section_end(line, s.into());
+            Some((start_of(stretch, section.start), end))
+        }
+        _ => stretch,
+    }
+}
+
+/// The start of a stretch; of one that begins now, this start.
+fn start_of(stretch: Option<(u32, u32)>, start: u32) -> u32
+    ensures { result ≡ unwrap_or (option_map (λ s. s.0) stretch) start }
+{
+    match stretch {
+        Some((start, _)) => start,
+        None => start,
+    }
 }
 
 /// Draws the sections of each track, as far as there is room: a line at the start of each, its number, and the metres.
@@ -121,10 +171,7 @@ fn draw_numbers(
             let end = scale.x(track, section_end(scale.line, s.into()));
             let middle = x.saturating_add(end) / 2;
             if middle >= next {
-                writeln!(
-                    svg,
-                    "<text x=\"{middle}\" y=\"{y}\" class=\"small\" text-anchor=\"middle\">{s}</text>"
-                )?;
+                draw_small(svg, middle, y, s.into())?;
                 next = middle.saturating_add(NUMBER_ROOM);
             }
         }
@@ -146,18 +193,21 @@ fn draw_metres(
         if let Some(section) = section_on(scale.line, track, s) {
             let x = scale.x(track, section.start);
             if x >= next && x.saturating_add(METRES_ROOM) <= right {
-                draw_metre(svg, x, y, section.start)?;
+                draw_small(svg, x, y, section.start)?;
                 next = x.saturating_add(METRES_ROOM);
             }
         }
     }
-    draw_metre(svg, right, y, last)
+    draw_small(svg, right, y, last)
 }
 
-fn draw_metre(svg: &mut String, x: u64, y: u64, metres: u32) -> Result<(), AllocError> {
+/// Writes a section's number or its start in metres.
+fn draw_small(svg: &mut String, x: u64, y: u64, number: u32) -> Result<(), AllocError>
+    ensures { OnOk result (Draws svg.old svg.new (small_number x y number)) }
+{
     writeln!(
         svg,
-        "<text x=\"{x}\" y=\"{y}\" class=\"small\" text-anchor=\"middle\">{metres}</text>"
+        "<text x=\"{x}\" y=\"{y}\" class=\"small\" text-anchor=\"middle\">{number}</text>"
     )
 }
 
@@ -197,7 +247,10 @@ fn draw_borders(svg: &mut String, scale: &Scale<'_>, track: u8) -> Result<(), Al
 }
 
 /// The section of this number, if it is on the track.
-fn section_on(line: &Line, track: u8, number: u16) -> Option<Section> {
+fn section_on(line: &Line, track: u8, number: u16) -> Option<Section>
+    ensures { result ≡ option_and_then (λ p. if p.track == track then Some p else None)
+        (placed_section line.now number) }
+{
     match line.section(number) {
         Some(section) if section.track == track => Some(section),
         _ => None,

@@ -1,5 +1,8 @@
 //! Explains the colours and signs.
 
+ghost use Rattle.std.specs.Prelude.{OnOk};
+ghost use Rattle.cli_picture.specs.Texts.{Draws, small_text};
+
 use crate::marks::{Sign, shape_of};
 use crate::run::{Run, nid_engine_of};
 use crate::style::{colour_of, dashes_of};
@@ -140,7 +143,9 @@ fn draw_sign(svg: &mut String, sign: Sign, x: u64, y: u64, words: &str) -> Resul
     draw_words(svg, x.saturating_add(14), y, words)
 }
 
-fn draw_words(svg: &mut String, x: u64, y: u64, words: &str) -> Result<(), AllocError> {
+fn draw_words(svg: &mut String, x: u64, y: u64, words: &str) -> Result<(), AllocError>
+    ensures { OnOk result (Draws svg.old svg.new (small_text x y words.now)) }
+{
     writeln!(
         svg,
         "<text x=\"{x}\" y=\"{y}\" class=\"small\">{words}</text>"

@@ -1,7 +1,8 @@
 //! Maps metres, events and times to places on the page, in pixels from its left and its upper edge.
 
-ghost use Rattle.std.specs.Prelude.{◌≡◌, ◌≤◌, if◌then◌else◌, IfSome, is_some};
-ghost use Rattle.cli_picture.specs.Scale.{below, height, place_in, time_of};
+ghost use Rattle.std.specs.Prelude.{◌≡◌, ◌≤◌, ◌*◌, ◌^◌, if◌then◌else◌, IfSome, is_some};
+ghost use Rattle.cli_picture.specs.Scale.{below, height, metres_before, metres_to, place_in, rear_metres, room_of};
+ghost use Rattle.cli_picture.specs.Scale.{time_of};
 
 use crate::time::TimeAxis;
 use rbc_line::Line;
@@ -40,15 +41,9 @@ impl<'a> Scale<'a> {
     pub fn x(&self, track: u8, metres: u32) -> u64
         ensures { result ≤ 1180 }
     {
-        let tracks = u64::from(self.line.track_count()).saturating_sub(1);
-        let room = RIGHT
-            .saturating_sub(LEFT)
-            .saturating_sub(tracks.saturating_mul(GAP));
-        let metres = u64::from(metres.min(track_end(self.line, track)));
-        let before = self.metres_before(track).saturating_add(metres);
         let whole = self.metres_before(self.line.track_count());
         let gaps = u64::from(track).saturating_mul(GAP);
-        let place = share(room, before, whole);
+        let place = share(self.room(), self.metres_to(track, metres), whole);
         LEFT.saturating_add(gaps).saturating_add(place).min(RIGHT)
     }
 
@@ -60,16 +55,36 @@ impl<'a> Scale<'a> {
     /// The place of a train's safe rear end, or of its front if the rear end is not known.
     pub fn rear(&self, place: &Place) -> u64 {
         match place.rear {
-            Some(rear) => self.x(place.track, u32::try_from(rear / 10).unwrap_or(0)),
+            Some(rear) => self.x(place.track, metres_of(rear)),
             None => self.front(place),
         }
     }
 
+    /// The room for the tracks, without the spaces between them.
+    fn room(&self) -> u64
+        ensures bound { result ≤ 1000 }
+        ensures exact { result ≡ room_of self.now.line.now }
+    {
+        let tracks = u64::from(self.line.track_count());
+        (RIGHT - LEFT).saturating_sub(tracks.saturating_sub(1) * GAP)
+    }
+
+    /// The length of the line up to a point of a track, in metres.
+    fn metres_to(&self, track: u8, metres: u32) -> u64
+        ensures bound { result ≤ 2 ^ 40 }
+        ensures exact { result ≡ metres_to self.now.line.now track metres }
+    {
+        self.metres_before(track) + u64::from(metres.min(track_end(self.line, track)))
+    }
+
     /// The length of the tracks before this one, in metres.
-    fn metres_before(&self, track: u8) -> u64 {
+    fn metres_before(&self, track: u8) -> u64
+        ensures bound { result ≤ 1024000 * track }
+        ensures exact { result ≡ metres_before self.now.line.now track }
+    {
         let mut metres: u64 = 0;
         for t in 0..track {
-            metres = metres.saturating_add(u64::from(track_end(self.line, t)));
+            metres += u64::from(track_end(self.line, t));
         }
         metres
     }
@@ -151,6 +166,13 @@ impl<'a> Scale<'a> {
         }
         stride
     }
+}
+
+/// A safe rear end in metres, from decimetres; 0 before the start of the track.
+fn metres_of(rear: i32) -> u32
+    ensures { result ≡ rear_metres rear }
+{
+    if rear < 0 { 0 } else { rear as u32 / 10 }
 }
 
 /// The share of `part` of `whole` in a room, rounded to the nearest. If the whole is 0, the share is the whole room.
