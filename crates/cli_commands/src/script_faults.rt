@@ -1,7 +1,13 @@
 //! The reason why a line of a script is refused.
 
-ghost use Rattle.std.specs.Prelude.{◌≡◌, ◌↔◌, IfOk, IsSome, None, option_map};
+ghost use Rattle.std.specs.Char.{is_ascii_hexdigit};
+ghost use Rattle.std.specs.List.{list_all};
+ghost use Rattle.std.specs.Prelude.{◌≡◌, ◌↔◌, if◌then◌else◌, IfOk, IsSome, length, None};
+ghost use Rattle.std.specs.Prelude.{option_map};
 ghost use Rattle.cli_commands.specs.Forms.{form_of};
+ghost use Rattle.cli_commands.specs.RowFaults.{centre_at, IsByForm, IsByCentre};
+ghost use Rattle.cli_commands.specs.declared.script_faults.RowFault.{RowFault as Why};
+ghost use Rattle.cli_commands.specs.declared.script_faults.RowFault.TheVariants.{Bytes, Frame, OddDigits};
 ghost use Rattle.text_script.specs.Script.{row_asks};
 
 use crate::nearest::{Nearest, nearest_centre, nearest_of};
@@ -100,7 +106,9 @@ fn fault_of_words<'a>(
 }
 
 // The fault of a line with another form than its event has.
-fn fault_of_form<'a>(alloc: Global, verb: &'a str) -> Result<RowFault<'a>, AllocError> {
+fn fault_of_form<'a>(alloc: Global, verb: &'a str) -> Result<RowFault<'a>, AllocError>
+    ensures { IfOk result (IsByForm (form_of verb.now) verb.now) }
+{
     match form_of(verb) {
         Some(form) => Ok(RowFault::Form(form)),
         None => Ok(RowFault::Verb(verb, nearest_of(alloc, verb, &VERBS)?)),
@@ -127,14 +135,19 @@ fn fault_at_centre<'a>(
     line: &'a Line,
     centre: &'a str,
     other: RowFault<'a>,
-) -> Result<RowFault<'a>, AllocError> {
+) -> Result<RowFault<'a>, AllocError>
+    ensures { IfOk result (IsByCentre (centre_at line.now centre.now) centre.now other.entry) }
+{
     if line.centre_named(centre).is_some() {
         return Ok(other);
     }
     Ok(RowFault::Centre(centre, nearest_centre(alloc, line, centre)?))
 }
 
-fn fault_of_bytes(digits: &str) -> RowFault<'_> {
+fn fault_of_bytes(digits: &str) -> RowFault<'_>
+    ensures { result ≡ (if list_all is_ascii_hexdigit digits.now then OddDigits (length digits.now)
+        else Bytes digits.entry) }
+{
     if digits.bytes().all(|digit| digit.is_ascii_hexdigit()) {
         RowFault::OddDigits(digits.len())
     } else {
@@ -148,7 +161,12 @@ fn fault_of_delivery<'a>(
     from: &'a str,
     to: &'a str,
     number: &'a str,
-) -> Result<RowFault<'a>, AllocError> {
+) -> Result<RowFault<'a>, AllocError>
+    // The first centre's name is tested first.
+    ensures { IfOk result (λ fault. (second : Why)
+        × IsByCentre (centre_at line.now to.now) to.now (Frame number.entry) second
+        × IsByCentre (centre_at line.now from.now) from.now second fault) }
+{
     let second = fault_at_centre(alloc, line, to, RowFault::Frame(number))?;
     fault_at_centre(alloc, line, from, second)
 }

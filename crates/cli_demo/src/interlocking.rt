@@ -1,7 +1,7 @@
 //! The interlocking: it releases the sections ahead of trains, and takes one back by lot.
 
-ghost use Rattle.std.specs.Prelude.{◌≡◌, false, option_map, slice_get, slice_set, unwrap_or};
-ghost use Rattle.cli_demo.specs.Commands.{command_for, done_by};
+ghost use Rattle.std.specs.Prelude.{◌≡◌, false, IfOk, length, map, option_map, slice_get, slice_set, unwrap_or};
+ghost use Rattle.cli_demo.specs.Commands.{command_for, done_by, sections_among};
 
 use rbc_line::{Line, Section};
 use std::alloc::{AllocError, Global};
@@ -15,7 +15,11 @@ pub(crate) struct Interlocking {
 }
 
 impl Interlocking {
-    pub(crate) fn new(alloc: Global, line: &Line) -> Result<Interlocking, AllocError> {
+    pub(crate) fn new(alloc: Global, line: &Line) -> Result<Interlocking, AllocError>
+        ensures sections { IfOk result (λ i. i.sections.items
+            ≡ sections_among line.now (length line.now.sections)) }
+        ensures shut { IfOk result (λ i. i.released.items ≡ map (λ _. false) i.sections.items) }
+    {
         let mut sections = Vec::new(alloc);
         let mut released = Vec::new(alloc);
         for s in 0..line.section_count() {

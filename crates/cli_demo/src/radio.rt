@@ -1,7 +1,7 @@
 //! The radio: messages between trains and centres are on the way for any time. They arrive in any order, some twice.
 
-ghost use Rattle.std.specs.Prelude.{[], ◌++◌, ◌≡◌, ◌≤◌, ◌∷◌, length, OnErr, OnOk};
-ghost use Rattle.cli_demo.specs.Flights.{Arrives};
+ghost use Rattle.std.specs.Prelude.{[], ◌+◌, ◌++◌, ◌-◌, ◌≡◌, ◌≤◌, ◌^◌, ◌∷◌, length, min, OnErr, OnOk};
+ghost use Rattle.cli_demo.specs.Flights.{Arrives, sent_down};
 
 use cli_storm::{Draws, below, in_hundred};
 use std::alloc::{AllocError, Global};
@@ -50,6 +50,8 @@ impl Radio {
         ensures kept { self.old.loss ≡ 0
             → OnOk result (self.new.flights.items ≡ self.old.flights.items ++ flight ∷ []) }
         ensures lost { 100 ≤ self.old.loss → self.new.flights.items ≡ self.old.flights.items }
+        ensures sent { self.new.sent ≡ min (self.old.sent + 1) (2 ^ 64 - 1) }
+        ensures loss { self.new.loss ≡ self.old.loss }
         ensures err { OnErr result (self.new.flights.items ≡ self.old.flights.items) }
     {
         self.sent = self.sent.saturating_add(1);
@@ -67,7 +69,11 @@ impl Radio {
         draws: &mut Draws,
         answer: usize,
         count: usize,
-    ) -> Result<(), AllocError> {
+    ) -> Result<(), AllocError>
+        ensures kept { self.old.loss ≡ 0 → OnOk result (self.new.flights.items
+            ≡ self.old.flights.items ++ sent_down answer count) }
+        ensures sent { OnOk result (self.new.sent ≡ min (self.old.sent + count) (2 ^ 64 - 1)) }
+    {
         for which in 0..count {
             self.send(draws, Flight::Down { answer, which })?;
         }
