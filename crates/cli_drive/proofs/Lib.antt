@@ -1,2 +1,5 @@
+mod CallPorts
+mod Moving
+mod OneChange
 mod Reading
 mod Views

@@ -1,5 +1,13 @@
--- The exit statuses of the program at the end of a connection.
-use Rattle.std.specs.Prelude.{ℕ}
+-- The exit statuses of the program at the end of a connection, of running centres and of lines for the interlocking.
+use Rattle.std.specs.Prelude.{◌≡◌, ◌⊎◌, Err, Ok, Result, ℕ}
+use Rattle.cli_drive.specs.Answers.{status_of as status_of_verdict}
+use Rattle.cli_drive.specs.declared.telling.LinesFault.TheVariants.{Memory as LinesMemory}
+use Rattle.cli_drive.specs.declared.telling.Verdict.{Verdict}
+use Rattle.rbc_cli.specs.declared.tell.TellFault.{TellFault}
+use Rattle.rbc_cli.specs.declared.tell.TellFault.TheVariants.{Lines, Port, Run}
+use Rattle.serve_line.specs.serve_control.Statuses.{status_of_serve}
+use Rattle.serve_line.specs.serve_control.declared.fault.ServeFault.{ServeFault}
+use Rattle.text_script.specs.Status.Statuses.{IsReported}
 use Rattle.cli_drive.specs.declared.fault.DriveFault.{DriveFault}
 use Rattle.cli_drive.specs.declared.fault.DriveFault.TheVariants.{Form, Memory, Socket, Write}
 
@@ -9,3 +17,21 @@ drive_status Memory = 5
 drive_status (Form row) = 3
 drive_status Socket = 6
 drive_status Write = 6
+
+-- the fault of the centres was reported, or writing the report was refused
+abbrev pub IsRefused : ServeFault → ℕ → Type 0
+IsRefused fault status = (status ≡ status_of_serve fault) ⊎ (status ≡ 6)
+
+-- the centres have served, or their fault was reported
+abbrev pub HasServed : Result (Unit {0}) ServeFault → ℕ → Type 0
+HasServed (Ok done) status = status ≡ 0
+HasServed (Err fault) status = IsRefused fault status
+
+-- The lines have a verdict, or the fault was reported. The status is 2 for lines that are not sent, and for a number
+-- that is not a port. Writing the report may be refused: 6.
+abbrev pub IsTold : Result Verdict TellFault → ℕ → Type 0
+IsTold (Ok verdict) status = status ≡ status_of_verdict verdict
+IsTold (Err (Run fault)) status = IsReported fault status
+IsTold (Err (Lines LinesMemory)) status = (status ≡ 5) ⊎ (status ≡ 6)
+IsTold (Err (Lines fault)) status = (status ≡ 2) ⊎ (status ≡ 6)
+IsTold (Err (Port number)) status = (status ≡ 2) ⊎ (status ≡ 6)

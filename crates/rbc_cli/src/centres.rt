@@ -1,13 +1,15 @@
 //! Runs the centres of a line.
 
-ghost use Rattle.std.specs.Prelude.{◌≡◌, IfSome, None, not};
+ghost use Rattle.std.specs.Prelude.{[], ◌≡◌, IfOk, IfSome, None, not};
 ghost use Rattle.std.specs.Net.Addr.{IsLoopbackV4, IsLoopbackV6, MatchIp};
 ghost use Rattle.std.specs.Net.Socket.{socket_ip, socket_port};
+ghost use Rattle.rbc_cli.specs.Endings.{HasServed, IsRefused};
 
-use crate::record::lock_journals;
+use crate::record::{Locked, lock_journals};
 use cli_commands::disk::Disk;
 use cli_commands::line_file::{LineFile, line_file_in};
 use cli_commands::words::ServeWords;
+use serve_journal::SystemFile;
 use serve_line::{
     About, Endpoints, Kind, NoNotes, NoteForm, Notes, Record, ServeFault, ServeOptions,
     SocketFault, StderrNotes, free_path, serve,
@@ -43,6 +45,13 @@ pub fn run_centres<
     } else {
         run_noted(rt, &given, port, words, &notes_of(rt, words), out)
     };
+    served(done, out, err)
+}
+
+// The exit status of centres that have served, or can't run.
+fn served<O: Write, E: Write>(done: Result<(), ServeFault>, out: &mut O, err: &mut E) -> u8
+    ensures { HasServed done.entry result }
+{
     match done {
         Ok(()) => 0,
         Err(fault) => refused(&fault, out, err),
@@ -50,7 +59,9 @@ pub fn run_centres<
 }
 
 /// Reports why the centres can't run, and gives the exit status.
-pub fn refused<O: Write, E: Write>(fault: &ServeFault, out: &mut O, err: &mut E) -> u8 {
+pub fn refused<O: Write, E: Write>(fault: &ServeFault, out: &mut O, err: &mut E) -> u8
+    ensures { IsRefused fault.now result }
+{
     match fault {
         ServeFault::Run(fault) => report(fault, out, err),
         fault => match writeln!(err, "{fault}") {
@@ -115,15 +126,9 @@ fn run_opened<
     out: &mut O,
 ) -> Result<(), ServeFault> {
     let reasons = notes_of(rt, words);
-    let journals = match words.journal {
-        Some(journal) => Some(lock_journals(rt, given, journal, &reasons)?),
-        None => None,
-    };
+    let journals = locked(rt, given, words, &reasons)?;
     let endpoints = opened(rt, given, port, words, &reasons)?;
-    let record = match journals {
-        Some(journals) => journals.begun(rt, given, &reasons)?,
-        None => Record::none(rt.alloc()),
-    };
+    let record = record_of(rt, given, journals, &reasons)?;
     serve(
         rt,
         rt.alloc(),
@@ -134,6 +139,36 @@ fn run_opened<
         notes,
         out,
     )
+}
+
+// Locks and reads the journals, if the centres write any.
+fn locked<'w, R: Files<File = File> + Clock + AllocGlobal, N: Notes>(
+    rt: &R,
+    given: &LineFile,
+    words: &ServeWords<'w>,
+    notes: &N,
+) -> Result<Option<Locked<'w>>, ServeFault>
+    ensures { words.entry.now.journal ≡ None → IfOk result (λ journals. journals ≡ None) }
+{
+    match words.journal {
+        Some(journal) => Ok(Some(lock_journals(rt, given, journal, notes)?)),
+        None => Ok(None),
+    }
+}
+
+// Begins the journals. Without journals the line begins again.
+fn record_of<R: Files<File = File> + Clock + AllocGlobal, N: Notes>(
+    rt: &R,
+    given: &LineFile,
+    journals: Option<Locked<'_>>,
+    notes: &N,
+) -> Result<Record<SystemFile>, ServeFault>
+    ensures { journals.entry ≡ None → IfOk result (λ begun. begun.entries.items ≡ []) }
+{
+    match journals {
+        Some(journals) => journals.begun(rt, given, notes),
+        None => Ok(Record::none(rt.alloc())),
+    }
 }
 
 /// Opens the ports, and the interlocking's socket if it has one.

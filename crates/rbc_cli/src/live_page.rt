@@ -1,6 +1,7 @@
 //! Runs trains over centres in this process, with the page of the line.
 
-ghost use Rattle.std.specs.Prelude.{◌≡◌, false, None, Some, true};
+ghost use Rattle.std.specs.Prelude.{◌≡◌, false, IfOk, map, None, Some, true};
+ghost use Rattle.rbc_cli.specs.Pages.{shown_place};
 
 use crate::centres::{opened, refused};
 use crate::ports::{first_after, report_port};
@@ -13,9 +14,10 @@ use cli_drive::trains;
 use cli_drive::trains::Observer;
 use serve_journal::SystemFile;
 use serve_line::{
-    Endpoints, NoNotes, NoteForm, Record, ServeOptions, StderrNotes, TruePlace, TruePlaces, serve,
+    Endpoints, NoNotes, NoteForm, Record, ServeFault, ServeOptions, StderrNotes, TruePlace,
+    TruePlaces, serve,
 };
-use std::alloc::AllocError;
+use std::alloc::{AllocError, Global};
 use std::fs::File;
 use std::io::{Eprint, Write};
 use std::net::{IpAddr, Ipv4Addr, Net, SocketAddr, TcpListener, TcpStream};
@@ -76,23 +78,56 @@ pub fn run_live_page<
         Ok(given) => given,
         Err(fault) => return report(&fault, out, err),
     };
-    let port = match first_after(page, given.line.centre_count()) {
-        Ok(port) => port,
-        Err(most) => return report_port(err, "--page", page, most),
+    match first_after(page, given.line.centre_count()) {
+        Ok(first) => run_at(rt, &given, Ports { page, first }, words, out, err),
+        Err(most) => report_port(err, "--page", page, most),
+    }
+}
+
+/// The ports of the page and of the first centre.
+#[derive(Clone, Copy)]
+struct Ports {
+    page: u16,
+    first: u16,
+}
+
+// Opens the ports, shows the address of the page, and runs the centres and the trains.
+fn run_at<
+    R: Threads
+        + Wait
+        + Sync
+        + Net<Stream = TcpStream, Listener = TcpListener>
+        + Clock
+        + Files<File = File>
+        + Eprint
+        + AllocGlobal,
+    O: Write,
+    E: Write,
+>(rt: &R, given: &LineFile, ports: Ports, words: &TrainsWords, out: &mut O, err: &mut E) -> u8 {
+    let endpoints = match endpoints_at(rt, given, ports) {
+        Ok(endpoints) => endpoints,
+        Err(fault) => return refused(&fault, out, err),
     };
+    if writeln!(err, "page: http://127.0.0.1:{}/", ports.page).is_err() {
+        return 6;
+    }
+    let done = run_all(rt, given, endpoints, ports.first, words, out);
+    ended(done, out, err)
+}
+
+// Opens the ports. The reason of a refusal is written.
+fn endpoints_at<
+    R: Net<Stream = TcpStream, Listener = TcpListener>
+        + Clock
+        + Files<File = File>
+        + Eprint
+        + AllocGlobal,
+>(rt: &R, given: &LineFile, ports: Ports) -> Result<Endpoints, ServeFault> {
     let notes = StderrNotes {
         rt,
         form: NoteForm::TEXT,
     };
-    let endpoints = match opened(rt, &given, port, &served_at(page), &notes) {
-        Ok(endpoints) => endpoints,
-        Err(fault) => return refused(&fault, out, err),
-    };
-    if writeln!(err, "page: http://127.0.0.1:{page}/").is_err() {
-        return 6;
-    }
-    let done = run_all(rt, &given, endpoints, port, words, out);
-    ended(done, out, err)
+    opened(rt, given, ports.first, &served_at(ports.page), &notes)
 }
 
 /// Shows the true places of trains on the page.
@@ -104,17 +139,28 @@ struct PagePlaces<'a, R> {
 
 impl<R: Wait + AllocGlobal> Observer for PagePlaces<'_, R> {
     fn see(&self, places: &[trains::TruePlace]) -> Result<(), AllocError> {
-        let mut shown = Vec::new(self.rt.alloc());
-        for place in places {
-            shown.push(TruePlace {
-                nid_engine: place.nid_engine,
-                track: place.track,
-                rear: u32::try_from(place.rear).unwrap_or(0),
-                front: place.front,
-            })?;
-        }
+        let shown = shown_places(self.rt.alloc(), places)?;
         self.places.replace(self.rt, shown);
         Ok(())
+    }
+}
+
+// The true places as the page shows them.
+fn shown_places(alloc: Global, places: &[trains::TruePlace]) -> Result<Vec<TruePlace>, AllocError>
+    ensures { IfOk result (λ shown. shown.items ≡ map shown_place places.now) }
+{
+    places.iter().map(shown_place).collect(alloc)
+}
+
+// The true place of a train as the page shows it. A rear end before the start of the track is shown at the start.
+fn shown_place(place: &trains::TruePlace) -> TruePlace
+    ensures { result ≡ shown_place place.now }
+{
+    TruePlace {
+        nid_engine: place.nid_engine,
+        track: place.track,
+        rear: u32::try_from(place.rear).unwrap_or(0),
+        front: place.front,
     }
 }
 

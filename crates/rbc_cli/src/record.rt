@@ -1,5 +1,11 @@
 //! Locks and begins the journals of a line's centres, as files in a folder.
 
+ghost use Rattle.std.specs.Prelude.{[], ◌++◌, ◌<◌, ◌∷◌, ◌≡◌, ◌≢◌, IfOk, length, None, string_bytes};
+ghost use Rattle.cli_commands.specs.declared.requests.JournalStart.TheVariants.{Resume};
+ghost use Rattle.text_journal.specs.Journal.{first_line, V2};
+ghost use Rattle.text_journal.specs.Order.{IsFirstFallen, stamps_of};
+ghost use Rattle.rbc_cli.specs.Starts.{may_start};
+
 mod place;
 
 use crate::record::place::{Place, bytes_of, place_of, start_of};
@@ -8,6 +14,7 @@ use cli_commands::line_file::LineFile;
 use cli_commands::words::{JournalStart, JournalWords};
 use serve_journal::{JournalFile, OpenFault, SystemFile, make_journal};
 use serve_line::{About, Kind, Notes, Record, ServeFault};
+use std::alloc::{AllocError, Global};
 use std::fs;
 use std::fs::File;
 use std::io::ErrorKind;
@@ -55,30 +62,63 @@ impl Locked<'_> {
         rt: &R,
         given: &LineFile,
         notes: &N,
-    ) -> Result<Record<SystemFile>, ServeFault> {
+    ) -> Result<Record<SystemFile>, ServeFault>
+        ensures { IfOk result (λ begun. begun.entries ≡ self.entry.entries) }
+    {
         let Locked {
             words,
-            mut places,
+            places,
             entries,
         } = self;
-        if words.start != JournalStart::Resume {
-            make_folder(rt, &words, notes)?;
-        }
-        let mut files = Vec::new(rt.alloc());
-        places.reverse();
-        for centre in 0..given.line.centre_count() {
-            let Some(place) = places.pop() else {
-                break;
-            };
-            let mut first = first_line(rt.alloc(), &given.line, centre)?;
-            first.push('\n')?;
-            files.push(begun_one(rt, place, first.as_str(), words.is_synced, notes)?)?;
-        }
-        if words.is_synced {
-            sync(rt, words.folder, notes)?;
-        }
+        let files = files_of(rt, given, &words, places, notes)?;
         Ok(Record { files, entries })
     }
+}
+
+// The journals of all centres, each with its first line.
+fn files_of<R: Files<File = File> + Clock + AllocGlobal, N: Notes>(
+    rt: &R,
+    given: &LineFile,
+    words: &JournalWords<'_>,
+    places: Vec<Place>,
+    notes: &N,
+) -> Result<Vec<JournalFile<SystemFile>>, ServeFault> {
+    if words.start != JournalStart::Resume {
+        make_folder(rt, words, notes)?;
+    }
+    let files = begun_all(rt, given, places, words.is_synced, notes)?;
+    if words.is_synced {
+        sync(rt, words.folder, notes)?;
+    }
+    Ok(files)
+}
+
+fn begun_all<R: Files<File = File> + Clock + AllocGlobal, N: Notes>(
+    rt: &R,
+    given: &LineFile,
+    mut places: Vec<Place>,
+    is_synced: bool,
+    notes: &N,
+) -> Result<Vec<JournalFile<SystemFile>>, ServeFault> {
+    let mut files = Vec::new(rt.alloc());
+    places.reverse();
+    for centre in 0..given.line.centre_count() {
+        let Some(place) = places.pop() else {
+            break;
+        };
+        let first = first_row(rt.alloc(), given, centre)?;
+        files.push(begun_one(rt, place, first.as_str(), is_synced, notes)?)?;
+    }
+    Ok(files)
+}
+
+// The first line of a journal, with its line feed.
+fn first_row(alloc: Global, given: &LineFile, centre: u8) -> Result<String, AllocError>
+    ensures { IfOk result (λ row. string_bytes row ≡ first_line V2 given.now.line centre [] ++ 10 ∷ []) }
+{
+    let mut first = first_line(alloc, &given.line, centre)?;
+    first.push('\n')?;
+    Ok(first)
 }
 
 // The events of the journals, in the order in which they happened. If they are not resumed, a journal has none.
@@ -88,24 +128,60 @@ fn entries_of<R: AllocGlobal, N: Notes>(
     start: JournalStart,
     places: &mut [Place],
     notes: &N,
-) -> Result<Vec<Entry>, ServeFault> {
+) -> Result<Vec<Entry>, ServeFault>
+    ensures { start ≢ Resume → IfOk result (λ entries. entries.items ≡ []) }
+{
     let mut journals = Vec::new(rt.alloc());
     for centre in 0..given.line.centre_count() {
         let Some(place) = places.get_mut(centre as usize) else {
             break;
         };
-        let bytes = bytes_of(rt, place, notes)?;
-        let Journal { entries, length } = journal_of(rt.alloc(), given, centre, &bytes)?;
+        let read = read_in(rt, given, centre, place, notes)?;
         if start == JournalStart::Resume {
-            note_torn(place, bytes.len().saturating_sub(length), notes);
-            place.length = length;
-        } else if !entries.is_empty() {
+            place.length = read.length;
+            note_torn(place, read.torn, notes);
+        }
+        if !may_start(start, read.entries.len()) {
             note_old(places, centre as usize, start, notes);
             return Err(ServeFault::Journal);
         }
-        journals.push(entries)?;
+        journals.push(read.entries)?;
     }
     Ok(in_order(rt.alloc(), journals)?)
+}
+
+/// The events of a journal, and the numbers of the bytes of its whole lines and after them.
+#[derive(Drop)]
+struct Read {
+    entries: Vec<Entry>,
+    length: usize,
+    torn: usize,
+}
+
+fn read_in<R: AllocGlobal, N: Notes>(
+    rt: &R,
+    given: &LineFile,
+    centre: u8,
+    place: &Place,
+    notes: &N,
+) -> Result<Read, ServeFault>
+    requires { centre < length given.now.line.centres }
+    ensures { IfOk result (λ read. IsFirstFallen (stamps_of read.entries.items) None) }
+{
+    let bytes = bytes_of(rt, place, notes)?;
+    let Journal { entries, length } = journal_of(rt.alloc(), given, centre, &bytes)?;
+    Ok(Read {
+        entries,
+        length,
+        torn: bytes.len().saturating_sub(length),
+    })
+}
+
+// Whether centres may start so with a journal that has this many events.
+fn may_start(start: JournalStart, count: usize) -> bool
+    ensures { result ≡ may_start start count }
+{
+    start == JournalStart::Resume || count == 0
 }
 
 // Notes that the journal of this number can't be begun, since it has events.

@@ -1,7 +1,11 @@
 //! Sends lines to the interlocking's endpoint of running centres.
 
-ghost use Rattle.std.specs.Prelude.{IfSome};
+ghost use Rattle.std.specs.Prelude.{◌≡◌, ℕ, IfOk, IfSome, List, map};
+ghost use Rattle.cli_drive.specs.Answers.{AreSendable, judged};
+ghost use Rattle.cli_drive.specs.Lines.{rows};
 ghost use Rattle.rbc_cli.specs.Addresses.{IsAddress};
+ghost use Rattle.rbc_cli.specs.Stops.{ends_with_stop};
+ghost use Rattle.rbc_cli.specs.Endings.{IsTold};
 
 use crate::train::fault_of;
 use cli_commands::disk::Disk;
@@ -71,7 +75,19 @@ pub fn run_tell<R: Net<Stream = TcpStream> + Files<File = File> + AllocGlobal, O
     out: &mut O,
     err: &mut E,
 ) -> u8 {
-    let written = match tell(rt, arguments, words, out) {
+    let told = tell(rt, arguments, words, out);
+    told_status(told, out, err)
+}
+
+// The exit status: that of the verdict, or that of the fault, which is reported.
+fn told_status<O: Write, E: Write>(
+    told: Result<Verdict, TellFault<'_>>,
+    out: &mut O,
+    err: &mut E,
+) -> u8
+    ensures { IsTold told.entry result }
+{
+    let written = match told {
         Ok(Verdict::Short) => return report(&Fault::Socket, out, err),
         Ok(verdict) => return verdict.status(),
         Err(TellFault::Run(fault)) => return report(&fault, out, err),
@@ -119,27 +135,55 @@ fn tell_lines<'a, R: Net<Stream = TcpStream> + AllocGlobal, O: Write>(
     callee: Callee<'_>,
     lines: &[&str],
     out: &mut O,
-) -> Result<Verdict, TellFault<'a>> {
+) -> Result<Verdict, TellFault<'a>>
+    ensures { IfOk result (λ verdict. AreSendable (map (λ line. line.now) lines.now) × ((answers : List ℕ)
+        × (verdict ≡ judged (map (λ line. line.now) lines.now) (rows answers)))) }
+{
     let request = match request_of(rt.alloc(), lines) {
         Ok(request) => request,
         Err(fault) => return Err(TellFault::Lines(fault)),
     };
-    let stops = match lines.last() {
-        Some(line) => is_stop(line),
-        None => false,
-    };
-    let waiting = if stops {
-        Some(connect(rt, callee)?)
-    } else {
-        None
-    };
-    let mut stream = connect(rt, callee)?;
-    send(&mut stream, &request)?;
-    let answers = copy_answers(rt.alloc(), &mut stream, out)?;
-    if let Some(mut waiting) = waiting {
-        see_off(&mut waiting)?;
-    }
+    let answers = answers_to(rt, callee, &request, ends_with_stop(lines), out)?;
     Ok(judge(rt.alloc(), lines, &answers)?)
+}
+
+// Sends the lines, and prints the answers. If the lines stop the centres, it then waits for the trains' connections.
+fn answers_to<R: Net<Stream = TcpStream> + AllocGlobal, O: Write>(
+    rt: &R,
+    callee: Callee<'_>,
+    request: &[u8],
+    stops: bool,
+    out: &mut O,
+) -> Result<Vec<u8>, DriveFault> {
+    if !stops {
+        return exchanged(rt, callee, request, out);
+    }
+    let mut waiting = connect(rt, callee)?;
+    let answers = exchanged(rt, callee, request, out)?;
+    see_off(&mut waiting)?;
+    Ok(answers)
+}
+
+// Sends the lines over a connection of their own, and prints the answers.
+fn exchanged<R: Net<Stream = TcpStream> + AllocGlobal, O: Write>(
+    rt: &R,
+    callee: Callee<'_>,
+    request: &[u8],
+    out: &mut O,
+) -> Result<Vec<u8>, DriveFault> {
+    let mut stream = connect(rt, callee)?;
+    send(&mut stream, request)?;
+    copy_answers(rt.alloc(), &mut stream, out)
+}
+
+// Whether the last of the lines stops the centres.
+fn ends_with_stop(lines: &[&str]) -> bool
+    ensures { result ≡ ends_with_stop (map (λ line. line.now) lines.now) }
+{
+    match lines {
+        [.., last] => is_stop(last),
+        _ => false,
+    }
 }
 
 // Sends the lines, and nothing more: the endpoint ends the connection after the last answer.

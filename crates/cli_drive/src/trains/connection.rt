@@ -2,6 +2,7 @@
 
 ghost use Rattle.std.specs.Prelude.{[], ◌&&◌, ◌+◌, ◌-◌, ◌<◌, ◌≡◌, ◌≤◌, ◌^◌, Err, is_some, min, nat_le, None, not, Ok};
 ghost use Rattle.std.specs.Prelude.{true};
+ghost use Rattle.std.specs.Prelude.{false, OnOk};
 ghost use Rattle.cli_drive.specs.declared.trains.fault.TrainsFault.TheVariants.{Socket};
 
 use crate::trains::fault::TrainsFault;
@@ -35,6 +36,8 @@ pub(crate) struct Connection {
 }
 
 impl Connection {
+    ghost use Rattle.cli_drive.specs.Connections.{HasEnded, HasRead, is_due, KeepsCounts};
+
     pub(crate) fn new(alloc: Global, port: u16) -> Connection
         ensures port { result.port ≡ port }
         ensures shut { (result.stream ≡ None) × (result.inbox.bytes.items ≡ []) }
@@ -60,9 +63,8 @@ impl Connection {
 
     /// It ends. A part of a message that has arrived is dropped.
     pub(crate) fn end(&mut self)
-        ensures shut { (self.new.stream ≡ None) × (self.new.inbox.bytes.items ≡ []) }
-        ensures counts { (self.new.next ≡ self.old.next) × (self.new.tries ≡ self.old.tries)
-            × (self.new.opened ≡ self.old.opened) }
+        ensures shut { HasEnded self.new }
+        ensures counts { KeepsCounts self.old self.new }
     {
         self.stream = None;
         self.inbox = Inbox::new(self.alloc);
@@ -73,7 +75,17 @@ impl Connection {
         &mut self,
         rt: &R,
         now: u32,
-    ) -> Result<(), TrainsFault> {
+    ) -> Result<(), TrainsFault>
+        ensures early { is_due self.old now ≡ false → (result ≡ Ok tt) × (self.new ≡ self.old) }
+        ensures again { is_due self.old now ≡ true → self.new.next ≡ min (now + AGAIN) (2 ^ 32 - 1) }
+        ensures open { is_due self.old now ≡ true → is_some self.new.stream ≡ true → (result ≡ Ok tt)
+            × (self.new.opened ≡ min (self.old.opened + 1) (2 ^ 32 - 1)) × (self.new.tries ≡ 0)
+            × (self.new.inbox.bytes.items ≡ []) }
+        ensures failed { is_due self.old now ≡ true → self.new.stream ≡ None
+            → (self.new.opened ≡ self.old.opened) × (MOST_TRIES ≤ self.old.tries → result ≡ Err Socket)
+            × (self.old.tries < MOST_TRIES → (result ≡ Ok tt) × (self.new.tries ≡ self.old.tries + 1)) }
+        ensures port { self.new.port ≡ self.old.port }
+    {
         if !self.is_due(now) {
             return Ok(());
         }
@@ -89,7 +101,7 @@ impl Connection {
 
     // Whether it is to be opened: it is not open, and it is time.
     fn is_due(&self, now: u32) -> bool
-        ensures { result ≡ not (is_some self.now.stream) && nat_le self.now.next now }
+        ensures { result ≡ is_due self.now now }
     {
         !self.is_open() && self.next <= now
     }
@@ -97,7 +109,7 @@ impl Connection {
     // It was opened.
     fn begin(&mut self, stream: TcpStream)
         ensures open { (is_some self.new.stream ≡ true) × (self.new.inbox.bytes.items ≡ []) }
-        ensures counts { (self.new.next ≡ self.old.next) × (self.new.tries ≡ 0)
+        ensures counts { (self.new.port ≡ self.old.port) × (self.new.next ≡ self.old.next) × (self.new.tries ≡ 0)
             × (self.new.opened ≡ min (self.old.opened + 1) (2 ^ 32 - 1)) }
     {
         self.inbox = Inbox::new(self.alloc);
@@ -120,7 +132,13 @@ impl Connection {
     }
 
     /// Sends these bytes, if it is open. If it does not take all of them at once, it ends.
-    pub(crate) fn send(&mut self, bytes: &[u8]) {
+    pub(crate) fn send(&mut self, bytes: &[u8])
+        ensures sent { is_some self.new.stream ≡ true → (is_some self.old.stream ≡ true)
+            × (self.new.inbox ≡ self.old.inbox) }
+        ensures ended { is_some self.old.stream ≡ true → self.new.stream ≡ None → HasEnded self.new }
+        ensures shut { self.old.stream ≡ None → self.new ≡ self.old }
+        ensures counts { KeepsCounts self.old self.new }
+    {
         let Some(stream) = &mut self.stream else {
             return;
         };
@@ -134,27 +152,41 @@ impl Connection {
     }
 
     /// Reads the bytes that have arrived. If the peer has ended the connection, it ends.
-    pub(crate) fn read(&mut self) -> Result<(), TrainsFault> {
-        let mut piece = [0u8; 1_024];
+    pub(crate) fn read(&mut self) -> Result<(), TrainsFault>
+        ensures read { OnOk result (HasRead self.old self.new) }
+        ensures counts { KeepsCounts self.old self.new }
+    {
         for _ in 0..MOST_PIECES {
-            let Some(stream) = &mut self.stream else {
-                return Ok(());
-            };
-            match stream.read(&mut piece) {
-                Ok(count) if count > 0 => {
-                    let Some(bytes) = piece.get(..count) else {
-                        return Ok(());
-                    };
-                    self.inbox.add(bytes)?;
-                }
-                Err(error) if is_nothing(error.kind()) => return Ok(()),
-                _ => {
-                    self.end();
-                    return Ok(());
-                }
+            if !self.read_piece()? {
+                break;
             }
         }
         Ok(())
+    }
+
+    // Reads one piece. Returns whether more bytes may have arrived.
+    fn read_piece(&mut self) -> Result<bool, TrainsFault>
+        ensures read { OnOk result (HasRead self.old self.new) }
+        ensures counts { KeepsCounts self.old self.new }
+    {
+        let mut piece = [0u8; 1_024];
+        let Some(stream) = &mut self.stream else {
+            return Ok(false);
+        };
+        match stream.read(&mut piece) {
+            Ok(count) if count > 0 => {
+                let Some(bytes) = piece.get(..count) else {
+                    return Ok(false);
+                };
+                self.inbox.add(bytes)?;
+                Ok(true)
+            }
+            Err(error) if is_nothing(error.kind()) => Ok(false),
+            _ => {
+                self.end();
+                Ok(false)
+            }
+        }
     }
 }
 

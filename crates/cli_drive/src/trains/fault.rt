@@ -1,3 +1,5 @@
+ghost use Rattle.std.specs.Prelude.{◌≡◌};
+
 use std::alloc::{AllocError, AllocFailed};
 use std::io;
 
@@ -13,12 +15,20 @@ pub enum TrainsFault {
 }
 
 impl From<AllocError> for TrainsFault {
+    ghost use Rattle.cli_drive.specs.declared.trains.fault.TrainsFault.TheVariants.{Memory};
+
+    ghost from_gives = { λ _ fault. fault ≡ Memory };
+
     fn from(_error: AllocError) -> TrainsFault {
         TrainsFault::Memory
     }
 }
 
 impl<T: Drop> From<AllocFailed<T>> for TrainsFault {
+    ghost use Rattle.cli_drive.specs.declared.trains.fault.TrainsFault.TheVariants.{Memory};
+
+    ghost from_gives = { λ _ fault. fault ≡ Memory };
+
     fn from(_error: AllocFailed<T>) -> TrainsFault {
         TrainsFault::Memory
     }
@@ -26,6 +36,10 @@ impl<T: Drop> From<AllocFailed<T>> for TrainsFault {
 
 // A fault in a `?` is one of the output. A failed connection is opened again.
 impl From<io::Error> for TrainsFault {
+    ghost use Rattle.cli_drive.specs.declared.trains.fault.TrainsFault.TheVariants.{Write};
+
+    ghost from_gives = { λ _ fault. fault ≡ Write };
+
     fn from(_error: io::Error) -> TrainsFault {
         TrainsFault::Write
     }

@@ -1,7 +1,8 @@
 //! The bytes of a connection, as messages of a centre or as lines.
 
-ghost use Rattle.std.specs.Prelude.{[], ◌++◌, ◌≡◌, ◌≤◌, drop, IfOk, OnOk, take, vec_len};
-ghost use Rattle.cli_drive.specs.Inboxes.{first_length, IsCut};
+ghost use Rattle.std.specs.Prelude.{[], ◌+◌, ◌++◌, ◌<◌, ◌≡◌, ◌≤◌, drop, IfOk, IfSome, length, OnOk, option_map, take};
+ghost use Rattle.std.specs.Prelude.{vec_len};
+ghost use Rattle.cli_drive.specs.Inboxes.{first_length, IsCut, IsRowCut, row_end};
 
 use crate::head::{HEAD, length_of};
 use std::alloc::{AllocError, Global};
@@ -60,16 +61,28 @@ impl Inbox {
     }
 
     /// Takes the first line out, without its line feed. A longer line than is kept is dropped.
-    pub(crate) fn row(&mut self) -> Result<Option<Vec<u8>>, AllocError> {
-        if let Some(end) = self.bytes.iter().position(|byte| *byte == b'\n') {
-            let mut row = self.cut(end + 1)?;
-            row.pop();
-            return Ok(Some(row));
+    pub(crate) fn row(&mut self) -> Result<Option<Vec<u8>>, AllocError>
+        ensures { IfOk result (λ row. IsRowCut self.old.bytes.items (option_map (λ row. row.items) row)
+            self.new.bytes.items) }
+    {
+        if let Some(end) = row_end(&self.bytes) {
+            return Ok(Some(self.cut_row(end)?));
         }
         if self.bytes.len() > MOST_ROW {
             self.bytes.clear();
         }
         Ok(None)
+    }
+
+    // Takes the bytes before the line feed at this place out, and drops it.
+    fn cut_row(&mut self, end: usize) -> Result<Vec<u8>, AllocError>
+        requires { end < vec_len self.old.bytes }
+        ensures taken { IfOk result (λ row. row.items ≡ take end self.old.bytes.items) }
+        ensures left { OnOk result (self.new.bytes.items ≡ drop (end + 1) self.old.bytes.items) }
+    {
+        let mut row = self.cut(end + 1)?;
+        row.truncate(end);
+        Ok(row)
     }
 
     // Takes this many bytes out.
@@ -81,6 +94,14 @@ impl Inbox {
         let rest = self.bytes.split_off(count)?;
         Ok(mem::replace(&mut self.bytes, rest))
     }
+}
+
+// The place of the first line feed.
+fn row_end(bytes: &[u8]) -> Option<usize>
+    ensures place { result ≡ row_end bytes.now }
+    ensures range { IfSome result (λ end. end < length bytes.now) }
+{
+    bytes.iter().position(|byte| *byte == b'\n')
 }
 
 // L_MESSAGE of the first message.

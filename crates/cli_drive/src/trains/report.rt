@@ -1,6 +1,9 @@
 //! The print of trains over TCP.
 
-ghost use Rattle.std.specs.Prelude.{◌&&◌, ◌+◌, ◌-◌, ◌/◌, ◌^◌, ◌≡◌, codes, if◌then◌else◌, min, true};
+ghost use Rattle.std.specs.Prelude.{[], ◌&&◌, ◌+◌, ◌++◌, ◌-◌, ◌/◌, ◌^◌, ◌∷◌, ◌≡◌, codes, if◌then◌else◌, min};
+ghost use Rattle.std.specs.Prelude.{OnOk, true};
+ghost use Rattle.std.specs.Io.KnownBytes.{Appends};
+ghost use Rattle.cli_drive.specs.Reports.{counts_row, shown_again, verdict};
 
 use crate::trains::fault::TrainsFault;
 use crate::trains::seconds::Running;
@@ -49,8 +52,7 @@ impl Tally {
 
     /// The verdict on all seconds.
     fn verdict(&self) -> &'static str
-        ensures { result.now ≡ (if self.now.are_apart then codes "At no second were two trains on one section."
-            else codes "FAILED: two trains were on one section.") }
+        ensures { result.now ≡ verdict self.now.are_apart }
     {
         if self.are_apart {
             "At no second were two trains on one section."
@@ -58,11 +60,24 @@ impl Tally {
             "FAILED: two trains were on one section."
         }
     }
+
+    // The last line: the verdict.
+    fn print<W: Write>(&self, out: &mut W) -> Result<(), TrainsFault>
+        ensures { OnOk result (Appends (W.contents out.old) (W.contents out.new)
+            (verdict self.now.are_apart ++ 10 ∷ [])) }
+    {
+        writeln!(out, "{}", self.verdict())?;
+        out.flush()?;
+        Ok(())
+    }
 }
 
 impl<R> Running<'_, R> {
     // The head of the table.
-    pub(crate) fn begin<W: Write>(&self, out: &mut W) -> Result<(), TrainsFault> {
+    pub(crate) fn begin<W: Write>(&self, out: &mut W) -> Result<(), TrainsFault>
+        ensures { OnOk result (Appends (W.contents out.old) (W.contents out.new)
+            (codes "  second     train  track               front_m  authority_m  RBC" ++ 10 ∷ [])) }
+    {
         writeln!(
             out,
             "  second     train  track               front_m  authority_m  RBC"
@@ -83,17 +98,34 @@ impl<R> Running<'_, R> {
         train: usize,
         is_first: bool,
         out: &mut W,
-    ) -> Result<(), TrainsFault> {
+    ) -> Result<(), TrainsFault>
+        ensures { self.new ≡ record self.old {
+          tally = (if is_first then self.old.tally
+              else record self.old.tally { handovers = min (self.old.tally.handovers + 1) (2 ^ 32 - 1) });
+        } }
+    {
         self.tally.count(is_first);
         self.show(train, out)
     }
 
-    pub(crate) fn show_often<W: Write>(&mut self, out: &mut W) -> Result<(), TrainsFault> {
+    /// Shows each train, if `OFTEN` seconds have passed since then.
+    pub(crate) fn show_often<W: Write>(&mut self, out: &mut W) -> Result<(), TrainsFault>
+        ensures trains { self.new.trains ≡ self.old.trains }
+        ensures shown { self.new ≡ record self.old {
+          tally = record self.old.tally {
+            shown = shown_again self.old.tally.shown ((self.old.now - 1000) / 100);
+          };
+        } }
+    {
         let second = self.second_now();
         if second.saturating_sub(self.tally.shown) < OFTEN {
             return Ok(());
         }
         self.tally.shown = second;
+        self.show_all(out)
+    }
+
+    fn show_all<W: Write>(&self, out: &mut W) -> Result<(), TrainsFault> {
         for train in 0..self.trains.len() {
             self.show(train, out)?;
         }
@@ -127,15 +159,17 @@ impl<R> Running<'_, R> {
 
     // The last lines of the table.
     pub(crate) fn end<W: Write>(&self, out: &mut W) -> Result<(), TrainsFault> {
-        for train in 0..self.trains.len() {
-            self.show(train, out)?;
-        }
-        let mut arrived = 0u32;
-        for train in &self.trains {
-            if train.driver.has_arrived(train.ends) {
-                arrived = arrived.saturating_add(1);
-            }
-        }
+        self.show_all(out)?;
+        self.print_counts(out)?;
+        self.print_arrivals(out)?;
+        self.tally.print(out)
+    }
+
+    fn print_counts<W: Write>(&self, out: &mut W) -> Result<(), TrainsFault>
+        ensures { OnOk result (Appends (W.contents out.old) (W.contents out.new)
+            (counts_row ((self.entry.now.now - 1000) / 100) self.entry.now.radio self.entry.now.calls
+            self.entry.now.tally.handovers)) }
+    {
         writeln!(
             out,
             "{} seconds, {} messages, {} lost, {} late, {} connections, {} handovers",
@@ -146,9 +180,17 @@ impl<R> Running<'_, R> {
             self.calls.opened(),
             self.tally.handovers
         )?;
+        Ok(())
+    }
+
+    fn print_arrivals<W: Write>(&self, out: &mut W) -> Result<(), TrainsFault> {
+        let mut arrived = 0u32;
+        for train in &self.trains {
+            if train.driver.has_arrived(train.ends) {
+                arrived = arrived.saturating_add(1);
+            }
+        }
         writeln!(out, "{arrived} of {} trains arrived", self.trains.len())?;
-        writeln!(out, "{}", self.tally.verdict())?;
-        out.flush()?;
         Ok(())
     }
 }
