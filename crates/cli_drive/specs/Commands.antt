@@ -12,7 +12,7 @@ is_due known now = not known.is_released && nat_le known.next now
 
 -- the same of a section, if there is one
 abbrev pub may_ask : Option Known → ℕ → Bool
-may_ask known now = option_map_or (λ known. is_due known now) false known
+may_ask known now = option_map_or (λ known. is_due known now) known false
 
 -- the command to release a section, to its home; `?` for a home that the line does not have
 abbrev pub set_command : Line → ℕ → ℕ → List ℕ

@@ -13,7 +13,7 @@ is_under_hidden section trains = list_any (λ train. not train.driver.is_accepte
 
 -- the same of the section of this number; false if there is none
 abbrev pub has_hidden : List Section → List Train → ℕ → Bool
-has_hidden sections trains s = option_map_or (λ section. is_under_hidden section trains) false (slice_get sections s)
+has_hidden sections trains s = option_map_or (λ section. is_under_hidden section trains) (slice_get sections s) false
 
 -- The section after s on its track, unless a train that no centre has accepted is on it or on the next.
 abbrev pub free_after : List Section → List Train → ℕ → Option ℕ
