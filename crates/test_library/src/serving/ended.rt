@@ -161,7 +161,7 @@ fn left_by_a_slow_train<R: Net<Stream = TcpStream, Listener = TcpListener> + Wai
     let ends = entered(rt, alloc, connections, 0, 1)?;
     for outcome in outcomes {
         let sink = ConnectionSink {
-            connections,
+            connections: &*connections,
             number: 0,
         };
         sink.answered(rt, outcome);
