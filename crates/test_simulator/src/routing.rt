@@ -57,7 +57,7 @@ impl<R: Wait> Program<'_, R> {
     // Submits a message to the lane of its train, and releases the messages whose turn has come.
     fn say(&mut self, own: Option<usize>, centre: u8, saying: Saying, stamp: u32) -> Done<()> {
         let is_version = matches!(saying.message.body(), TrackBody::SystemVersion);
-        let begins = self.open(if is_version { own } else { None });
+        let begins = self.beginning(if is_version { own } else { None });
         let Ok(reply) = Reply::new(self.alloc, saying.message) else {
             return Err(Trouble::Memory);
         };
@@ -92,7 +92,7 @@ impl<R: Wait> Program<'_, R> {
     }
 
     // The connection that begins to serve a train, if it is there and was not ended.
-    fn open(&self, begins: Option<usize>) -> Option<usize> {
+    fn beginning(&self, begins: Option<usize>) -> Option<usize> {
         let number = begins?;
         let connection = self.connections.get(number)?;
         (connection.is_read && !connection.is_shut).then_some(number)
